@@ -1,0 +1,61 @@
+use Rattle.std.specs.Prelude.{◌≡◌, ℕ, ◌+◌, ◌*◌, ◌/◌, ◌%◌, ◌<◌, ◌≤◌, Bool, true, false, ◌==◌, ◌&&◌, ◌||◌, nat_le, if◌then◌else◌, List, [], ◌∷◌, length, map, slice_index, slice_index_or}
+use Rattle.std.specs.List.{range_with_len}
+use Rattle.callback_store.specs.declared.transit.Transit.{Transit}
+use Rattle.callback_store.specs.declared.unary.Unary.{Unary}
+use Rattle.callback_store.specs.declared.slot.Slot.{Slot}
+use Rattle.callback_store.specs.declared.slot.Slot.TheVariants.{Pair, Node}
+
+-- The table of a callback: how many nodes it knows, whether it answers for pairs, and its answers.
+pub record Table : Type 0 where
+  pub size : ℕ
+  pub paired : Bool
+  pub entries : List ℕ
+
+-- the answer on the way from a node to another; a one-node callback answers for the node that is left
+abbrev pub entry : Table → ℕ → ℕ → ℕ
+entry t i j = slice_index t.entries (if t.paired then i * t.size + j else i)
+
+-- the entries of a one-node callback that answers by a function
+abbrev pub node_values : ℕ → (ℕ → ℕ) → List ℕ
+node_values size f = map f (range_with_len 0 size)
+
+-- the entries of a two-node callback that answers by a function, row by row
+abbrev pub pair_values : ℕ → (ℕ → ℕ → ℕ) → List ℕ
+pair_values size f = map (λ k. f (k / size) (k % size)) (range_with_len 0 (size * size))
+
+-- the table of a two-node callback
+abbrev pub pair_table : {i : Type 0} {held : i → Type 0} {calls : _} → Transit i held calls → Table
+pair_table transit = record { size = transit.size; paired = true; entries = transit.table.0 }
+
+-- the table of a one-node callback
+abbrev pub node_table : {i : Type 0} {held : i → Type 0} {calls : _} → Unary i held calls → Table
+node_table unary = record { size = unary.size; paired = false; entries = unary.table.0 }
+
+-- the table of either
+abbrev pub slot_table : {i j : Type 0} {held : i → Type 0} {holds : j → Type 0} {calls : _} {asks : _} → Slot i j held holds calls asks → Table
+slot_table (Pair transit) = pair_table transit
+slot_table (Node unary) = node_table unary
+
+-- how many nodes the first of some tables knows, and 0 where there is none
+abbrev pub nodes_of : List Table → ℕ
+nodes_of [] = 0
+nodes_of (t ∷ ts) = t.size
+
+-- no table, for a number at which there is none
+abbrev pub no_table : Table
+no_table = record { size = 0; paired = false; entries = [] }
+
+-- the table at a number
+abbrev pub table_at : List Table → ℕ → Table
+table_at ts id = slice_index_or ts id no_table
+
+-- what the tables of a registry keep: each knows as many nodes as the first, 2 to 1,001, and they are 16 at most
+pub record AreTables (ts : List Table) : Type 0 where
+  pub same : (k : ℕ) → k < length ts → (table_at ts k).size ≡ nodes_of ts
+  pub low : 0 < length ts → 2 ≤ nodes_of ts
+  pub high : nodes_of ts ≤ 1001
+  pub few : length ts ≤ 16
+
+-- whether a callback for so many nodes may join some tables
+abbrev pub is_fitting : List Table → ℕ → Bool
+is_fitting ts size = nat_le 2 size && nat_le size 1001 && (length ts == 0 || nodes_of ts == size)

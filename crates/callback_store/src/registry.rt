@@ -1,0 +1,167 @@
+ghost use Rattle.std.specs.Prelude.{◌≡◌, ℕ, ◌+◌, ◌*◌, ◌<◌, ◌≤◌, ◌↔◌, true, false, List, [], ◌∷◌, ◌++◌, length, map, IfOk, OnErr, IsErrOf, nat_lt};
+ghost use Rattle.callback_store.specs.Meter.{after_ask};
+ghost use Rattle.callback_store.specs.Tables.{AreTables, slot_table, pair_table, node_table, table_at, nodes_of, is_fitting, entry};
+
+use crate::meter::Meter;
+use crate::slot::Slot;
+use crate::transit::Transit;
+use crate::unary::Unary;
+use std::alloc::{AllocError, Global};
+use std::marker::Model;
+use thiserror::Error;
+
+/// The name of a callback in its registry.
+///
+/// It is a number, from 0 on in the order of registering, and means something only in the registry that gave it.
+#[derive(Clone, Debug, PartialEq, Eq)]
+pub struct TransitId {
+    index: u32,
+}
+
+impl Model for TransitId {
+    ghost use Rattle.std.specs.Prelude.{ℕ};
+
+    ghost Value = { ℕ };
+
+    ghost view = { λ a. a.index };
+
+    ghost inverse = { λ n. record { index = n } };
+}
+
+impl Copy for TransitId {}
+
+impl TransitId {
+    /// Its number.
+    pub fn index(self) -> u32
+        ensures { result ≡ self }
+    {
+        self.index
+    }
+}
+
+/// Why a callback was refused, in the order in which the reasons are tried. A refused callback is dropped.
+#[derive(Clone, Copy, Debug, PartialEq, Eq, Error)]
+pub enum RegisterFault {
+    /// It does not know 2 to 1,001 nodes, or not as many as the first that was registered.
+    #[error("the callback does not know 2 to 1,001 nodes, or not as many as the first")]
+    Size,
+    /// There are 16 callbacks already.
+    #[error("there are 16 callbacks")]
+    Many,
+    /// There is no memory for one more.
+    #[error("out of memory")]
+    NoMemory,
+}
+
+/// At most 16 callbacks, each under its name, and all over the same nodes.
+#[derive(Drop)]
+pub struct Registry {
+    slots: Vec<Slot>,
+    ghost tables: { AreTables (map slot_table slots.items) },
+}
+
+impl Registry {
+    ghost use Rattle.callback_store.specs.Registry.{tables};
+
+    /// A registry without callbacks.
+    pub fn new(alloc: Global) -> Registry
+        ensures { tables result ≡ [] }
+    {
+        Registry {
+            slots: Vec::new(alloc),
+        }
+    }
+
+    /// How many callbacks there are.
+    pub fn count(&self) -> u32
+        ensures value { result ≡ length (tables self.now) }
+        ensures small { result ≤ 16 }
+    {
+        self.slots.len() as u32
+    }
+
+    /// Whether there is a callback of this name.
+    pub fn has(&self, id: TransitId) -> bool
+        ensures { result ≡ nat_lt id (length (tables self.now)) }
+    {
+        (id.index as usize) < self.slots.len()
+    }
+
+    /// How many nodes each callback knows, and 0 where there is no callback.
+    pub fn nodes(&self) -> u32
+        ensures value { result ≡ nodes_of (tables self.now) }
+        ensures small { result ≤ 1001 }
+    {
+        match self.slots.first() {
+            None => 0,
+            Some(slot) => slot.size(),
+        }
+    }
+
+    /// Whether a callback for so many nodes may join.
+    fn is_fitting(&self, size: u32) -> bool
+        ensures { result ≡ is_fitting (tables self.now) size }
+    {
+        2 <= size && size <= 1001 && (self.slots.is_empty() || self.nodes() == size)
+    }
+
+    /// Takes a two-node callback, and answers its name. The others keep their names and tables.
+    ///
+    /// On a refusal nothing changes, and the callback is dropped.
+    pub fn register(&mut self, transit: Transit) -> Result<TransitId, RegisterFault>
+        ensures id { IfOk result (λ id. id ≡ length (tables self.old)) }
+        ensures ok { IfOk result (λ id. tables self.new ≡ tables self.old ++ pair_table transit ∷ []) }
+        ensures size { IsErrOf result RegisterFault.Size ↔ (is_fitting (tables self.old) (pair_table transit).size ≡ false) }
+        ensures many { IsErrOf result RegisterFault.Many ↔ ((is_fitting (tables self.old) (pair_table transit).size ≡ true) × (16 ≤ length (tables self.old))) }
+        ensures err { OnErr result (tables self.new ≡ tables self.old) }
+    {
+        if !self.is_fitting(transit.size()) {
+            return Err(RegisterFault::Size);
+        }
+        let index = self.count();
+        if index >= 16 {
+            return Err(RegisterFault::Many);
+        }
+        match self.slots.push(Slot::Pair(transit)) {
+            Ok(()) => Ok(TransitId { index }),
+            Err(_) => Err(RegisterFault::NoMemory),
+        }
+    }
+
+    /// Takes a one-node callback, and answers its name. The others keep their names and tables.
+    ///
+    /// On a refusal nothing changes, and the callback is dropped.
+    pub fn register_unary(&mut self, unary: Unary) -> Result<TransitId, RegisterFault>
+        ensures id { IfOk result (λ id. id ≡ length (tables self.old)) }
+        ensures ok { IfOk result (λ id. tables self.new ≡ tables self.old ++ node_table unary ∷ []) }
+        ensures size { IsErrOf result RegisterFault.Size ↔ (is_fitting (tables self.old) (node_table unary).size ≡ false) }
+        ensures many { IsErrOf result RegisterFault.Many ↔ ((is_fitting (tables self.old) (node_table unary).size ≡ true) × (16 ≤ length (tables self.old))) }
+        ensures err { OnErr result (tables self.new ≡ tables self.old) }
+    {
+        if !self.is_fitting(unary.size()) {
+            return Err(RegisterFault::Size);
+        }
+        let index = self.count();
+        if index >= 16 {
+            return Err(RegisterFault::Many);
+        }
+        match self.slots.push(Slot::Node(unary)) {
+            Ok(()) => Ok(TransitId { index }),
+            Err(_) => Err(RegisterFault::NoMemory),
+        }
+    }
+
+    /// The answer of a callback on the way from node `i` to node `j`: that for the ordered pair, or that for `i`
+    /// where it is a one-node callback. It counts one ask.
+    pub fn ask(&self, id: TransitId, meter: &mut Meter, i: u32, j: u32) -> u64
+        requires registered { id < length (tables self.now) }
+        requires from { i < nodes_of (tables self.now) }
+        requires to { j < nodes_of (tables self.now) }
+        ensures answer { result ≡ entry (table_at (tables self.now) id) i j }
+        ensures small { result ≤ 1000000000 }
+        ensures counted { meter.new ≡ after_ask meter.old }
+    {
+        let slot = &self.slots[id.index as usize];
+        slot.ask(meter, i, j)
+    }
+}

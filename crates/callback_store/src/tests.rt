@@ -1,0 +1,115 @@
+ghost use Rattle.std.specs.Prelude.{◌≡◌, ◌<◌, ◌+◌, ◌*◌, slice_index, length};
+
+use crate::{Meter, RegisterFault, Registry, Transit, Unary};
+use std::test::Fail;
+
+#[test]
+fn answers_of_a_vec(rt: HostRuntime) -> Result<(), Fail> {
+    let demands = vec![in rt.alloc(); 0u64, 4, 3]?;
+    let call = Box::new(
+        rt.alloc(),
+        move |i: u32| -> u64
+            requires { i < length demands.items }
+            ensures { result ≡ slice_index demands.items i }
+        { demands[i as usize] },
+    )?;
+    let unary = Unary::new(3, call);
+    let mut meter = Meter::new();
+    assert_eq!(rt; unary.size(), 3);
+    assert_eq!(rt; unary.ask(&mut meter, 1), 4);
+    assert_eq!(rt; unary.ask(&mut meter, 2), 3);
+    assert_eq!(rt; meter.asks, 2);
+    Ok(())
+}
+
+#[test]
+fn registers_both_kinds(rt: HostRuntime) -> Result<(), Fail> {
+    let demands = vec![in rt.alloc(); 0u64, 4]?;
+    let travel = vec![in rt.alloc(); 0u64, 10, 20, 0]?;
+    let one = Box::new(
+        rt.alloc(),
+        move |i: u32| -> u64
+            requires { i < length demands.items }
+            ensures { result ≡ slice_index demands.items i }
+        { demands[i as usize] },
+    )?;
+    let two = Box::new(
+        rt.alloc(),
+        move |i: u32, j: u32| -> u64
+            requires { i * 2 + j < length travel.items }
+            ensures { result ≡ slice_index travel.items (i * 2 + j) }
+        { travel[i as usize * 2 + j as usize] },
+    )?;
+    let unary = Unary::new(2, one);
+    let transit = Transit::new(2, two);
+    let mut registry = Registry::new(rt.alloc());
+    let load = registry.register_unary(unary).expect(&rt, "room");
+    let time = registry.register(transit).expect(&rt, "room");
+    let mut meter = Meter::new();
+    assert_eq!(rt; registry.ask(load, &mut meter, 1, 0), 4);
+    assert_eq!(rt; registry.ask(time, &mut meter, 0, 1), 10);
+    assert_eq!(rt; registry.ask(time, &mut meter, 1, 0), 20);
+    assert_eq!(rt; meter.asks, 3);
+    Ok(())
+}
+
+#[test]
+fn refuses_sizes_and_a_seventeenth(rt: HostRuntime) -> Result<(), Fail> {
+    let mut registry = Registry::new(rt.alloc());
+    for step in 0..21u32 {
+        let (size, wanted) = match step {
+            0 => (1u32, Err(RegisterFault::Size)),
+            1 => (1002, Err(RegisterFault::Size)),
+            2 => (2, Ok(0u32)),
+            3 | 20 => (3, Err(RegisterFault::Size)),
+            19 => (2, Err(RegisterFault::Many)),
+            _ => (2, Ok(step - 3)),
+        };
+        let call = Box::new(
+            rt.alloc(),
+            move |_i: u32| -> u64
+                ensures { result ≡ 7 }
+            { 7 },
+        )?;
+        let unary = Unary::new(size, call);
+        let answer = registry.register_unary(unary).map(|id| id.index());
+        assert_eq!(rt; answer, wanted, "at {step}");
+    }
+    assert_eq!(rt; registry.count(), 16);
+    assert_eq!(rt; registry.nodes(), 2);
+    Ok(())
+}
+
+#[test]
+fn counts_stay_at_their_greatest(rt: HostRuntime) {
+    let mut meter = Meter {
+        asks: u64::MAX - 1,
+        probes: u64::MAX - 1,
+        walks: u64::MAX - 1,
+    };
+    for _ in 0..2 {
+        meter.ask();
+        meter.probe();
+        meter.walk();
+    }
+    assert_eq!(rt;
+        meter,
+        Meter {
+            asks: u64::MAX,
+            probes: u64::MAX,
+            walks: u64::MAX
+        }
+    );
+    let mut fresh = Meter::new();
+    fresh.probe();
+    fresh.walk();
+    fresh.walk();
+    assert_eq!(rt;
+        fresh,
+        Meter {
+            asks: 0,
+            probes: 1,
+            walks: 2
+        }
+    );
+}

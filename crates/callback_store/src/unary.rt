@@ -1,0 +1,53 @@
+ghost use Rattle.std.specs.Prelude.{◌≡◌, ℕ, ◌<◌, ◌≤◌, List, slice_index};
+ghost use Rattle.callback_store.specs.Callback.{TableOf, TableOf-prop, IsTableOf};
+ghost use Rattle.callback_store.specs.Meter.{after_ask};
+
+use crate::meter::Meter;
+
+/// A closure that answers for one node.
+pub type UnaryCall = Box<dyn Fn(u32) -> u64 + Send + Sync>;
+
+/// A unary callback: how many nodes it knows, and its answer for each. On a way it answers for the node that is left.
+///
+/// Nodes count from 0, and node 0 is the depot. An answer is 0 to 1,000,000,000, and always the same for a node.
+#[derive(Drop)]
+pub struct Unary {
+    size: u32,
+    call: UnaryCall,
+    ghost callable: { (i : ℕ) → i < size → UnaryCall.pre call i },
+    ghost table: { TableOf size (UnaryCall.post call) } by { TableOf-prop _ _ },
+}
+
+impl Unary {
+    ghost use Rattle.callback_store.specs.Tables.{node_table};
+
+    /// Keeps a closure for `size` nodes.
+    ///
+    /// The closure may be called from any thread. Any size is taken here; a registry takes 2 to 1,001 nodes.
+    pub fn new(size: u32, call: UnaryCall) -> Unary
+        requires callable { (i : ℕ) → i < size → UnaryCall.pre call i }
+        requires table { TableOf size (UnaryCall.post call) }
+        ensures sized { (node_table result).size ≡ size }
+        ensures table { (table : List ℕ) → IsTableOf size (UnaryCall.post call) table → (node_table result).entries ≡ table }
+    {
+        Unary { size, call }
+    }
+
+    /// How many nodes it knows.
+    pub fn size(&self) -> u32
+        ensures { result ≡ (node_table self.now).size }
+    {
+        self.size
+    }
+
+    /// The answer for node `i`. It is the only way to the closure, and counts one ask.
+    pub fn ask(&self, meter: &mut Meter, i: u32) -> u64
+        requires { i < (node_table self.now).size }
+        ensures answer { result ≡ slice_index (node_table self.now).entries i }
+        ensures small { result ≤ 1000000000 }
+        ensures counted { meter.new ≡ after_ask meter.old }
+    {
+        meter.ask();
+        (self.call)(i)
+    }
+}
