@@ -1,0 +1,14 @@
+pub mod Booleans
+pub mod Cutting
+pub mod Trimming
+pub mod Numbers
+pub mod Names
+pub mod Checking
+pub mod Parts
+pub mod Rows
+pub mod Whole
+pub mod NumberRelation
+pub mod NameRelation
+pub mod Faults
+pub mod Relation
+pub mod Soundness
