@@ -1,0 +1,47 @@
+use Rattle.std.specs.Prelude.{◌≡◌, ℕ, ◌+◌, ◌*◌, ◌<◌, ◌≤◌, List, length, slice_index, slice_index_or}
+use Rattle.std.specs.Int.{abs_diff}
+use Rattle.solomon_reader.specs.declared.instance.Node.{Node}
+use Rattle.travel_table.specs.Root.{IsRoot}
+
+-- the node at a number, and one at the origin where there is none
+abbrev pub node_at : List Node → ℕ → Node
+node_at nodes i = slice_index_or nodes i (record { x = 0; y = 0; demand = 0; ready = 0; due = 0; service = 0 })
+
+-- how far two nodes are apart, squared, in hundredths of a squared unit: the square of tenths
+abbrev pub square_between : Node → Node → ℕ
+square_between a b = 100 * (abs_diff a.x b.x * abs_diff a.x b.x + abs_diff a.y b.y * abs_diff a.y b.y)
+
+-- t is the travel from node i to node j: the greatest whole number of tenths that is at most the straight way
+abbrev pub IsTravel : List Node → ℕ → ℕ → ℕ → Type 0
+IsTravel nodes i j t = IsRoot (square_between (node_at nodes i) (node_at nodes j)) t
+
+-- a table of numbers for ordered pairs: how many nodes it knows, and its numbers, row by row
+pub record Distances : Type 0 where
+  pub size : ℕ
+  pub entries : List ℕ
+
+-- the number for a pair
+abbrev pub travel_at : Distances → ℕ → ℕ → ℕ
+travel_at d i j = slice_index d.entries (i * d.size + j)
+
+-- what every table of travel keeps
+pub record AreDistances (d : Distances) : Type 0 where
+  pub square : length d.entries ≡ d.size * d.size
+  pub small : (k : ℕ) → k < length d.entries → slice_index d.entries k ≤ 141421342
+
+-- the table has the travel between any two of the nodes
+pub record IsTravelOf (nodes : List Node) (d : Distances) : Type 0 where
+  pub sized : d.size ≡ length nodes
+  pub travel : (i j : ℕ) → i < length nodes → j < length nodes → IsTravel nodes i j (travel_at d i j)
+  pub small : (i j : ℕ) → i < length nodes → j < length nodes → travel_at d i j ≤ 141421342
+
+-- no coordinate is above 9,999,999
+pub record IsNear (node : Node) : Type 0 where
+  pub x : node.x ≤ 9999999
+  pub y : node.y ≤ 9999999
+
+-- the first so many entries of a table are filled with travel
+pub record AreFilled (nodes : List Node) (entries : List ℕ) (count : ℕ) : Type 0 where
+  pub counted : length entries ≡ count
+  pub travel : (i j : ℕ) → j < length nodes → i * length nodes + j < count → IsTravel nodes i j (slice_index entries (i * length nodes + j))
+  pub small : (k : ℕ) → k < count → slice_index entries k ≤ 141421342
