@@ -1,0 +1,4 @@
+pub mod Outs
+pub mod Places
+pub mod Reach
+pub mod Spans

@@ -1,0 +1,130 @@
+use Rattle.std.proofs.Common.{◌≡◌, ℕ, suc, ◌+◌, ◌-◌, ◌<◌, ◌≤◌, ◌∙◌, sym, ap, subst, refl, arith, List, [], ◌∷◌, ◌++◌, length, take, drop, slice_index, slice_index_or, is_some, IsTrue, ◌↔◌, inl, inr, Option, Some, None}
+use Rattle.std.proofs.lemmas.List.{take_more, take_all, take-append-drop}
+use Rattle.callback_store.specs.Tables.{Table}
+use Rattle.dimension_core.specs.declared.range.Range.{Range}
+use Rattle.dimension_core.specs.Cumuls.{Bounds, IsStart, IsStep, IsWithin, IsSpan, GoOn, Reaches, last_of, IsInBounds, IsEarly}
+
+last_of-push : (n : ℕ) (ms : List ℕ) (m : ℕ) → last_of n (ms ++ m ∷ []) ≡ m
+last_of-push n [] m = refl
+last_of-push n (k ∷ ms) m = last_of-push k ms m
+
+-- cumuls go on by one more
+go_push : (t : Table) (d : Bounds) (v i x : ℕ) (js ys : List ℕ) (k y : ℕ) → GoOn t d v i x js ys
+    → IsStep t d v (last_of i js) (last_of x ys) k y → GoOn t d v i x (js ++ k ∷ []) (ys ++ y ∷ [])
+go_push t d v i x [] [] k y g s = (s, tt)
+go_push t d v i x (j ∷ js) (z ∷ ys) k y g s = (g.0, go_push t d v j z js ys k y g.1 s)
+go_push t d v i x [] (z ∷ ys) k y g s = absurd g
+go_push t d v i x (j ∷ js) [] k y g s = absurd g
+
+-- and without the last one they are cumuls too
+go_pop : (t : Table) (d : Bounds) (v i x : ℕ) (js : List ℕ) (k : ℕ) (zs : List ℕ) → GoOn t d v i x (js ++ k ∷ []) zs
+    → (ys : List ℕ) × GoOn t d v i x js ys × IsStep t d v (last_of i js) (last_of x ys) k (last_of x zs)
+go_pop t d v i x [] k [] g = absurd g
+go_pop t d v i x [] k (z ∷ []) g = ([], tt, g.0)
+go_pop t d v i x [] k (z ∷ (w ∷ zs)) g = absurd g.1
+go_pop t d v i x (j ∷ js) k [] g = absurd g
+go_pop t d v i x (j ∷ js) k (z ∷ zs) g = let r = go_pop t d v j z js k zs g.1 in (z ∷ r.0, (g.0, r.1), r.2)
+
+-- and for the first nodes alone
+go_front : (t : Table) (d : Bounds) (v i x : ℕ) (js ks zs : List ℕ) → GoOn t d v i x (js ++ ks) zs → (ys : List ℕ) × GoOn t d v i x js ys
+go_front t d v i x [] ks zs g = ([], tt)
+go_front t d v i x (j ∷ js) ks [] g = absurd g
+go_front t d v i x (j ∷ js) ks (z ∷ zs) g = let r = go_front t d v j z js ks zs g.1 in (z ∷ r.0, (g.0, r.1))
+
+reach_push : (t : Table) (d : Bounds) (v : ℕ) (js : List ℕ) (x k y : ℕ) → Reaches t d v js x → IsStep t d v (last_of 0 js) x k y → Reaches t d v (js ++ k ∷ []) y
+reach_push t d v js x k y ([], a, e) s = absurd a
+reach_push t d v js x k y (c ∷ cs, a, e) s =
+    let step : IsStep t d v (last_of 0 js) (last_of c cs) k y = subst (λ (n : ℕ). IsStep t d v (last_of 0 js) n k y) (sym e) s in
+    (c ∷ (cs ++ y ∷ []), (a.0, go_push t d v 0 c js cs k y a.1 step), last_of-push c cs y)
+
+reach_pop : (t : Table) (d : Bounds) (v : ℕ) (js : List ℕ) (k y : ℕ) → Reaches t d v (js ++ k ∷ []) y → (x : ℕ) × Reaches t d v js x × IsStep t d v (last_of 0 js) x k y
+reach_pop t d v js k y ([], a, e) = absurd a
+reach_pop t d v js k y (c ∷ cs, a, e) =
+    let r = go_pop t d v 0 c js k cs a.1 in
+    (last_of c r.0, (c ∷ r.0, (a.0, r.1), refl), subst (λ (n : ℕ). IsStep t d v (last_of 0 js) (last_of c r.0) k n) e r.2)
+
+reach_front : (t : Table) (d : Bounds) (v : ℕ) (js ks : List ℕ) (y : ℕ) → Reaches t d v (js ++ ks) y → (x : ℕ) × Reaches t d v js x
+reach_front t d v js ks y ([], a, e) = absurd a
+reach_front t d v js ks y (c ∷ cs, a, e) =
+    let r = go_front t d v 0 c js ks cs a.1 in (last_of c r.0, (c ∷ r.0, (a.0, r.1), refl))
+
+reach_start : (t : Table) (d : Bounds) (v x : ℕ) → Reaches t d v [] x → IsStart d v x
+reach_start t d v x ([], a, e) = absurd a
+reach_start t d v x (c ∷ [], a, e) = subst (λ (n : ℕ). IsStart d v n) e a.0
+reach_start t d v x (c ∷ (w ∷ cs), a, e) = absurd a.1
+
+-- the cumuls at the depot
+pub span_start : (t : Table) (d : Bounds) (v : ℕ) (o : Option Range) → IsSpan o (IsStart d v) → IsSpan o (Reaches t d v [])
+span_start t d v o s = record {
+  filled = s.filled;
+  inside = λ x w. (x ∷ [], (s.inside x w, tt), refl);
+  all = λ x p. s.all x (reach_start t d v x p);
+}
+
+-- the cumuls at one node more
+pub span_push : (t : Table) (d : Bounds) (v : ℕ) (js : List ℕ) (k : ℕ) (r : Range) (o : Option Range) → IsSpan (Some r) (Reaches t d v js)
+    → IsSpan o (λ y. (x : ℕ) × IsWithin (Some r) x × IsStep t d v (last_of 0 js) x k y) → IsSpan o (Reaches t d v (js ++ k ∷ []))
+span_push t d v js k r o s n = record {
+  filled = n.filled;
+  inside = λ y w. let p = n.inside y w in reach_push t d v js p.0 k y (s.inside p.0 p.1) p.2;
+  all = λ y p. let q = reach_pop t d v js k y p in n.all y (q.0, s.all q.0 q.1, q.2);
+}
+
+-- where there is none at a node, there is none at a later one
+pub span_none : (t : Table) (d : Bounds) (v : ℕ) (js ks : List ℕ) → IsSpan None (Reaches t d v js) → IsSpan None (Reaches t d v (js ++ ks))
+span_none t d v js ks s = record {
+  filled = tt;
+  inside = λ y w. absurd w;
+  all = λ y p. let q = reach_front t d v js ks y p in s.all q.0 q.1;
+}
+
+last_of-index_or : (n : ℕ) (ms : List ℕ) (d : ℕ) → 0 < length ms → last_of n ms ≡ slice_index_or ms (length ms - 1) d
+last_of-index_or n [] d h = absurd (omega arith)
+last_of-index_or n (m ∷ []) d h = refl
+last_of-index_or n (m ∷ (k ∷ ms)) d h =
+    let e : length (m ∷ (k ∷ ms)) - 1 ≡ suc (length (k ∷ ms) - 1) = omega arith in
+    last_of-index_or m (k ∷ ms) d (omega arith) ∙ ap (λ (i : ℕ). slice_index_or (m ∷ (k ∷ ms)) i d) (sym e)
+
+-- the last node is that at the last place
+pub last_of-index : (ms : List ℕ) (n : ℕ) → 0 < length ms → n ≡ slice_index ms (length ms - 1) → n ≡ last_of 0 ms
+last_of-index ms n h e = e ∙ sym (last_of-index_or 0 ms 0 h)
+
+-- a route with customers has cumuls exactly where there is an interval at its end
+pub bounds_found : (t : Table) (d : Bounds) (v : ℕ) (route : List ℕ) (o : Option Range) → 0 < length route
+    → IsSpan o (Reaches t d v (route ++ 0 ∷ [])) → IsTrue (is_some o) ↔ IsInBounds t d v route
+bounds_found t d v route None h s = (
+  λ p. cc,
+  λ b. elim b [
+    | inl e ↦ absurd (omega (arith, ap length e))
+    | inr q ↦ absurd (s.all (last_of 0 q.0) (q.0, q.1, refl))
+  ],
+)
+bounds_found t d v route (Some r) h s =
+    (λ p. let q = s.inside r.lo (omega arith, s.filled) in inr (q.0, q.1), λ b. refl)
+
+-- the cumuls at one node more of a list
+pub span_more : (t : Table) (d : Bounds) (v : ℕ) (nodes : List ℕ) (k from node : ℕ) (r : Range) (o : Option Range) → k < length nodes
+    → IsSpan (Some r) (Reaches t d v (take k nodes)) → from ≡ last_of 0 (take k nodes) → node ≡ slice_index nodes k
+    → IsSpan o (λ y. (x : ℕ) × IsWithin (Some r) x × IsStep t d v from x node y) → IsSpan o (Reaches t d v (take (k + 1) nodes))
+span_more t d v nodes k from node r o h s last here n =
+    let e : take (k + 1) nodes ≡ take k nodes ++ node ∷ [] = rw here (take_more nodes k 0 h) in
+    let m = subst (λ (i : ℕ). IsSpan o (λ y. (x : ℕ) × IsWithin (Some r) x × IsStep t d v i x node y)) last n in
+    subst (λ (js : List ℕ). IsSpan o (Reaches t d v js)) (sym e) (span_push t d v (take k nodes) node r o s m)
+
+-- where there is none at the first nodes of a list, there is none at its end
+pub span_rest : (t : Table) (d : Bounds) (v : ℕ) (nodes : List ℕ) (k : ℕ) → IsSpan None (Reaches t d v (take k nodes)) → IsSpan None (Reaches t d v nodes)
+span_rest t d v nodes k s =
+    subst (λ (js : List ℕ). IsSpan None (Reaches t d v js)) (take-append-drop k nodes) (span_none t d v (take k nodes) (drop k nodes) s)
+
+-- the node at a place is the last of the nodes up to it
+pub last_of-push_at : (nodes : List ℕ) (k : ℕ) → k < length nodes → slice_index nodes k ≡ last_of 0 (take (k + 1) nodes)
+last_of-push_at nodes k h = sym (ap (last_of 0) (take_more nodes k 0 h) ∙ last_of-push 0 (take k nodes) (slice_index nodes k))
+
+-- the least last cumul is the interval's first number
+pub span_early : (t : Table) (d : Bounds) (v : ℕ) (js : List ℕ) (r : Range) → IsSpan (Some r) (Reaches t d v js) → IsEarly t d v js r.lo
+span_early t d v js r s = record { reached = s.inside r.lo (omega arith, s.filled); least = λ z p. (s.all z p).0 }
+
+-- the cumuls at the end of a list
+pub span_whole : (t : Table) (d : Bounds) (v : ℕ) (nodes : List ℕ) (k : ℕ) (o : Option Range) → length nodes ≤ k
+    → IsSpan o (Reaches t d v (take k nodes)) → IsSpan o (Reaches t d v nodes)
+span_whole t d v nodes k o h s = subst (λ (js : List ℕ). IsSpan o (Reaches t d v js)) (take_all k nodes h) s

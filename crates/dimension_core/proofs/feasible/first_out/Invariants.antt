@@ -1,0 +1,11 @@
+use Rattle.std.proofs.Common.{ℕ, ◌<◌, ◌≤◌, ◌+◌, ◌*◌, length}
+use Rattle.dimension_core.specs.Setup.{setting}
+use Rattle.dimension_core.specs.Feasible.{FitsIn}
+use Rattle.dimension_core.proofs.feasible.first_out.Given as goal
+
+-- the route is in bounds in each dimension so far
+abbrev pub invariant-loop-k : goal.invariant-loop-k
+invariant-loop-k g l = record {
+  fits : (n : ℕ) → n < l.k → FitsIn (setting l.setup) n l.vehicle l.route;
+  asks : l.meter.asks ≤ l.fn.meter.asks + l.k * (length l.route + 1);
+}

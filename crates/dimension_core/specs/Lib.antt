@@ -1,0 +1,4 @@
+pub mod Cumuls
+pub mod Feasible
+pub mod Setting
+pub mod Setup

@@ -1,0 +1,288 @@
+ghost use Rattle.std.specs.Prelude.{◌≡◌, ℕ, ◌+◌, ◌<◌, ◌≤◌, ◌↔◌, true, false, List, [], ◌∷◌, ◌++◌, length, slice_index, IfSome, IfOk, IsErrOf, IsTrue, Some, None, All};
+ghost use Rattle.std.specs.Result.{result_err};
+ghost use Rattle.callback_store.specs.Meter.{after_ask};
+ghost use Rattle.callback_store.specs.Registry.{tables};
+ghost use Rattle.dimension_core.specs.Cumuls.{Bounds, IsStart, IsStep, IsWithin, IsSpan, IsServed, cap_of, range_of, IsInBounds, Reaches, table_of, last_of, dimension_refusal, is_in_range, are_caps, are_ranges, is_sized, IsEarly};
+
+use crate::range::Range;
+use callback_store::{Meter, Registry, TransitId};
+use std::marker::Model;
+use thiserror::Error;
+
+/// The greatest number in a dimension.
+const LIMIT: u64 = 1_000_000_000_000;
+
+/// Why a dimension was refused, in the order in which the reasons are tried.
+#[derive(Clone, Copy, Debug, PartialEq, Eq, Error)]
+pub enum DimensionFault {
+    /// Its callback is not registered.
+    #[error("the callback is not registered")]
+    NoTransit,
+    /// The capacities are not 1 to 1,000, or there is not a range for each node of the registry.
+    #[error("the capacities are not 1 to 1,000, or there is not a range for each node")]
+    Size,
+    /// A range is empty, or a number of a range, a capacity or the slack is above 1,000,000,000,000.
+    #[error("a range is empty, or a number is above 1,000,000,000,000")]
+    Range,
+}
+
+/// What bounds the cumuls along a route, in the manner of OR-Tools' dimensions.
+///
+/// A cumul is kept at each stop: the depot, the route's customers, the depot. Each lies in its node's range and is at
+/// most the vehicle's capacity, and the next is this one plus the transit plus a slack of at most the greatest slack.
+/// Vehicles count from 1 and nodes from 0; node 0 is the depot.
+#[derive(Drop)]
+pub struct Dimension {
+    id: TransitId,
+    slack_max: u64,
+    caps: Vec<u64>,
+    fixed: bool,
+    ranges: Vec<Range>,
+}
+
+impl Model for Dimension {
+    ghost use Rattle.dimension_core.specs.Cumuls.{Bounds, AreBounds};
+
+    ghost Value = { Bounds };
+
+    ghost view = { λ a. record { id = a.id; slack_max = a.slack_max; caps = a.caps.items; fixed = a.fixed; ranges = a.ranges.items } };
+
+    ghost invariant = { λ a. AreBounds (record { id = a.id; slack_max = a.slack_max; caps = a.caps.items; fixed = a.fixed; ranges = a.ranges.items }) };
+}
+
+/// Whether no range is empty, and no number above the limit.
+fn is_in_range(slack_max: u64, caps: &[u64], ranges: &[Range]) -> bool
+    ensures { result ≡ is_in_range slack_max caps.now ranges.now }
+{
+    slack_max <= LIMIT && are_caps(caps) && are_ranges(ranges)
+}
+
+/// Whether no capacity is above the limit.
+fn are_caps(caps: &[u64]) -> bool
+    ensures { result ≡ are_caps caps.now }
+{
+    caps.iter().all(|cap| *cap <= LIMIT)
+}
+
+/// Whether no range is empty, and none ends above the limit.
+fn are_ranges(ranges: &[Range]) -> bool
+    ensures { result ≡ are_ranges ranges.now }
+{
+    ranges
+        .iter()
+        .all(|range| range.lo <= range.hi && range.hi <= LIMIT)
+}
+
+/// Whether there are 1 to 1,000 capacities, and a range for each node of the registry.
+fn is_sized(registry: &Registry, caps: &[u64], ranges: &[Range]) -> bool
+    ensures { result ≡ is_sized (tables registry.now) caps.now ranges.now }
+{
+    1 <= caps.len() && caps.len() <= 1000 && ranges.len() == registry.nodes() as usize
+}
+
+impl Dimension {
+    /// A dimension over a callback of the registry: the greatest slack, a capacity for each vehicle (the first is that
+    /// of vehicle 1), whether the first cumul is 0, and a range for each node. It takes no memory.
+    ///
+    /// The refusals come in the order of `DimensionFault`.
+    pub fn new(
+        registry: &Registry,
+        id: TransitId,
+        slack_max: u64,
+        caps: Vec<u64>,
+        fix_start: bool,
+        ranges: Vec<Range>,
+    ) -> Result<Dimension, DimensionFault>
+        ensures ok { IfOk result (λ d. d ≡ record { id = id; slack_max = slack_max; caps = caps.items; fixed = fix_start; ranges = ranges.items }) }
+        ensures refused { result_err result ≡ dimension_refusal (tables registry.now) id slack_max caps.items ranges.items }
+    {
+        if !registry.has(id) {
+            return Err(DimensionFault::NoTransit);
+        }
+        if !is_sized(registry, &caps, &ranges) {
+            return Err(DimensionFault::Size);
+        }
+        if !is_in_range(slack_max, &caps, &ranges) {
+            return Err(DimensionFault::Range);
+        }
+        Ok(Dimension {
+            id,
+            slack_max,
+            caps,
+            fixed: fix_start,
+            ranges,
+        })
+    }
+
+    /// The name of its callback.
+    pub fn id(&self) -> TransitId
+        ensures { result ≡ self.now.id }
+    {
+        self.id
+    }
+
+    /// The greatest slack.
+    pub fn slack_max(&self) -> u64
+        ensures value { result ≡ self.now.slack_max }
+        ensures small { result ≤ 1000000000000 }
+    {
+        self.slack_max
+    }
+
+    /// Whether the cumul at the start is 0.
+    pub fn is_fixed(&self) -> bool
+        ensures { result ≡ self.now.fixed }
+    {
+        self.fixed
+    }
+
+    /// How many vehicles it knows.
+    pub fn vehicles(&self) -> u32
+        ensures value { result ≡ length self.now.caps }
+        ensures low { 1 ≤ result }
+        ensures high { result ≤ 1000 }
+    {
+        self.caps.len() as u32
+    }
+
+    /// How many nodes it knows.
+    pub fn nodes(&self) -> u32
+        ensures value { result ≡ length self.now.ranges }
+        ensures low { 2 ≤ result }
+        ensures high { result ≤ 1001 }
+    {
+        self.ranges.len() as u32
+    }
+
+    /// The capacity of a vehicle.
+    pub fn cap(&self, vehicle: u32) -> u64
+        requires low { 1 ≤ vehicle }
+        requires high { vehicle ≤ length self.now.caps }
+        ensures value { result ≡ cap_of self.now vehicle }
+        ensures small { result ≤ 1000000000000 }
+    {
+        self.caps[vehicle as usize - 1]
+    }
+
+    /// The range of a node.
+    pub fn range(&self, node: u32) -> Range
+        requires { node < length self.now.ranges }
+        ensures value { result ≡ range_of self.now node }
+        ensures filled { result.lo ≤ result.hi }
+        ensures small { result.hi ≤ 1000000000000 }
+    {
+        self.ranges[node as usize]
+    }
+
+    /// The cumuls with which a vehicle may leave the depot, and none where there are none.
+    pub fn start(&self, vehicle: u32) -> Option<Range>
+        requires low { 1 ≤ vehicle }
+        requires high { vehicle ≤ length self.now.caps }
+        ensures span { IsSpan result (IsStart self.now vehicle) }
+        ensures depot { 0 < length self.now.ranges }
+        ensures small { IfSome result (λ r. r.hi ≤ 1000000000000) }
+    {
+        let depot = self.ranges[0];
+        let cap = self.caps[vehicle as usize - 1];
+        let hi = if self.fixed { 0 } else { depot.hi.min(cap) };
+        if depot.lo <= hi {
+            Some(Range { lo: depot.lo, hi })
+        } else {
+            None
+        }
+    }
+
+    /// The cumuls that a vehicle may have at node `j` after one of the range at node `i`, and none where there are none.
+    /// It asks the callback once.
+    pub fn extend(
+        &self,
+        registry: &Registry,
+        range: Range,
+        i: u32,
+        j: u32,
+        vehicle: u32,
+        meter: &mut Meter,
+    ) -> Option<Range>
+        requires served { IsServed (tables registry.now) self.now }
+        requires from { i < length self.now.ranges }
+        requires to { j < length self.now.ranges }
+        requires low { 1 ≤ vehicle }
+        requires high { vehicle ≤ length self.now.caps }
+        ensures span { IsSpan result (λ y. (x : ℕ) × IsWithin (Some range) x × IsStep (table_of (tables registry.now) self.now) self.now vehicle i x j y) }
+        ensures small { IfSome result (λ r. r.hi ≤ 1000000000000) }
+        ensures counted { meter.new ≡ after_ask meter.old }
+    {
+        let transit = registry.ask(self.id(), meter, i, j);
+        let node = self.range(j);
+        let most = transit + self.slack_max();
+        let lo = range.lo.saturating_add(transit).max(node.lo);
+        let hi = range
+            .hi
+            .saturating_add(most)
+            .min(node.hi)
+            .min(self.cap(vehicle));
+        if range.lo <= range.hi && lo <= hi {
+            Some(Range { lo, hi })
+        } else {
+            None
+        }
+    }
+
+    /// The cumuls that a vehicle may have at the last of some nodes on its way from the depot, and none where there are
+    /// none. The first of them is the early value at that node. It asks the callback at most once for each node.
+    #[tactic(auto, using(crate::proofs::Reach::span_early))]
+    pub fn reach(
+        &self,
+        registry: &Registry,
+        nodes: &[u32],
+        vehicle: u32,
+        meter: &mut Meter,
+    ) -> Option<Range>
+        requires served { IsServed (tables registry.now) self.now }
+        requires known { All (λ node. node < length self.now.ranges) nodes.now }
+        requires low { 1 ≤ vehicle }
+        requires high { vehicle ≤ length self.now.caps }
+        ensures span { IsSpan result (Reaches (table_of (tables registry.now) self.now) self.now vehicle nodes.now) }
+        ensures asks { meter.new.asks ≤ meter.old.asks + length nodes.now }
+        ensures early { IfSome result (λ r. IsEarly (table_of (tables registry.now) self.now) self.now vehicle nodes.now r.lo) }
+        ensures small { IfSome result (λ r. r.hi ≤ 1000000000000) }
+    {
+        let mut range = self.start(vehicle)?;
+        let mut from = 0u32;
+        for node in nodes {
+            range = self.extend(registry, range, from, *node, vehicle, meter)?;
+            from = *node;
+        }
+        Some(range)
+    }
+
+    /// Whether a vehicle's route is in bounds: it is empty, or there are cumuls for its stops.
+    ///
+    /// It asks the callback at most once for each customer and once for the return.
+    pub fn in_bounds(
+        &self,
+        registry: &Registry,
+        route: &[u32],
+        vehicle: u32,
+        meter: &mut Meter,
+    ) -> bool
+        requires served { IsServed (tables registry.now) self.now }
+        requires known { All (λ node. node < length self.now.ranges) route.now }
+        requires low { 1 ≤ vehicle }
+        requires high { vehicle ≤ length self.now.caps }
+        ensures bounds { IsTrue result ↔ IsInBounds (table_of (tables registry.now) self.now) self.now vehicle route.now }
+        ensures asks { meter.new.asks ≤ meter.old.asks + length route.now + 1 }
+    {
+        if route.is_empty() {
+            return true;
+        }
+        match self.reach(registry, route, vehicle, meter) {
+            None => false,
+            Some(range) => {
+                let last = route[route.len() - 1];
+                self.extend(registry, range, last, 0, vehicle, meter)
+                    .is_some()
+            }
+        }
+    }
+}

@@ -1,0 +1,19 @@
+//! Dimensions: cumuls along a route, within ranges, capacities and slack.
+#![tactic(auto)]
+
+mod dimension;
+mod fault;
+mod feasible;
+mod laws;
+mod range;
+mod setup;
+
+pub use dimension::{Dimension, DimensionFault};
+pub use fault::SetupFault;
+pub use feasible::{first_out, first_out_is_alone};
+pub use laws::{cumuls_are_by_place, spans_go_on};
+pub use range::Range;
+pub use setup::Setup;
+
+#[cfg(test)]
+mod tests;
