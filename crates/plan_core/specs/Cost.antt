@@ -1,0 +1,16 @@
+use Rattle.std.specs.Prelude.{ℕ, ◌+◌, List, [], ◌∷◌, ◌++◌, sum_by}
+use Rattle.callback_store.specs.Tables.{Table, entry}
+
+-- the sum of the table's entries on the way from a node over these nodes, in order
+abbrev pub way_cost : Table → ℕ → List ℕ → ℕ
+way_cost table i [] = 0
+way_cost table i (j ∷ js) = entry table i j + way_cost table j js
+
+-- the sum over neighbouring stops of a route: the depot, its customers, the depot; 0 where the route is empty
+abbrev pub route_cost : Table → List ℕ → ℕ
+route_cost table [] = 0
+route_cost table (c ∷ cs) = way_cost table 0 ((c ∷ cs) ++ 0 ∷ [])
+
+-- the sum over all routes
+abbrev pub cost_of : Table → List (List ℕ) → ℕ
+cost_of table routes = sum_by (route_cost table) routes

@@ -1,0 +1,4 @@
+pub mod Plan
+pub mod Homes
+pub mod Commits
+pub mod Cost
