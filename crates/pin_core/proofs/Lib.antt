@@ -1,0 +1,4 @@
+pub mod Standing
+pub mod Fronts
+pub mod Holding
+pub mod Tested

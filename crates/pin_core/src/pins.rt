@@ -1,0 +1,212 @@
+ghost use Rattle.std.specs.Prelude.{◌≡◌, ℕ, ◌≤◌, ◌<◌, ◌↔◌, [], length, take, replicate, Some, None, IsTrue, IfOk, MatchOption, MatchResult, slice_get, All};
+ghost use Rattle.plan_core.specs.Plan.{AreApart, AreChanges, IsNamed, changes_of, route_at, with_routes};
+ghost use Rattle.plan_core.specs.Commits.{named_vehicles};
+ghost use Rattle.pin_core.specs.Pins.{StandsOn, IsHeld, DoPinsHold, AreFreezesKept, DoFrontsFit, pin_of, front_of, with_pin, with_front};
+ghost use Rattle.pin_core.specs.Allowed.{AreAllTouched, IsFirstThawed, IsFirstLoose, IsPinFault};
+
+use crate::fault::PinFault;
+use plan_core::{Plan, Route, Touch, routes_replaced};
+use std::alloc::{AllocError, Global};
+use std::marker::Model;
+use std::sync::Arc;
+
+/// Which customers are pinned to which vehicles, and how many stops at the front of each route are frozen.
+///
+/// Customers and vehicles count from 1. The depot at the start of a route is no stop here: the first stop is the first customer.
+#[derive(Drop)]
+pub struct Pins {
+    pins: Vec<Option<u32>>,
+    fronts: Vec<u32>,
+}
+
+impl Model for Pins {
+    ghost use Rattle.pin_core.specs.Pins.{PinState};
+
+    ghost Value = { PinState };
+
+    ghost view = { λ a. record { pins = a.pins.items; fronts = a.fronts.items } };
+}
+
+impl Pins {
+    /// No customer is pinned and no stop is frozen. Both numbers are at most 1,000.
+    pub fn new(alloc: Global, customers: u32, vehicles: u32) -> Result<Pins, AllocError>
+        requires customers { customers ≤ 1000 }
+        requires vehicles { vehicles ≤ 1000 }
+        ensures { IfOk result (λ pins. pins ≡ record { pins = replicate customers None; fronts = replicate vehicles 0 }) }
+    {
+        let pins = vec![in alloc; None; customers as usize]?;
+        let fronts = vec![in alloc; 0u32; vehicles as usize]?;
+        Ok(Pins { pins, fronts })
+    }
+
+    /// Pins a customer to a vehicle, whether or not it was pinned.
+    pub fn pin(&mut self, customer: u32, vehicle: u32)
+        requires low { 1 ≤ customer }
+        requires high { customer ≤ length self.old.pins }
+        ensures { self.new ≡ with_pin customer (Some vehicle) self.old }
+    {
+        self.pins[customer as usize - 1] = Some(vehicle);
+    }
+
+    /// A customer is pinned no longer.
+    pub fn unpin(&mut self, customer: u32)
+        requires low { 1 ≤ customer }
+        requires high { customer ≤ length self.old.pins }
+        ensures { self.new ≡ with_pin customer None self.old }
+    {
+        self.pins[customer as usize - 1] = None;
+    }
+
+    /// The first so many stops of a vehicle are frozen from now on, whatever was frozen before.
+    pub fn freeze(&mut self, vehicle: u32, frozen: u32)
+        requires low { 1 ≤ vehicle }
+        requires high { vehicle ≤ length self.old.fronts }
+        ensures { self.new ≡ with_front vehicle frozen self.old }
+    {
+        self.fronts[vehicle as usize - 1] = frozen;
+    }
+
+    /// Only the first so many stops of a vehicle are left frozen, whatever was frozen before.
+    pub fn thaw(&mut self, vehicle: u32, left: u32)
+        requires low { 1 ≤ vehicle }
+        requires high { vehicle ≤ length self.old.fronts }
+        ensures { self.new ≡ with_front vehicle left self.old }
+    {
+        self.fronts[vehicle as usize - 1] = left;
+    }
+
+    /// The vehicle to which a customer is pinned, if any.
+    pub fn pinned(&self, customer: u32) -> Option<u32>
+        requires low { 1 ≤ customer }
+        requires high { customer ≤ length self.now.pins }
+        ensures { result ≡ pin_of self.now customer }
+    {
+        let index = customer as usize - 1;
+        self.pins[index]
+    }
+
+    /// How many stops of a vehicle are frozen.
+    pub fn frozen(&self, vehicle: u32) -> u32
+        requires low { 1 ≤ vehicle }
+        requires high { vehicle ≤ length self.now.fronts }
+        ensures { result ≡ front_of self.now vehicle }
+    {
+        let index = vehicle as usize - 1;
+        self.fronts[index]
+    }
+
+    /// Whether the freezes are kept from the plan to the one with these new routes, and the pins hold in that. Only the fronts of the
+    /// named vehicles and the pins of touched customers are looked at: the caller owes that every customer that leaves its vehicle is
+    /// touched. Frozen fronts are judged first, in the order of the new routes, then pins, in the order of the touches.
+    pub fn allows(
+        &self,
+        plan: &Plan,
+        new_routes: &[(u32, Arc<Route>)],
+        touched: &[Touch],
+    ) -> Result<(), PinFault>
+        requires customers { length self.now.pins ≡ plan.now.customers }
+        requires vehicles { length self.now.fronts ≡ length plan.now.routes }
+        requires holding { DoPinsHold self.now plan.now.routes }
+        requires fitting { DoFrontsFit self.now plan.now.routes }
+        requires changes { AreChanges (length plan.now.routes) (changes_of new_routes.now) }
+        requires known { All (λ t. (1 ≤ t.customer) × (t.customer ≤ plan.now.customers)) touched.now }
+        requires touched { AreAllTouched plan.now.routes (with_routes (changes_of new_routes.now) plan.now.routes) touched.now }
+        ensures { MatchResult result
+            (λ _. AreFreezesKept self.now plan.now.routes (with_routes (changes_of new_routes.now) plan.now.routes) × DoPinsHold self.now (with_routes (changes_of new_routes.now) plan.now.routes))
+            (IsPinFault self.now plan.now.routes (with_routes (changes_of new_routes.now) plan.now.routes) (named_vehicles (changes_of new_routes.now)) touched.now) }
+    {
+        if let Some(vehicle) = self.first_thawed(plan, new_routes) {
+            return Err(PinFault::Frozen(vehicle));
+        }
+        match self.first_loose(plan, new_routes, touched) {
+            Some(touch) => Err(PinFault::Pinned(touch.vehicle, touch.place)),
+            None => Ok(()),
+        }
+    }
+
+    /// Whether a route begins with the frozen front of a vehicle.
+    fn keeps_front(&self, plan: &Plan, vehicle: u32, route: &[u32]) -> bool
+        requires low { 1 ≤ vehicle }
+        requires high { vehicle ≤ length plan.now.routes }
+        requires vehicles { length self.now.fronts ≡ length plan.now.routes }
+        requires fitting { DoFrontsFit self.now plan.now.routes }
+        ensures { IsTrue result ↔ (take (front_of self.now vehicle) route.now ≡ take (front_of self.now vehicle) (route_at plan.now.routes vehicle)) }
+    {
+        let frozen = self.frozen(vehicle) as usize;
+        let old = plan.route(vehicle).customers();
+        route.starts_with(&old[..frozen])
+    }
+
+    /// The first named vehicle whose frozen front differs.
+    fn first_thawed(&self, plan: &Plan, new_routes: &[(u32, Arc<Route>)]) -> Option<u32>
+        requires vehicles { length self.now.fronts ≡ length plan.now.routes }
+        requires fitting { DoFrontsFit self.now plan.now.routes }
+        requires apart { AreApart (length plan.now.routes) (changes_of new_routes.now) }
+        ensures { MatchOption result (AreFreezesKept self.now plan.now.routes (with_routes (changes_of new_routes.now) plan.now.routes))
+            (IsFirstThawed self.now plan.now.routes (with_routes (changes_of new_routes.now) plan.now.routes) (named_vehicles (changes_of new_routes.now))) }
+    {
+        routes_replaced();
+        for (vehicle, route) in new_routes {
+            if !self.keeps_front(plan, *vehicle, route.customers()) {
+                return Some(*vehicle);
+            }
+        }
+        None
+    }
+
+    /// The first touch whose customer is pinned to a vehicle on which it would not stand.
+    fn first_loose(
+        &self,
+        plan: &Plan,
+        new_routes: &[(u32, Arc<Route>)],
+        touched: &[Touch],
+    ) -> Option<Touch>
+        requires apart { AreApart (length plan.now.routes) (changes_of new_routes.now) }
+        requires known { All (λ t. (1 ≤ t.customer) × (t.customer ≤ length self.now.pins)) touched.now }
+        ensures { MatchOption result ((k : ℕ) (t : Touch) → slice_get touched.now k ≡ Some t → IsHeld self.now (with_routes (changes_of new_routes.now) plan.now.routes) t.customer)
+            (IsFirstLoose self.now (with_routes (changes_of new_routes.now) plan.now.routes) touched.now) }
+    {
+        for touch in touched {
+            if let Some(vehicle) = self.pinned(touch.customer)
+                && !would_stand(plan, new_routes, touch.customer, vehicle)
+            {
+                return Some(*touch);
+            }
+        }
+        None
+    }
+}
+
+/// Whether a customer stands on a vehicle once the new routes are in place.
+fn would_stand(plan: &Plan, new_routes: &[(u32, Arc<Route>)], customer: u32, vehicle: u32) -> bool
+    requires { AreApart (length plan.now.routes) (changes_of new_routes.now) }
+    ensures { IsTrue result ↔ StandsOn (with_routes (changes_of new_routes.now) plan.now.routes) customer vehicle }
+{
+    routes_replaced();
+    match new_route(new_routes, vehicle) {
+        Some(route) => route.customers().contains(&customer),
+        None => stands(plan, customer, vehicle),
+    }
+}
+
+/// The new route of a vehicle, if it has one.
+fn new_route(new_routes: &[(u32, Arc<Route>)], vehicle: u32) -> Option<&Arc<Route>>
+    ensures { MatchOption result (¬ IsNamed (changes_of new_routes.now) vehicle) (λ route. (k : ℕ) × (slice_get (changes_of new_routes.now) k ≡ Some (vehicle, route.now.value))) }
+{
+    for (named, route) in new_routes {
+        if *named == vehicle {
+            return Some(route);
+        }
+    }
+    None
+}
+
+/// Whether a customer stands on a vehicle.
+fn stands(plan: &Plan, customer: u32, vehicle: u32) -> bool
+    ensures { IsTrue result ↔ StandsOn plan.now.routes customer vehicle }
+{
+    match plan.place_of(customer) {
+        Some((home, _)) => home == vehicle,
+        None => false,
+    }
+}
