@@ -1,0 +1,9 @@
+pub mod Facts
+pub mod Placed
+pub mod Effects
+pub mod Untouched
+pub mod Tally
+pub mod Plans
+pub mod FirstChange
+pub mod TouchedKnown
+pub mod ByEffect

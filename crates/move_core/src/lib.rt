@@ -1,0 +1,19 @@
+//! The six moves of a plan: which vehicles they name, which customers they touch, and the new routes that they make.
+#![tactic(auto)]
+
+mod fault;
+mod laws;
+mod made;
+mod moves;
+mod parts;
+mod possible;
+mod touches;
+
+pub use fault::MoveFault;
+pub use laws::{
+    fronts_by_first_change, moves_keep_plans, moves_keep_the_untouched, moves_name_vehicles,
+};
+pub use moves::Move;
+
+#[cfg(test)]
+mod tests;

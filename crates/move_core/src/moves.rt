@@ -1,0 +1,228 @@
+ghost use Rattle.std.specs.Prelude.{◌≡◌, ◌↔◌, ◌==◌, if◌then◌else◌, true, Some, None, IsSome, IfOk, IsErrOf};
+ghost use Rattle.plan_core.specs.Plan.{changes_of};
+
+use crate::fault::MoveFault;
+use crate::{made, possible, touches};
+use plan_core::{Plan, Route, Touch};
+use std::alloc::{AllocError, Global};
+use std::sync::Arc;
+
+/// A change of one or two routes. Vehicles count from 1, places within a route from 1.
+#[derive(Clone, Copy, Debug, PartialEq, Eq)]
+pub enum Move {
+    /// An unassigned customer is put at a place; later ones move up.
+    Insert {
+        customer: u32,
+        vehicle: u32,
+        place: u32,
+    },
+    /// The customer at a place is taken out, and is then unassigned.
+    Remove {
+        vehicle: u32,
+        place: u32,
+    },
+    /// So many customers from a place on are taken out and stand in `to` from place `at` on, counted once they are out.
+    Shift {
+        vehicle: u32,
+        place: u32,
+        length: u32,
+        to: u32,
+        at: u32,
+    },
+    /// Two customers change places.
+    Swap {
+        vehicle: u32,
+        place: u32,
+        other: u32,
+        at: u32,
+    },
+    /// The customers from `first` to `last` stand in the opposite order.
+    Reverse {
+        vehicle: u32,
+        first: u32,
+        last: u32,
+    },
+    /// What stands after the first `keep` of one route and after the first `keep_other` of another change sides.
+    Cross {
+        vehicle: u32,
+        keep: u32,
+        other: u32,
+        keep_other: u32,
+    },
+}
+
+impl Move {
+    ghost use Rattle.move_core.specs.Moves.{vehicles_of, is_possible, changes_by, effect};
+    ghost use Rattle.move_core.specs.Touched.{touched_by};
+
+    /// The vehicles that the move names, in the order of its fields, each once.
+    pub fn vehicles(&self) -> (u32, Option<u32>)
+        ensures { result ≡ vehicles_of self.now }
+    {
+        match *self {
+            Move::Insert { vehicle, .. }
+            | Move::Remove { vehicle, .. }
+            | Move::Reverse { vehicle, .. } => (vehicle, None),
+            Move::Shift { vehicle, to, .. } => (vehicle, second(vehicle, to)),
+            Move::Swap { vehicle, other, .. } | Move::Cross { vehicle, other, .. } => (
+                vehicle,
+                second(vehicle, other),
+            ),
+        }
+    }
+
+    /// Whether the move has an effect on the plan. Sums of its numbers do not wrap.
+    fn is_possible(&self, plan: &Plan) -> bool
+        ensures { result ≡ is_possible plan.now.customers plan.now.routes self.now }
+    {
+        match *self {
+            Move::Insert {
+                customer,
+                vehicle,
+                place,
+            } => possible::can_insert(plan, customer, vehicle, place),
+            Move::Remove { vehicle, place } => possible::can_remove(plan, vehicle, place),
+            Move::Shift {
+                vehicle,
+                place,
+                length,
+                to,
+                at,
+            } => possible::can_shift(plan, vehicle, place, length, to, at),
+            Move::Swap {
+                vehicle,
+                place,
+                other,
+                at,
+            } => possible::can_swap(plan, vehicle, place, other, at),
+            Move::Reverse {
+                vehicle,
+                first,
+                last,
+            } => possible::can_reverse(plan, vehicle, first, last),
+            Move::Cross {
+                vehicle,
+                keep,
+                other,
+                keep_other,
+            } => possible::can_cross(plan, vehicle, keep, other, keep_other),
+        }
+    }
+
+    /// The customers that the move touches, in the order of its fields, each with the vehicle and place where it stands before the move; an
+    /// inserted customer has those where it will stand.
+    pub fn touched(&self, alloc: Global, plan: &Plan) -> Result<Vec<Touch>, MoveFault>
+        ensures ok { IfOk result (λ touched. touched.items ≡ touched_by plan.now.routes self.now) }
+        ensures possible { IfOk result (λ _. effect plan.now.customers plan.now.routes self.now ≡ Some (changes_by plan.now.routes self.now)) }
+        ensures bad_place { IsErrOf result MoveFault.BadPlace ↔ (effect plan.now.customers plan.now.routes self.now ≡ None) }
+    {
+        if !self.is_possible(plan) {
+            return Err(MoveFault::BadPlace);
+        }
+        match self.touches(alloc, plan) {
+            Ok(touched) => Ok(touched),
+            Err(_) => Err(MoveFault::NoMemory),
+        }
+    }
+
+    /// The new routes of the named vehicles, in the order in which the move names them.
+    pub fn new_routes(
+        &self,
+        alloc: Global,
+        plan: &Plan,
+    ) -> Result<Vec<(u32, Arc<Route>)>, MoveFault>
+        ensures ok { IfOk result (λ changes. effect plan.now.customers plan.now.routes self.now ≡ Some (changes_of changes.items)) }
+        ensures bad_place { IsErrOf result MoveFault.BadPlace ↔ (effect plan.now.customers plan.now.routes self.now ≡ None) }
+    {
+        if !self.is_possible(plan) {
+            return Err(MoveFault::BadPlace);
+        }
+        match self.routes(alloc, plan) {
+            Ok(changes) => Ok(changes),
+            Err(_) => Err(MoveFault::NoMemory),
+        }
+    }
+
+    fn touches(&self, alloc: Global, plan: &Plan) -> Result<Vec<Touch>, AllocError>
+        requires { is_possible plan.now.customers plan.now.routes self.now ≡ true }
+        ensures { IfOk result (λ touched. touched.items ≡ touched_by plan.now.routes self.now) }
+    {
+        match *self {
+            Move::Insert {
+                customer,
+                vehicle,
+                place,
+            } => touches::of_insert(alloc, plan, customer, vehicle, place),
+            Move::Remove { vehicle, place } => touches::of_remove(alloc, plan, vehicle, place),
+            Move::Shift {
+                vehicle,
+                place,
+                length,
+                to,
+                at,
+            } => touches::of_shift(alloc, plan, vehicle, place, length, to, at),
+            Move::Swap {
+                vehicle,
+                place,
+                other,
+                at,
+            } => touches::of_swap(alloc, plan, vehicle, place, other, at),
+            Move::Reverse {
+                vehicle,
+                first,
+                last,
+            } => touches::of_reverse(alloc, plan, vehicle, first, last),
+            Move::Cross {
+                vehicle,
+                keep,
+                other,
+                keep_other,
+            } => touches::of_cross(alloc, plan, vehicle, keep, other, keep_other),
+        }
+    }
+
+    fn routes(&self, alloc: Global, plan: &Plan) -> Result<Vec<(u32, Arc<Route>)>, AllocError>
+        requires { is_possible plan.now.customers plan.now.routes self.now ≡ true }
+        ensures { IfOk result (λ changes. changes_of changes.items ≡ changes_by plan.now.routes self.now) }
+    {
+        match *self {
+            Move::Insert {
+                customer,
+                vehicle,
+                place,
+            } => made::by_insert(alloc, plan, customer, vehicle, place),
+            Move::Remove { vehicle, place } => made::by_remove(alloc, plan, vehicle, place),
+            Move::Shift {
+                vehicle,
+                place,
+                length,
+                to,
+                at,
+            } => made::by_shift(alloc, plan, vehicle, place, length, to, at),
+            Move::Swap {
+                vehicle,
+                place,
+                other,
+                at,
+            } => made::by_swap(alloc, plan, vehicle, place, other, at),
+            Move::Reverse {
+                vehicle,
+                first,
+                last,
+            } => made::by_reverse(alloc, plan, vehicle, first, last),
+            Move::Cross {
+                vehicle,
+                keep,
+                other,
+                keep_other,
+            } => made::by_cross(alloc, plan, vehicle, keep, other, keep_other),
+        }
+    }
+}
+
+/// The second of two vehicles, if it is another one.
+fn second(vehicle: u32, other: u32) -> Option<u32>
+    ensures { result ≡ (if vehicle == other then None else Some other) }
+{
+    if vehicle == other { None } else { Some(other) }
+}

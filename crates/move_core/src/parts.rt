@@ -1,0 +1,219 @@
+//! New routes from parts of old ones.
+ghost use Rattle.std.specs.Prelude.{◌≡◌, ◌+◌, ◌<◌, ◌≤◌, ◌≢◌, [], ◌∷◌, ◌++◌, ℕ, length, IfOk, OnOk};
+ghost use Rattle.plan_core.specs.Plan.{changes_of};
+ghost use Rattle.move_core.specs.Moves.{stretch, without, with_stretch, with_customer, customer_at, reversed_within, crossed};
+ghost use Rattle.move_core.specs.Touched.{touches};
+
+use plan_core::{Route, Touch};
+use std::alloc::{AllocError, Global};
+use std::sync::Arc;
+
+/// A route of three parts.
+fn joined(
+    alloc: Global,
+    front: &[u32],
+    middle: &[u32],
+    back: &[u32],
+) -> Result<Arc<Route>, AllocError>
+    ensures { IfOk result (λ route. route.value ≡ front.now ++ (middle.now ++ back.now)) }
+{
+    let mut customers = Vec::from_slice(alloc, front)?;
+    customers.extend_from_slice(middle)?;
+    customers.extend_from_slice(back)?;
+    let route = Arc::new(alloc, Route::new(customers))?;
+    Ok(route)
+}
+
+/// The route with some customers more, the first of them at `place`.
+pub(crate) fn with_stretch(
+    alloc: Global,
+    route: &[u32],
+    place: u32,
+    customers: &[u32],
+) -> Result<Arc<Route>, AllocError>
+    requires low { 1 ≤ place }
+    requires high { place ≤ length route.now + 1 }
+    ensures { IfOk result (λ made. made.value ≡ with_stretch route.now place customers.now) }
+{
+    let (front, back) = route.split_at(place as usize - 1);
+    joined(alloc, front, customers, back)
+}
+
+/// The route without so many customers from `place` on.
+pub(crate) fn without(
+    alloc: Global,
+    route: &[u32],
+    place: u32,
+    count: u32,
+) -> Result<Arc<Route>, AllocError>
+    requires low { 1 ≤ place }
+    requires high { place + count ≤ length route.now + 1 }
+    ensures { IfOk result (λ made. made.value ≡ without route.now place count) }
+{
+    let first = place as usize - 1;
+    joined(
+        alloc,
+        &route[..first],
+        &[],
+        &route[first + count as usize..],
+    )
+}
+
+/// So many customers of a route from `place` on.
+pub(crate) fn stretch(route: &[u32], place: u32, count: u32) -> &[u32]
+    requires low { 1 ≤ place }
+    requires high { place + count ≤ length route.now + 1 }
+    ensures value { result.now ≡ stretch route.now place count }
+    ensures len { length result.now ≡ count }
+{
+    let first = place as usize - 1;
+    &route[first..first + count as usize]
+}
+
+/// The route with so many customers from `place` on taken out and put in again, the first of them at `at`.
+pub(crate) fn moved_within(
+    alloc: Global,
+    route: &[u32],
+    place: u32,
+    count: u32,
+    at: u32,
+) -> Result<Arc<Route>, AllocError>
+    requires low { 1 ≤ place }
+    requires high { place + count ≤ length route.now + 1 }
+    requires at_low { 1 ≤ at }
+    requires at_high { at + count ≤ length route.now + 1 }
+    ensures { IfOk result (λ made. made.value ≡ with_stretch (without route.now place count) at (stretch route.now place count)) }
+{
+    let rest = without(alloc, route, place, count)?;
+    with_stretch(alloc, rest.customers(), at, stretch(route, place, count))
+}
+
+/// The route with another customer at `place`.
+pub(crate) fn with_customer(
+    alloc: Global,
+    route: &[u32],
+    place: u32,
+    customer: u32,
+) -> Result<Arc<Route>, AllocError>
+    requires low { 1 ≤ place }
+    requires high { place ≤ length route.now }
+    ensures { IfOk result (λ made. made.value ≡ with_customer route.now place customer) }
+{
+    let mut customers = Vec::from_slice(alloc, route)?;
+    customers[place as usize - 1] = customer;
+    let made = Arc::new(alloc, Route::new(customers))?;
+    Ok(made)
+}
+
+/// The route with two of its customers in each other's place.
+pub(crate) fn swapped_within(
+    alloc: Global,
+    route: &[u32],
+    place: u32,
+    at: u32,
+) -> Result<Arc<Route>, AllocError>
+    requires low { 1 ≤ place }
+    requires high { place ≤ length route.now }
+    requires at_low { 1 ≤ at }
+    requires at_high { at ≤ length route.now }
+    ensures { IfOk result (λ made. made.value ≡ with_customer (with_customer route.now place (customer_at route.now at)) at (customer_at route.now place)) }
+{
+    let mut customers = Vec::from_slice(alloc, route)?;
+    customers[place as usize - 1] = route[at as usize - 1];
+    customers[at as usize - 1] = route[place as usize - 1];
+    let made = Arc::new(alloc, Route::new(customers))?;
+    Ok(made)
+}
+
+/// The route with the customers from `first` to `last` in the opposite order.
+pub(crate) fn reversed_within(
+    alloc: Global,
+    route: &[u32],
+    first: u32,
+    last: u32,
+) -> Result<Arc<Route>, AllocError>
+    requires low { 1 ≤ first }
+    requires order { first ≤ last }
+    requires high { last ≤ length route.now }
+    ensures { IfOk result (λ made. made.value ≡ reversed_within route.now first last) }
+{
+    let mut middle = Vec::from_slice(alloc, stretch(route, first, last - first + 1))?;
+    middle.reverse();
+    joined(
+        alloc,
+        &route[..first as usize - 1],
+        &middle,
+        &route[last as usize..],
+    )
+}
+
+/// The first `keep` customers of one route, then those of another after its first `keep_other`.
+pub(crate) fn crossed(
+    alloc: Global,
+    route: &[u32],
+    keep: u32,
+    other: &[u32],
+    keep_other: u32,
+) -> Result<Arc<Route>, AllocError>
+    requires keep { keep ≤ length route.now }
+    requires keep_other { keep_other ≤ length other.now }
+    ensures { IfOk result (λ made. made.value ≡ crossed route.now keep other.now keep_other) }
+{
+    joined(
+        alloc,
+        &route[..keep as usize],
+        &[],
+        &other[keep_other as usize..],
+    )
+}
+
+/// New routes for one vehicle.
+pub(crate) fn one_change(
+    alloc: Global,
+    vehicle: u32,
+    route: Arc<Route>,
+) -> Result<Vec<(u32, Arc<Route>)>, AllocError>
+    ensures { IfOk result (λ changes. changes_of changes.items ≡ (vehicle, route.value) ∷ []) }
+{
+    let mut changes = Vec::with_capacity(alloc, 1)?;
+    changes.push((vehicle, route))?;
+    Ok(changes)
+}
+
+/// New routes for two vehicles.
+pub(crate) fn two_changes(
+    alloc: Global,
+    vehicle: u32,
+    route: Arc<Route>,
+    other: u32,
+    other_route: Arc<Route>,
+) -> Result<Vec<(u32, Arc<Route>)>, AllocError>
+    ensures { IfOk result (λ changes. changes_of changes.items ≡ (vehicle, route.value) ∷ (other, other_route.value) ∷ []) }
+{
+    let mut changes = Vec::with_capacity(alloc, 2)?;
+    changes.push((vehicle, route))?;
+    changes.push((other, other_route))?;
+    Ok(changes)
+}
+
+/// Adds customers that stand on a vehicle one after the other, the first of them at `place`.
+pub(crate) fn push_touches(
+    touched: &mut Vec<Touch>,
+    vehicle: u32,
+    place: u32,
+    customers: &[u32],
+) -> Result<(), AllocError>
+    requires { place + length customers.now < 4294967296 }
+    ensures { OnOk result (touched.new.items ≡ touched.old.items ++ touches vehicle place customers.now) }
+{
+    let mut next = place;
+    for customer in customers {
+        touched.push(Touch {
+            vehicle,
+            place: next,
+            customer: *customer,
+        })?;
+        next += 1;
+    }
+    Ok(())
+}

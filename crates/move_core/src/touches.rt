@@ -1,0 +1,130 @@
+//! The touches of a move of each kind.
+ghost use Rattle.std.specs.Prelude.{◌≡◌, true, IfOk};
+ghost use Rattle.move_core.specs.Moves.{is_possible};
+ghost use Rattle.move_core.specs.Touched.{touched_by};
+
+use crate::moves::Move;
+use crate::parts;
+use plan_core::{Plan, Touch};
+use std::alloc::{AllocError, Global};
+
+pub(crate) fn of_insert(
+    alloc: Global,
+    plan: &Plan,
+    customer: u32,
+    vehicle: u32,
+    place: u32,
+) -> Result<Vec<Touch>, AllocError>
+    requires { is_possible plan.now.customers plan.now.routes (Move.Insert customer vehicle place) ≡ true }
+    ensures { IfOk result (λ touched. touched.items ≡ touched_by plan.now.routes (Move.Insert customer vehicle place)) }
+{
+    let mut touched = Vec::new(alloc);
+    touched.push(Touch {
+        vehicle,
+        place,
+        customer,
+    })?;
+    Ok(touched)
+}
+
+pub(crate) fn of_remove(
+    alloc: Global,
+    plan: &Plan,
+    vehicle: u32,
+    place: u32,
+) -> Result<Vec<Touch>, AllocError>
+    requires { is_possible plan.now.customers plan.now.routes (Move.Remove vehicle place) ≡ true }
+    ensures { IfOk result (λ touched. touched.items ≡ touched_by plan.now.routes (Move.Remove vehicle place)) }
+{
+    let mut touched = Vec::new(alloc);
+    let route = plan.route(vehicle).customers();
+    parts::push_touches(&mut touched, vehicle, place, &[route[place as usize - 1]])?;
+    Ok(touched)
+}
+
+pub(crate) fn of_shift(
+    alloc: Global,
+    plan: &Plan,
+    vehicle: u32,
+    place: u32,
+    count: u32,
+    to: u32,
+    at: u32,
+) -> Result<Vec<Touch>, AllocError>
+    requires { is_possible plan.now.customers plan.now.routes (Move.Shift vehicle place count to at) ≡ true }
+    ensures { IfOk result (λ touched. touched.items ≡ touched_by plan.now.routes (Move.Shift vehicle place count to at)) }
+{
+    let mut touched = Vec::new(alloc);
+    let route = plan.route(vehicle).customers();
+    parts::push_touches(
+        &mut touched,
+        vehicle,
+        place,
+        parts::stretch(route, place, count),
+    )?;
+    Ok(touched)
+}
+
+pub(crate) fn of_swap(
+    alloc: Global,
+    plan: &Plan,
+    vehicle: u32,
+    place: u32,
+    other: u32,
+    at: u32,
+) -> Result<Vec<Touch>, AllocError>
+    requires { is_possible plan.now.customers plan.now.routes (Move.Swap vehicle place other at) ≡ true }
+    ensures { IfOk result (λ touched. touched.items ≡ touched_by plan.now.routes (Move.Swap vehicle place other at)) }
+{
+    let mut touched = Vec::new(alloc);
+    let route = plan.route(vehicle).customers();
+    let there = plan.route(other).customers();
+    parts::push_touches(&mut touched, vehicle, place, &[route[place as usize - 1]])?;
+    parts::push_touches(&mut touched, other, at, &[there[at as usize - 1]])?;
+    Ok(touched)
+}
+
+pub(crate) fn of_reverse(
+    alloc: Global,
+    plan: &Plan,
+    vehicle: u32,
+    first: u32,
+    last: u32,
+) -> Result<Vec<Touch>, AllocError>
+    requires { is_possible plan.now.customers plan.now.routes (Move.Reverse vehicle first last) ≡ true }
+    ensures { IfOk result (λ touched. touched.items ≡ touched_by plan.now.routes (Move.Reverse vehicle first last)) }
+{
+    let mut touched = Vec::new(alloc);
+    let route = plan.route(vehicle).customers();
+    parts::push_touches(
+        &mut touched,
+        vehicle,
+        first,
+        parts::stretch(route, first, last - first + 1),
+    )?;
+    Ok(touched)
+}
+
+pub(crate) fn of_cross(
+    alloc: Global,
+    plan: &Plan,
+    vehicle: u32,
+    keep: u32,
+    other: u32,
+    keep_other: u32,
+) -> Result<Vec<Touch>, AllocError>
+    requires { is_possible plan.now.customers plan.now.routes (Move.Cross vehicle keep other keep_other) ≡ true }
+    ensures { IfOk result (λ touched. touched.items ≡ touched_by plan.now.routes (Move.Cross vehicle keep other keep_other)) }
+{
+    let mut touched = Vec::new(alloc);
+    let route = plan.route(vehicle).customers();
+    let there = plan.route(other).customers();
+    parts::push_touches(&mut touched, vehicle, keep + 1, &route[keep as usize..])?;
+    parts::push_touches(
+        &mut touched,
+        other,
+        keep_other + 1,
+        &there[keep_other as usize..],
+    )?;
+    Ok(touched)
+}
