@@ -1,0 +1,10 @@
+use Rattle.std.proofs.Common.{ap, ◌∙◌}
+use Rattle.dimension_core.specs.Setup.{setting}
+use Rattle.board_core.specs.Kept.{CoreState}
+use Rattle.board_core.proofs.Listed.{session_open}
+use Rattle.board_core.proofs.body.Core.has_session.Goals as goal
+
+pub returns : goal.returns
+returns g c =
+    c.has_session.ensures.value
+    ∙ session_open (setting c.args.setup.now) c.args.self.now c.requires _ _ (c.policy.ensures ∙ ap (λ (core : CoreState). core.held.policy) c.self.view_is)
