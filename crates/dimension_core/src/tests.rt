@@ -164,3 +164,37 @@ fn the_second_dimension_is_the_first_out(rt: HostRuntime) -> Result<(), Fail> {
     }
     Ok(())
 }
+
+/// Each transit 10, slack at most 5, capacity 45; the depot's range is 0 to 20, and those of the customers 12 to 40 and 0 to 100.
+#[test]
+fn spans_stop_by_stop(rt: HostRuntime) -> Result<(), Fail> {
+    let call = Box::new(
+        rt.alloc(),
+        move |_i: u32, _j: u32| -> u64
+            ensures { result ≡ 10 }
+        { 10 },
+    )?;
+    let mut registry = Registry::new(rt.alloc());
+    let id = registry.register(Transit::new(3, call)).expect(&rt, "room");
+    let mut meter = Meter::new();
+    for (fixed, start, first, last) in [(false, 20u64, 35u64, 45u64), (true, 0, 15, 30)] {
+        let caps = vec![in rt.alloc(); 45u64]?;
+        let ranges = vec![in rt.alloc();
+            Range { lo: 0, hi: 20 },
+            Range { lo: 12, hi: 40 },
+            Range { lo: 0, hi: 100 },
+        ]?;
+        let time = Dimension::new(&registry, id, 5, caps, fixed, ranges).expect(&rt, "bounds");
+        assert_eq!(rt; time.is_fixed(), fixed);
+        let span = Range { lo: 0, hi: start };
+        assert_eq!(rt; time.start(1), Some(span));
+        let next = time.extend(&registry, span, 0, 1, 1, &mut meter);
+        assert_eq!(rt; next, Some(Range { lo: 12, hi: first }));
+        let late = Range { lo: 31, hi: 45 };
+        assert_eq!(rt; time.extend(&registry, late, 2, 1, 1, &mut meter), None);
+        let reached = time.reach(&registry, &[1, 2], 1, &mut meter);
+        assert_eq!(rt; reached, Some(Range { lo: 22, hi: last }));
+    }
+    assert_eq!(rt; meter.asks, 8);
+    Ok(())
+}
