@@ -1,10 +1,12 @@
-ghost use Rattle.std.specs.Prelude.{◌≡◌, [], ◌∷◌, IfOk};
+ghost use Rattle.std.specs.Prelude.{◌≡◌, ◌+◌, ◌*◌, [], ◌∷◌, IfOk};
 ghost use Rattle.plan_core.specs.Plan.{changes_of};
 
 use crate::{
     Plan, Route, commits_by_one_more, currency_by_stamps, routes_are_short, routes_replaced,
     stamps_by_one_more,
 };
+use callback_store::{Meter, Registry, Transit};
+use dimension_core::Setup;
 use std::alloc::{AllocError, Global};
 use std::sync::Arc;
 use std::test::Fail;
@@ -88,5 +90,28 @@ fn a_route_gives_its_customers_back(rt: HostRuntime) -> Result<(), Fail> {
     stamps_by_one_more();
     routes_replaced();
     routes_are_short();
+    Ok(())
+}
+
+/// From node i to node j the cost is 10 i + j, so a route of 1 and 2 costs 1, 12 and 20.
+#[test]
+fn costs_the_way_out_and_home(rt: HostRuntime) -> Result<(), Fail> {
+    let call = Box::new(
+        rt.alloc(),
+        move |i: u32, j: u32| -> u64
+            ensures { result ≡ 10 * i + j }
+        { 10 * i as u64 + j as u64 },
+    )?;
+    let mut registry = Registry::new(rt.alloc());
+    let id = registry.register(Transit::new(4, call)).expect(&rt, "room");
+    let dimensions = Vec::new(rt.alloc());
+    let setup = Setup::new(3, 2, registry, dimensions, id, 10).expect(&rt, "setup");
+    let mut meter = Meter::new();
+    let mut plan = Plan::new(rt.alloc(), 3, 2)?;
+    assert_eq!(rt; plan.cost(&setup, &mut meter), 0);
+    let changes = pair(rt.alloc(), 1, &[1, 2], 2, &[3])?;
+    plan.replace(changes);
+    assert_eq!(rt; plan.cost(&setup, &mut meter), 66);
+    assert_eq!(rt; meter.asks, 5);
     Ok(())
 }
