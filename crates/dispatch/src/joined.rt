@@ -1,6 +1,6 @@
 //! The joined form: an instance, a line `%%` and a script in one input.
 
-ghost use Rattle.std.specs.Prelude.{◌≡◌, ◌<◌, length};
+ghost use Rattle.std.specs.Prelude.{◌≡◌, ◌⊎◌, ◌<◌, length};
 ghost use Rattle.solomon_reader.specs.Instances.{view, IsSound};
 ghost use Rattle.travel_table.specs.Travel.{travel_at};
 ghost use Rattle.dispatch.specs.Network.{demand_at, time_between};
@@ -8,7 +8,7 @@ ghost use Rattle.dispatch.specs.Network.{demand_at, time_between};
 use crate::head::{Parts, read_parts};
 use crate::network::Network;
 use crate::pair::standard_pair;
-use crate::stop::Stop;
+use crate::stop::{Stop, stopped};
 use board_core::Board;
 use board_text::{BoardFront, Counts, run_lines};
 use callback_store::{Registry, Transit, Unary};
@@ -119,12 +119,11 @@ pub(crate) fn joined<R, I: Read, W: Write, F: Write>(
     reader: &mut I,
     writer: &mut W,
     faults: &mut F,
-) -> u8 {
+) -> u8
+    ensures { (result ≡ 0) ⊎ (result ≡ 1) ⊎ (result ≡ 3) }
+{
     match run_joined(rt, alloc, reader, writer) {
         Ok(counts) => u8::from(counts.refused > 0),
-        Err(stop) => {
-            let _ = writeln!(faults, "dispatch: {stop}");
-            3
-        }
+        Err(stop) => stopped(faults, stop),
     }
 }
