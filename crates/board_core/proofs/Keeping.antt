@@ -8,11 +8,11 @@ use Rattle.std.proofs.Math.Bool.{Bool-set}
 use Rattle.std.proofs.lemmas.Bool.{and_parts, leb-true, cases_eq, eq-eqb, ne_eqb}
 use Rattle.std.proofs.lemmas.List.{get_or-set_same, get_or-set_other}
 use Rattle.std.proofs.lemmas.List.Sums.{sum_by-append}
-use Rattle.rbac_core.specs.Access.{has_session, has_access, is_open, allows}
-use Rattle.rbac_core.proofs.AccessLaws.{has_session-is_open, has_access-allows}
-use Rattle.rbac_core.specs.declared.operation.Operation.{Operation}
-use Rattle.rbac_core.specs.declared.operation.Operation.TheVariants as operations
-use Rattle.rbac_core.specs.declared.operation.Object.{Object}
+use Rattle.root_policy.specs.Access.{has_session, has_access, is_open, allows}
+use Rattle.root_policy.proofs.AccessLaws.{has_session-is_open, has_access-allows}
+use Rattle.root_policy.specs.declared.operation.Operation.{Operation}
+use Rattle.root_policy.specs.declared.operation.Operation.TheVariants as operations
+use Rattle.root_policy.specs.declared.operation.Object.{Object}
 use Rattle.plan_core.specs.Plan.{stamp_of}
 use Rattle.dimension_core.specs.Setting.{Setting}
 use Rattle.board_core.specs.declared.call.Move.{Move}

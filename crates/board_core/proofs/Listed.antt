@@ -2,10 +2,10 @@
 use Rattle.std.proofs.Common.{◌≡◌, ℕ, List, length, sym, ap, ◌∙◌, subst}
 use Rattle.std.specs.Prelude.{◌&&◌, ◌||◌, ◌==◌, map, filter, All}
 use Rattle.std.proofs.lemmas.List.Elements.{filter_agree}
-use Rattle.rbac_core.specs.Policy.{PolicyRows}
-use Rattle.rbac_core.specs.Access.{is_open, has_session}
-use Rattle.rbac_core.specs.declared.operation.Operation.TheVariants as operations
-use Rattle.rbac_core.specs.declared.operation.Object.TheVariants as objects
+use Rattle.root_policy.specs.Policy.{PolicyRows}
+use Rattle.root_policy.specs.Access.{is_open, has_session}
+use Rattle.root_policy.specs.declared.operation.Operation.TheVariants as operations
+use Rattle.root_policy.specs.declared.operation.Object.TheVariants as objects
 use Rattle.plan_core.specs.Plan.{PlanState}
 use Rattle.dimension_core.specs.Setting.{Setting}
 use Rattle.dimension_core.specs.Feasible.{IsFeasible}

@@ -4,7 +4,7 @@ use Rattle.std.proofs.lemmas.Bool.{cases_eq, cases_order}
 use Rattle.plan_core.specs.Plan.{Changes}
 use Rattle.dimension_core.specs.Setting.{Setting}
 use Rattle.dimension_core.specs.Feasible.{FitsAll, IsFirstOut}
-use Rattle.rbac_core.specs.declared.command.Refusal.{Refusal}
+use Rattle.root_policy.specs.declared.command.Refusal.{Refusal}
 use Rattle.board_core.specs.declared.call.Move.{Move}
 use Rattle.board_core.specs.declared.call.Call.{Call}
 use Rattle.board_core.specs.declared.call.Call.TheVariants.{Propose, Policy}

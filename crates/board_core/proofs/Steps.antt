@@ -4,12 +4,12 @@ use Rattle.std.proofs.Math.Logic.{∥∥₁_map}
 use Rattle.std.specs.Prelude.{IfOk}
 use Rattle.std.proofs.lemmas.Bool.{eqb-true}
 use Rattle.board_core.specs.declared.call.Entry.{Entry}
-use Rattle.rbac_core.specs.Policy.{PolicyState, Shows, command_refusal, after_command}
-use Rattle.rbac_core.specs.Access.{has_session, has_access, is_open, allows}
-use Rattle.rbac_core.specs.declared.operation.Operation.TheVariants as operations
-use Rattle.rbac_core.specs.declared.operation.Object.TheVariants as objects
-use Rattle.rbac_core.specs.declared.command.PolicyCommand.{PolicyCommand}
-use Rattle.rbac_core.specs.declared.command.Refusal.{Refusal}
+use Rattle.root_policy.specs.Policy.{PolicyState, Shows, command_refusal, after_command}
+use Rattle.root_policy.specs.Access.{has_session, has_access, is_open, allows}
+use Rattle.root_policy.specs.declared.operation.Operation.TheVariants as operations
+use Rattle.root_policy.specs.declared.operation.Object.TheVariants as objects
+use Rattle.root_policy.specs.declared.command.PolicyCommand.{PolicyCommand}
+use Rattle.root_policy.specs.declared.command.Refusal.{Refusal}
 use Rattle.plan_core.specs.Plan.{PlanState, Changes, AreApart, with_routes, replaced}
 use Rattle.plan_core.specs.Commits.{AreStamps, named_vehicles}
 use Rattle.dimension_core.specs.Setting.{Setting}

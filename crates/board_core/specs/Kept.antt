@@ -2,11 +2,11 @@
 use Rattle.std.specs.Prelude.{◌≡◌, ℕ, ◌+◌, ◌-◌, ◌<◌, ◌≤◌, nat_lt, List, [], ◌∷◌, length, slice_index, Option, Some, None, All}
 use Rattle.dimension_core.specs.Setting.{Setting}
 use Rattle.dimension_core.specs.Feasible.{IsFeasible}
-use Rattle.rbac_core.specs.Policy.{PolicyState, PolicyRows, Shows, after_command}
-use Rattle.rbac_core.specs.declared.command.PolicyCommand.{PolicyCommand}
-use Rattle.rbac_core.specs.declared.command.Refusal.{Refusal}
-use Rattle.rbac_core.specs.Access.{is_open, allows}
-use Rattle.rbac_core.specs.declared.operation.Operation.TheVariants as operations
+use Rattle.root_policy.specs.Policy.{PolicyState, PolicyRows, Shows, after_command}
+use Rattle.root_policy.specs.declared.command.PolicyCommand.{PolicyCommand}
+use Rattle.root_policy.specs.declared.command.Refusal.{Refusal}
+use Rattle.root_policy.specs.Access.{is_open, allows}
+use Rattle.root_policy.specs.declared.operation.Operation.TheVariants as operations
 use Rattle.plan_core.specs.Plan.{PlanState, Changes, stamp_of, replaced}
 use Rattle.plan_core.specs.Commits.{AreStamps}
 use Rattle.board_core.specs.declared.call.Entry.{Entry}

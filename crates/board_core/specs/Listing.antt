@@ -3,10 +3,10 @@ use Rattle.std.specs.Prelude.{◌≡◌, ℕ, ◌+◌, ◌<◌, Bool, not, ◌&&
 use Rattle.std.specs.List.{range_with_len}
 use Rattle.dimension_core.specs.Cumuls.{IsEarly, table_of}
 use Rattle.dimension_core.specs.Setting.{Setting, dimension_at}
-use Rattle.rbac_core.specs.Policy.{PolicyState}
-use Rattle.rbac_core.specs.Access.{has_access}
-use Rattle.rbac_core.specs.declared.operation.Operation.TheVariants as operations
-use Rattle.rbac_core.specs.declared.operation.Object.TheVariants as objects
+use Rattle.root_policy.specs.Policy.{PolicyState}
+use Rattle.root_policy.specs.Access.{has_access}
+use Rattle.root_policy.specs.declared.operation.Operation.TheVariants as operations
+use Rattle.root_policy.specs.declared.operation.Object.TheVariants as objects
 use Rattle.plan_core.specs.Plan.{route_at}
 use Rattle.board_core.specs.State.{BoardState}
 use Rattle.board_core.specs.Moves.{is_placed}

@@ -2,10 +2,10 @@
 use Rattle.std.specs.Prelude.{ℕ, ◌≡◌, Bool, not, ◌&&◌, nat_le, nat_lt, if◌then◌else◌, List, [], ◌∷◌, length, drop, find, Option, Some, None}
 use Rattle.std.specs.List.{list_any, list_all}
 use Rattle.std.specs.Option.{option_map}
-use Rattle.rbac_core.specs.Access.{has_session, has_access}
-use Rattle.rbac_core.specs.declared.operation.Operation.TheVariants as operations
-use Rattle.rbac_core.specs.declared.operation.Object.{Object}
-use Rattle.rbac_core.specs.declared.operation.Object.TheVariants as objects
+use Rattle.root_policy.specs.Access.{has_session, has_access}
+use Rattle.root_policy.specs.declared.operation.Operation.TheVariants as operations
+use Rattle.root_policy.specs.declared.operation.Object.{Object}
+use Rattle.root_policy.specs.declared.operation.Object.TheVariants as objects
 use Rattle.plan_core.specs.Plan.{Changes, with_routes}
 use Rattle.plan_core.specs.Commits.{has}
 use Rattle.dimension_core.specs.Setting.{Setting}

@@ -3,10 +3,10 @@ use Rattle.std.specs.Prelude.{◌≡◌, ℕ, Bool, ◌&&◌, ◌||◌, ◌==◌
 use Rattle.dimension_core.specs.declared.range.Range.{Range}
 use Rattle.dimension_core.specs.Feasible.{IsFeasible}
 use Rattle.dimension_core.specs.Setting.{Setting}
-use Rattle.rbac_core.specs.Policy.{PolicyRows}
-use Rattle.rbac_core.specs.Access.{allows}
-use Rattle.rbac_core.specs.declared.operation.Operation.TheVariants as operations
-use Rattle.rbac_core.specs.declared.operation.Object.TheVariants as objects
+use Rattle.root_policy.specs.Policy.{PolicyRows}
+use Rattle.root_policy.specs.Access.{allows}
+use Rattle.root_policy.specs.declared.operation.Operation.TheVariants as operations
+use Rattle.root_policy.specs.declared.operation.Object.TheVariants as objects
 use Rattle.plan_core.specs.Plan.{PlanState}
 use Rattle.board_core.specs.Listing.{RowShown, Spot, spot_of, HasEarlyValues}
 

@@ -1,7 +1,7 @@
 -- What calls of a board change: the policy, the plan and the list of its commits.
 use Rattle.std.specs.Prelude.{ℕ, List, [], replicate}
 use Rattle.dimension_core.specs.Setting.{Setting}
-use Rattle.rbac_core.specs.Policy.{PolicyState, opening_policy}
+use Rattle.root_policy.specs.Policy.{PolicyState, opening_policy}
 
 pub record BoardState : Type 0 where
   pub policy : PolicyState

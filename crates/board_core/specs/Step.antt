@@ -1,12 +1,12 @@
 -- One call: which reply is right in a state, and the state that it leaves.
 use Rattle.std.specs.Prelude.{ℕ, ◌≡◌, ◌+◌, if◌then◌else◌, Bool, [], ◌∷◌, ◌++◌, length, Option, Some, None}
-use Rattle.rbac_core.specs.Policy.{PolicyState, command_refusal, after_command}
-use Rattle.rbac_core.specs.Access.{has_session, has_access}
-use Rattle.rbac_core.specs.declared.operation.Operation.TheVariants as operations
-use Rattle.rbac_core.specs.declared.operation.Object.TheVariants as objects
-use Rattle.rbac_core.specs.declared.command.PolicyCommand.{PolicyCommand}
-use Rattle.rbac_core.specs.declared.command.Refusal.{Refusal}
-use Rattle.rbac_core.specs.declared.command.Refusal.TheVariants as refusals
+use Rattle.root_policy.specs.Policy.{PolicyState, command_refusal, after_command}
+use Rattle.root_policy.specs.Access.{has_session, has_access}
+use Rattle.root_policy.specs.declared.operation.Operation.TheVariants as operations
+use Rattle.root_policy.specs.declared.operation.Object.TheVariants as objects
+use Rattle.root_policy.specs.declared.command.PolicyCommand.{PolicyCommand}
+use Rattle.root_policy.specs.declared.command.Refusal.{Refusal}
+use Rattle.root_policy.specs.declared.command.Refusal.TheVariants as refusals
 use Rattle.plan_core.specs.Plan.{with_routes}
 use Rattle.dimension_core.specs.Setting.{Setting}
 use Rattle.board_core.specs.declared.call.Move.{Move}

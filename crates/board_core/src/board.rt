@@ -5,7 +5,7 @@ ghost use Rattle.board_core.specs.Kept.{IsKept};
 ghost use Rattle.board_core.specs.Alone.{IsKept-prop};
 ghost use Rattle.board_core.specs.History.{is_turn, state_after, IsLegal};
 ghost use Rattle.board_core.specs.Listing.{IsListing};
-ghost use Rattle.rbac_core.specs.Access.{has_session};
+ghost use Rattle.root_policy.specs.Access.{has_session};
 
 use crate::body::Core;
 use crate::call::Event;

@@ -7,7 +7,7 @@ ghost use Rattle.board_core.specs.Kept.{IsKept, history_of};
 ghost use Rattle.board_core.specs.Listing.{IsListing};
 ghost use Rattle.board_core.specs.declared.reply.AskFault.{AskFault};
 ghost use Rattle.board_core.specs.declared.reply.Fault.{Fault};
-ghost use Rattle.rbac_core.specs.Access.{has_session};
+ghost use Rattle.root_policy.specs.Access.{has_session};
 
 use crate::call::{Call, Entry, Event};
 use crate::listing::rows;

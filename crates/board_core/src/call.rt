@@ -1,5 +1,5 @@
 use crate::reply::Reply;
-use rbac_core::PolicyCommand;
+use root_policy::PolicyCommand;
 
 /// A change of the plan. Vehicles, customers and places count from 1.
 #[derive(Clone, Copy, Debug, PartialEq, Eq)]

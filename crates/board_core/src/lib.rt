@@ -15,7 +15,7 @@ pub use board::Board;
 pub use body::Core;
 pub use call::{Call, Entry, Event, Move};
 pub use laws::{plans_are_feasible, replies_are_determined};
-pub use rbac_core::{Object, ObjectRange, Operation, PolicyCommand, Refusal};
+pub use root_policy::{Object, ObjectRange, Operation, PolicyCommand, Refusal};
 pub use reply::{AskFault, Denial, Fault, Reply};
 pub use row::Row;
 

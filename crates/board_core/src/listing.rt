@@ -2,7 +2,7 @@
 ghost use Rattle.std.specs.Prelude.{◌≡◌, ℕ, ◌+◌, ◌≤◌, ◌<◌, ◌++◌, length, take, map, filter, IfOk, All};
 ghost use Rattle.dimension_core.specs.Setup.{setting};
 ghost use Rattle.dimension_core.specs.Cumuls.{last_of};
-ghost use Rattle.rbac_core.specs.Access.{allows};
+ghost use Rattle.root_policy.specs.Access.{allows};
 ghost use Rattle.plan_core.specs.Plan.{route_at};
 ghost use Rattle.board_core.specs.Listing.{Spot, spot_of, route_spots, placed_spots, unassigned_spots, all_spots, HasEarlyValues};
 ghost use Rattle.board_core.specs.Moves.{is_placed};
@@ -13,7 +13,7 @@ use crate::row::Row;
 use callback_store::Meter;
 use dimension_core::{Range, Setup};
 use plan_core::Plan;
-use rbac_core::{Object, Operation, Policy};
+use root_policy::{Object, Operation, Policy};
 use std::alloc::{AllocError, Global};
 
 /// The rows of the plan that the session may read: by vehicle and place, and then the unassigned customers by number.

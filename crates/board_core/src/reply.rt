@@ -1,4 +1,4 @@
-use rbac_core::Refusal;
+use root_policy::Refusal;
 use thiserror::Error;
 
 /// The first rule that a proposal fails, in the order in which the rules are tried.

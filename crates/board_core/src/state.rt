@@ -1,10 +1,10 @@
 //! What is held of a board's state, and how proposals and policy commands are judged by it.
 ghost use Rattle.std.specs.Prelude.{◌≡◌, ℕ, ◌+◌, ◌≤◌, ◌<◌, nat_lt, replicate, [], ◌∷◌, insert, length, Some, None, IfNone, IfSome, IfOk, OnErr, MatchOption};
 ghost use Rattle.dimension_core.specs.Setup.{setting};
-ghost use Rattle.rbac_core.specs.Policy.{PolicyState, Shows, opening_policy, command_refusal};
-ghost use Rattle.rbac_core.specs.Access.{is_open, allows};
-ghost use Rattle.rbac_core.specs.declared.operation.Operation.TheVariants as operations;
-ghost use Rattle.rbac_core.specs.declared.operation.Object.TheVariants as objects;
+ghost use Rattle.root_policy.specs.Policy.{PolicyState, Shows, opening_policy, command_refusal};
+ghost use Rattle.root_policy.specs.Access.{is_open, allows};
+ghost use Rattle.root_policy.specs.declared.operation.Operation.TheVariants as operations;
+ghost use Rattle.root_policy.specs.declared.operation.Object.TheVariants as objects;
 ghost use Rattle.plan_core.specs.Plan.{changes_of, route_at, stamp_of};
 ghost use Rattle.board_core.specs.Moves.{is_placed, is_possible, new_routes};
 ghost use Rattle.board_core.specs.Rules.{session_denial, fleet_denial, vehicle_denial, ahead_denial, stale_denial, effect_denial, customer_denial, early_denial};
@@ -18,7 +18,7 @@ use crate::reply::{Denial, Reply};
 use callback_store::Meter;
 use dimension_core::Setup;
 use plan_core::{Plan, Route, stamps_by_one_more};
-use rbac_core::{Object, Operation, Policy, PolicyCommand, Refusal};
+use root_policy::{Object, Operation, Policy, PolicyCommand, Refusal};
 use std::alloc::{AllocError, Global};
 use std::marker::Model;
 use std::sync::Arc;
