@@ -9,7 +9,7 @@ use Rattle.std.proofs.lemmas.Bool.{and_parts, leb-true, cases_eq, eq-eqb, ne_eqb
 use Rattle.std.proofs.lemmas.List.{get_or-set_same, get_or-set_other}
 use Rattle.std.proofs.lemmas.List.Sums.{sum_by-append}
 use Rattle.root_policy.specs.Access.{has_session, has_access, is_open, allows}
-use Rattle.root_policy.proofs.AccessLaws.{has_session-is_open, has_access-allows}
+use Rattle.root_policy.specs.Policy.{PolicyState, PolicyRows, Shows}
 use Rattle.root_policy.specs.declared.operation.Operation.{Operation}
 use Rattle.root_policy.specs.declared.operation.Operation.TheVariants as operations
 use Rattle.root_policy.specs.declared.operation.Object.{Object}
@@ -43,13 +43,21 @@ or_then_same (Some d) b c same = refl
 or_then_both : (a c b d : Option Denial) → a ≡ c → (c ≡ None → b ≡ d) → or_then a b ≡ or_then c d
 or_then_both a c b d e f = ap (λ x. or_then x b) e ∙ or_then_same c b d f
 
-module _ (s : Setting) (held : HeldState) (state : BoardState) (session : ℕ) (holds : Holds s held state) where
+-- what is kept of a policy answers whether there is a session, and CheckAccess, for each policy that it stands for
+abbrev pub Opened : Type 0
+Opened = (kept : PolicyRows) (p : PolicyState) (session : ℕ) → Shows kept p → has_session p session ≡ is_open kept session
+
+abbrev pub Allowed : Type 0
+Allowed = (kept : PolicyRows) (p : PolicyState) (session : ℕ) (operation : Operation) (object : Object) → Shows kept p
+    → has_access p session operation object ≡ allows kept session operation object
+
+module _ (opened : Opened) (allowed : Allowed) (s : Setting) (held : HeldState) (state : BoardState) (session : ℕ) (holds : Holds s held state) where
   pub open_same : is_open held.policy session ≡ has_session state.policy session
-  open_same = ∥∥₁_elim holds.shows (Bool-set _ _) (λ shows. sym (has_session-is_open held.policy state.policy session shows))
+  open_same = ∥∥₁_elim holds.shows (Bool-set _ _) (λ shows. sym (opened held.policy state.policy session shows))
 
   pub access_same : (operation : Operation) (object : Object) → allows held.policy session operation object ≡ has_access state.policy session operation object
   access_same operation object =
-      ∥∥₁_elim holds.shows (Bool-set _ _) (λ shows. sym (has_access-allows state.policy operation object held.policy session shows))
+      ∥∥₁_elim holds.shows (Bool-set _ _) (λ shows. sym (allowed held.policy state.policy session operation object shows))
 
   module _ (sized : length held.plan.stamps ≡ s.vehicles) (base : ℕ) (mv : Move) where
     may_same : allows held.policy session operations.Move ≡ has_access state.policy session operations.Move

@@ -14,9 +14,9 @@ use Rattle.board_core.specs.Kept.{CoreState, IsKept}
 use Rattle.board_core.specs.Listing.{RowShown, Spot, spot_of, all_spots, is_readable, HasEarlyValues, IsListing}
 use Rattle.board_core.specs.Shown.{is_shown, IsListable}
 use Rattle.board_core.proofs.Histories.{state_after-good}
-use Rattle.board_core.proofs.Keeping.{open_same, access_same}
+use Rattle.board_core.proofs.Keeping.{Opened, Allowed, open_same, access_same}
 
-module _ (s : Setting) (core : CoreState) (kept : IsKept s core) where
+module _ (opened : Opened) (allowed : Allowed) (s : Setting) (core : CoreState) (kept : IsKept s core) where
   pub listable : (plan : PlanState) → plan ≡ core.held.plan → IsListable s plan
   listable plan e =
       let good = state_after-good (record { setting = s; desks = length core.turns }) core.journal kept.legal in
@@ -29,12 +29,12 @@ module _ (s : Setting) (core : CoreState) (kept : IsKept s core) where
 
   pub session_open : (policy : PolicyRows) (session : ℕ) → policy ≡ core.held.policy → is_open policy session ≡ has_session (state_after s core.journal).policy session
   session_open policy session e =
-      ap (λ (p : PolicyRows). is_open p session) e ∙ open_same s core.held (state_after s core.journal) session kept.held
+      ap (λ (p : PolicyRows). is_open p session) e ∙ open_same opened allowed s core.held (state_after s core.journal) session kept.held
 
   shown_same : (session : ℕ) (x : Spot) → is_shown core.held.policy session x ≡ is_readable (state_after s core.journal).policy session x
   shown_same session x = λ i.
-      access_same s core.held (state_after s core.journal) session kept.held operations.View (objects.Customer x.customer) i
-      && (x.vehicle == 0 || access_same s core.held (state_after s core.journal) session kept.held operations.View (objects.Vehicle x.vehicle) i)
+      access_same opened allowed s core.held (state_after s core.journal) session kept.held operations.View (objects.Customer x.customer) i
+      && (x.vehicle == 0 || access_same opened allowed s core.held (state_after s core.journal) session kept.held operations.View (objects.Vehicle x.vehicle) i)
 
   pub listed : (policy : PolicyRows) (plan : PlanState) (session : ℕ) (rows : List RowShown) → policy ≡ core.held.policy → plan ≡ core.held.plan
       → map spot_of rows ≡ filter (is_shown policy session) (all_spots s.customers plan.routes) → All (HasEarlyValues s plan.routes) rows

@@ -28,7 +28,7 @@ use Rattle.board_core.specs.History.{is_turn, turns_of}
 use Rattle.board_core.specs.Kept.{HeldState, CoreState, Holds, IsKept, IsReady, IsProposed, proposed, held_basis, refused_by, policy_after}
 use Rattle.board_core.proofs.Early.{both, le_from, passes, can_insert}
 use Rattle.board_core.proofs.Histories.{judged, state_after-good}
-use Rattle.board_core.proofs.Keeping.{open_same, access_same, verdict_same}
+use Rattle.board_core.proofs.Keeping.{Opened, Allowed, open_same, access_same, verdict_same}
 
 -- what a proposal needs of a core that is kept and has room
 pub ready : (s : Setting) (core : CoreState) → IsKept s core → length core.journal < s.max_events → s.max_events ≤ 16777216 → IsReady s core.held
@@ -43,11 +43,11 @@ ready s core kept room few =
       room = omega arith;
     }
 
-module _ (s : Setting) (held : HeldState) (state : BoardState) (session base : ℕ) (mv : Move) (holds : Holds s held state) (stamps : length held.plan.stamps ≡ s.vehicles) where
+module _ (opened : Opened) (allowed : Allowed) (s : Setting) (held : HeldState) (state : BoardState) (session base : ℕ) (mv : Move) (holds : Holds s held state) (stamps : length held.plan.stamps ≡ s.vehicles) where
   pub proposed_reply : (reply : Reply) → IsProposed s (held_basis s held session base) base mv reply → IsReply s state (Propose session base mv) reply
   proposed_reply Done h = h
-  proposed_reply (Committed n) h = (h.0 ∙ ap (λ m. m + 1) holds.stamps.version, verdict_same s held state session holds stamps base mv None h.1)
-  proposed_reply (Denied d) h = verdict_same s held state session holds stamps base mv (Some d) h
+  proposed_reply (Committed n) h = (h.0 ∙ ap (λ m. m + 1) holds.stamps.version, verdict_same opened allowed s held state session holds stamps base mv None h.1)
+  proposed_reply (Denied d) h = verdict_same opened allowed s held state session holds stamps base mv (Some d) h
   proposed_reply (Refused r) h = h
 
 -- the vehicles of the new routes are those that the move names, each in the fleet and once
@@ -84,7 +84,7 @@ module _ (law : OneMore) (s : Setting) (held : HeldState) (state : BoardState) (
   proposed_holds (Denied d) h = holds
   proposed_holds (Refused r) h = holds
 
-module _ (s : Setting) (held : HeldState) (state : BoardState) (session : ℕ) (command : PolicyCommand) (holds : Holds s held state) where
+module _ (opened : Opened) (allowed : Allowed) (s : Setting) (held : HeldState) (state : BoardState) (session : ℕ) (command : PolicyCommand) (holds : Holds s held state) where
   refusal_by : Option Refusal → (reply : Reply) → reply ≡ refused_by (policy_refusal s state.policy session command) → IsReply s state (Policy session command) reply
   refusal_by o reply e = at (policy_refusal s state.policy session command) refl reply e
     where
@@ -102,8 +102,8 @@ module _ (s : Setting) (held : HeldState) (state : BoardState) (session : ℕ) (
       ≡ policy_refusal s state.policy session command
   unfolding policy_refusal
   guarded_same =
-      ap (λ b. guarded b (allows held.policy session operations.Admin objects.Board) (command_refusal held.policy.customers held.policy.vehicles state.policy command)) (open_same s held state session holds)
-      ∙ (ap (λ b. guarded (has_session state.policy session) b (command_refusal held.policy.customers held.policy.vehicles state.policy command)) (access_same s held state session holds operations.Admin objects.Board)
+      ap (λ b. guarded b (allows held.policy session operations.Admin objects.Board) (command_refusal held.policy.customers held.policy.vehicles state.policy command)) (open_same opened allowed s held state session holds)
+      ∙ (ap (λ b. guarded (has_session state.policy session) b (command_refusal held.policy.customers held.policy.vehicles state.policy command)) (access_same opened allowed s held state session holds operations.Admin objects.Board)
       ∙ (ap (λ n. guarded (has_session state.policy session) (has_access state.policy session operations.Admin objects.Board) (command_refusal n held.policy.vehicles state.policy command)) holds.policy_customers
       ∙ ap (λ n. guarded (has_session state.policy session) (has_access state.policy session operations.Admin objects.Board) (command_refusal s.customers n state.policy command)) holds.policy_vehicles))
 
@@ -137,12 +137,12 @@ module _ (s : Setting) (held : HeldState) (state : BoardState) (session : ℕ) (
       at (Refused r) shows right = made state.policy (∥∥₁_map holds.shows (λ h. shows state.policy h))
 
 -- a proposal that was answered, as a call of the state
-module _ {E : Type 0} (law : OneMore) (s : Setting) (held new : HeldState) (session base : ℕ) (mv : Move) (result : Result Reply E)
+module _ {E : Type 0} (opened : Opened) (allowed : Allowed) (law : OneMore) (s : Setting) (held new : HeldState) (session base : ℕ) (mv : Move) (result : Result Reply E)
     (stamps : length held.plan.stamps ≡ s.vehicles)
     (proposal : IfOk result (IsProposed s (held_basis s held session base) base mv)) (kept : IfOk result (λ reply. new ≡ proposed held mv reply))
     (state : BoardState) (holds : Holds s held state) (call : Call) (is : call ≡ Propose session base mv) where
   reply_of : (r : Result Reply E) → IfOk r (IsProposed s (held_basis s held session base) base mv) → IfOk r (λ reply. ∥ IsReply s state (Propose session base mv) reply ∥₁)
-  reply_of (Ok reply) h = ∣ proposed_reply s held state session base mv holds stamps reply h ∣₁
+  reply_of (Ok reply) h = ∣ proposed_reply opened allowed s held state session base mv holds stamps reply h ∣₁
   reply_of (Err e) h = tt
 
   state_of : (r : Result Reply E) → IfOk r (IsProposed s (held_basis s held session base) base mv) → IfOk r (λ reply. new ≡ proposed held mv reply)

@@ -16,6 +16,7 @@ use crate::row::Row;
 use crate::state::State;
 use callback_store::Meter;
 use dimension_core::Setup;
+use root_policy::access_by_tests;
 use std::alloc::{AllocError, Global};
 use std::marker::Model;
 
@@ -140,6 +141,7 @@ impl Core {
         ensures rows { IfOk result (λ rows. IsListing (setting setup.now) (state_after (setting setup.now) self.now.journal) session rows.items) }
         ensures no_session { IsErrOf result AskFault.NoSession ↔ (has_session (state_after (setting setup.now) self.now.journal).policy session ≡ false) }
     {
+        access_by_tests();
         if !self.has_session(setup, session) {
             return Err(AskFault::NoSession);
         }
@@ -161,6 +163,7 @@ impl Core {
         requires { IsKept (setting setup.now) self.now }
         ensures { result ≡ has_session (state_after (setting setup.now) self.now.journal).policy session }
     {
+        access_by_tests();
         self.state.policy().has_session(session)
     }
 }

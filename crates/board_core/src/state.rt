@@ -18,7 +18,7 @@ use crate::reply::{Denial, Reply};
 use callback_store::Meter;
 use dimension_core::Setup;
 use plan_core::{Plan, Route, stamps_by_one_more};
-use root_policy::{Object, Operation, Policy, PolicyCommand, Refusal};
+use root_policy::{Object, Operation, Policy, PolicyCommand, Refusal, access_by_tests};
 use std::alloc::{AllocError, Global};
 use std::marker::Model;
 use std::sync::Arc;
@@ -278,6 +278,7 @@ impl State {
         ensures err { OnErr result (self.new ≡ self.old) }
     {
         stamps_by_one_more();
+        access_by_tests();
         let _sizes = self.plan.version();
         match event.call {
             Call::Propose { session, base, mv } => {

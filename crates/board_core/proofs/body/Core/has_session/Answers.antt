@@ -7,4 +7,4 @@ use Rattle.board_core.proofs.body.Core.has_session.Goals as goal
 pub returns : goal.returns
 returns g c =
     c.has_session.ensures.value
-    ∙ session_open (setting c.args.setup.now) c.args.self.now c.requires _ _ (c.policy.ensures ∙ ap (λ (core : CoreState). core.held.policy) c.self.view_is)
+    ∙ session_open c.access_by_tests.ensures.opened c.access_by_tests.ensures.allowed (setting c.args.setup.now) c.args.self.now c.requires _ _ (c.policy.ensures ∙ ap (λ (core : CoreState). core.held.policy) c.self.view_is)
