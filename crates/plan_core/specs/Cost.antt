@@ -1,4 +1,4 @@
-use Rattle.std.specs.Prelude.{ℕ, ◌+◌, List, [], ◌∷◌, ◌++◌, sum_by}
+use Rattle.std.specs.Prelude.{ℕ, ◌+◌, List, [], ◌∷◌, ◌++◌, length, sum_by}
 use Rattle.callback_store.specs.Tables.{Table, entry}
 
 -- the sum of the table's entries on the way from a node over these nodes, in order
@@ -14,3 +14,12 @@ route_cost table (c ∷ cs) = way_cost table 0 ((c ∷ cs) ++ 0 ∷ [])
 -- the sum over all routes
 abbrev pub cost_of : Table → List (List ℕ) → ℕ
 cost_of table routes = sum_by (route_cost table) routes
+
+-- how many answers the cost of a route takes: one for each customer and one for the way home, and none where it is empty
+abbrev pub route_asks : List ℕ → ℕ
+route_asks [] = 0
+route_asks (c ∷ cs) = length (c ∷ cs) + 1
+
+-- and the cost of all routes
+abbrev pub asks_of : List (List ℕ) → ℕ
+asks_of routes = sum_by route_asks routes
