@@ -1,10 +1,14 @@
 use Rattle.std.specs.Prelude.{ℕ, ◌+◌, List, [], ◌∷◌, ◌++◌, length, sum_by}
 use Rattle.callback_store.specs.Tables.{Table, entry}
 
--- the sum of the table's entries on the way from a node over these nodes, in order
+-- the sum of f over the steps of the way from a node over these nodes, in order
+abbrev pub way : (ℕ → ℕ → ℕ) → ℕ → List ℕ → ℕ
+way f i [] = 0
+way f i (j ∷ js) = f i j + way f j js
+
+-- the sum of the table's entries on that way
 abbrev pub way_cost : Table → ℕ → List ℕ → ℕ
-way_cost table i [] = 0
-way_cost table i (j ∷ js) = entry table i j + way_cost table j js
+way_cost table i js = way (entry table) i js
 
 -- the sum over neighbouring stops of a route: the depot, its customers, the depot; 0 where the route is empty
 abbrev pub route_cost : Table → List ℕ → ℕ

@@ -2,6 +2,7 @@
 #![tactic(auto)]
 
 mod cost;
+mod front;
 mod laws;
 mod plan;
 mod replace;
@@ -9,8 +10,11 @@ mod route;
 mod touch;
 
 pub use cost::route_cost;
+pub use front::common_front;
 pub use laws::{
-    commits_by_one_more, currency_by_stamps, routes_are_short, routes_replaced, stamps_by_one_more,
+    among_is_tested, commits_by_one_more, costs_differ_by_named, currency_by_stamps,
+    customers_stand_by_route, fronts_are_common, plans_are_tested, routes_are_known,
+    routes_replaced, stamps_by_one_more, ways_join,
 };
 pub use plan::Plan;
 pub use route::Route;

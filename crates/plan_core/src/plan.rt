@@ -1,4 +1,4 @@
-ghost use Rattle.std.specs.Prelude.{◌≡◌, ℕ, ◌+◌, ◌*◌, ◌-◌, ◌≤◌, ◌<◌, ◌↔◌, List, [], length, replicate, Some, IfOk, IfSome, IfNone, IsTrue};
+ghost use Rattle.std.specs.Prelude.{◌≡◌, ℕ, ◌+◌, ◌*◌, ◌-◌, ◌≤◌, ◌<◌, ◌↔◌, List, [], length, replicate, Some, IfOk, IfSome, IfNone, IsTrue, All};
 ghost use Rattle.callback_store.specs.Meter.{AsksAtMost};
 ghost use Rattle.callback_store.specs.Tables.{table_at};
 ghost use Rattle.dimension_core.specs.Setup.{setting};
@@ -82,6 +82,7 @@ impl Plan {
         requires high { vehicle ≤ length self.now.routes }
         ensures value { result.now.value ≡ route_at self.now.routes vehicle }
         ensures short { length result.now.value ≤ 1000 }
+        ensures known { All (λ c. (1 ≤ c) × (c ≤ self.now.customers)) result.now.value }
         ensures sound { IsPlan self.now.customers self.now.routes }
     {
         &self.routes[vehicle as usize - 1]
