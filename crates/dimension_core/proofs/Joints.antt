@@ -1,5 +1,7 @@
 -- Spans from the back, and where they meet those from the front.
 use Rattle.std.proofs.Common.{◌≡◌, ℕ, ◌+◌, ◌-◌, ◌<◌, ◌≤◌, ◌↔◌, max, min, refl, sym, subst, arith, List, [], ◌∷◌, ◌++◌, append_assoc, Option, Some, None}
+use Rattle.std.proofs.Math.Logic.{∥∥₁_elim, ∥∥₁_map}
+use Rattle.std.proofs.Props.{props}
 use Rattle.callback_store.specs.Tables.{Table, entry}
 use Rattle.dimension_core.specs.declared.range.Range.{Range}
 use Rattle.dimension_core.specs.Cumuls.{Bounds, cap_of, range_of, IsCumul, IsWithin, IsSpan, GoOn, AreCumuls, Reaches, last_of}
@@ -104,17 +106,20 @@ go_last t d v i x [] k (z ∷ (w ∷ zs)) g = absurd g.1
 go_last t d v i x (j ∷ js) k [] g = absurd g
 go_last t d v i x (j ∷ js) k (z ∷ zs) g = go_last t d v j z js k zs g.1
 
+le-prop : (m n : ℕ) → IsProp (m ≤ n)
+le-prop m n = hlevel props
+
 -- A way by two intervals that meet at a stop z: what can be reached there, and from where the rest can be gone.
 pub joint : (t : Table) (d : Bounds) (v : ℕ) (done : List ℕ) (z : ℕ) (rest : List ℕ) (f b : Range) → IsSpan (Some f) (Reaches t d v (done ++ z ∷ []))
-    → IsSpan (Some b) (IsOnward t d v z rest) → (max f.lo b.lo ≤ min f.hi b.hi) ↔ ((cumuls : List ℕ) × AreCumuls t d v (done ++ (z ∷ rest)) cumuls)
+    → IsSpan (Some b) (IsOnward t d v z rest) → (max f.lo b.lo ≤ min f.hi b.hi) ↔ ∥ ((cumuls : List ℕ) × AreCumuls t d v (done ++ (z ∷ rest)) cumuls) ∥₁
 joint t d v done z rest f b s n = (
   λ h.
       let x : ℕ = max f.lo b.lo in
-      whole x (s.inside x (omega arith, omega arith)) (n.inside x (omega arith, omega arith)),
-  λ p. both p.0 p.1,
+      ∥∥₁_map (s.inside x (omega arith, omega arith)) (λ reached. whole x reached (n.inside x (omega arith, omega arith))),
+  λ p. ∥∥₁_elim p (le-prop (max f.lo b.lo) (min f.hi b.hi)) (λ q. both q.0 q.1),
 )
   where
-    whole : (x : ℕ) → Reaches t d v (done ++ z ∷ []) x → IsOnward t d v z rest x → (cumuls : List ℕ) × AreCumuls t d v (done ++ (z ∷ rest)) cumuls
+    whole : (x : ℕ) → (cumuls : List ℕ) × AreCumuls t d v (done ++ z ∷ []) cumuls × (last_of 0 cumuls ≡ x) → IsOnward t d v z rest x → (cumuls : List ℕ) × AreCumuls t d v (done ++ (z ∷ rest)) cumuls
     whole x ([], a, e) p = absurd a
     whole x (c ∷ cs, a, e) p =
         let on : GoOn t d v (last_of 0 (done ++ z ∷ [])) (last_of c cs) rest p.on.0 =
@@ -128,7 +133,7 @@ joint t d v done z rest f b s n = (
         let g = subst (λ (js : List ℕ). GoOn t d v 0 c js cs) (sym (append_assoc done (z ∷ []) rest)) a.1 in
         let r = go_split t d v 0 c (done ++ z ∷ []) rest cs g in
         let x : ℕ = last_of c r.0 in
-        let here = s.all x (c ∷ r.0, (a.0, r.1), refl) in
+        let here = s.all x ∣ (c ∷ r.0, (a.0, r.1), refl) ∣₁ in
         let on = subst (λ (i : ℕ). GoOn t d v i x rest r.2.0) (last_of-push 0 done z) r.2.1 in
         let there = n.all x (record { cumul = go_last t d v 0 c done z r.0 r.1; on = (r.2.0, on) }) in
         omega arith

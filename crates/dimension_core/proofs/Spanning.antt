@@ -17,7 +17,7 @@ nothing_alone : IsProp ⊥
 nothing_alone = hlevel props
 
 -- a route that is in bounds has cumuls at each of its stops
-never : (t : Table) (d : Bounds) (v : ℕ) (route : List ℕ) (n : ℕ) → 0 < length route → ∥ IsInBounds t d v route ∥₁
+never : (t : Table) (d : Bounds) (v : ℕ) (route : List ℕ) (n : ℕ) → 0 < length route → IsInBounds t d v route
     → IsSpan None (Reaches t d v (take n route)) → ⊥
 never t d v route n some fits none =
     let e : take n route ++ (drop n route ++ 0 ∷ []) ≡ route ++ 0 ∷ [] =
@@ -25,7 +25,7 @@ never t d v route n some fits none =
     let whole = subst (λ (js : List ℕ). IsSpan None (Reaches t d v js)) e (span_none t d v (take n route) (drop n route ++ 0 ∷ []) none) in
     ∥∥₁_elim fits nothing_alone (λ b. elim b [
       | inl q ↦ absurd (omega (arith, ap length q))
-      | inr q ↦ absurd (whole.all (last_of 0 q.0) (q.0, q.1, refl))
+      | inr q ↦ absurd (whole.all (last_of 0 q.0) ∣ (q.0, q.1, refl) ∣₁)
     ])
 
 -- the dimension that was read at a place

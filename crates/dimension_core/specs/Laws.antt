@@ -34,4 +34,4 @@ pub record SpansMeet : Type 0 where
   pub none : (t : Table) (d : Bounds) (vehicle i j : ℕ) (rest : List ℕ) → IsSpan None (IsOnward t d vehicle j rest) → IsSpan None (IsOnward t d vehicle i (j ∷ rest))
   pub joint : (t : Table) (d : Bounds) (vehicle : ℕ) (done : List ℕ) (z : ℕ) (rest : List ℕ) (front back : Range)
       → IsSpan (Some front) (Reaches t d vehicle (done ++ z ∷ [])) → IsSpan (Some back) (IsOnward t d vehicle z rest)
-      → (max front.lo back.lo ≤ min front.hi back.hi) ↔ ((cumuls : List ℕ) × AreCumuls t d vehicle (done ++ (z ∷ rest)) cumuls)
+      → (max front.lo back.lo ≤ min front.hi back.hi) ↔ ∥ ((cumuls : List ℕ) × AreCumuls t d vehicle (done ++ (z ∷ rest)) cumuls) ∥₁
