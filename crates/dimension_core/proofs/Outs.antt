@@ -1,6 +1,4 @@
 use Rattle.std.proofs.Common.{◌≡◌, Bool, IsTrue, ◌↔◌, slice_index_or, ℕ, ◌+◌, ◌-◌, ◌<◌, inl, inr, sym, ap, subst, arith, List, length, ◌∙◌}
-use Rattle.std.proofs.Math.Logic.{∥∥₁_elim}
-use Rattle.std.proofs.Props.{props}
 use Rattle.std.proofs.lemmas.Bool.{cases_order}
 use Rattle.std.proofs.lemmas.List.{get_or_default}
 use Rattle.callback_store.specs.Tables.{Table}
@@ -26,9 +24,6 @@ first_out_unique s v r d e out other = elim (cases_order d e) [
   | inr q ↦ elim q [ inl h ↦ absurd (not_later s v r d e out other h) | inr h ↦ absurd (not_later s v r e d other out h) ]
 ]
 
-IsTrue-prop : (r : Bool) → IsProp (IsTrue r)
-IsTrue-prop r = hlevel props
-
 -- what one dimension answers, as a fact of the setting
 pub fits_at : (s : Setting) (k v : ℕ) (route : List ℕ) (ts : List Table) (ds : List Bounds) (d : Bounds) (r : Bool)
     → ts ≡ s.tables → ds ≡ s.dimensions → k < length ds → d ≡ slice_index_or ds k d
@@ -36,8 +31,7 @@ pub fits_at : (s : Setting) (k v : ℕ) (route : List ℕ) (ts : List Table) (ds
 fits_at s k v route ts ds d r et ed h e b =
     let same : d ≡ dimension_at s k = e ∙ get_or_default ds k d no_bounds h ∙ ap (λ (xs : List Bounds). slice_index_or xs k no_bounds) ed in
     let b' = subst (λ (xs : List Table). IsTrue r ↔ IsInBounds (table_of xs d) d v route) et b in
-    let f = subst (λ (x : Bounds). IsTrue r ↔ IsInBounds (table_of s.tables x) x v route) same b' in
-    (λ p. ∣ f.0 p ∣₁, λ q. ∥∥₁_elim q (IsTrue-prop r) f.1)
+    subst (λ (x : Bounds). IsTrue r ↔ IsInBounds (table_of s.tables x) x v route) same b'
 
 -- the first dimension that is out of bounds
 pub first_out_at : (s : Setting) (v k : ℕ) (route : List ℕ) → k < length s.dimensions → ((n : ℕ) → n < k → FitsIn s n v route) → (FitsIn s k v route → ⊥)

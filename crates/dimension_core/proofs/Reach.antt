@@ -1,10 +1,12 @@
-use Rattle.std.proofs.Common.{◌≡◌, ℕ, suc, ◌+◌, ◌-◌, ◌<◌, ◌≤◌, ◌∙◌, sym, ap, subst, refl, arith, List, [], ◌∷◌, ◌++◌, length, take, drop, slice_index, slice_index_or, is_some, IsTrue, ◌↔◌, inl, inr, Option, Some, None}
+use Rattle.std.proofs.Common.{◌≡◌, ℕ, suc, ◌+◌, ◌-◌, ◌<◌, ◌≤◌, ◌∙◌, sym, ap, subst, refl, arith, List, [], ◌∷◌, ◌++◌, length, take, drop, slice_index, slice_index_or, is_some, IsTrue, ◌↔◌, ◌⊎◌, inl, inr, Option, Some, None}
+use Rattle.std.proofs.Math.Logic.{∥∥₁_elim, ∥∥₁_map}
+use Rattle.std.proofs.Props.{props}
 use Rattle.std.proofs.lemmas.List.{take_more, take_all, take-append-drop}
 use Rattle.callback_store.specs.Tables.{Table}
 use Rattle.dimension_core.specs.declared.range.Range.{Range}
-use Rattle.dimension_core.specs.Cumuls.{Bounds, IsStart, IsStep, IsWithin, IsSpan, GoOn, Reaches, last_of, IsInBounds, IsEarly}
+use Rattle.dimension_core.specs.Cumuls.{Bounds, IsStart, IsStep, IsWithin, IsSpan, GoOn, AreCumuls, Reaches, last_of, IsInBounds, IsEarly}
 
-last_of-push : (n : ℕ) (ms : List ℕ) (m : ℕ) → last_of n (ms ++ m ∷ []) ≡ m
+pub last_of-push : (n : ℕ) (ms : List ℕ) (m : ℕ) → last_of n (ms ++ m ∷ []) ≡ m
 last_of-push n [] m = refl
 last_of-push n (k ∷ ms) m = last_of-push k ms m
 
@@ -31,33 +33,56 @@ go_front t d v i x [] ks zs g = ([], tt)
 go_front t d v i x (j ∷ js) ks [] g = absurd g
 go_front t d v i x (j ∷ js) ks (z ∷ zs) g = let r = go_front t d v j z js ks zs g.1 in (z ∷ r.0, (g.0, r.1))
 
+-- a number is in an interval in one way
+pub IsWithin-prop : (o : Option Range) (x : ℕ) → IsProp (IsWithin o x)
+IsWithin-prop None x = hlevel props
+IsWithin-prop (Some r) x = hlevel props
+
 reach_push : (t : Table) (d : Bounds) (v : ℕ) (js : List ℕ) (x k y : ℕ) → Reaches t d v js x → IsStep t d v (last_of 0 js) x k y → Reaches t d v (js ++ k ∷ []) y
-reach_push t d v js x k y ([], a, e) s = absurd a
-reach_push t d v js x k y (c ∷ cs, a, e) s =
-    let step : IsStep t d v (last_of 0 js) (last_of c cs) k y = subst (λ (n : ℕ). IsStep t d v (last_of 0 js) n k y) (sym e) s in
-    (c ∷ (cs ++ y ∷ []), (a.0, go_push t d v 0 c js cs k y a.1 step), last_of-push c cs y)
+reach_push t d v js x k y reached s = ∥∥₁_map reached push
+  where
+    push : (cumuls : List ℕ) × AreCumuls t d v js cumuls × (last_of 0 cumuls ≡ x)
+        → (cumuls : List ℕ) × AreCumuls t d v (js ++ k ∷ []) cumuls × (last_of 0 cumuls ≡ y)
+    push ([], a, e) = absurd a
+    push (c ∷ cs, a, e) =
+        let step : IsStep t d v (last_of 0 js) (last_of c cs) k y = subst (λ (n : ℕ). IsStep t d v (last_of 0 js) n k y) (sym e) s in
+        (c ∷ (cs ++ y ∷ []), (a.0, go_push t d v 0 c js cs k y a.1 step), last_of-push c cs y)
 
-reach_pop : (t : Table) (d : Bounds) (v : ℕ) (js : List ℕ) (k y : ℕ) → Reaches t d v (js ++ k ∷ []) y → (x : ℕ) × Reaches t d v js x × IsStep t d v (last_of 0 js) x k y
-reach_pop t d v js k y ([], a, e) = absurd a
-reach_pop t d v js k y (c ∷ cs, a, e) =
-    let r = go_pop t d v 0 c js k cs a.1 in
-    (last_of c r.0, (c ∷ r.0, (a.0, r.1), refl), subst (λ (n : ℕ). IsStep t d v (last_of 0 js) (last_of c r.0) k n) e r.2)
+-- what every earlier cumul of a reached one has, if it has one proof at most
+reach_pop : (t : Table) (d : Bounds) (v : ℕ) (js : List ℕ) (k y : ℕ) (Q : Type 0) → IsProp Q → Reaches t d v (js ++ k ∷ []) y
+    → ((x : ℕ) → Reaches t d v js x → IsStep t d v (last_of 0 js) x k y → Q) → Q
+reach_pop t d v js k y Q alone reached next = ∥∥₁_elim reached alone pop
+  where
+    pop : (cumuls : List ℕ) × AreCumuls t d v (js ++ k ∷ []) cumuls × (last_of 0 cumuls ≡ y) → Q
+    pop ([], a, e) = absurd a
+    pop (c ∷ cs, a, e) =
+        let r = go_pop t d v 0 c js k cs a.1 in
+        next (last_of c r.0) ∣ (c ∷ r.0, (a.0, r.1), refl) ∣₁ (subst (λ (n : ℕ). IsStep t d v (last_of 0 js) (last_of c r.0) k n) e r.2)
 
-reach_front : (t : Table) (d : Bounds) (v : ℕ) (js ks : List ℕ) (y : ℕ) → Reaches t d v (js ++ ks) y → (x : ℕ) × Reaches t d v js x
-reach_front t d v js ks y ([], a, e) = absurd a
-reach_front t d v js ks y (c ∷ cs, a, e) =
-    let r = go_front t d v 0 c js ks cs a.1 in (last_of c r.0, (c ∷ r.0, (a.0, r.1), refl))
+reach_front : (t : Table) (d : Bounds) (v : ℕ) (js ks : List ℕ) (y : ℕ) (Q : Type 0) → IsProp Q → Reaches t d v (js ++ ks) y → ((x : ℕ) → Reaches t d v js x → Q) → Q
+reach_front t d v js ks y Q alone reached next = ∥∥₁_elim reached alone front
+  where
+    front : (cumuls : List ℕ) × AreCumuls t d v (js ++ ks) cumuls × (last_of 0 cumuls ≡ y) → Q
+    front ([], a, e) = absurd a
+    front (c ∷ cs, a, e) =
+        let r = go_front t d v 0 c js ks cs a.1 in next (last_of c r.0) ∣ (c ∷ r.0, (a.0, r.1), refl) ∣₁
+
+IsStart-prop : (d : Bounds) (v x : ℕ) → IsProp (IsStart d v x)
+IsStart-prop d v x = hlevel props
 
 reach_start : (t : Table) (d : Bounds) (v x : ℕ) → Reaches t d v [] x → IsStart d v x
-reach_start t d v x ([], a, e) = absurd a
-reach_start t d v x (c ∷ [], a, e) = subst (λ (n : ℕ). IsStart d v n) e a.0
-reach_start t d v x (c ∷ (w ∷ cs), a, e) = absurd a.1
+reach_start t d v x reached = ∥∥₁_elim reached (IsStart-prop d v x) start
+  where
+    start : (cumuls : List ℕ) × AreCumuls t d v [] cumuls × (last_of 0 cumuls ≡ x) → IsStart d v x
+    start ([], a, e) = absurd a
+    start (c ∷ [], a, e) = subst (λ (n : ℕ). IsStart d v n) e a.0
+    start (c ∷ (w ∷ cs), a, e) = absurd a.1
 
 -- the cumuls at the depot
 pub span_start : (t : Table) (d : Bounds) (v : ℕ) (o : Option Range) → IsSpan o (IsStart d v) → IsSpan o (Reaches t d v [])
 span_start t d v o s = record {
   filled = s.filled;
-  inside = λ x w. (x ∷ [], (s.inside x w, tt), refl);
+  inside = λ x w. ∣ (x ∷ [], (s.inside x w, tt), refl) ∣₁;
   all = λ x p. s.all x (reach_start t d v x p);
 }
 
@@ -67,7 +92,7 @@ pub span_push : (t : Table) (d : Bounds) (v : ℕ) (js : List ℕ) (k : ℕ) (r 
 span_push t d v js k r o s n = record {
   filled = n.filled;
   inside = λ y w. let p = n.inside y w in reach_push t d v js p.0 k y (s.inside p.0 p.1) p.2;
-  all = λ y p. let q = reach_pop t d v js k y p in n.all y (q.0, s.all q.0 q.1, q.2);
+  all = λ y p. reach_pop t d v js k y (IsWithin o y) (IsWithin-prop o y) p (λ x reached step. n.all y (x, s.all x reached, step));
 }
 
 -- where there is none at a node, there is none at a later one
@@ -75,7 +100,7 @@ pub span_none : (t : Table) (d : Bounds) (v : ℕ) (js ks : List ℕ) → IsSpan
 span_none t d v js ks s = record {
   filled = tt;
   inside = λ y w. absurd w;
-  all = λ y p. let q = reach_front t d v js ks y p in s.all q.0 q.1;
+  all = λ y p. reach_front t d v js ks y ⊥ (IsWithin-prop None y) p (λ x reached. s.all x reached);
 }
 
 last_of-index_or : (n : ℕ) (ms : List ℕ) (d : ℕ) → 0 < length ms → last_of n ms ≡ slice_index_or ms (length ms - 1) d
@@ -94,13 +119,14 @@ pub bounds_found : (t : Table) (d : Bounds) (v : ℕ) (route : List ℕ) (o : Op
     → IsSpan o (Reaches t d v (route ++ 0 ∷ [])) → IsTrue (is_some o) ↔ IsInBounds t d v route
 bounds_found t d v route None h s = (
   λ p. cc,
-  λ b. elim b [
-    | inl e ↦ absurd (omega (arith, ap length e))
-    | inr q ↦ absurd (s.all (last_of 0 q.0) (q.0, q.1, refl))
-  ],
+  λ b. absurd (∥∥₁_elim b (IsWithin-prop None 0) none),
 )
+  where
+    none : (route ≡ []) ⊎ ((cumuls : List ℕ) × AreCumuls t d v (route ++ 0 ∷ []) cumuls) → ⊥
+    none (inl e) = omega (arith, ap length e)
+    none (inr q) = s.all (last_of 0 q.0) ∣ (q.0, q.1, refl) ∣₁
 bounds_found t d v route (Some r) h s =
-    (λ p. let q = s.inside r.lo (omega arith, s.filled) in inr (q.0, q.1), λ b. refl)
+    (λ p. ∥∥₁_map (s.inside r.lo (omega arith, s.filled)) (λ q. inr (q.0, q.1)), λ b. refl)
 
 -- the cumuls at one node more of a list
 pub span_more : (t : Table) (d : Bounds) (v : ℕ) (nodes : List ℕ) (k from node : ℕ) (r : Range) (o : Option Range) → k < length nodes

@@ -59,9 +59,10 @@ pub record AreCumulsByPlace (t : Table) (d : Bounds) (vehicle : ℕ) (nodes cumu
   pub steps : (k : ℕ) → k < length nodes
       → IsStep t d vehicle (slice_index (0 ∷ nodes) k) (slice_index cumuls k) (slice_index (0 ∷ nodes) (k + 1)) (slice_index cumuls (k + 1))
 
--- the route is empty, or there are cumuls for the depot, its customers and the depot
+-- The route is empty, or there are cumuls for the depot, its customers and the depot. (Here and below it is said that there are cumuls, and
+-- not which, so that the fact has one proof at most, and a ghost field can say it.)
 abbrev pub IsInBounds : Table → Bounds → ℕ → List ℕ → Type 0
-IsInBounds t d vehicle route = (route ≡ []) ⊎ ((cumuls : List ℕ) × AreCumuls t d vehicle (route ++ 0 ∷ []) cumuls)
+IsInBounds t d vehicle route = ∥ (route ≡ []) ⊎ ((cumuls : List ℕ) × AreCumuls t d vehicle (route ++ 0 ∷ []) cumuls) ∥₁
 
 -- the last of some numbers, or n where there is none
 abbrev pub last_of : ℕ → List ℕ → ℕ
@@ -70,7 +71,7 @@ last_of n (m ∷ ms) = last_of m ms
 
 -- y is the last of some cumuls for the depot and then these nodes
 abbrev pub Reaches : Table → Bounds → ℕ → List ℕ → ℕ → Type 0
-Reaches t d vehicle nodes y = (cumuls : List ℕ) × AreCumuls t d vehicle nodes cumuls × (last_of 0 cumuls ≡ y)
+Reaches t d vehicle nodes y = ∥ ((cumuls : List ℕ) × AreCumuls t d vehicle nodes cumuls × (last_of 0 cumuls ≡ y)) ∥₁
 
 -- y is the least last cumul
 pub record IsEarly (t : Table) (d : Bounds) (vehicle : ℕ) (nodes : List ℕ) (y : ℕ) : Type 0 where

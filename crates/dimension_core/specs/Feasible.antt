@@ -3,10 +3,9 @@ use Rattle.std.specs.Prelude.{ℕ, ◌+◌, ◌-◌, ◌<◌, ◌≤◌, List, [
 use Rattle.dimension_core.specs.Cumuls.{IsInBounds, table_of}
 use Rattle.dimension_core.specs.Setting.{Setting, dimension_at}
 
--- The vehicle's route is in bounds in the dimension at place k, from 0 on. (That there are cumuls, and not which,
--- so that it has one proof at most, and a ghost field can say it.)
+-- the vehicle's route is in bounds in the dimension at place k, from 0 on
 abbrev pub FitsIn : Setting → ℕ → ℕ → List ℕ → Type 0
-FitsIn s k vehicle route = ∥ IsInBounds (table_of s.tables (dimension_at s k)) (dimension_at s k) vehicle route ∥₁
+FitsIn s k vehicle route = IsInBounds (table_of s.tables (dimension_at s k)) (dimension_at s k) vehicle route
 
 -- and in each dimension
 abbrev pub FitsAll : Setting → ℕ → List ℕ → Type 0

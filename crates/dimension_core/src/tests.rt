@@ -1,6 +1,9 @@
 ghost use Rattle.std.specs.Prelude.{◌≡◌};
 
-use crate::{Dimension, DimensionFault, Range, Setup, SetupFault, first_out};
+use crate::{
+    Dimension, DimensionFault, Range, Setup, SetupFault, cumuls_are_by_place, first_out,
+    first_out_is_alone, spans_go_on, spans_meet,
+};
 use callback_store::{Meter, Registry, Transit, Unary};
 use std::test::Fail;
 
@@ -162,6 +165,10 @@ fn the_second_dimension_is_the_first_out(rt: HostRuntime) -> Result<(), Fail> {
             assert_eq!(rt; first_out(&setup, 1, &[2], &mut meter), None);
         }
     }
+    cumuls_are_by_place();
+    first_out_is_alone();
+    spans_go_on();
+    spans_meet();
     Ok(())
 }
 
@@ -196,5 +203,43 @@ fn spans_stop_by_stop(rt: HostRuntime) -> Result<(), Fail> {
         assert_eq!(rt; reached, Some(Range { lo: 22, hi: last }));
     }
     assert_eq!(rt; meter.asks, 8);
+    Ok(())
+}
+
+/// The same dimension where the start is free: on from customer 1, and back from customer 2.
+#[test]
+fn spans_on_and_back(rt: HostRuntime) -> Result<(), Fail> {
+    let call = Box::new(
+        rt.alloc(),
+        move |_i: u32, _j: u32| -> u64
+            ensures { result ≡ 10 }
+        { 10 },
+    )?;
+    let mut registry = Registry::new(rt.alloc());
+    let id = registry.register(Transit::new(3, call)).expect(&rt, "room");
+    let mut meter = Meter::new();
+    let caps = vec![in rt.alloc(); 45u64]?;
+    let ranges = vec![in rt.alloc();
+        Range { lo: 0, hi: 20 },
+        Range { lo: 12, hi: 40 },
+        Range { lo: 0, hi: 100 },
+    ]?;
+    let time = Dimension::new(&registry, id, 5, caps, false, ranges).expect(&rt, "bounds");
+    let first = Range { lo: 12, hi: 35 };
+    let last = Range { lo: 22, hi: 45 };
+    let late = Range { lo: 31, hi: 45 };
+    let soon = Range { lo: 0, hi: 9 };
+    assert_eq!(rt;
+        time.carry(&registry, first, 1, &[2], 1, &mut meter),
+        Some((last, 2))
+    );
+    assert_eq!(rt;
+        time.carry(&registry, late, 2, &[1, 2], 1, &mut meter),
+        None
+    );
+    let before = time.precede(&registry, last, 1, 2, 1, &mut meter);
+    assert_eq!(rt; before, Some(first));
+    assert_eq!(rt; time.precede(&registry, soon, 1, 2, 1, &mut meter), None);
+    assert_eq!(rt; meter.asks, 4);
     Ok(())
 }
