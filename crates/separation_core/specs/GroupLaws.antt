@@ -1,10 +1,10 @@
 -- What the changes of the sets leave of each set, and the search for the first broken one.
-use Rattle.std.proofs.Common.{◌≡◌, ℕ, zero, suc, ◌+◌, ◌<◌, ◌≤◌, Bool, true, false, cond, ◌||◌, List, [], ◌∷◌, ◌++◌, take, drop, rules, length, get_or, sym, refl, ap, subst, ◌∙◌, arith, Option, Some, None, leb}
+use Rattle.std.proofs.Common.{◌≡◌, ℕ, zero, suc, ◌+◌, ◌<◌, ◌≤◌, Bool, true, false, cond, ◌||◌, List, [], ◌∷◌, ◌++◌, take, drop, rules, length, get_or, sym, refl, ap, ap₂, subst, ◌∙◌, arith, Option, Some, None, leb}
 use Rattle.std.specs.Prelude.{is_some, slice_get, bytes_eq, bit_and, count_ones, Contains, IfSome}
 use Rattle.std.specs.List.{list_any, list_all}
 use Rattle.std.specs.Map.{lookup}
 use Rattle.indexmap.specs.IndexMap.{insert_entry}
-use Rattle.std.proofs.lemmas.Bool.{cond-true, cond-false, false≢true, leb-false, lt-leb, le-leb, leb-true, and_parts, and_from, or_left}
+use Rattle.std.proofs.lemmas.Bool.{cond-true, cond-false, false≢true, leb-false, lt-leb, le-leb, leb-true, and_parts, and_from, or_left, or_parts}
 use Rattle.std.proofs.lemmas.List.{take-append-drop}
 use Rattle.std.proofs.lemmas.List.{length-append}
 use Rattle.std.proofs.lemmas.Slice.Eq.{bytes_eq-Decides}
@@ -12,8 +12,8 @@ use Rattle.std.specs.Option.{option_or}
 use Rattle.separation_core.specs.declared.sets.SetFault.{SetFault}
 use Rattle.separation_core.specs.declared.sets.SetFault.TheVariants as fault
 use Rattle.role_hierarchy.specs.Roles.{has, with_role, without}
-use Rattle.role_hierarchy.proofs.RoleLaws.{has-bit_and, has-with_role, has-without, count_fewer, below_power}
-use Rattle.separation_core.specs.Groups.{Groups, Says, AreSets, HoldsFor, new_refusal, create_refusal, limit_with, is_broken, is_sound, first_broken, is_named, limit_of, limits_of, changed, limit_without, with_set, without_set}
+use Rattle.role_hierarchy.specs.RoleLaws.{has-bit_and, has-with_role, has-without, count_fewer, below_power}
+use Rattle.separation_core.specs.Groups.{Groups, Says, AreSets, HoldsFor, new_refusal, create_refusal, limit_with, is_broken, is_sound, first_broken, first_breaking, is_named, limit_of, limits_of, changed, limit_without, with_set, without_set, without_member}
 use Rattle.separation_core.specs.declared.sets.Limit.{Limit}
 
 pub lookup_is_some : {K X : Type 0} (test : K → Bool) (es : List (K × X)) → is_some (lookup test es) ≡ list_any (λ e. test e.0) es
@@ -303,3 +303,106 @@ first_broken-fewer few many (g ∷ groups) within none =
     has-bit_and g.1.roles many q ∙ and_from _ _ parts.0 (within q parts.1)) in
     let below : count_ones (bit_and g.1.roles many) < g.1.number = leb-false _ _ front.0 in
     first_broken-skip few g groups (lt-leb _ _ (omega (arith, fewer, below))) ∙ first_broken-fewer few many groups within front.1
+
+-- the sets before the first that is broken by one of them do not count
+breaking-past : (all : List ℕ) (xs ys : Groups) → first_breaking all xs ≡ None → first_breaking all (xs ++ ys) ≡ first_breaking all ys
+unfolding first_breaking
+breaking-past all [] ys none = refl
+breaking-past all (e ∷ xs) ys none =
+    elim (list_any (λ given. is_broken given e.1) all) as (λ b. cond b (Some e.0) (first_breaking all xs) ≡ None → cond b (Some e.0) (first_breaking all (xs ++ ys)) ≡ first_breaking all ys) [
+      | true ↦ λ h. cc
+      | false ↦ λ h. breaking-past all xs ys h
+    ] none
+
+pub breaking-here : (all : List ℕ) (es : Groups) (i : ℕ) (g : List ℕ × Limit) → first_breaking all (take i es) ≡ None → slice_get es i ≡ Some g → list_any (λ given. is_broken given g.1) all ≡ true → first_breaking all es ≡ Some g.0
+unfolding first_breaking
+breaking-here all es i g none here broken =
+    ap (first_breaking all) (sym (take-append-drop i es) ∙ ap (λ r. take i es ++ r) (drop_at es i g here))
+    ∙ breaking-past all (take i es) (g ∷ drop (i + 1) es) none
+    ∙ cond-true (list_any (λ given. is_broken given g.1) all) (Some g.0) (first_breaking all (drop (i + 1) es)) broken
+
+pub breaking-more : (all : List ℕ) (es : Groups) (i : ℕ) (g : List ℕ × Limit) → first_breaking all (take i es) ≡ None → slice_get es i ≡ Some g → list_any (λ given. is_broken given g.1) all ≡ false → first_breaking all (take (i + 1) es) ≡ None
+unfolding first_breaking
+breaking-more all es i g none here broken =
+    ap (first_breaking all) (take_at es i g here)
+    ∙ breaking-past all (take i es) (g ∷ []) none
+    ∙ cond-false (list_any (λ given. is_broken given g.1) all) (Some g.0) None broken
+
+pub breaking-none : (all : List ℕ) → first_breaking all [] ≡ None
+unfolding first_breaking
+breaking-none all = refl
+
+-- one more set
+pub breaking-with_set : (all : List ℕ) (groups : Groups) (name : List ℕ) (limit : Limit) → first_breaking all groups ≡ None → first_breaking all (with_set groups name limit) ≡ cond (list_any (λ given. is_broken given limit) all) (Some name) None
+unfolding first_breaking
+breaking-with_set all groups name limit none = breaking-past all groups ((name, limit) ∷ []) none
+
+-- whether one of these sets of roles breaks the set
+abbrev pub some_breaks : List ℕ → Limit → Bool
+some_breaks all limit = list_any (λ given. is_broken given limit) all
+
+-- the first set is not broken by one of them, nor any after it
+breaking-front : (all : List ℕ) (g : List ℕ × Limit) (groups : Groups) → first_breaking all (g ∷ groups) ≡ None → (some_breaks all g.1 ≡ false) × (first_breaking all groups ≡ None)
+unfolding first_breaking
+breaking-front all g groups none =
+    elim (some_breaks all g.1) as (λ b. cond b (Some g.0) (first_breaking all groups) ≡ None → (b ≡ false) × (first_breaking all groups ≡ None)) [
+      | true ↦ λ h. absurd (cc)
+      | false ↦ λ h. (refl, h)
+    ] none
+
+breaking-skip : (all : List ℕ) (g : List ℕ × Limit) (groups : Groups) → some_breaks all g.1 ≡ false → first_breaking all (g ∷ groups) ≡ first_breaking all groups
+unfolding first_breaking
+breaking-skip all g groups whole = cond-false (some_breaks all g.1) (Some g.0) (first_breaking all groups) whole
+
+breaking-at : (all : List ℕ) (name : List ℕ) (limit : Limit) (groups : Groups) → first_breaking all groups ≡ None → first_breaking all ((name, limit) ∷ groups) ≡ cond (some_breaks all limit) (Some name) None
+unfolding first_breaking
+breaking-at all name limit groups none = ap (cond (some_breaks all limit) (Some name)) none
+
+-- one set with other roles or another number is the only one that they may break
+pub breaking-changed : (all : List ℕ) (groups : Groups) (name : List ℕ) (f : Limit → Limit) (limit : Limit) → limit_of groups name ≡ Some limit → first_breaking all groups ≡ None →
+    first_breaking all (changed groups name f) ≡ cond (some_breaks all (f limit)) (Some name) None
+breaking-changed all [] name f limit there none = absurd (cc)
+breaking-changed all (g ∷ groups) name f limit there none = by (bytes_eq name g.0) refl there (λ found. breaking-changed all groups name f limit found (breaking-front all g groups none).1)
+  where
+    front : (some_breaks all g.1 ≡ false) × (first_breaking all groups ≡ None)
+    front = breaking-front all g groups none
+
+    by : (b : Bool) → bytes_eq name g.0 ≡ b → cond b (Some g.1) (limit_of groups name) ≡ Some limit →
+        (limit_of groups name ≡ Some limit → first_breaking all (changed groups name f) ≡ cond (some_breaks all (f limit)) (Some name) None) →
+        first_breaking all (cond b ((g.0, f g.1) ∷ groups) (g ∷ changed groups name f)) ≡ cond (some_breaks all (f limit)) (Some name) None
+    by true e found rest =
+        let same : g.1 ≡ limit = cc in
+        let own : name ≡ g.0 = (bytes_eq-Decides name g.0).0 e in
+        breaking-at all g.0 (f g.1) groups front.1 ∙ ap (λ l. cond (some_breaks all (f l)) (Some g.0) None) same ∙ ap (λ n. cond (some_breaks all (f limit)) (Some n) None) (sym own)
+    by false e found rest = breaking-skip all g (changed groups name f) front.0 ∙ rest found
+
+-- a change that breaks no set
+breaking-changed_fewer : (all : List ℕ) (groups : Groups) (name : List ℕ) (f : Limit → Limit) → ((limit : Limit) → some_breaks all limit ≡ false → some_breaks all (f limit) ≡ false) →
+    first_breaking all groups ≡ None → first_breaking all (changed groups name f) ≡ None
+breaking-changed_fewer all [] name f fewer none = none
+breaking-changed_fewer all (g ∷ groups) name f fewer none = elim (bytes_eq name g.0) as (λ b. first_breaking all (cond b ((g.0, f g.1) ∷ groups) (g ∷ changed groups name f)) ≡ None) [
+  | true ↦ breaking-skip all (g.0, f g.1) groups (fewer g.1 front.0) ∙ front.1
+  | false ↦ breaking-skip all g (changed groups name f) front.0 ∙ breaking-changed_fewer all groups name f fewer front.1
+]
+  where
+    front : (some_breaks all g.1 ≡ false) × (first_breaking all groups ≡ None)
+    front = breaking-front all g groups none
+
+-- a set without one of its roles
+pub breaking-without_member : (all : List ℕ) (groups : Groups) (name : List ℕ) (role : ℕ) → first_breaking all groups ≡ None → first_breaking all (without_member groups name role) ≡ None
+breaking-without_member all groups name role none = breaking-changed_fewer all groups name (limit_without role) (λ limit whole. each limit all whole) none
+  where
+    each : (limit : Limit) (xs : List ℕ) → some_breaks xs limit ≡ false → some_breaks xs (limit_without role limit) ≡ false
+    each limit [] whole = refl
+    each limit (x ∷ xs) whole = (let parts = or_parts _ _ whole in ap₂ (λ s t. s || t) (is_broken-limit_without x role limit parts.0) (each limit xs parts.1))
+
+-- one set less
+pub breaking-without_set : (all : List ℕ) (groups : Groups) (name : List ℕ) → first_breaking all groups ≡ None → first_breaking all (without_set groups name) ≡ None
+breaking-without_set all [] name none = none
+breaking-without_set all (g ∷ groups) name none = elim (bytes_eq name g.0) as (λ b. first_breaking all (cond b groups (g ∷ without_set groups name)) ≡ None) [
+  | true ↦ front.1
+  | false ↦ breaking-skip all g (without_set groups name) front.0 ∙ breaking-without_set all groups name front.1
+]
+  where
+    front : (some_breaks all g.1 ≡ false) × (first_breaking all groups ≡ None)
+    front = breaking-front all g groups none
