@@ -1,0 +1,9 @@
+mod AccessLaws
+mod BreakLaws
+mod CommandLaws
+mod CountLaws
+mod FewerLaws
+mod NumberLaws
+mod SetLaws
+mod SlotLaws
+mod WiderLaws
