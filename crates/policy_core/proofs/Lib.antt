@@ -4,6 +4,7 @@ mod CommandLaws
 mod CountLaws
 mod FewerLaws
 mod NumberLaws
+mod ReviewLaws
 mod SetLaws
 mod SlotLaws
 mod WiderLaws

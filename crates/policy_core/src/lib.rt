@@ -7,6 +7,7 @@ mod dsd;
 mod fault;
 mod policy;
 mod refusal;
+mod reviews;
 mod roles;
 mod session;
 mod sessions;

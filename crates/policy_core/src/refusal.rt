@@ -1,5 +1,9 @@
 //! Why a command on a policy is refused.
+ghost use Rattle.std.specs.Prelude.{◌≡◌};
+ghost use Rattle.policy_core.specs.declared.refusal.Refusal.TheVariants.{NoMemory};
+
 use separation_core::Name;
+use std::alloc::AllocError;
 use thiserror::Error;
 
 /// Why a command is refused.
@@ -54,4 +58,12 @@ pub enum Refusal {
     /// A growth was refused.
     #[error("out of memory")]
     NoMemory,
+}
+
+impl From<AllocError> for Refusal {
+    ghost from_gives = { λ _ e. e ≡ NoMemory };
+
+    fn from(_e: AllocError) -> Refusal {
+        Refusal::NoMemory
+    }
 }
