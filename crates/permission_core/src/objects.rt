@@ -2,7 +2,8 @@
 ghost use Rattle.std.specs.Prelude.{◌≡◌, ◌<◌, ◌≤◌, ◌+◌, ◌-◌};
 ghost use Rattle.role_hierarchy.specs.Roles.{has, with_role, without};
 ghost use Rattle.std.specs.Prelude.{is_some, is_none, IfSome};
-ghost use Rattle.permission_core.specs.Objects.{index_of, number_of, is_object, first_of, size_of, is_bad_range, with_range, without_range};
+ghost use Rattle.role_hierarchy.specs.Words.{joined};
+ghost use Rattle.permission_core.specs.Objects.{AreWords, index_of, number_of, is_object, first_of, size_of, is_bad_range, with_range, without_range};
 
 use std::marker::Model;
 
@@ -133,6 +134,15 @@ impl ObjectSet {
         ensures { result ≡ 0 }
     {
         ObjectSet { words: [0; 32] }
+    }
+
+    /// The words in which the members stand, object 64 * k + i at digit i of word k, for a crate
+    /// that goes over them word by word.
+    pub fn words(&self) -> &[u64; 32]
+        ensures value { joined result.now ≡ self.now }
+        ensures whole { AreWords result.now }
+    {
+        &self.words
     }
 
     /// Whether the object is a member.
