@@ -148,6 +148,13 @@ impl Policy {
         self.customers
     }
 
+    /// Which roles of a session DSD counts.
+    pub fn counting(&self) -> Counting
+        ensures { result ≡ self.now.counting }
+    {
+        self.counting
+    }
+
     /// How many vehicles there are, at most 1,000.
     pub fn vehicles(&self) -> u32
         ensures value { result ≡ self.now.vehicles }
