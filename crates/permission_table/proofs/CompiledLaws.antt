@@ -1,0 +1,145 @@
+-- Rows against CheckAccess, and tables after a change of the policy.
+use Rattle.std.proofs.Common.{◌≡◌, ℕ, ◌&&◌, Bool, true, false, ◌||◌, ◌+◌, ◌<◌, length, take, get_or, List, ◌++◌, ◌∷◌, [], Option, Some, None, cond, sym, refl, ap, ◌∙◌, subst}
+use Rattle.std.specs.Prelude.{nat_eq, is_some, unwrap_or, slice_index}
+use Rattle.std.specs.Map.{lookup}
+use Rattle.std.specs.Option.{option_or, option_map}
+use Rattle.std.proofs.lemmas.Bool.{and_parts, and_from, eqb-true, false≢true, true≢false}
+use Rattle.std.proofs.lemmas.List.Folds.{list_any_more}
+use Rattle.role_hierarchy.specs.Roles.{has}
+use Rattle.role_hierarchy.specs.Below.{closed}
+use Rattle.permission_core.specs.declared.objects.Operation.{Operation}
+use Rattle.permission_core.specs.declared.objects.Object.{Object}
+use Rattle.permission_core.specs.Objects.{index_of, number_of, is_object}
+use Rattle.policy_core.specs.declared.session.Session.{Session}
+use Rattle.policy_core.specs.State.{PolicyState}
+use Rattle.policy_core.specs.Access.{some_below, is_reached, reaches, is_here, has_access, reached_roles}
+use Rattle.permission_table.specs.Bits.{allowed_by}
+use Rattle.permission_table.specs.Tables.{TablesState, RowsState, rows_of, rows_after, is_among}
+use Rattle.permission_table.specs.Compiled.{AreCompiled, WillBeCompiled, SameAccessBut, HasSizes, AreRowsOf, AreChangesOf}
+use Rattle.permission_table.specs.Unions.{AreUnions}
+use Rattle.permission_table.proofs.SomeLaws.{some_below-at, some_below-found}
+use Rattle.permission_table.proofs.PutLaws.{lookup-push}
+
+same_tests : (t u : Bool) → (t ≡ true → u ≡ true) → (u ≡ true → t ≡ true) → t ≡ u
+same_tests true u f g = sym (f refl)
+same_tests false true f g = g refl
+same_tests false false f g = refl
+
+and_false : (t : Bool) → (t && false) ≡ false
+and_false true = refl
+and_false false = refl
+
+-- the rows of the roles that a session reaches say CheckAccess
+module _ (p : PolicyState) (session : ℕ) where
+  bits_at : (s : Session) → lookup (nat_eq session) p.sessions ≡ Some s → (rows : List ℕ) → AreUnions p (closed p.order s.active) rows → ((q : ℕ) → has (closed p.order s.active) q ≡ true → q < 256) →
+      (operation : Operation) (object : Object) → allowed_by p.customers p.vehicles (Some rows) operation object ≡ has_access p session operation object
+  unfolding has_access reaches
+  bits_at s at rows unions small operation object =
+      let test : ℕ → Bool = is_reached p (closed p.order s.active) operation (number_of object) in
+      let union = unions operation (number_of object) in
+      let same : has (slice_index rows (index_of operation)) (number_of object) ≡ some_below test 256 = same_tests _ _
+      (λ h. (let b = union.0 h in some_below-at test b.0 256 (small b.0 b.1) (and_from _ _ b.1 b.2)))
+      (λ h. (let b = some_below-found test 256 h in let parts = and_parts _ _ b.1 in union.1 (b.0, parts.0, parts.1))) in
+      ap (λ t. is_here p object && t) same
+      ∙ ap (λ (o : Option Session). is_some o && (is_here p object && some_below (is_reached p (closed p.order (unwrap_or o (record { user = []; active = 0 })).active) operation (number_of object)) 256)) (sym at)
+
+  pub rows_at : (roles : ℕ) (rows : List ℕ) → Some roles ≡ reached_roles p session → ((q : ℕ) → has roles q ≡ true → q < 256) → AreUnions p roles rows → AreRowsOf p session (Some rows)
+  rows_at roles rows reached small unions = at_session (lookup (nat_eq session) p.sessions) refl reached
+    where
+      at_session : (found : Option Session) → lookup (nat_eq session) p.sessions ≡ found → Some roles ≡ option_map (λ s. closed p.order s.active) found → AreRowsOf p session (Some rows)
+      at_session None at reach = absurd (false≢true (sym (ap is_some reach)))
+      at_session (Some s) at reach =
+          let same : roles ≡ closed p.order s.active = ap (λ o. unwrap_or o roles) reach in
+          record {
+            there = ap is_some (sym at);
+            bits = bits_at s at rows (subst (λ r. AreUnions p r rows) same unions) (subst (λ r. (q : ℕ) → has r q ≡ true → q < 256) same small);
+          }
+
+  pub rows_none : None ≡ reached_roles p session → AreRowsOf p session None
+  unfolding has_access
+  rows_none reached = at_session (lookup (nat_eq session) p.sessions) refl reached
+    where
+      at_session : (found : Option Session) → lookup (nat_eq session) p.sessions ≡ found → None ≡ option_map (λ s. closed p.order s.active) found → AreRowsOf p session None
+      at_session None at reach = record {
+        there = ap is_some (sym at);
+        bits = λ operation object.
+            and_false (is_object p.customers p.vehicles object)
+            ∙ ap (λ (o : Option Session). is_some o && (is_here p object && reaches p (unwrap_or o (record { user = []; active = 0 })).active operation (number_of object))) (sym at);
+      }
+      at_session (Some s) at reach = absurd (false≢true (ap is_some reach))
+
+-- one more session and its rows
+pub changes-push : (p : PolicyState) (changes : List (ℕ × Option (List ℕ))) (session : ℕ) (rows : Option (List ℕ)) →
+    AreChangesOf p changes → AreRowsOf p session rows → AreChangesOf p (changes ++ (session, rows) ∷ [])
+changes-push p changes session rows each one q found at = by_lookup (lookup (nat_eq q) changes) refl (sym (lookup-push changes session rows q) ∙ at)
+  where
+    by_test : (t : Bool) → nat_eq q session ≡ t → cond t (Some rows) None ≡ Some found → AreRowsOf p q found
+    by_test true e h = subst (λ k. AreRowsOf p k found) (sym (eqb-true q session e)) (subst (AreRowsOf p session) (ap (λ o. unwrap_or o rows) h) one)
+    by_test false e h = absurd (false≢true (ap is_some h))
+
+    by_lookup : (o : Option (Option (List ℕ))) → lookup (nat_eq q) changes ≡ o → option_or o (cond (nat_eq q session) (Some rows) None) ≡ Some found → AreRowsOf p q found
+    by_lookup None e h = by_test (nat_eq q session) refl h
+    by_lookup (Some old) e h = each q found (e ∙ h)
+
+is_some-option_or : {V : Type 0} (o : Option V) (t : Bool) (v : V) → is_some (option_or o (cond t (Some v) None)) ≡ (is_some o || t)
+is_some-option_or None true v = refl
+is_some-option_or None false v = refl
+is_some-option_or (Some x) t v = refl
+
+pub among-push : (changes : List (ℕ × Option (List ℕ))) (sessions : List ℕ) (i : ℕ) (rows : Option (List ℕ)) → i < length sessions →
+    (q : ℕ) → is_some (lookup (nat_eq q) changes) ≡ is_among (take i sessions) q →
+    is_some (lookup (nat_eq q) (changes ++ (get_or sessions i 0, rows) ∷ [])) ≡ is_among (take (i + 1) sessions) q
+among-push changes sessions i rows within q so_far =
+    ap is_some (lookup-push changes (get_or sessions i 0) rows q)
+    ∙ is_some-option_or (lookup (nat_eq q) changes) (nat_eq q (get_or sessions i 0)) rows
+    ∙ ap (λ t. t || nat_eq q (get_or sessions i 0)) so_far
+    ∙ sym (list_any_more (nat_eq q) sessions i 0 within)
+
+-- tables with some sessions' rows made anew
+module _ (p : PolicyState) (t : TablesState) (changes : List (ℕ × Option (List ℕ))) (sessions : List ℕ)
+    (each : AreChangesOf p changes) (among : (q : ℕ) → is_some (lookup (nat_eq q) changes) ≡ is_among sessions q) where
+  abbrev after : ℕ → Option (List ℕ)
+  after q = rows_after (record { of = t; changes = changes }) q
+
+  pub rebuilt : (q : ℕ) → is_among sessions q ≡ true → AreRowsOf p q (after q)
+  rebuilt q h = by_lookup (lookup (nat_eq q) changes) refl (among q ∙ h)
+    where
+      by_lookup : (o : Option (Option (List ℕ))) → lookup (nat_eq q) changes ≡ o → is_some o ≡ true → AreRowsOf p q (unwrap_or o (rows_of t q))
+      by_lookup None e there = absurd (false≢true there)
+      by_lookup (Some found) e there = each q found e
+
+  pub others : (q : ℕ) → is_among sessions q ≡ false → after q ≡ rows_of t q
+  others q h = by_lookup (lookup (nat_eq q) changes) (among q ∙ h)
+    where
+      by_lookup : (o : Option (Option (List ℕ))) → is_some o ≡ false → unwrap_or o (rows_of t q) ≡ rows_of t q
+      by_lookup None gone = refl
+      by_lookup (Some found) gone = absurd (true≢false gone)
+
+  pub compiled : HasSizes p t → (before : PolicyState) → AreCompiled t before → SameAccessBut sessions before p → WillBeCompiled (record { of = t; changes = changes }) p
+  compiled sizes before were same session operation object = by_test (is_among sessions session) refl
+    where
+      by_test : (b : Bool) → is_among sessions session ≡ b → allowed_by t.customers t.vehicles (after session) operation object ≡ has_access p session operation object
+      by_test true h =
+          ap (λ k. allowed_by k t.vehicles (after session) operation object) (sym sizes.customers)
+          ∙ ap (λ k. allowed_by p.customers k (after session) operation object) (sym sizes.vehicles)
+          ∙ (rebuilt session h).bits operation object
+      by_test false h =
+          ap (λ found. allowed_by t.customers t.vehicles found operation object) (others session h)
+          ∙ were session operation object ∙ sym (same session h operation object)
+
+-- rows that are put say what they were to say
+pub put_compiled : (rows : RowsState) (t : TablesState) → rows.of.customers ≡ t.customers → rows.of.vehicles ≡ t.vehicles → ((q : ℕ) → rows_of t q ≡ rows_after rows q) →
+    (p : PolicyState) → WillBeCompiled rows p → AreCompiled t p
+put_compiled rows t customers vehicles put p will session operation object =
+    ap (λ found. allowed_by t.customers t.vehicles found operation object) (put session)
+    ∙ ap (λ k. allowed_by t.customers k (rows_after rows session) operation object) (sym vehicles)
+    ∙ ap (λ k. allowed_by k rows.of.vehicles (rows_after rows session) operation object) (sym customers)
+    ∙ will session operation object
+
+-- no rows say CheckAccess of a policy without sessions
+pub none_compiled : (t : TablesState) → t.rows ≡ [] → (p : PolicyState) → p.sessions ≡ [] → AreCompiled t p
+unfolding has_access
+none_compiled t empty p none session operation object =
+    ap (λ (es : List (ℕ × List ℕ)). allowed_by t.customers t.vehicles (lookup (nat_eq session) es) operation object) empty
+    ∙ and_false (is_object t.customers t.vehicles object)
+    ∙ ap (λ (es : List (ℕ × Session)). is_some (lookup (nat_eq session) es) && (is_here p object && reaches p (unwrap_or (lookup (nat_eq session) es) (record { user = []; active = 0 })).active operation (number_of object))) (sym none)

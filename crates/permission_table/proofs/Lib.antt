@@ -1,0 +1,6 @@
+pub mod AccessLaws
+pub mod CompiledLaws
+pub mod PutLaws
+pub mod SomeLaws
+pub mod UnionLaws
+pub mod WordLaws

@@ -1,0 +1,6 @@
+pub mod Bits
+pub mod Compiled
+pub mod Seen
+pub mod Tables
+pub mod Unions
+pub mod Words

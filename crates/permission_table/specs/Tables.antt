@@ -1,0 +1,43 @@
+-- Tables of permissions as data, and the rows that are to be put into them.
+use Rattle.std.specs.Prelude.{ℕ, Bool, List, [], Option, nat_eq, unwrap_or}
+use Rattle.std.specs.List.{list_any}
+use Rattle.std.specs.Map.{lookup}
+use Rattle.permission_core.specs.declared.objects.Operation.{Operation}
+use Rattle.permission_core.specs.declared.objects.Object.{Object}
+use Rattle.permission_table.specs.Bits.{allowed_by}
+
+-- For each session that has rows its seven rows, one for each operation, as sets of objects; how many sessions more find room.
+pub record TablesState : Type 0 where
+  pub customers : ℕ
+  pub vehicles : ℕ
+  pub rows : List (ℕ × List ℕ)
+  pub room : ℕ
+
+-- The tables for which rows were made, and what becomes of each session's rows: others, or none.
+pub record RowsState : Type 0 where
+  pub of : TablesState
+  pub changes : List (ℕ × Option (List ℕ))
+
+-- no session has rows
+abbrev pub no_rows : ℕ → ℕ → ℕ → TablesState
+no_rows customers vehicles room = record { customers = customers; vehicles = vehicles; rows = []; room = room }
+
+-- the seven rows of a session
+abbrev pub rows_of : TablesState → ℕ → Option (List ℕ)
+rows_of t session = lookup (nat_eq session) t.rows
+
+-- what the tables say of a session, an operation and an object
+abbrev pub allows : TablesState → ℕ → Operation → Object → Bool
+allows t session operation object = allowed_by t.customers t.vehicles (rows_of t session) operation object
+
+-- the seven rows of a session once these rows are put
+abbrev pub rows_after : RowsState → ℕ → Option (List ℕ)
+rows_after rows session = unwrap_or (lookup (nat_eq session) rows.changes) (rows_of rows.of session)
+
+-- what the tables will say once these rows are put
+abbrev pub will_allow : RowsState → ℕ → Operation → Object → Bool
+will_allow rows session operation object = allowed_by rows.of.customers rows.of.vehicles (rows_after rows session) operation object
+
+-- the session is one of these
+abbrev pub is_among : List ℕ → ℕ → Bool
+is_among sessions session = list_any (nat_eq session) sessions

@@ -1,0 +1,12 @@
+//! CheckAccess compiled: for each session and operation a row of bits, one for each object.
+#![tactic(auto)]
+
+mod laws;
+mod row;
+mod tables;
+
+pub use laws::compiled_is_check_access;
+pub use tables::{Rows, Tables};
+
+#[cfg(test)]
+mod tests;
