@@ -1,2 +1,4 @@
 pub mod Pins
 pub mod Allowed
+pub mod Override
+pub mod View
