@@ -7,7 +7,7 @@ use Rattle.root_policy.specs.declared.operation.Operation.TheVariants as operati
 use Rattle.root_policy.specs.declared.operation.Object.{Object}
 use Rattle.root_policy.specs.declared.operation.Object.TheVariants as objects
 use Rattle.plan_core.specs.Plan.{Changes, with_routes}
-use Rattle.plan_core.specs.Commits.{has}
+use Rattle.plan_core.specs.Among.{is_among}
 use Rattle.dimension_core.specs.Setting.{Setting}
 use Rattle.dimension_core.specs.Feasible.{FitsAll, IsFirstOut, IsFeasible}
 use Rattle.board_core.specs.declared.call.Move.{Move}
@@ -81,7 +81,7 @@ early_denial b base mv =
 
 -- whether some commit after the base changed the vehicle
 abbrev pub is_changed_after : List (List ℕ) → ℕ → ℕ → Bool
-is_changed_after commits base vehicle = list_any (has vehicle) (drop base commits)
+is_changed_after commits base vehicle = list_any (is_among vehicle) (drop base commits)
 
 -- the facts of a state: CheckAccess in its policy, and all its commits
 abbrev pub basis_of : Setting → BoardState → ℕ → ℕ → Basis

@@ -1,6 +1,6 @@
 ghost use Rattle.std.specs.Prelude.{◌≡◌, ℕ, ◌+◌, ◌<◌, ◌≤◌, ◌↔◌, true, false, List, [], ◌∷◌, ◌++◌, length, slice_index, IfSome, IfOk, IsErrOf, IsTrue, Some, None, All};
 ghost use Rattle.std.specs.Result.{result_err};
-ghost use Rattle.callback_store.specs.Meter.{after_ask};
+ghost use Rattle.callback_store.specs.Meter.{after_ask, AsksAtMost};
 ghost use Rattle.callback_store.specs.Registry.{tables};
 ghost use Rattle.dimension_core.specs.Cumuls.{Bounds, IsStart, IsStep, IsWithin, IsSpan, IsServed, cap_of, range_of, IsInBounds, Reaches, table_of, last_of, dimension_refusal, is_in_range, are_caps, are_ranges, is_sized, IsEarly};
 
@@ -211,6 +211,7 @@ impl Dimension {
         ensures span { IsSpan result (λ y. (x : ℕ) × IsWithin (Some range) x × IsStep (table_of (tables registry.now) self.now) self.now vehicle i x j y) }
         ensures small { IfSome result (λ r. r.hi ≤ 1000000000000) }
         ensures counted { meter.new ≡ after_ask meter.old }
+        ensures one { AsksAtMost meter.old meter.new 1 }
     {
         let transit = registry.ask(self.id(), meter, i, j);
         let node = self.range(j);
@@ -243,7 +244,7 @@ impl Dimension {
         requires low { 1 ≤ vehicle }
         requires high { vehicle ≤ length self.now.caps }
         ensures span { IsSpan result (Reaches (table_of (tables registry.now) self.now) self.now vehicle nodes.now) }
-        ensures asks { meter.new.asks ≤ meter.old.asks + length nodes.now }
+        ensures asks { AsksAtMost meter.old meter.new (length nodes.now) }
         ensures early { IfSome result (λ r. IsEarly (table_of (tables registry.now) self.now) self.now vehicle nodes.now r.lo) }
         ensures small { IfSome result (λ r. r.hi ≤ 1000000000000) }
     {
@@ -271,7 +272,7 @@ impl Dimension {
         requires low { 1 ≤ vehicle }
         requires high { vehicle ≤ length self.now.caps }
         ensures bounds { IsTrue result ↔ IsInBounds (table_of (tables registry.now) self.now) self.now vehicle route.now }
-        ensures asks { meter.new.asks ≤ meter.old.asks + length route.now + 1 }
+        ensures asks { AsksAtMost meter.old meter.new (length route.now + 1) }
     {
         if route.is_empty() {
             return true;
