@@ -1,0 +1,4 @@
+pub mod Firsts
+pub mod Ways
+pub mod Reversals
+pub mod Costs
