@@ -1,5 +1,7 @@
 use Rattle.std.proofs.Common.{◌≡◌, ℕ, ◌+◌, ◌-◌, ◌≤◌, ◌∙◌, sym, ap, subst, refl, arith, List, ◌++◌, length, take, drop, append_assoc}
 use Rattle.std.proofs.lemmas.List.{take-append-drop, take-append-le, take-take, drop-append-le, drop-take, drop-drop, take_at, drop_at, length-take-le, length-append, length-drop}
+use Rattle.move_core.specs.Moves.{stretch, without, with_stretch}
+use Rattle.move_core.specs.Laws.{ShiftsInParts}
 
 -- a route without a stretch, which is put in again before the place where it stood
 pub moved_front : (r s : List ℕ) (t f e : ℕ) → t ≤ f → f ≤ length r
@@ -34,3 +36,20 @@ moved_back r s t f e n h end high =
     ap (λ (xs : List ℕ). drop t xs) whole ∙ drop_at (a ++ b) c t long ∙ drop-drop m e r ∙ ap (λ (k : ℕ). drop k r) last in
     ap (λ (xs : List ℕ). xs ++ (s ++ drop t (a ++ drop e r))) front ∙ ap (λ (xs : List ℕ). (a ++ b) ++ (s ++ xs)) back
     ∙ append_assoc a b (s ++ drop (t + n) r) ∙ ap (λ (k : ℕ). a ++ (take k (drop e r) ++ (s ++ drop (t + n) r))) (sym count)
+
+pub shifts_parted : ShiftsInParts
+shifts_parted = record { before = before; after = after }
+  where
+    before : (r : List ℕ) (p n at : ℕ) → 1 ≤ at → at ≤ p → p ≤ length r + 1
+        → with_stretch (without r p n) at (stretch r p n) ≡ take (at - 1) r ++ (stretch r p n ++ (take (p - at) (drop (at - 1) r) ++ drop (p - 1 + n) r))
+    before r p n at low h high =
+        let e : p - 1 - (at - 1) ≡ p - at = omega arith in
+        moved_front r (stretch r p n) (at - 1) (p - 1) (p - 1 + n) (omega arith) (omega arith)
+        ∙ ap (λ (k : ℕ). take (at - 1) r ++ (stretch r p n ++ (take k (drop (at - 1) r) ++ drop (p - 1 + n) r))) e
+
+    after : (r : List ℕ) (p n at : ℕ) → 1 ≤ p → p ≤ at → at + n ≤ length r + 1
+        → with_stretch (without r p n) at (stretch r p n) ≡ take (p - 1) r ++ (take (at - p) (drop (p - 1 + n) r) ++ (stretch r p n ++ drop (at - 1 + n) r))
+    after r p n at low h high =
+        let e : at - 1 + n - (p - 1 + n) ≡ at - p = omega arith in
+        moved_back r (stretch r p n) (at - 1) (p - 1) (p - 1 + n) n (omega arith) refl (omega arith)
+        ∙ ap (λ (k : ℕ). take (p - 1) r ++ (take k (drop (p - 1 + n) r) ++ (stretch r p n ++ drop (at - 1 + n) r))) e

@@ -1,12 +1,12 @@
 -- Laws of moves, each said of all plans. The public functions of `laws.rt` have them as contracts.
-use Rattle.std.specs.Prelude.{◌≡◌, ◌≢◌, ℕ, ◌+◌, ◌<◌, ◌≤◌, ◌↔◌, ◌⊎◌, true, List, [], ◌∷◌, length, take, slice_get, Some, All, Contains}
+use Rattle.std.specs.Prelude.{◌≡◌, ◌≢◌, ℕ, ◌+◌, ◌-◌, ◌<◌, ◌≤◌, ◌↔◌, ◌⊎◌, true, List, [], ◌∷◌, ◌++◌, length, take, drop, slice_get, Some, All, Contains}
 use Rattle.plan_core.specs.declared.touch.Touch.{Touch}
 use Rattle.plan_core.specs.Plan.{Changes, StandsAt, IsPlaced, IsPlan, AreChanges, IsNamed, route_at, with_routes}
 use Rattle.plan_core.specs.Commits.{named_vehicles}
 use Rattle.plan_core.specs.Front.{common_front}
 use Rattle.move_core.specs.declared.moves.Move.{Move}
 use Rattle.move_core.specs.declared.moves.Move.TheVariants.{Insert, Remove, Shift, Swap, Reverse, Cross}
-use Rattle.move_core.specs.Moves.{is_placed, is_possible, effect, named_by}
+use Rattle.move_core.specs.Moves.{is_placed, is_possible, effect, named_by, stretch, without, with_stretch}
 use Rattle.move_core.specs.Possible.{CanInsert, CanRemove, CanShift, CanSwap, CanReverse, CanCross}
 use Rattle.move_core.specs.Touched.{touched_by, untouched_of}
 use Rattle.move_core.specs.Changed.{IsFirstChange, first_change}
@@ -67,3 +67,10 @@ MovesBetweenCarryOver = (n : ℕ) (routes : List (List ℕ)) (mv : Move) (v w : 
     → (k : ℕ) (t : Touch) → slice_get (touched_by routes mv) k ≡ Some t
     → ((t.vehicle ≡ v) × Contains (route_at routes v) t.customer × Contains q t.customer)
     ⊎ ((t.vehicle ≡ w) × Contains (route_at routes w) t.customer × Contains r t.customer)
+
+-- the new route of a shift inside a vehicle as parts of the old one, where the stretch goes forwards and where it goes back
+pub record ShiftsInParts : Type 0 where
+  pub before : (r : List ℕ) (p n at : ℕ) → 1 ≤ at → at ≤ p → p ≤ length r + 1
+      → with_stretch (without r p n) at (stretch r p n) ≡ take (at - 1) r ++ (stretch r p n ++ (take (p - at) (drop (at - 1) r) ++ drop (p - 1 + n) r))
+  pub after : (r : List ℕ) (p n at : ℕ) → 1 ≤ p → p ≤ at → at + n ≤ length r + 1
+      → with_stretch (without r p n) at (stretch r p n) ≡ take (p - 1) r ++ (take (at - p) (drop (p - 1 + n) r) ++ (stretch r p n ++ drop (at - 1 + n) r))

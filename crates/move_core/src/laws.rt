@@ -1,5 +1,5 @@
 //! Laws of the definitions, each the contract of a function that does nothing.
-ghost use Rattle.move_core.specs.Laws.{MovesArePossible, PlacedIsTested, MovesNameVehicles, MovesKeepPlans, MovesKeepTheUntouched, FrontsByFirstChange, MovesInsideRearrange, MovesBetweenCarryOver};
+ghost use Rattle.move_core.specs.Laws.{MovesArePossible, PlacedIsTested, MovesNameVehicles, MovesKeepPlans, MovesKeepTheUntouched, FrontsByFirstChange, MovesInsideRearrange, MovesBetweenCarryOver, ShiftsInParts};
 
 use plan_core::{among_is_tested, customers_stand_by_route, fronts_are_common, routes_replaced};
 
@@ -56,4 +56,9 @@ pub fn moves_inside_rearrange()
 /// Who is touched by a move between two vehicles stands on one of them before and on the other afterwards.
 pub fn moves_between_carry_over()
     ensures { MovesBetweenCarryOver }
+{}
+
+/// The new route of a shift inside a vehicle is made of four parts of the old one.
+pub fn shifts_in_parts()
+    ensures { ShiftsInParts }
 {}

@@ -4,6 +4,7 @@ ghost use Rattle.plan_core.specs.Plan.{changes_of};
 use crate::{
     Move, MoveFault, fronts_by_first_change, moves_are_possible, moves_between_carry_over,
     moves_inside_rearrange, moves_keep_plans, moves_keep_the_untouched, moves_name_vehicles,
+    shifts_in_parts,
 };
 use plan_core::{Plan, Route, Touch, plans_are_tested};
 use std::alloc::{AllocError, Global};
@@ -174,6 +175,7 @@ fn names_each_vehicle_once(rt: HostRuntime) {
     fronts_by_first_change();
     moves_inside_rearrange();
     moves_between_carry_over();
+    shifts_in_parts();
 }
 
 #[test]

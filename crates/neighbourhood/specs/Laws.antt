@@ -2,7 +2,7 @@
 use Rattle.dimension_core.specs.Laws.{SpansGoOn, SpansMeet}
 use Rattle.plan_core.specs.Laws.{RoutesAreReplaced, RoutesAreKnown, CustomersStandByRoute, CostsDifferByNamed}
 use Rattle.pin_core.specs.Laws.{FreezesAreByNamed}
-use Rattle.move_core.specs.Laws.{MovesArePossible, MovesNameVehicles, MovesKeepPlans, MovesKeepTheUntouched, FrontsByFirstChange, MovesInsideRearrange, MovesBetweenCarryOver}
+use Rattle.move_core.specs.Laws.{MovesArePossible, MovesNameVehicles, MovesKeepPlans, MovesKeepTheUntouched, FrontsByFirstChange, MovesInsideRearrange, MovesBetweenCarryOver, ShiftsInParts}
 
 pub record Laws : Type 0 where
   pub replaced : RoutesAreReplaced
@@ -17,5 +17,6 @@ pub record Laws : Type 0 where
   pub fronts : FrontsByFirstChange
   pub inside : MovesInsideRearrange
   pub between : MovesBetweenCarryOver
+  pub parts : ShiftsInParts
   pub spans : SpansGoOn
   pub meet : SpansMeet

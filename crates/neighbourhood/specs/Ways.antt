@@ -1,4 +1,4 @@
-use Rattle.std.specs.Prelude.{◌≡◌, ◌≤◌, ◌<◌, ℕ, ◌+◌, ◌*◌, ◌==◌, if◌then◌else◌, List, [], ◌∷◌, ◌++◌, length, slice_index, All}
+use Rattle.std.specs.Prelude.{◌≡◌, ◌≤◌, ◌<◌, ℕ, ◌+◌, ◌*◌, ◌==◌, if◌then◌else◌, List, [], ◌∷◌, ◌++◌, length, slice_index, All, Bool, reverse}
 use Rattle.plan_core.specs.Plan.{route_at}
 use Rattle.callback_store.specs.Tables.{Table, entry}
 
@@ -28,3 +28,7 @@ pub record AreHops (t : Table) (from to : List ℕ) (n : ℕ) (cells : List ℕ)
   pub counted : length cells ≡ n
   pub hops : (a b : ℕ) → b < length to → a * length to + b < n → slice_index cells (a * length to + b) ≡ hop t (slice_index from a) (slice_index to b)
   pub small : (k : ℕ) → k < n → slice_index cells k ≤ 1000000000
+
+-- some customers as they stand, or driven back
+abbrev pub way_of : Bool → List ℕ → List ℕ
+way_of turned xs = if turned then reverse xs else xs
