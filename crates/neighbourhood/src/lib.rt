@@ -1,5 +1,7 @@
-//! The neighbourhood of two vehicles: the best move near them, found and proved best.
+//! The neighbourhood of two vehicles, or of one: the best move near them, found and proved best.
 #![tactic(auto)]
 
-pub fn nothing()
-{}
+mod allowed;
+mod fits;
+mod hops;
+mod laws;
