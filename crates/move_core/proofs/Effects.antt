@@ -1,7 +1,7 @@
 use Rattle.std.proofs.Common.{◌≡◌, ◌≢◌, ℕ, zero, suc, ◌≤◌, ◌⊎◌, sym, ap, subst, refl, arith, inl, inr, List, [], ◌∷◌, length, slice_get, Some, None, Bool, true, false, ◌==◌, if◌then◌else◌}
 use Rattle.std.proofs.lemmas.Bool.{cases_eq, eq-eqb, ne_eqb}
 use Rattle.plan_core.specs.Plan.{Changes, IsNamed, AreApart, AreChanges, route_at, with_routes}
-use Rattle.plan_core.proofs.Exchange.{route_at-others, route_at-named}
+use Rattle.plan_core.specs.Laws.{RoutesAreReplaced}
 use Rattle.move_core.specs.declared.moves.Move.{Move}
 use Rattle.move_core.specs.declared.moves.Move.TheVariants.{Insert, Remove, Shift, Swap, Reverse, Cross}
 use Rattle.move_core.specs.Moves.{is_possible, changes_by, effect}
@@ -42,13 +42,13 @@ named_cases (c ∷ cs) v = split (cases_eq v c.0) (named_cases cs v)
     split (inr o) (inr out) = inr (neither c.0 o out)
 
 -- what holds of each new route and of each old one holds of every vehicle's route afterwards
-pub each_vehicle : (Q : ℕ → List ℕ → Type 0) (changes : Changes) (routes : List (List ℕ)) (v : ℕ) → AreApart (length routes) changes → 1 ≤ v
+pub each_vehicle : RoutesAreReplaced → (Q : ℕ → List ℕ → Type 0) (changes : Changes) (routes : List (List ℕ)) (v : ℕ) → AreApart (length routes) changes → 1 ≤ v
     → EachChange Q changes → Q v (route_at routes v) → Q v (route_at (with_routes changes routes) v)
-each_vehicle Q changes routes v apart low each old = split (named_cases changes v)
+each_vehicle law Q changes routes v apart low each old = split (named_cases changes v)
   where
     split : ((k : ℕ) × ((r : List ℕ) × (slice_get changes k ≡ Some (v, r)))) ⊎ (¬ IsNamed changes v) → Q v (route_at (with_routes changes routes) v)
-    split (inl (k, (r, e))) = subst (λ (x : List ℕ). Q v x) (sym (route_at-named changes routes k (v, r) apart e)) (each_at Q changes k (v, r) each e)
-    split (inr out) = subst (λ (x : List ℕ). Q v x) (sym (route_at-others changes routes v apart low out)) old
+    split (inl (k, (r, e))) = subst (λ (x : List ℕ). Q v x) (sym (law.named changes routes k (v, r) apart e)) (each_at Q changes k (v, r) each e)
+    split (inr out) = subst (λ (x : List ℕ). Q v x) (sym (law.others changes routes v apart low out)) old
 
 -- a fact on the new routes of a Shift or a Swap, by whether it names one vehicle or two
 pub by_vehicles : (P : Changes → Type 0) (v w : ℕ) (one two : Changes) → (v ≡ w → P one) → (v ≢ w → P two) → P (if v == w then one else two)

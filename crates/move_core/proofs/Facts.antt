@@ -3,38 +3,21 @@ use Rattle.std.proofs.lemmas.Bool.{and_parts, and_cases, ne_eqb, not-true, leb-t
 use Rattle.plan_core.specs.Plan.{route_at}
 use Rattle.move_core.specs.declared.moves.Move.TheVariants.{Insert, Remove, Shift, Swap, Reverse, Cross}
 use Rattle.move_core.specs.Moves.{is_vehicle, is_place, is_placed, is_free, is_possible}
+use Rattle.move_core.specs.Possible.{IsVehicle, IsPlace, IsFree, CanInsert, CanRemove, CanShift, CanSwap, CanReverse, CanCross}
 
 -- what the tests of a move say
-pub record IsVehicle (routes : List (List ℕ)) (v : ℕ) : Type 0 where
-  pub low : 1 ≤ v
-  pub high : v ≤ length routes
 
 pub vehicle_from_test : (routes : List (List ℕ)) (v : ℕ) → is_vehicle routes v ≡ true → IsVehicle routes v
 vehicle_from_test routes v t = let a = and_parts (nat_le 1 v) _ t in record { low = leb-true 1 v a.0; high = leb-true v (length routes) a.1 }
 
-pub record IsPlace (r : List ℕ) (p : ℕ) : Type 0 where
-  pub low : 1 ≤ p
-  pub high : p ≤ length r
-
 pub place_from_test : (r : List ℕ) (p : ℕ) → is_place r p ≡ true → IsPlace r p
 place_from_test r p t = let a = and_parts (nat_le 1 p) _ t in record { low = leb-true 1 p a.0; high = leb-true p (length r) a.1 }
-
-pub record IsFree (n : ℕ) (routes : List (List ℕ)) (c : ℕ) : Type 0 where
-  pub low : 1 ≤ c
-  pub high : c ≤ n
-  pub free : is_placed routes c ≡ false
 
 pub free_from_test : (n : ℕ) (routes : List (List ℕ)) (c : ℕ) → is_free n routes c ≡ true → IsFree n routes c
 free_from_test n routes c t =
     let a = and_parts (nat_le 1 c) _ t in
     let b = and_parts (nat_le c n) _ a.1 in
     record { low = leb-true 1 c a.0; high = leb-true c n b.0; free = not-true (is_placed routes c) b.1 }
-
-pub record CanInsert (n : ℕ) (routes : List (List ℕ)) (c v p : ℕ) : Type 0 where
-  pub vehicle : IsVehicle routes v
-  pub customer : IsFree n routes c
-  pub low : 1 ≤ p
-  pub high : p ≤ length (route_at routes v) + 1
 
 pub can_insert : (n : ℕ) (routes : List (List ℕ)) (c v p : ℕ) → is_possible n routes (Insert c v p) ≡ true → CanInsert n routes c v p
 can_insert n routes c v p t =
@@ -43,26 +26,10 @@ can_insert n routes c v p t =
     let d = and_parts (nat_le 1 p) _ b.1 in
     record { vehicle = vehicle_from_test routes v a.0; customer = free_from_test n routes c b.0; low = leb-true 1 p d.0; high = leb-true p (length (route_at routes v) + 1) d.1 }
 
-pub record CanRemove (routes : List (List ℕ)) (v p : ℕ) : Type 0 where
-  pub vehicle : IsVehicle routes v
-  pub place : IsPlace (route_at routes v) p
-
 pub can_remove : (n : ℕ) (routes : List (List ℕ)) (v p : ℕ) → is_possible n routes (Remove v p) ≡ true → CanRemove routes v p
 can_remove n routes v p t =
     let a = and_parts (is_vehicle routes v) _ t in
     record { vehicle = vehicle_from_test routes v a.0; place = place_from_test (route_at routes v) p a.1 }
-
-pub record CanTake (routes : List (List ℕ)) (v p n : ℕ) : Type 0 where
-  pub vehicle : IsVehicle routes v
-  pub some : 1 ≤ n
-  pub low : 1 ≤ p
-  pub high : p + n ≤ length (route_at routes v) + 1
-
-pub record CanPut (routes : List (List ℕ)) (v p n to at : ℕ) : Type 0 where
-  pub vehicle : IsVehicle routes to
-  pub low : 1 ≤ at
-  pub inside : v ≡ to → (at + n ≤ length (route_at routes to) + 1) × (at ≢ p)
-  pub outside : v ≢ to → at ≤ length (route_at routes to) + 1
 
 put_inside : (v to at p n m : ℕ) → (if nat_eq v to then nat_le (at + n) m && not (nat_eq at p) else nat_le at m) ≡ true
     → v ≡ to → (at + n ≤ m) × (at ≢ p)
@@ -74,10 +41,6 @@ put_inside v to at p n m t e =
 put_outside : (v to at p n m : ℕ) → (if nat_eq v to then nat_le (at + n) m && not (nat_eq at p) else nat_le at m) ≡ true
     → v ≢ to → at ≤ m
 put_outside v to at p n m t o = leb-true at m (rw (ne_eqb v to o) at t)
-
-pub record CanShift (routes : List (List ℕ)) (v p n to at : ℕ) : Type 0 where
-  pub from : CanTake routes v p n
-  pub onto : CanPut routes v p n to at
 
 pub can_shift : (customers : ℕ) (routes : List (List ℕ)) (v p n to at : ℕ) → is_possible customers routes (Shift v p n to at) ≡ true → CanShift routes v p n to at
 can_shift customers routes v p n to at t =
@@ -97,13 +60,6 @@ can_shift customers routes v p n to at t =
       };
     }
 
-pub record CanSwap (routes : List (List ℕ)) (v p w q : ℕ) : Type 0 where
-  pub vehicle : IsVehicle routes v
-  pub other : IsVehicle routes w
-  pub place : IsPlace (route_at routes v) p
-  pub at : IsPlace (route_at routes w) q
-  pub apart : v ≡ w → p ≢ q
-
 pub can_swap : (customers : ℕ) (routes : List (List ℕ)) (v p w q : ℕ) → is_possible customers routes (Swap v p w q) ≡ true → CanSwap routes v p w q
 can_swap customers routes v p w q t =
     let a = and_parts (is_vehicle routes v) _ t in
@@ -118,26 +74,12 @@ can_swap customers routes v p w q t =
       apart = λ same. eqb-false p q (rw (eq-eqb v w same) at (not-true (nat_eq v w && nat_eq p q) e.1));
     }
 
-pub record CanReverse (routes : List (List ℕ)) (v first last : ℕ) : Type 0 where
-  pub vehicle : IsVehicle routes v
-  pub low : 1 ≤ first
-  pub order : first < last
-  pub high : last ≤ length (route_at routes v)
-
 pub can_reverse : (customers : ℕ) (routes : List (List ℕ)) (v first last : ℕ) → is_possible customers routes (Reverse v first last) ≡ true → CanReverse routes v first last
 can_reverse customers routes v first last t =
     let a = and_parts (is_vehicle routes v) _ t in
     let b = and_parts (nat_le 1 first) _ a.1 in
     let d = and_parts (nat_lt first last) _ b.1 in
     record { vehicle = vehicle_from_test routes v a.0; low = leb-true 1 first b.0; order = ltb-true first last d.0; high = leb-true last (length (route_at routes v)) d.1 }
-
-pub record CanCross (routes : List (List ℕ)) (v keep w keep_other : ℕ) : Type 0 where
-  pub vehicle : IsVehicle routes v
-  pub other : IsVehicle routes w
-  pub apart : v ≢ w
-  pub kept : keep ≤ length (route_at routes v)
-  pub kept_other : keep_other ≤ length (route_at routes w)
-  pub some : (keep < length (route_at routes v)) ⊎ (keep_other < length (route_at routes w))
 
 pub can_cross : (customers : ℕ) (routes : List (List ℕ)) (v keep w keep_other : ℕ) → is_possible customers routes (Cross v keep w keep_other) ≡ true
     → CanCross routes v keep w keep_other

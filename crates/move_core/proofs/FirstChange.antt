@@ -1,13 +1,15 @@
 use Rattle.std.proofs.Common.{◌≡◌, ◌≢◌, ℕ, zero, suc, ◌+◌, ◌-◌, ◌<◌, ◌≤◌, ◌↔◌, ◌⊎◌, ◌∙◌, sym, ap, subst, refl, arith, inl, inr, min, List, [], ◌∷◌, ◌++◌, length, take, drop, reverse, slice_get, slice_set, get_or, Some, true, false, ◌==◌, if◌then◌else◌}
-use Rattle.std.proofs.lemmas.Bool.{cases_order, eq-eqb, ne_eqb}
+use Rattle.std.proofs.lemmas.Bool.{cases_order, cases_lt, eq-eqb, ne_eqb}
 use Rattle.std.proofs.lemmas.List.{take-append-le, take-take, length-take-le, get_or-drop, get_or-take, get_or-reverse, length-reverse, take-set-le, get_or-set_same, get_or-set_other, length-set, length-append, length-take, length-drop}
-use Rattle.std.proofs.lemmas.Option.{slice_get-get_or}
+use Rattle.std.proofs.lemmas.Option.{slice_get-get_or, slice_get_past}
 use Rattle.plan_core.specs.Plan.{IsPlan, route_at}
+use Rattle.plan_core.specs.Front.{IsCommonFront}
 use Rattle.move_core.specs.declared.moves.Move.{Move}
 use Rattle.move_core.specs.declared.moves.Move.TheVariants.{Insert, Remove, Shift, Swap, Reverse, Cross}
 use Rattle.move_core.specs.Moves.{is_possible, changes_by, stretch, without, with_stretch, with_customer, customer_at, crossed}
 use Rattle.move_core.specs.Changed.{IsFirstChange, first_change}
 use Rattle.move_core.proofs.Facts.{can_insert, can_remove, can_shift, can_swap, can_reverse, can_cross}
+use Rattle.move_core.proofs.PlanLaws.{PlanLaws}
 use Rattle.move_core.proofs.Placed.{placed_from_stands}
 use Rattle.move_core.proofs.Effects.{EachChange, by_vehicles}
 use Rattle.move_core.proofs.Tally.{stands_at}
@@ -75,6 +77,25 @@ front_kept old new p f x = (λ e. before e (cases_order f p), λ h. shorter h)
     shorter : f < p → take f new ≡ take f old
     shorter h =
         sym (take-take f (p - 1) new (omega arith)) ∙ ap (λ (xs : List ℕ). take f xs) x.same ∙ take-take f (p - 1) old (omega arith)
+
+-- what stays before the first change is the longest common front
+pub common_before : (old new : List ℕ) (p : ℕ) → IsFirstChange old new p → IsCommonFront old new (p - 1)
+common_before old new p x =
+    let reach = reached (cases_lt (length old) (p - 1)) in
+    record { left = reach.0; right = reach.1; same = sym x.same; greatest = λ k l r e. let h = (front_kept old new p k x).0 (sym e) in omega arith }
+  where
+    -- neither route ends before the first change
+    reached : (length old < p - 1) ⊎ (p - 1 ≤ length old) → (p - 1 ≤ length old) × (p - 1 ≤ length new)
+    reached (inl h) =
+        let one : length (take (p - 1) new) ≡ min (p - 1) (length new) = length-take (p - 1) new in
+        let two : length (take (p - 1) old) ≡ min (p - 1) (length old) = length-take (p - 1) old in
+        let same : length (take (p - 1) new) ≡ length (take (p - 1) old) = ap length x.same in
+        absurd (x.differs (slice_get_past new (p - 1) (omega arith) ∙ sym (slice_get_past old (p - 1) (omega arith))))
+    reached (inr h) =
+        let one : length (take (p - 1) new) ≡ min (p - 1) (length new) = length-take (p - 1) new in
+        let two : length (take (p - 1) old) ≡ p - 1 = length-take-le (p - 1) old h in
+        let same : length (take (p - 1) new) ≡ length (take (p - 1) old) = ap length x.same in
+        (h, omega arith)
 
 -- a route that changes is another one
 pub changed_differs : (old new : List ℕ) (p : ℕ) → IsFirstChange old new p → new ≢ old
@@ -291,19 +312,19 @@ swapped_within n routes v p q plan low high here top other (inr (inr h)) =
 abbrev pub ChangesAt : List (List ℕ) → Move → ℕ → List ℕ → Type 0
 ChangesAt routes mv v r = IsFirstChange (route_at routes v) r (first_change mv v)
 
-pub each_changed : (n : ℕ) (routes : List (List ℕ)) (mv : Move) → IsPlan n routes → is_possible n routes mv ≡ true → EachChange (ChangesAt routes mv) (changes_by routes mv)
-each_changed n routes (Insert c v p) plan t =
+pub each_changed : PlanLaws → (n : ℕ) (routes : List (List ℕ)) (mv : Move) → IsPlan n routes → is_possible n routes mv ≡ true → EachChange (ChangesAt routes mv) (changes_by routes mv)
+each_changed law n routes (Insert c v p) plan t =
     let f = can_insert n routes c v p t in (
       changed_after (route_at routes v) (c ∷ drop (p - 1) (route_at routes v)) p f.low f.high
           (λ e.
-          let yes = placed_from_stands routes c (v - 1 + 1) (p - 1 + 1) (stands_at routes c (v - 1) (p - 1) (sym e)) in
+          let yes = placed_from_stands law routes c (v - 1 + 1) (p - 1 + 1) (stands_at routes c (v - 1) (p - 1) (sym e)) in
           let both : true ≡ false = sym yes ∙ f.customer.free in
           cc),
       tt,
     )
-each_changed n routes (Remove v p) plan t =
+each_changed law n routes (Remove v p) plan t =
     let f = can_remove n routes v p t in (taken_changes n routes v p 1 plan f.place.low (omega arith) f.place.high, tt)
-each_changed n routes (Shift v p m to at) plan t =
+each_changed law n routes (Shift v p m to at) plan t =
     let f = can_shift n routes v p m to at t in
     let r = route_at routes v in
     let some : 1 ≤ m = f.from.some in
@@ -325,7 +346,7 @@ each_changed n routes (Shift v p m to at) plan t =
         tt,
       ),
     ))
-each_changed n routes (Swap v p w q) plan t =
+each_changed law n routes (Swap v p w q) plan t =
     let f = can_swap n routes v p w q t in
     let r = route_at routes v in
     let s = route_at routes w in
@@ -354,7 +375,7 @@ each_changed n routes (Swap v p w q) plan t =
         tt,
       ),
     ))
-each_changed n routes (Reverse v i j) plan t =
+each_changed law n routes (Reverse v i j) plan t =
     let f = can_reverse n routes v i j t in
     let r = route_at routes v in
     let low : 1 ≤ i = f.low in
@@ -365,7 +386,7 @@ each_changed n routes (Reverse v i j) plan t =
           (sym e ∙ turned_head r (drop j r) i j low order high)),
       tt,
     )
-each_changed n routes (Cross v k w l) plan t =
+each_changed law n routes (Cross v k w l) plan t =
     let f = can_cross n routes v k w l t in
     let r = route_at routes v in
     let s = route_at routes w in (

@@ -1,8 +1,13 @@
+pub mod PlanLaws
 pub mod Facts
+pub mod Numbers
 pub mod Placed
 pub mod Effects
 pub mod Untouched
+pub mod Moved
 pub mod Tally
+pub mod Rearranging
+pub mod Carried
 pub mod Plans
 pub mod FirstChange
 pub mod TouchedKnown

@@ -1,15 +1,17 @@
-use Rattle.std.proofs.Common.{◌≡◌, ◌≢◌, ℕ, zero, suc, ◌+◌, ◌-◌, ◌<◌, ◌≤◌, ◌⊎◌, ◌∙◌, sym, ap, subst, refl, arith, inl, inr, List, [], ◌∷◌, ◌++◌, length, take, drop, reverse, slice_set, get_or, true, false}
+use Rattle.std.proofs.Common.{◌≡◌, ◌≢◌, ℕ, zero, suc, ◌+◌, ◌-◌, ◌≤◌, ◌⊎◌, ◌∙◌, sym, subst, refl, arith, inl, inr, List, [], ◌∷◌, length, slice_set, true, false}
 use Rattle.std.proofs.lemmas.Bool.{cases_eq}
-use Rattle.std.proofs.lemmas.List.{get_or-set_other, length-set}
 use Rattle.std.proofs.lemmas.List.Sums.{sum_by-set}
 use Rattle.plan_core.specs.Plan.{Changes, IsPlan, route_at, with_routes}
 use Rattle.move_core.specs.declared.moves.Move.{Move}
 use Rattle.move_core.specs.declared.moves.Move.TheVariants.{Insert, Remove, Shift, Swap, Reverse, Cross}
 use Rattle.move_core.specs.Moves.{is_placed, is_possible, changes_by, stretch, without, with_stretch, with_customer, customer_at, reversed_within, crossed}
 use Rattle.move_core.proofs.Facts.{can_insert, can_remove, can_shift, can_swap, can_reverse, can_cross}
+use Rattle.move_core.proofs.PlanLaws.{PlanLaws}
 use Rattle.move_core.proofs.Placed.{placed_from_stands}
+use Rattle.move_core.proofs.Rearranging.{count-without, shift_count, swap_count, reverse_count}
 use Rattle.move_core.proofs.Effects.{by_vehicles}
-use Rattle.move_core.proofs.Tally.{once, count, tally, once_same, once_other, count-cons, place_of_tally, tally_of_plan, known_of_tally, plan_from_tally, stands_at, count-more, count-parts, count-crossed, count-reverse, tally-one, tally-two}
+use Rattle.move_core.specs.Rearranged.{count}
+use Rattle.move_core.proofs.Tally.{once, tally, once_same, once_other, count-cons, place_of_tally, tally_of_plan, known_of_tally, plan_from_tally, stands_at, count-more, count-crossed, tally-one, tally-two}
 
 -- no customer is counted more often than before
 abbrev FewerOf : List (List ℕ) → Changes → Type 0
@@ -37,21 +39,21 @@ kept_two : (n : ℕ) (routes : List (List ℕ)) (v w : ℕ) (r q : List ℕ) →
 kept_two n routes v w r q plan low high here top o same = plan_from_fewer n routes ((v, r) ∷ (w, q) ∷ []) plan (fewer_two routes v w r q low high here top o same)
 
 -- a customer that stands nowhere is not counted
-free_tally : (routes : List (List ℕ)) (c : ℕ) → is_placed routes c ≡ false → tally c routes ≡ 0
-free_tally routes c free = split (tally c routes) refl
+free_tally : PlanLaws → (routes : List (List ℕ)) (c : ℕ) → is_placed routes c ≡ false → tally c routes ≡ 0
+free_tally law routes c free = split (tally c routes) refl
   where
     split : (m : ℕ) → tally c routes ≡ m → tally c routes ≡ 0
     split zero e = e
     split (suc m) e =
         let at = place_of_tally c routes (omega arith) in
-        let yes = placed_from_stands routes c (at.0 + 1) (at.1.0 + 1) (stands_at routes c at.0 at.1.0 at.1.1) in
+        let yes = placed_from_stands law routes c (at.0 + 1) (at.1.0 + 1) (stands_at routes c at.0 at.1.0 at.1.1) in
         let both : true ≡ false = sym yes ∙ free in
         absurd cc
 
 -- an inserted customer stood nowhere
-inserted_plan : (n : ℕ) (routes : List (List ℕ)) (d v p : ℕ) → IsPlan n routes → is_possible n routes (Insert d v p) ≡ true
+inserted_plan : PlanLaws → (n : ℕ) (routes : List (List ℕ)) (d v p : ℕ) → IsPlan n routes → is_possible n routes (Insert d v p) ≡ true
     → IsPlan n (with_routes ((v, with_stretch (route_at routes v) p (d ∷ [])) ∷ []) routes)
-inserted_plan n routes d v p plan t =
+inserted_plan law n routes d v p plan t =
     plan_from_tally n (with_routes ((v, with_stretch (route_at routes v) p (d ∷ [])) ∷ []) routes) (λ c. few c (cases_eq d c)) (λ c h. known c h (cases_eq d c))
   where
     balance : (c : ℕ) → tally c (slice_set routes (v - 1) (with_stretch (route_at routes v) p (d ∷ []))) ≡ tally c routes + once c d
@@ -67,7 +69,7 @@ inserted_plan n routes d v p plan t =
     few c (inl e) =
         let all = balance c in
         let one = once_same c d e in
-        let none : tally c routes ≡ 0 = subst (λ (m : ℕ). tally m routes ≡ 0) e (free_tally routes d (can_insert n routes d v p t).customer.free) in
+        let none : tally c routes ≡ 0 = subst (λ (m : ℕ). tally m routes ≡ 0) e (free_tally law routes d (can_insert n routes d v p t).customer.free) in
         omega arith
     few c (inr o) = let all = balance c in let none = once_other c d o in let most = tally_of_plan n routes c plan in omega arith
 
@@ -76,27 +78,21 @@ inserted_plan n routes d v p plan t =
         let f = can_insert n routes d v p t in (subst (λ (m : ℕ). 1 ≤ m) e f.customer.low, subst (λ (m : ℕ). m ≤ n) e f.customer.high)
     known c h (inr o) = let all = balance c in let none = once_other c d o in known_of_tally n routes c plan (omega arith)
 
-count-without : (c : ℕ) (r : List ℕ) (p m : ℕ) → count c (without r p m) + count c (stretch r p m) ≡ count c r
-count-without c r p m = let all = count-parts c r [] (p - 1) m in omega (arith, none)
-  where
-    none : count c [] ≡ 0
-    none = refl
-
 -- a move that has an effect keeps the plan
-pub plan_kept : (n : ℕ) (routes : List (List ℕ)) (mv : Move) → IsPlan n routes → is_possible n routes mv ≡ true → IsPlan n (with_routes (changes_by routes mv) routes)
-plan_kept n routes (Insert c v p) plan t = inserted_plan n routes c v p plan t
-plan_kept n routes (Remove v p) plan t =
+pub plan_kept : PlanLaws → (n : ℕ) (routes : List (List ℕ)) (mv : Move) → IsPlan n routes → is_possible n routes mv ≡ true → IsPlan n (with_routes (changes_by routes mv) routes)
+plan_kept law n routes (Insert c v p) plan t = inserted_plan law n routes c v p plan t
+plan_kept law n routes (Remove v p) plan t =
     let f = can_remove n routes v p t in
     (kept_one n routes v (without (route_at routes v) p 1) plan f.vehicle.low f.vehicle.high (λ c. let all = count-without c (route_at routes v) p 1 in omega arith))
-plan_kept n routes (Shift v p m to at) plan t =
+plan_kept law n routes (Shift v p m to at) plan t =
     let f = can_shift n routes v p m to at t in
     let r = route_at routes v in
     by_vehicles (λ changes. IsPlan n (with_routes changes routes)) v to _ _
     (λ e. (kept_one n routes v (with_stretch (without r p m) at (stretch r p m)) plan f.from.vehicle.low f.from.vehicle.high
-    (λ c. let less = count-without c r p m in let more = count-more c (without r p m) (stretch r p m) (at - 1) in omega arith)))
+    (λ c. let all = shift_count c r p m at in omega arith)))
     (λ o. (kept_two n routes v to (without r p m) (with_stretch (route_at routes to) at (stretch r p m)) plan f.from.vehicle.low f.from.vehicle.high f.onto.vehicle.low f.onto.vehicle.high o
     (λ c. let less = count-without c r p m in let more = count-more c (route_at routes to) (stretch r p m) (at - 1) in omega arith)))
-plan_kept n routes (Swap v p w q) plan t =
+plan_kept law n routes (Swap v p w q) plan t =
     let f = can_swap n routes v p w q t in
     let r = route_at routes v in
     let s = route_at routes w in
@@ -107,35 +103,18 @@ plan_kept n routes (Swap v p w q) plan t =
     by_vehicles (λ changes. IsPlan n (with_routes changes routes)) v w _ _
     (λ e.
     let there : q ≤ length r = subst (λ (u : ℕ). q ≤ length (route_at routes u)) (sym e) top in
-    let other : p ≢ q = f.apart e in
-    let away : q - 1 ≢ p - 1 = λ same. other (omega arith) in
     (kept_one n routes v (with_customer (with_customer r p (customer_at r q)) q (customer_at r p)) plan f.vehicle.low f.vehicle.high
-    (λ c.
-    let one = sum_by-set (once c) r (p - 1) (customer_at r q) 0 (omega arith) in
-    let long : length (slice_set r (p - 1) (customer_at r q)) ≡ length r = length-set r (p - 1) (customer_at r q) in
-    let two = sum_by-set (once c) (slice_set r (p - 1) (customer_at r q)) (q - 1) (customer_at r p) 0 (omega arith) in
-    let still : once c (get_or (slice_set r (p - 1) (customer_at r q)) (q - 1) 0) ≡ once c (get_or r (q - 1) 0) =
-    ap (λ (d : ℕ). once c d) (get_or-set_other r (p - 1) (q - 1) (customer_at r q) 0 away) in
-    omega arith)))
+    (λ c. let all = swap_count c r p q low high here there (f.apart e) in omega arith)))
     (λ o. (kept_two n routes v w (with_customer r p (customer_at s q)) (with_customer s q (customer_at r p)) plan f.vehicle.low f.vehicle.high f.other.low f.other.high o
     (λ c.
     let one = sum_by-set (once c) r (p - 1) (customer_at s q) 0 (omega arith) in
     let two = sum_by-set (once c) s (q - 1) (customer_at r p) 0 (omega arith) in
     omega arith)))
-plan_kept n routes (Reverse v i j) plan t =
+plan_kept law n routes (Reverse v i j) plan t =
     let f = can_reverse n routes v i j t in
-    let r = route_at routes v in
-    let low : 1 ≤ i = f.low in
-    let order : i < j = f.order in
-    let end : i - 1 + (j - i + 1) ≡ j = omega arith in
-    (kept_one n routes v (reversed_within r i j) plan f.vehicle.low f.vehicle.high
-    (λ c.
-    let all : count c (take (i - 1) r ++ (reverse (stretch r i (j - i + 1)) ++ drop j r)) + count c (stretch r i (j - i + 1)) ≡ count c r + count c (reverse (stretch r i (j - i + 1))) =
-    subst (λ (m : ℕ). count c (take (i - 1) r ++ (reverse (stretch r i (j - i + 1)) ++ drop m r)) + count c (stretch r i (j - i + 1)) ≡ count c r + count c (reverse (stretch r i (j - i + 1)))) end
-    (count-parts c r (reverse (stretch r i (j - i + 1))) (i - 1) (j - i + 1)) in
-    let turned = count-reverse c (stretch r i (j - i + 1)) in
-    omega arith))
-plan_kept n routes (Cross v k w l) plan t =
+    (kept_one n routes v (reversed_within (route_at routes v) i j) plan f.vehicle.low f.vehicle.high
+    (λ c. let all = reverse_count c (route_at routes v) i j f.low f.order in omega arith))
+plan_kept law n routes (Cross v k w l) plan t =
     let f = can_cross n routes v k w l t in
     let r = route_at routes v in
     let s = route_at routes w in

@@ -4,13 +4,11 @@ use Rattle.std.proofs.lemmas.Bool.{cases_eq, eq-eqb, ne_eqb}
 use Rattle.std.proofs.lemmas.List.{take-append-drop, drop-drop, get_or-set_other, length-set}
 use Rattle.std.proofs.lemmas.List.Sums.{sum_by-append, sum_by-cons, sum_by-set}
 use Rattle.plan_core.specs.Plan.{StandsAt, IsPlan, route_at}
+use Rattle.move_core.specs.Rearranged.{count}
 
--- how often a customer stands on a route, and on all
+-- how often a customer stands at a place of a route, and on all routes
 abbrev pub once : ℕ → ℕ → ℕ
 once c x = if x == c then 1 else 0
-
-abbrev pub count : ℕ → List ℕ → ℕ
-count c xs = sum_by (once c) xs
 
 abbrev pub tally : ℕ → List (List ℕ) → ℕ
 tally c routes = sum_by (count c) routes
@@ -28,13 +26,13 @@ tally-cons : (c : ℕ) (r : List ℕ) (rs : List (List ℕ)) → tally c (r ∷ 
 tally-cons c r rs = sum_by-cons (count c) r rs
 
 -- who stands at a place is counted
-count_at : (c : ℕ) (xs : List ℕ) (i : ℕ) → slice_get xs i ≡ Some c → 1 ≤ count c xs
+pub count_at : (c : ℕ) (xs : List ℕ) (i : ℕ) → slice_get xs i ≡ Some c → 1 ≤ count c xs
 count_at c [] i e = absurd cc
 count_at c (x ∷ xs) zero e = let same : x ≡ c = cc in let one = once_same c x same in omega (arith, count-cons c x xs)
 count_at c (x ∷ xs) (suc i) e = let rest = count_at c xs i e in omega (arith, count-cons c x xs)
 
 -- and who is counted stands somewhere
-place_of_count : (c : ℕ) (xs : List ℕ) → 1 ≤ count c xs → (i : ℕ) × (slice_get xs i ≡ Some c)
+pub place_of_count : (c : ℕ) (xs : List ℕ) → 1 ≤ count c xs → (i : ℕ) × (slice_get xs i ≡ Some c)
 place_of_count c [] h = absurd (omega (arith, none))
   where
     none : count c [] ≡ 0

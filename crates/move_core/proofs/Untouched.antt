@@ -6,14 +6,12 @@ use Rattle.std.proofs.lemmas.List.Elements.{filter-append}
 use Rattle.std.proofs.lemmas.List.Folds.{list_any-append}
 use Rattle.plan_core.specs.declared.touch.Touch.{Touch}
 use Rattle.plan_core.specs.Plan.{StandsAt, route_at, with_routes}
-use Rattle.plan_core.proofs.Places.{contains_from_stands, stands_from_contains}
-use Rattle.plan_core.proofs.LastCommits.{contains_from_among as contains_from_has, among_from_contains as has_from_contains}
-use Rattle.plan_core.proofs.Exchange.{length-with_routes}
-use Rattle.plan_core.specs.Among.{is_among as has}
+use Rattle.plan_core.specs.Among.{is_among}
 use Rattle.move_core.specs.declared.moves.Move.{Move}
 use Rattle.move_core.specs.declared.moves.Move.TheVariants.{Insert, Remove, Shift, Swap, Reverse, Cross}
 use Rattle.move_core.specs.Moves.{is_possible, changes_by, stretch, without, customer_at}
 use Rattle.move_core.specs.Touched.{touches, touched_by, is_touched, untouched_of}
+use Rattle.move_core.proofs.PlanLaws.{PlanLaws}
 use Rattle.move_core.proofs.Facts.{can_remove, can_swap, can_reverse}
 use Rattle.move_core.proofs.Effects.{EachChange, each_vehicle, by_vehicles, changes_apart}
 
@@ -29,20 +27,20 @@ or_right : (b d : Bool) → d ≡ true → (b || d) ≡ true
 or_right true d h = refl
 or_right false d h = h
 
-pub has_left : (c : ℕ) (xs ys : List ℕ) → has c xs ≡ true → has c (xs ++ ys) ≡ true
-has_left c xs ys h = list_any-append (λ w. w == c) xs ys ∙ or_left (has c xs) (has c ys) h
+pub has_left : (c : ℕ) (xs ys : List ℕ) → is_among c xs ≡ true → is_among c (xs ++ ys) ≡ true
+has_left c xs ys h = list_any-append (λ w. w == c) xs ys ∙ or_left (is_among c xs) (is_among c ys) h
 
-pub has_right : (c : ℕ) (xs ys : List ℕ) → has c ys ≡ true → has c (xs ++ ys) ≡ true
-has_right c xs ys h = list_any-append (λ w. w == c) xs ys ∙ or_right (has c xs) (has c ys) h
+pub has_right : (c : ℕ) (xs ys : List ℕ) → is_among c ys ≡ true → is_among c (xs ++ ys) ≡ true
+has_right c xs ys h = list_any-append (λ w. w == c) xs ys ∙ or_right (is_among c xs) (is_among c ys) h
 
-has_head : (c : ℕ) (cs : List ℕ) → has c (c ∷ cs) ≡ true
-has_head c cs = or_left (c == c) (has c cs) (eq-eqb c c refl)
+has_head : (c : ℕ) (cs : List ℕ) → is_among c (c ∷ cs) ≡ true
+has_head c cs = or_left (c == c) (is_among c cs) (eq-eqb c c refl)
 
 -- of touched customers none is left
-pub none_left : (touched cs : List ℕ) → ((c : ℕ) → has c cs ≡ true → has c touched ≡ true) → filter (λ c. not (has c touched)) cs ≡ []
+pub none_left : (touched cs : List ℕ) → ((c : ℕ) → is_among c cs ≡ true → is_among c touched ≡ true) → filter (λ c. not (is_among c touched)) cs ≡ []
 none_left touched [] all = refl
 none_left touched (c ∷ cs) all =
-    rw (all c (has_head c cs)) (none_left touched cs (λ d h. all d (or_right (c == d) (has d cs) h)))
+    rw (all c (has_head c cs)) (none_left touched cs (λ d h. all d (or_right (c == d) (is_among d cs) h)))
 
 -- a test keeps as much of a route with something more, or without something, that it drops
 pub filter-more : (keep : ℕ → Bool) (r s : List ℕ) (i : ℕ) → filter keep s ≡ [] → filter keep (take i r ++ (s ++ drop i r)) ≡ filter keep r
@@ -78,9 +76,9 @@ filter-crossed keep r q i j mine yours =
     filter-append keep (take i r) (drop j q) ∙ ap (λ (xs : List ℕ). filter keep (take i r) ++ xs) (yours ∙ sym mine)
     ∙ sym (filter-append keep (take i r) (drop i r)) ∙ ap (λ (xs : List ℕ). filter keep xs) (take-append-drop i r)
 
-has-reverse_aux : (c : ℕ) (xs ys : List ℕ) → has c (reverse_aux xs ys) ≡ true → (has c xs || has c ys) ≡ true
-has-reverse_aux c [] ys h = h
-has-reverse_aux c (x ∷ xs) ys h = swap_parts (has c xs) (x == c) (has c ys) (has-reverse_aux c xs (x ∷ ys) h)
+among-reverse_aux : (c : ℕ) (xs ys : List ℕ) → is_among c (reverse_aux xs ys) ≡ true → (is_among c xs || is_among c ys) ≡ true
+among-reverse_aux c [] ys h = h
+among-reverse_aux c (x ∷ xs) ys h = swap_parts (is_among c xs) (x == c) (is_among c ys) (among-reverse_aux c xs (x ∷ ys) h)
   where
     swap_parts : (a b d : Bool) → (a || (b || d)) ≡ true → ((b || a) || d) ≡ true
     swap_parts true true d h = refl
@@ -88,8 +86,8 @@ has-reverse_aux c (x ∷ xs) ys h = swap_parts (has c xs) (x == c) (has c ys) (h
     swap_parts false true d h = refl
     swap_parts false false d h = h
 
-has-reverse : (c : ℕ) (xs : List ℕ) → has c (reverse xs) ≡ true → has c xs ≡ true
-has-reverse c xs h = or_false (has c xs) (has-reverse_aux c xs [] h)
+among-reverse : (c : ℕ) (xs : List ℕ) → is_among c (reverse xs) ≡ true → is_among c xs ≡ true
+among-reverse c xs h = or_false (is_among c xs) (among-reverse_aux c xs [] h)
   where
     or_false : (b : Bool) → (b || false) ≡ true → b ≡ true
     or_false true h = refl
@@ -110,7 +108,7 @@ each_kept n routes (Remove v p) t =
     let f = can_remove n routes v p t in (
       filter-less (λ d. not (is_touched routes (Remove v p) d)) (route_at routes v) (p - 1) 1
           (none_left (customer_at (route_at routes v) p ∷ []) (take 1 (drop (p - 1) (route_at routes v)))
-          (λ d h. subst (λ (xs : List ℕ). has d xs ≡ true) (one_stop (route_at routes v) p f.place.low f.place.high) h)),
+          (λ d h. subst (λ (xs : List ℕ). is_among d xs ≡ true) (one_stop (route_at routes v) p f.place.low f.place.high) h)),
       tt,
     )
   where
@@ -121,7 +119,7 @@ each_kept n routes (Shift v p m to at) t =
     let keep : ℕ → Bool = λ d. not (is_touched routes (Shift v p m to at) d) in
     let none : filter keep (stretch r p m) ≡ [] =
     none_left (map (λ u. u.customer) (touched_by routes (Shift v p m to at))) (stretch r p m)
-    (λ d h. subst (λ (xs : List ℕ). has d xs ≡ true) (sym (customers-touches v p (stretch r p m))) h) in
+    (λ d h. subst (λ (xs : List ℕ). is_among d xs ≡ true) (sym (customers-touches v p (stretch r p m))) h) in
     by_vehicles (EachChange (KeepsOn routes (Shift v p m to at))) v to _ _
     (λ e. (filter-more keep (without r p m) (stretch r p m) (at - 1) none ∙ filter-less keep r (p - 1) m none, tt))
     (λ o. (filter-less keep r (p - 1) m none, (filter-more keep (route_at routes to) (stretch r p m) (at - 1) none, tt)))
@@ -151,13 +149,13 @@ each_kept n routes (Reverse v i j) t =
     let order : i < j = f.order in
     let keep : ℕ → Bool = λ d. not (is_touched routes (Reverse v i j) d) in
     let end : i - 1 + (j - i + 1) ≡ j = omega arith in
-    let inside : (d : ℕ) → has d (stretch r i (j - i + 1)) ≡ true → is_touched routes (Reverse v i j) d ≡ true =
-    λ d h. subst (λ (xs : List ℕ). has d xs ≡ true) (sym (customers-touches v i (stretch r i (j - i + 1)))) h in
+    let inside : (d : ℕ) → is_among d (stretch r i (j - i + 1)) ≡ true → is_touched routes (Reverse v i j) d ≡ true =
+    λ d h. subst (λ (xs : List ℕ). is_among d xs ≡ true) (sym (customers-touches v i (stretch r i (j - i + 1)))) h in
     let none : filter keep (stretch r i (j - i + 1)) ≡ [] =
     none_left (map (λ u. u.customer) (touched_by routes (Reverse v i j))) (stretch r i (j - i + 1)) inside in
     let turned : filter keep (reverse (stretch r i (j - i + 1))) ≡ [] =
     none_left (map (λ u. u.customer) (touched_by routes (Reverse v i j))) (reverse (stretch r i (j - i + 1)))
-    (λ d h. inside d (has-reverse d (stretch r i (j - i + 1)) h)) in (
+    (λ d h. inside d (among-reverse d (stretch r i (j - i + 1)) h)) in (
       subst (λ (m : ℕ). filter keep (take (i - 1) r ++ (reverse (stretch r i (j - i + 1)) ++ drop m r)) ≡ filter keep r) end
           (filter-parts keep r (reverse (stretch r i (j - i + 1))) (i - 1) (j - i + 1) none turned),
       tt,
@@ -172,23 +170,23 @@ each_kept n routes (Cross v k w l) t =
     ∙ ap (λ (xs : List ℕ). drop k r ++ xs) (customers-touches w (l + 1) (drop l s)) in
     let mine : filter keep (drop k r) ≡ [] =
     none_left (map (λ u. u.customer) (touched_by routes (Cross v k w l))) (drop k r)
-    (λ d h. subst (λ (xs : List ℕ). has d xs ≡ true) (sym all) (has_left d (drop k r) (drop l s) h)) in
+    (λ d h. subst (λ (xs : List ℕ). is_among d xs ≡ true) (sym all) (has_left d (drop k r) (drop l s) h)) in
     let yours : filter keep (drop l s) ≡ [] =
     none_left (map (λ u. u.customer) (touched_by routes (Cross v k w l))) (drop l s)
-    (λ d h. subst (λ (xs : List ℕ). has d xs ≡ true) (sym all) (has_right d (drop k r) (drop l s) h)) in
+    (λ d h. subst (λ (xs : List ℕ). is_among d xs ≡ true) (sym all) (has_right d (drop k r) (drop l s) h)) in
     (filter-crossed keep r s k l mine yours, (filter-crossed keep s r l k yours mine, tt))
 
 -- the untouched customers of each vehicle are the same, in the same order
-pub untouched_kept : (n : ℕ) (routes : List (List ℕ)) (mv : Move) (v : ℕ) → is_possible n routes mv ≡ true → 1 ≤ v
+pub untouched_kept : PlanLaws → (n : ℕ) (routes : List (List ℕ)) (mv : Move) (v : ℕ) → is_possible n routes mv ≡ true → 1 ≤ v
     → untouched_of routes mv (route_at (with_routes (changes_by routes mv) routes) v) ≡ untouched_of routes mv (route_at routes v)
-untouched_kept n routes mv v t low =
-    each_vehicle (KeepsOn routes mv) (changes_by routes mv) routes v (changes_apart n routes mv t).apart low (each_kept n routes mv t) refl
+untouched_kept law n routes mv v t low =
+    each_vehicle law.replaced (KeepsOn routes mv) (changes_by routes mv) routes v (changes_apart n routes mv t).apart low (each_kept n routes mv t) refl
 
-has-filter : (keep : ℕ → Bool) (c : ℕ) (r : List ℕ) → keep c ≡ true → has c (filter keep r) ≡ has c r
-has-filter keep c [] k = refl
-has-filter keep c (x ∷ xs) k = split (has-filter keep c xs k) (keep x) refl (cases_eq x c)
+among-filter : (keep : ℕ → Bool) (c : ℕ) (r : List ℕ) → keep c ≡ true → is_among c (filter keep r) ≡ is_among c r
+among-filter keep c [] k = refl
+among-filter keep c (x ∷ xs) k = split (among-filter keep c xs k) (keep x) refl (cases_eq x c)
   where
-    split : has c (filter keep xs) ≡ has c xs → (b : Bool) → keep x ≡ b → (x ≡ c) ⊎ (x ≡ c → ⊥) → has c (filter keep (x ∷ xs)) ≡ has c (x ∷ xs)
+    split : is_among c (filter keep xs) ≡ is_among c xs → (b : Bool) → keep x ≡ b → (x ≡ c) ⊎ (x ≡ c → ⊥) → is_among c (filter keep (x ∷ xs)) ≡ is_among c (x ∷ xs)
     split rest true e same = rw e (ap (λ (d : Bool). (x == c) || d) rest)
     split rest false e (inl same) =
         let no : keep c ≡ false = subst (λ (m : ℕ). keep m ≡ false) same e in
@@ -197,18 +195,18 @@ has-filter keep c (x ∷ xs) k = split (has-filter keep c xs k) (keep x) refl (c
     split rest false e (inr o) = rw (e, ne_eqb x c o) rest
 
 -- a touched customer is that of some touch
-touch_of : (touched : List Touch) (c : ℕ) → has c (map (λ t. t.customer) touched) ≡ true → (k : ℕ) × ((t : Touch) × (slice_get touched k ≡ Some t) × (t.customer ≡ c))
+touch_of : (touched : List Touch) (c : ℕ) → is_among c (map (λ t. t.customer) touched) ≡ true → (k : ℕ) × ((t : Touch) × (slice_get touched k ≡ Some t) × (t.customer ≡ c))
 touch_of [] c h = let e : true ≡ false = sym h in absurd cc
 touch_of (t ∷ ts) c h = split (λ more. touch_of ts c more) (cases_eq t.customer c)
   where
-    split : (has c (map (λ u. u.customer) ts) ≡ true → (k : ℕ) × ((u : Touch) × (slice_get ts k ≡ Some u) × (u.customer ≡ c))) → (t.customer ≡ c) ⊎ (t.customer ≡ c → ⊥) → (k : ℕ) × ((u : Touch) × (slice_get (t ∷ ts) k ≡ Some u) × (u.customer ≡ c))
+    split : (is_among c (map (λ u. u.customer) ts) ≡ true → (k : ℕ) × ((u : Touch) × (slice_get ts k ≡ Some u) × (u.customer ≡ c))) → (t.customer ≡ c) ⊎ (t.customer ≡ c → ⊥) → (k : ℕ) × ((u : Touch) × (slice_get (t ∷ ts) k ≡ Some u) × (u.customer ≡ c))
     split later (inl e) = (zero, (t, refl, e))
     split later (inr o) = let rest = later (rw (ne_eqb t.customer c o) at h) in (suc rest.0, (rest.1.0, rest.1.1, rest.1.2))
 
 -- who stands on a vehicle stays on it or is touched
-pub stays_or_touched : (n : ℕ) (routes : List (List ℕ)) (mv : Move) (c v p : ℕ) → is_possible n routes mv ≡ true → StandsAt routes c v p
+pub stays_or_touched : PlanLaws → (n : ℕ) (routes : List (List ℕ)) (mv : Move) (c v p : ℕ) → is_possible n routes mv ≡ true → StandsAt routes c v p
     → ((q : ℕ) × StandsAt (with_routes (changes_by routes mv) routes) c v q) ⊎ ((k : ℕ) × ((t : Touch) × (slice_get (touched_by routes mv) k ≡ Some t) × (t.customer ≡ c)))
-stays_or_touched n routes mv c v p t s = split (is_touched routes mv c) refl
+stays_or_touched law n routes mv c v p t s = split (is_touched routes mv c) refl
   where
     split : (b : Bool) → is_touched routes mv c ≡ b
         → ((q : ℕ) × StandsAt (with_routes (changes_by routes mv) routes) c v q) ⊎ ((k : ℕ) × ((u : Touch) × (slice_get (touched_by routes mv) k ≡ Some u) × (u.customer ≡ c)))
@@ -217,9 +215,9 @@ stays_or_touched n routes mv c v p t s = split (is_touched routes mv c) refl
         let keep : ℕ → Bool = λ d. not (is_touched routes mv d) in
         let kept : keep c ≡ true = rw e refl in
         let new = route_at (with_routes (changes_by routes mv) routes) v in
-        let old : has c (route_at routes v) ≡ true = has_from_contains c (route_at routes v) (contains_from_stands routes c v p s) in
-        let there : has c new ≡ true =
-        sym (has-filter keep c new kept) ∙ ap (λ (xs : List ℕ). has c xs) (untouched_kept n routes mv v t s.low) ∙ has-filter keep c (route_at routes v) kept ∙ old in
-        let long = length-with_routes (changes_by routes mv) routes in
+        let old : is_among c (route_at routes v) ≡ true = (law.among c (route_at routes v)).1 (law.places.among routes c v p s) in
+        let there : is_among c new ≡ true =
+        sym (among-filter keep c new kept) ∙ ap (λ (xs : List ℕ). is_among c xs) (untouched_kept law n routes mv v t s.low) ∙ among-filter keep c (route_at routes v) kept ∙ old in
+        let long = law.replaced.count (changes_by routes mv) routes in
         let high : v ≤ length routes = s.high in
-        inl (stands_from_contains (with_routes (changes_by routes mv) routes) c v s.low (omega arith) (contains_from_has c new there))
+        inl (law.places.somewhere (with_routes (changes_by routes mv) routes) c v s.low (omega arith) ((law.among c new).0 there))

@@ -1,3 +1,6 @@
 pub mod Moves
+pub mod Possible
 pub mod Touched
 pub mod Changed
+pub mod Rearranged
+pub mod Laws

@@ -2,7 +2,7 @@ use Rattle.std.specs.Prelude.{ℕ, ◌+◌, ◌-◌, Bool, not, ◌==◌, ◌&&�
 use Rattle.std.specs.List.{list_any}
 use Rattle.std.specs.Option.{option_to_list}
 use Rattle.plan_core.specs.Plan.{Changes, route_at}
-use Rattle.plan_core.specs.Among.{is_among as has}
+use Rattle.plan_core.specs.Among.{is_among}
 use Rattle.move_core.specs.declared.moves.Move.{Move}
 use Rattle.move_core.specs.declared.moves.Move.TheVariants.{Insert, Remove, Shift, Swap, Reverse, Cross}
 
@@ -29,7 +29,7 @@ is_place r p = nat_le 1 p && nat_le p (length r)
 
 -- whether a customer stands on some route
 abbrev pub is_placed : List (List ℕ) → ℕ → Bool
-is_placed routes c = list_any (λ r. has c r) routes
+is_placed routes c = list_any (λ r. is_among c r) routes
 
 -- whether a customer is one of so many and stands on no route
 abbrev pub is_free : ℕ → List (List ℕ) → ℕ → Bool

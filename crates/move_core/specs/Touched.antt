@@ -1,7 +1,7 @@
 use Rattle.std.specs.Prelude.{ℕ, ◌+◌, ◌-◌, Bool, List, [], ◌∷◌, ◌++◌, drop, map, filter, not}
 use Rattle.plan_core.specs.declared.touch.Touch.{Touch}
 use Rattle.plan_core.specs.Plan.{route_at}
-use Rattle.plan_core.specs.Among.{is_among as has}
+use Rattle.plan_core.specs.Among.{is_among}
 use Rattle.move_core.specs.declared.moves.Move.{Move}
 use Rattle.move_core.specs.declared.moves.Move.TheVariants.{Insert, Remove, Shift, Swap, Reverse, Cross}
 use Rattle.move_core.specs.Moves.{stretch, customer_at}
@@ -25,7 +25,7 @@ touched_by routes (Cross vehicle keep other keep_other) =
 
 -- whether a customer is touched
 abbrev pub is_touched : List (List ℕ) → Move → ℕ → Bool
-is_touched routes mv c = has c (map (λ t. t.customer) (touched_by routes mv))
+is_touched routes mv c = is_among c (map (λ t. t.customer) (touched_by routes mv))
 
 -- the customers of a vehicle that a move does not touch, in order
 abbrev pub untouched_of : List (List ℕ) → Move → List ℕ → List ℕ

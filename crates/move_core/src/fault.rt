@@ -1,3 +1,5 @@
+ghost use Rattle.std.specs.Prelude.{◌≡◌};
+
 use std::alloc::AllocError;
 use thiserror::Error;
 
@@ -10,4 +12,14 @@ pub enum MoveFault {
     /// There was no memory.
     #[error("out of memory")]
     NoMemory,
+}
+
+impl From<AllocError> for MoveFault {
+    ghost use Rattle.move_core.specs.declared.fault.MoveFault.TheVariants.{NoMemory};
+
+    ghost from_gives = { λ _ fault. fault ≡ NoMemory };
+
+    fn from(_: AllocError) -> MoveFault {
+        MoveFault::NoMemory
+    }
 }

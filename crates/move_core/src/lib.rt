@@ -11,7 +11,8 @@ mod touches;
 
 pub use fault::MoveFault;
 pub use laws::{
-    fronts_by_first_change, moves_keep_plans, moves_keep_the_untouched, moves_name_vehicles,
+    fronts_by_first_change, moves_are_possible, moves_between_carry_over, moves_inside_rearrange,
+    moves_keep_plans, moves_keep_the_untouched, moves_name_vehicles, shifts_in_parts,
 };
 pub use moves::Move;
 

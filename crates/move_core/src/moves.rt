@@ -71,8 +71,8 @@ impl Move {
         }
     }
 
-    /// Whether the move has an effect on the plan. Sums of its numbers do not wrap.
-    fn is_possible(&self, plan: &Plan) -> bool
+    /// Whether the move has an effect on the plan. Sums of its numbers do not wrap, and no memory is taken.
+    pub fn is_possible(&self, plan: &Plan) -> bool
         ensures { result ≡ is_possible plan.now.customers plan.now.routes self.now }
     {
         match *self {
@@ -119,10 +119,8 @@ impl Move {
         if !self.is_possible(plan) {
             return Err(MoveFault::BadPlace);
         }
-        match self.touches(alloc, plan) {
-            Ok(touched) => Ok(touched),
-            Err(_) => Err(MoveFault::NoMemory),
-        }
+        let touched = self.touches(alloc, plan)?;
+        Ok(touched)
     }
 
     /// The new routes of the named vehicles, in the order in which the move names them.
@@ -137,13 +135,12 @@ impl Move {
         if !self.is_possible(plan) {
             return Err(MoveFault::BadPlace);
         }
-        match self.routes(alloc, plan) {
-            Ok(changes) => Ok(changes),
-            Err(_) => Err(MoveFault::NoMemory),
-        }
+        let changes = self.routes(alloc, plan)?;
+        Ok(changes)
     }
 
-    fn touches(&self, alloc: Global, plan: &Plan) -> Result<Vec<Touch>, AllocError>
+    /// What `touched` gives of a move that has an effect, for a caller that has asked whether it has.
+    pub fn touches(&self, alloc: Global, plan: &Plan) -> Result<Vec<Touch>, AllocError>
         requires { is_possible plan.now.customers plan.now.routes self.now ≡ true }
         ensures { IfOk result (λ touched. touched.items ≡ touched_by plan.now.routes self.now) }
     {
@@ -181,7 +178,8 @@ impl Move {
         }
     }
 
-    fn routes(&self, alloc: Global, plan: &Plan) -> Result<Vec<(u32, Arc<Route>)>, AllocError>
+    /// What `new_routes` gives of a move that has an effect, for a caller that has asked whether it has.
+    pub fn routes(&self, alloc: Global, plan: &Plan) -> Result<Vec<(u32, Arc<Route>)>, AllocError>
         requires { is_possible plan.now.customers plan.now.routes self.now ≡ true }
         ensures { IfOk result (λ changes. changes_of changes.items ≡ changes_by plan.now.routes self.now) }
     {

@@ -8,18 +8,22 @@ use plan_core::{Route, Touch};
 use std::alloc::{AllocError, Global};
 use std::sync::Arc;
 
-/// A route of three parts.
+/// A route of four parts. Its memory is asked for once.
 fn joined(
     alloc: Global,
-    front: &[u32],
-    middle: &[u32],
-    back: &[u32],
+    first: &[u32],
+    second: &[u32],
+    third: &[u32],
+    last: &[u32],
 ) -> Result<Arc<Route>, AllocError>
-    ensures { IfOk result (λ route. route.value ≡ front.now ++ (middle.now ++ back.now)) }
+    ensures { IfOk result (λ route. route.value ≡ first.now ++ (second.now ++ (third.now ++ last.now))) }
 {
-    let mut customers = Vec::from_slice(alloc, front)?;
-    customers.extend_from_slice(middle)?;
-    customers.extend_from_slice(back)?;
+    let count = first.len() + second.len() + third.len() + last.len();
+    let mut customers = Vec::with_capacity(alloc, count)?;
+    customers.extend_from_slice(first)?;
+    customers.extend_from_slice(second)?;
+    customers.extend_from_slice(third)?;
+    customers.extend_from_slice(last)?;
     let route = Arc::new(alloc, Route::new(customers))?;
     Ok(route)
 }
@@ -36,7 +40,7 @@ pub(crate) fn with_stretch(
     ensures { IfOk result (λ made. made.value ≡ with_stretch route.now place customers.now) }
 {
     let (front, back) = route.split_at(place as usize - 1);
-    joined(alloc, front, customers, back)
+    joined(alloc, front, customers, back, &[])
 }
 
 /// The route without so many customers from `place` on.
@@ -51,12 +55,8 @@ pub(crate) fn without(
     ensures { IfOk result (λ made. made.value ≡ without route.now place count) }
 {
     let first = place as usize - 1;
-    joined(
-        alloc,
-        &route[..first],
-        &[],
-        &route[first + count as usize..],
-    )
+    let back = &route[first + count as usize..];
+    joined(alloc, &route[..first], back, &[], &[])
 }
 
 /// So many customers of a route from `place` on.
@@ -84,8 +84,21 @@ pub(crate) fn moved_within(
     requires at_high { at + count ≤ length route.now + 1 }
     ensures { IfOk result (λ made. made.value ≡ with_stretch (without route.now place count) at (stretch route.now place count)) }
 {
-    let rest = without(alloc, route, place, count)?;
-    with_stretch(alloc, rest.customers(), at, stretch(route, place, count))
+    let first = place as usize - 1;
+    let end = first + count as usize;
+    let to = at as usize - 1;
+    let moved = &route[first..end];
+    if to <= first {
+        return joined(alloc, &route[..to], moved, &route[to..first], &route[end..]);
+    }
+    let reach = to + count as usize;
+    joined(
+        alloc,
+        &route[..first],
+        &route[end..reach],
+        moved,
+        &route[reach..],
+    )
 }
 
 /// The route with another customer at `place`.
@@ -137,14 +150,10 @@ pub(crate) fn reversed_within(
     requires high { last ≤ length route.now }
     ensures { IfOk result (λ made. made.value ≡ reversed_within route.now first last) }
 {
-    let mut middle = Vec::from_slice(alloc, stretch(route, first, last - first + 1))?;
-    middle.reverse();
-    joined(
-        alloc,
-        &route[..first as usize - 1],
-        &middle,
-        &route[last as usize..],
-    )
+    let mut customers = Vec::from_slice(alloc, route)?;
+    customers[first as usize - 1..last as usize].reverse();
+    let made = Arc::new(alloc, Route::new(customers))?;
+    Ok(made)
 }
 
 /// The first `keep` customers of one route, then those of another after its first `keep_other`.
@@ -159,12 +168,8 @@ pub(crate) fn crossed(
     requires keep_other { keep_other ≤ length other.now }
     ensures { IfOk result (λ made. made.value ≡ crossed route.now keep other.now keep_other) }
 {
-    joined(
-        alloc,
-        &route[..keep as usize],
-        &[],
-        &other[keep_other as usize..],
-    )
+    let back = &other[keep_other as usize..];
+    joined(alloc, &route[..keep as usize], back, &[], &[])
 }
 
 /// New routes for one vehicle.

@@ -4,7 +4,7 @@ ghost use Rattle.plan_core.specs.Plan.{route_at};
 ghost use Rattle.move_core.specs.Moves.{is_vehicle, is_placed, is_free, is_possible};
 
 use crate::moves::Move;
-use plan_core::Plan;
+use plan_core::{Plan, among_is_tested, customers_stand_by_route, routes_replaced};
 
 /// Whether the fleet has the vehicle.
 fn is_vehicle(plan: &Plan, vehicle: u32) -> bool
@@ -34,10 +34,10 @@ fn is_free(plan: &Plan, customer: u32) -> bool
 fn is_placed(plan: &Plan, customer: u32) -> bool
     ensures { result ≡ is_placed plan.now.routes customer }
 {
-    match plan.place_of(customer) {
-        Some(_) => true,
-        None => false,
-    }
+    among_is_tested();
+    customers_stand_by_route();
+    routes_replaced();
+    plan.place_of(customer).is_some()
 }
 
 pub(crate) fn can_insert(plan: &Plan, customer: u32, vehicle: u32, place: u32) -> bool

@@ -2,10 +2,11 @@ ghost use Rattle.std.specs.Prelude.{◌≡◌, [], ◌∷◌, IfOk};
 ghost use Rattle.plan_core.specs.Plan.{changes_of};
 
 use crate::{
-    Move, MoveFault, fronts_by_first_change, moves_keep_plans, moves_keep_the_untouched,
-    moves_name_vehicles,
+    Move, MoveFault, fronts_by_first_change, moves_are_possible, moves_between_carry_over,
+    moves_inside_rearrange, moves_keep_plans, moves_keep_the_untouched, moves_name_vehicles,
+    shifts_in_parts,
 };
-use plan_core::{Plan, Route, Touch};
+use plan_core::{Plan, Route, Touch, plans_are_tested};
 use std::alloc::{AllocError, Global};
 use std::sync::Arc;
 use std::test::Fail;
@@ -22,26 +23,38 @@ fn pair(alloc: Global, first: &[u32], second: &[u32]) -> Result<Vec<(u32, Arc<Ro
     Ok(changes)
 }
 
-/// Customers 1, 2, 3 on vehicle 1; customer 4 is unassigned.
+/// Customers 1, 2, 3 on vehicle 1.
 fn three_on_one(alloc: Global) -> Result<Plan, AllocError> {
-    let mut plan = Plan::new(alloc, 4, 2)?;
+    let mut plan = Plan::new(alloc, 6, 2)?;
     let changes = pair(alloc, &[1, 2, 3], &[])?;
+    plans_are_tested();
     plan.replace(changes);
     Ok(plan)
 }
 
 /// Customers 2, 3, 1 on vehicle 1.
 fn turned_on_one(alloc: Global) -> Result<Plan, AllocError> {
-    let mut plan = Plan::new(alloc, 4, 2)?;
+    let mut plan = Plan::new(alloc, 6, 2)?;
     let changes = pair(alloc, &[2, 3, 1], &[])?;
+    plans_are_tested();
     plan.replace(changes);
     Ok(plan)
 }
 
-/// Customers 1, 2 on vehicle 1 and 4 on vehicle 2; customer 3 is unassigned.
+/// Customers 1, 2 on vehicle 1 and 4 on vehicle 2.
 fn two_and_one(alloc: Global) -> Result<Plan, AllocError> {
-    let mut plan = Plan::new(alloc, 4, 2)?;
+    let mut plan = Plan::new(alloc, 6, 2)?;
     let changes = pair(alloc, &[1, 2], &[4])?;
+    plans_are_tested();
+    plan.replace(changes);
+    Ok(plan)
+}
+
+/// Customers 1, 2, 3, 5 on vehicle 1 and 4, 6 on vehicle 2.
+fn four_and_two(alloc: Global) -> Result<Plan, AllocError> {
+    let mut plan = Plan::new(alloc, 6, 2)?;
+    let changes = pair(alloc, &[1, 2, 3, 5], &[4, 6])?;
+    plans_are_tested();
     plan.replace(changes);
     Ok(plan)
 }
@@ -62,85 +75,134 @@ fn second(changes: &[(u32, Arc<Route>)]) -> &[u32] {
     }
 }
 
-/// Whether both calls answer that the move has no effect.
+fn insert(customer: u32, vehicle: u32, place: u32) -> Move {
+    Move::Insert {
+        customer,
+        vehicle,
+        place,
+    }
+}
+
+fn remove(vehicle: u32, place: u32) -> Move {
+    Move::Remove { vehicle, place }
+}
+
+fn shift(vehicle: u32, place: u32, length: u32, to: u32, at: u32) -> Move {
+    Move::Shift {
+        vehicle,
+        place,
+        length,
+        to,
+        at,
+    }
+}
+
+fn swap(vehicle: u32, place: u32, other: u32, at: u32) -> Move {
+    Move::Swap {
+        vehicle,
+        place,
+        other,
+        at,
+    }
+}
+
+fn reverse(vehicle: u32, first: u32, last: u32) -> Move {
+    Move::Reverse {
+        vehicle,
+        first,
+        last,
+    }
+}
+
+fn cross(vehicle: u32, keep: u32, other: u32, keep_other: u32) -> Move {
+    Move::Cross {
+        vehicle,
+        keep,
+        other,
+        keep_other,
+    }
+}
+
+/// A touch by its vehicle, place and customer.
+fn at(vehicle: u32, place: u32, customer: u32) -> Touch {
+    Touch {
+        vehicle,
+        place,
+        customer,
+    }
+}
+
+/// Whether the move makes these routes and touches these customers, both where it is asked first whether it has an effect and where it is
+/// not.
+fn makes(
+    alloc: Global,
+    plan: &Plan,
+    mv: Move,
+    routes: (&[u32], &[u32]),
+    touched: &[Touch],
+) -> Result<bool, MoveFault> {
+    if !mv.is_possible(plan) {
+        return Ok(false);
+    }
+    let made = mv.routes(alloc, plan)?;
+    let also_made = mv.new_routes(alloc, plan)?;
+    Ok(
+        first(&made) == routes.0
+            && second(&made) == routes.1
+            && first(&also_made) == routes.0
+            && second(&also_made) == routes.1
+            && mv.touches(alloc, plan)?.as_slice() == touched
+            && mv.touched(alloc, plan)?.as_slice() == touched,
+    )
+}
+
+/// Whether all calls answer that the move has no effect.
 fn is_bad(alloc: Global, plan: &Plan, mv: Move) -> bool {
     let touched = mv.touched(alloc, plan).err() == Some(MoveFault::BadPlace);
     let routes = mv.new_routes(alloc, plan).err() == Some(MoveFault::BadPlace);
-    touched && routes
+    touched && routes && !mv.is_possible(plan)
 }
 
 #[test]
 fn names_each_vehicle_once(rt: HostRuntime) {
-    let shift = Move::Shift {
-        vehicle: 2,
-        place: 1,
-        length: 1,
-        to: 2,
-        at: 2,
-    };
-    assert_eq!(rt; shift.vehicles(), (2, None));
-    let cross = Move::Cross {
-        vehicle: 2,
-        keep: 0,
-        other: 1,
-        keep_other: 0,
-    };
-    assert_eq!(rt; cross.vehicles(), (2, Some(1)));
-    let remove = Move::Remove {
-        vehicle: 4294967295,
-        place: 1,
-    };
-    assert_eq!(rt; remove.vehicles(), (4294967295, None));
+    assert_eq!(rt; shift(2, 1, 1, 2, 2).vehicles(), (2, None));
+    assert_eq!(rt; cross(2, 0, 1, 0).vehicles(), (2, Some(1)));
+    assert_eq!(rt; remove(4294967295, 1).vehicles(), (4294967295, None));
+    moves_are_possible();
     moves_name_vehicles();
     moves_keep_plans();
     moves_keep_the_untouched();
     fronts_by_first_change();
+    moves_inside_rearrange();
+    moves_between_carry_over();
+    shifts_in_parts();
 }
 
 #[test]
 fn inserts_and_removes(rt: HostRuntime) -> Result<(), Fail> {
     let alloc = rt.alloc();
     let plan = three_on_one(alloc)?;
-    let mv = Move::Remove {
-        vehicle: 1,
-        place: 2,
-    };
-    assert_eq!(rt; first(&mv.new_routes(alloc, &plan)?), [1, 3].as_slice());
-    assert_eq!(rt;
-        mv.touched(alloc, &plan)?.as_slice(),
-        [Touch {
-            vehicle: 1,
-            place: 2,
-            customer: 2
-        }]
-        .as_slice()
-    );
-    let mv = Move::Remove {
-        vehicle: 1,
-        place: 1,
-    };
-    assert_eq!(rt; first(&mv.new_routes(alloc, &plan)?), [2, 3].as_slice());
+    let none: &[u32] = &[];
+    assert!(rt; makes(alloc, &plan, remove(1, 2), (&[1, 3], none), &[at(1, 2, 2)])?);
+    assert!(rt; makes(alloc, &plan, remove(1, 1), (&[2, 3], none), &[at(1, 1, 1)])?);
     let plan = two_and_one(alloc)?;
-    let mv = Move::Insert {
-        customer: 3,
-        vehicle: 1,
-        place: 2,
-    };
-    assert_eq!(rt; first(&mv.new_routes(alloc, &plan)?), [1, 3, 2].as_slice());
-    let mv = Move::Insert {
-        customer: 3,
-        vehicle: 1,
-        place: 3,
-    };
-    assert_eq!(rt; first(&mv.new_routes(alloc, &plan)?), [1, 2, 3].as_slice());
-    assert_eq!(rt;
-        mv.touched(alloc, &plan)?.as_slice(),
-        [Touch {
-            vehicle: 1,
-            place: 3,
-            customer: 3
-        }]
-        .as_slice()
+    assert!(rt;
+        makes(
+            alloc,
+            &plan,
+            insert(3, 1, 2),
+            (&[1, 3, 2], none),
+            &[at(1, 2, 3)]
+        )?
+    );
+    assert!(rt;
+        makes(
+            alloc,
+            &plan,
+            insert(3, 1, 3),
+            (&[1, 2, 3], none),
+            &[at(1, 3, 3)]
+        )?
     );
     Ok(())
 }
@@ -149,50 +211,72 @@ fn inserts_and_removes(rt: HostRuntime) -> Result<(), Fail> {
 fn shifts_within_and_across(rt: HostRuntime) -> Result<(), Fail> {
     let alloc = rt.alloc();
     let plan = three_on_one(alloc)?;
-    let mv = Move::Shift {
-        vehicle: 1,
-        place: 1,
-        length: 1,
-        to: 1,
-        at: 1,
-    };
-    assert!(rt; is_bad(alloc, &plan, mv));
-    let mv = Move::Shift {
-        vehicle: 1,
-        place: 1,
-        length: 1,
-        to: 1,
-        at: 3,
-    };
-    assert_eq!(rt; first(&mv.new_routes(alloc, &plan)?), [2, 3, 1].as_slice());
-    assert_eq!(rt;
-        mv.touched(alloc, &plan)?.as_slice(),
-        [Touch {
-            vehicle: 1,
-            place: 1,
-            customer: 1
-        }]
-        .as_slice()
+    let none: &[u32] = &[];
+    assert!(rt; is_bad(alloc, &plan, shift(1, 1, 1, 1, 1)));
+    assert!(rt;
+        makes(
+            alloc,
+            &plan,
+            shift(1, 1, 1, 1, 3),
+            (&[2, 3, 1], none),
+            &[at(1, 1, 1)]
+        )?
     );
     let plan = turned_on_one(alloc)?;
-    let mv = Move::Shift {
-        vehicle: 1,
-        place: 3,
-        length: 1,
-        to: 2,
-        at: 1,
-    };
-    let changes = mv.new_routes(alloc, &plan)?;
-    assert_eq!(rt; first(&changes), [2, 3].as_slice());
-    assert_eq!(rt; second(&changes), [1].as_slice());
-    assert_eq!(rt;
-        mv.touched(alloc, &plan)?.as_slice(),
-        [Touch {
-            vehicle: 1,
-            place: 3,
-            customer: 1
-        }]
-        .as_slice()
+    assert!(rt;
+        makes(
+            alloc,
+            &plan,
+            shift(1, 3, 1, 2, 1),
+            (&[2, 3], &[1]),
+            &[at(1, 3, 1)]
+        )?
+    );
+    Ok(())
+}
+
+#[test]
+fn shifts_more_than_one(rt: HostRuntime) -> Result<(), Fail> {
+    let alloc = rt.alloc();
+    let plan = four_and_two(alloc)?;
+    let none: &[u32] = &[];
+    let two = [at(1, 2, 2), at(1, 3, 3)];
+    assert!(rt;
+        makes(
+            alloc,
+            &plan,
+            shift(1, 2, 2, 1, 1),
+            (&[2, 3, 1, 5], none),
+            &two
+        )?
+    );
+    assert!(rt;
+        makes(
+            alloc,
+            &plan,
+            shift(1, 2, 2, 1, 3),
+            (&[1, 5, 2, 3], none),
+            &two
+        )?
+    );
+    assert!(rt;
+        makes(
+            alloc,
+            &plan,
+            shift(1, 2, 2, 2, 2),
+            (&[1, 5], &[4, 2, 3, 6]),
+            &two
+        )?
+    );
+    let three = [at(1, 1, 1), at(1, 2, 2), at(1, 3, 3)];
+    assert!(rt;
+        makes(
+            alloc,
+            &plan,
+            shift(1, 1, 3, 2, 3),
+            (&[5], &[4, 6, 1, 2, 3]),
+            &three
+        )?
     );
     Ok(())
 }
@@ -201,60 +285,25 @@ fn shifts_within_and_across(rt: HostRuntime) -> Result<(), Fail> {
 fn swaps_and_reverses(rt: HostRuntime) -> Result<(), Fail> {
     let alloc = rt.alloc();
     let plan = turned_on_one(alloc)?;
-    let mv = Move::Swap {
-        vehicle: 1,
-        place: 1,
-        other: 1,
-        at: 3,
-    };
-    assert_eq!(rt; first(&mv.new_routes(alloc, &plan)?), [1, 3, 2].as_slice());
-    let both = [
-        Touch {
-            vehicle: 1,
-            place: 1,
-            customer: 2,
-        },
-        Touch {
-            vehicle: 1,
-            place: 3,
-            customer: 1,
-        },
-    ];
-    assert_eq!(rt; mv.touched(alloc, &plan)?.as_slice(), both.as_slice());
-    let mv = Move::Reverse {
-        vehicle: 1,
-        first: 1,
-        last: 3,
-    };
-    assert_eq!(rt; first(&mv.new_routes(alloc, &plan)?), [1, 3, 2].as_slice());
-    let all = [
-        Touch {
-            vehicle: 1,
-            place: 1,
-            customer: 2,
-        },
-        Touch {
-            vehicle: 1,
-            place: 2,
-            customer: 3,
-        },
-        Touch {
-            vehicle: 1,
-            place: 3,
-            customer: 1,
-        },
-    ];
-    assert_eq!(rt; mv.touched(alloc, &plan)?.as_slice(), all.as_slice());
+    let none: &[u32] = &[];
+    let both = [at(1, 1, 2), at(1, 3, 1)];
+    assert!(rt; makes(alloc, &plan, swap(1, 1, 1, 3), (&[1, 3, 2], none), &both)?);
+    let all = [at(1, 1, 2), at(1, 2, 3), at(1, 3, 1)];
+    assert!(rt; makes(alloc, &plan, reverse(1, 1, 3), (&[1, 3, 2], none), &all)?);
     let plan = two_and_one(alloc)?;
-    let mv = Move::Swap {
-        vehicle: 2,
-        place: 1,
-        other: 1,
-        at: 2,
-    };
-    let changes = mv.new_routes(alloc, &plan)?;
-    assert_eq!(rt; first(&changes), [2].as_slice());
-    assert_eq!(rt; second(&changes), [1, 4].as_slice());
+    let both = [at(2, 1, 4), at(1, 2, 2)];
+    assert!(rt; makes(alloc, &plan, swap(2, 1, 1, 2), (&[2], &[1, 4]), &both)?);
+    let plan = four_and_two(alloc)?;
+    let inner = [at(1, 2, 2), at(1, 3, 3)];
+    assert!(rt;
+        makes(
+            alloc,
+            &plan,
+            reverse(1, 2, 3),
+            (&[1, 3, 2, 5], none),
+            &inner
+        )?
+    );
     Ok(())
 }
 
@@ -262,42 +311,19 @@ fn swaps_and_reverses(rt: HostRuntime) -> Result<(), Fail> {
 fn crosses_tails(rt: HostRuntime) -> Result<(), Fail> {
     let alloc = rt.alloc();
     let plan = two_and_one(alloc)?;
-    let mv = Move::Cross {
-        vehicle: 1,
-        keep: 1,
-        other: 2,
-        keep_other: 0,
-    };
-    let changes = mv.new_routes(alloc, &plan)?;
-    assert_eq!(rt; first(&changes), [1, 4].as_slice());
-    assert_eq!(rt; second(&changes), [2].as_slice());
-    let tails = [
-        Touch {
-            vehicle: 1,
-            place: 2,
-            customer: 2,
-        },
-        Touch {
-            vehicle: 2,
-            place: 1,
-            customer: 4,
-        },
-    ];
-    assert_eq!(rt; mv.touched(alloc, &plan)?.as_slice(), tails.as_slice());
-    let mv = Move::Cross {
-        vehicle: 1,
-        keep: 0,
-        other: 2,
-        keep_other: 1,
-    };
-    assert_eq!(rt; second(&mv.new_routes(alloc, &plan)?), [4, 1, 2].as_slice());
-    let mv = Move::Cross {
-        vehicle: 1,
-        keep: 2,
-        other: 2,
-        keep_other: 0,
-    };
-    assert_eq!(rt; first(&mv.new_routes(alloc, &plan)?), [1, 2, 4].as_slice());
+    let tails = [at(1, 2, 2), at(2, 1, 4)];
+    assert!(rt; makes(alloc, &plan, cross(1, 1, 2, 0), (&[1, 4], &[2]), &tails)?);
+    let tail = [at(1, 1, 1), at(1, 2, 2)];
+    assert!(rt; makes(alloc, &plan, cross(1, 0, 2, 1), (&[], &[4, 1, 2]), &tail)?);
+    assert!(rt;
+        makes(
+            alloc,
+            &plan,
+            cross(1, 2, 2, 0),
+            (&[1, 2, 4], &[]),
+            &[at(2, 1, 4)]
+        )?
+    );
     Ok(())
 }
 
@@ -305,237 +331,31 @@ fn crosses_tails(rt: HostRuntime) -> Result<(), Fail> {
 fn has_no_effect_by_one(rt: HostRuntime) -> Result<(), Fail> {
     let alloc = rt.alloc();
     let plan = two_and_one(alloc)?;
-    assert!(rt;
-        is_bad(
-            alloc,
-            &plan,
-            Move::Insert {
-                customer: 3,
-                vehicle: 0,
-                place: 1
-            }
-        )
-    );
-    assert!(rt;
-        is_bad(
-            alloc,
-            &plan,
-            Move::Insert {
-                customer: 3,
-                vehicle: 3,
-                place: 1
-            }
-        )
-    );
-    assert!(rt;
-        is_bad(
-            alloc,
-            &plan,
-            Move::Insert {
-                customer: 0,
-                vehicle: 1,
-                place: 1
-            }
-        )
-    );
-    assert!(rt;
-        is_bad(
-            alloc,
-            &plan,
-            Move::Insert {
-                customer: 5,
-                vehicle: 1,
-                place: 1
-            }
-        )
-    );
-    assert!(rt;
-        is_bad(
-            alloc,
-            &plan,
-            Move::Insert {
-                customer: 4,
-                vehicle: 1,
-                place: 1
-            }
-        )
-    );
-    assert!(rt;
-        is_bad(
-            alloc,
-            &plan,
-            Move::Insert {
-                customer: 3,
-                vehicle: 1,
-                place: 0
-            }
-        )
-    );
-    assert!(rt;
-        is_bad(
-            alloc,
-            &plan,
-            Move::Insert {
-                customer: 3,
-                vehicle: 1,
-                place: 4
-            }
-        )
-    );
-    assert!(rt;
-        is_bad(
-            alloc,
-            &plan,
-            Move::Remove {
-                vehicle: 1,
-                place: 0
-            }
-        )
-    );
-    assert!(rt;
-        is_bad(
-            alloc,
-            &plan,
-            Move::Remove {
-                vehicle: 1,
-                place: 3
-            }
-        )
-    );
-    assert!(rt;
-        is_bad(
-            alloc,
-            &plan,
-            Move::Shift {
-                vehicle: 1,
-                place: 1,
-                length: 0,
-                to: 2,
-                at: 1
-            }
-        )
-    );
-    assert!(rt;
-        is_bad(
-            alloc,
-            &plan,
-            Move::Shift {
-                vehicle: 1,
-                place: 2,
-                length: 2,
-                to: 2,
-                at: 1
-            }
-        )
-    );
-    assert!(rt;
-        is_bad(
-            alloc,
-            &plan,
-            Move::Shift {
-                vehicle: 1,
-                place: 1,
-                length: 1,
-                to: 2,
-                at: 3
-            }
-        )
-    );
-    assert!(rt;
-        is_bad(
-            alloc,
-            &plan,
-            Move::Shift {
-                vehicle: 1,
-                place: 1,
-                length: 1,
-                to: 1,
-                at: 3
-            }
-        )
-    );
-    assert!(rt;
-        is_bad(
-            alloc,
-            &plan,
-            Move::Swap {
-                vehicle: 1,
-                place: 1,
-                other: 2,
-                at: 2
-            }
-        )
-    );
-    assert!(rt;
-        is_bad(
-            alloc,
-            &plan,
-            Move::Swap {
-                vehicle: 1,
-                place: 1,
-                other: 1,
-                at: 1
-            }
-        )
-    );
-    assert!(rt;
-        is_bad(
-            alloc,
-            &plan,
-            Move::Reverse {
-                vehicle: 1,
-                first: 1,
-                last: 1
-            }
-        )
-    );
-    assert!(rt;
-        is_bad(
-            alloc,
-            &plan,
-            Move::Reverse {
-                vehicle: 1,
-                first: 1,
-                last: 3
-            }
-        )
-    );
-    assert!(rt;
-        is_bad(
-            alloc,
-            &plan,
-            Move::Cross {
-                vehicle: 1,
-                keep: 2,
-                other: 2,
-                keep_other: 1
-            }
-        )
-    );
-    assert!(rt;
-        is_bad(
-            alloc,
-            &plan,
-            Move::Cross {
-                vehicle: 1,
-                keep: 3,
-                other: 2,
-                keep_other: 0
-            }
-        )
-    );
-    assert!(rt;
-        is_bad(
-            alloc,
-            &plan,
-            Move::Cross {
-                vehicle: 1,
-                keep: 0,
-                other: 1,
-                keep_other: 1
-            }
-        )
-    );
+    let bad = [
+        insert(3, 0, 1),
+        insert(3, 3, 1),
+        insert(0, 1, 1),
+        insert(7, 1, 1),
+        insert(4, 1, 1),
+        insert(3, 1, 0),
+        insert(3, 1, 4),
+        remove(1, 0),
+        remove(1, 3),
+        shift(1, 1, 0, 2, 1),
+        shift(1, 2, 2, 2, 1),
+        shift(1, 1, 1, 2, 3),
+        shift(1, 1, 1, 1, 3),
+        swap(1, 1, 2, 2),
+        swap(1, 1, 1, 1),
+        reverse(1, 1, 1),
+        reverse(1, 1, 3),
+        cross(1, 2, 2, 1),
+        cross(1, 3, 2, 0),
+        cross(1, 0, 1, 1),
+    ];
+    for mv in bad {
+        assert!(rt; is_bad(alloc, &plan, mv), "{mv:?}");
+    }
     Ok(())
 }
 
@@ -544,99 +364,18 @@ fn great_numbers_do_not_wrap(rt: HostRuntime) -> Result<(), Fail> {
     let alloc = rt.alloc();
     let plan = two_and_one(alloc)?;
     let most = 4294967295;
-    assert!(rt;
-        is_bad(
-            alloc,
-            &plan,
-            Move::Insert {
-                customer: most,
-                vehicle: 1,
-                place: 1
-            }
-        )
-    );
-    assert!(rt;
-        is_bad(
-            alloc,
-            &plan,
-            Move::Insert {
-                customer: 3,
-                vehicle: 1,
-                place: most
-            }
-        )
-    );
-    assert!(rt;
-        is_bad(
-            alloc,
-            &plan,
-            Move::Remove {
-                vehicle: most,
-                place: most
-            }
-        )
-    );
-    assert!(rt;
-        is_bad(
-            alloc,
-            &plan,
-            Move::Shift {
-                vehicle: 1,
-                place: 2,
-                length: most,
-                to: 2,
-                at: 1
-            }
-        )
-    );
-    assert!(rt;
-        is_bad(
-            alloc,
-            &plan,
-            Move::Shift {
-                vehicle: 1,
-                place: most,
-                length: 2,
-                to: 2,
-                at: 1
-            }
-        )
-    );
-    assert!(rt;
-        is_bad(
-            alloc,
-            &plan,
-            Move::Shift {
-                vehicle: 1,
-                place: 1,
-                length: 1,
-                to: 1,
-                at: most
-            }
-        )
-    );
-    assert!(rt;
-        is_bad(
-            alloc,
-            &plan,
-            Move::Reverse {
-                vehicle: 1,
-                first: 1,
-                last: most
-            }
-        )
-    );
-    assert!(rt;
-        is_bad(
-            alloc,
-            &plan,
-            Move::Cross {
-                vehicle: 1,
-                keep: most,
-                other: 2,
-                keep_other: most
-            }
-        )
-    );
+    let bad = [
+        insert(most, 1, 1),
+        insert(3, 1, most),
+        remove(most, most),
+        shift(1, 2, most, 2, 1),
+        shift(1, most, 2, 2, 1),
+        shift(1, 1, 1, 1, most),
+        reverse(1, 1, most),
+        cross(1, most, 2, most),
+    ];
+    for mv in bad {
+        assert!(rt; is_bad(alloc, &plan, mv), "{mv:?}");
+    }
     Ok(())
 }

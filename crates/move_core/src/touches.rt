@@ -18,7 +18,7 @@ pub(crate) fn of_insert(
     requires { is_possible plan.now.customers plan.now.routes (Move.Insert customer vehicle place) ≡ true }
     ensures { IfOk result (λ touched. touched.items ≡ touched_by plan.now.routes (Move.Insert customer vehicle place)) }
 {
-    let mut touched = Vec::new(alloc);
+    let mut touched = Vec::with_capacity(alloc, 1)?;
     touched.push(Touch {
         vehicle,
         place,
@@ -36,7 +36,7 @@ pub(crate) fn of_remove(
     requires { is_possible plan.now.customers plan.now.routes (Move.Remove vehicle place) ≡ true }
     ensures { IfOk result (λ touched. touched.items ≡ touched_by plan.now.routes (Move.Remove vehicle place)) }
 {
-    let mut touched = Vec::new(alloc);
+    let mut touched = Vec::with_capacity(alloc, 1)?;
     let route = plan.route(vehicle).customers();
     parts::push_touches(&mut touched, vehicle, place, &[route[place as usize - 1]])?;
     Ok(touched)
@@ -54,7 +54,7 @@ pub(crate) fn of_shift(
     requires { is_possible plan.now.customers plan.now.routes (Move.Shift vehicle place count to at) ≡ true }
     ensures { IfOk result (λ touched. touched.items ≡ touched_by plan.now.routes (Move.Shift vehicle place count to at)) }
 {
-    let mut touched = Vec::new(alloc);
+    let mut touched = Vec::with_capacity(alloc, count as usize)?;
     let route = plan.route(vehicle).customers();
     parts::push_touches(
         &mut touched,
@@ -76,7 +76,7 @@ pub(crate) fn of_swap(
     requires { is_possible plan.now.customers plan.now.routes (Move.Swap vehicle place other at) ≡ true }
     ensures { IfOk result (λ touched. touched.items ≡ touched_by plan.now.routes (Move.Swap vehicle place other at)) }
 {
-    let mut touched = Vec::new(alloc);
+    let mut touched = Vec::with_capacity(alloc, 2)?;
     let route = plan.route(vehicle).customers();
     let there = plan.route(other).customers();
     parts::push_touches(&mut touched, vehicle, place, &[route[place as usize - 1]])?;
@@ -94,13 +94,14 @@ pub(crate) fn of_reverse(
     requires { is_possible plan.now.customers plan.now.routes (Move.Reverse vehicle first last) ≡ true }
     ensures { IfOk result (λ touched. touched.items ≡ touched_by plan.now.routes (Move.Reverse vehicle first last)) }
 {
-    let mut touched = Vec::new(alloc);
+    let count = last - first + 1;
+    let mut touched = Vec::with_capacity(alloc, count as usize)?;
     let route = plan.route(vehicle).customers();
     parts::push_touches(
         &mut touched,
         vehicle,
         first,
-        parts::stretch(route, first, last - first + 1),
+        parts::stretch(route, first, count),
     )?;
     Ok(touched)
 }
@@ -116,15 +117,10 @@ pub(crate) fn of_cross(
     requires { is_possible plan.now.customers plan.now.routes (Move.Cross vehicle keep other keep_other) ≡ true }
     ensures { IfOk result (λ touched. touched.items ≡ touched_by plan.now.routes (Move.Cross vehicle keep other keep_other)) }
 {
-    let mut touched = Vec::new(alloc);
-    let route = plan.route(vehicle).customers();
-    let there = plan.route(other).customers();
-    parts::push_touches(&mut touched, vehicle, keep + 1, &route[keep as usize..])?;
-    parts::push_touches(
-        &mut touched,
-        other,
-        keep_other + 1,
-        &there[keep_other as usize..],
-    )?;
+    let tail = &plan.route(vehicle).customers()[keep as usize..];
+    let other_tail = &plan.route(other).customers()[keep_other as usize..];
+    let mut touched = Vec::with_capacity(alloc, tail.len() + other_tail.len())?;
+    parts::push_touches(&mut touched, vehicle, keep + 1, tail)?;
+    parts::push_touches(&mut touched, other, keep_other + 1, other_tail)?;
     Ok(touched)
 }

@@ -1,2 +1,5 @@
 pub mod Pins
 pub mod Allowed
+pub mod Override
+pub mod View
+pub mod Laws

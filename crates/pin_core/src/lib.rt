@@ -3,11 +3,17 @@
 
 mod fault;
 mod laws;
+mod overriding;
 mod pins;
+mod view;
 
 pub use fault::PinFault;
-pub use laws::{front_still_fits, pin_holds, unpin_holds};
+pub use laws::{
+    faults_are_determined, freezes_by_named, front_still_fits, fronts_within_routes, opening_holds,
+    pin_holds, pins_after_commits, unpin_holds,
+};
 pub use pins::Pins;
+pub use view::View;
 
 #[cfg(test)]
 mod tests;

@@ -1,4 +1,4 @@
-ghost use Rattle.std.specs.Prelude.{◌≡◌, ℕ, ◌≤◌, ◌<◌, ◌↔◌, [], length, take, replicate, Some, None, IsTrue, IfOk, MatchOption, MatchResult, slice_get, All};
+ghost use Rattle.std.specs.Prelude.{◌≡◌, ℕ, ◌≤◌, ◌<◌, ◌↔◌, [], length, take, replicate, Some, None, IsTrue, IfOk, MatchBool, MatchOption, MatchResult, slice_get, All};
 ghost use Rattle.plan_core.specs.Plan.{AreApart, AreChanges, IsNamed, changes_of, route_at, with_routes};
 ghost use Rattle.plan_core.specs.Commits.{named_vehicles};
 ghost use Rattle.pin_core.specs.Pins.{StandsOn, IsHeld, DoPinsHold, AreFreezesKept, DoFrontsFit, pin_of, front_of, with_pin, with_front};
@@ -138,7 +138,7 @@ impl Pins {
     }
 
     /// The first named vehicle whose frozen front differs.
-    fn first_thawed(&self, plan: &Plan, new_routes: &[(u32, Arc<Route>)]) -> Option<u32>
+    pub(crate) fn first_thawed(&self, plan: &Plan, new_routes: &[(u32, Arc<Route>)]) -> Option<u32>
         requires vehicles { length self.now.fronts ≡ length plan.now.routes }
         requires fitting { DoFrontsFit self.now plan.now.routes }
         requires apart { AreApart (length plan.now.routes) (changes_of new_routes.now) }
@@ -154,6 +154,21 @@ impl Pins {
         None
     }
 
+    /// Whether a customer is pinned to a vehicle on which it would not stand. It costs one walk of the new route of that vehicle, and
+    /// none where that keeps its route: a pinned customer stands where it is pinned.
+    pub fn leaves(&self, plan: &Plan, new_routes: &[(u32, Arc<Route>)], customer: u32) -> bool
+        requires low { 1 ≤ customer }
+        requires high { customer ≤ length self.now.pins }
+        requires holding { DoPinsHold self.now plan.now.routes }
+        requires apart { AreApart (length plan.now.routes) (changes_of new_routes.now) }
+        ensures { MatchBool result (¬ IsHeld self.now (with_routes (changes_of new_routes.now) plan.now.routes) customer) (IsHeld self.now (with_routes (changes_of new_routes.now) plan.now.routes) customer) }
+    {
+        match self.pinned(customer) {
+            None => false,
+            Some(vehicle) => !would_stay(plan, new_routes, customer, vehicle),
+        }
+    }
+
     /// The first touch whose customer is pinned to a vehicle on which it would not stand.
     fn first_loose(
         &self,
@@ -161,15 +176,14 @@ impl Pins {
         new_routes: &[(u32, Arc<Route>)],
         touched: &[Touch],
     ) -> Option<Touch>
+        requires holding { DoPinsHold self.now plan.now.routes }
         requires apart { AreApart (length plan.now.routes) (changes_of new_routes.now) }
         requires known { All (λ t. (1 ≤ t.customer) × (t.customer ≤ length self.now.pins)) touched.now }
         ensures { MatchOption result ((k : ℕ) (t : Touch) → slice_get touched.now k ≡ Some t → IsHeld self.now (with_routes (changes_of new_routes.now) plan.now.routes) t.customer)
             (IsFirstLoose self.now (with_routes (changes_of new_routes.now) plan.now.routes) touched.now) }
     {
         for touch in touched {
-            if let Some(vehicle) = self.pinned(touch.customer)
-                && !would_stand(plan, new_routes, touch.customer, vehicle)
-            {
+            if self.leaves(plan, new_routes, touch.customer) {
                 return Some(*touch);
             }
         }
@@ -177,15 +191,16 @@ impl Pins {
     }
 }
 
-/// Whether a customer stands on a vehicle once the new routes are in place.
-fn would_stand(plan: &Plan, new_routes: &[(u32, Arc<Route>)], customer: u32, vehicle: u32) -> bool
-    requires { AreApart (length plan.now.routes) (changes_of new_routes.now) }
+/// Whether a customer that stands on a vehicle stays on it once the new routes are in place.
+fn would_stay(plan: &Plan, new_routes: &[(u32, Arc<Route>)], customer: u32, vehicle: u32) -> bool
+    requires stands { StandsOn plan.now.routes customer vehicle }
+    requires apart { AreApart (length plan.now.routes) (changes_of new_routes.now) }
     ensures { IsTrue result ↔ StandsOn (with_routes (changes_of new_routes.now) plan.now.routes) customer vehicle }
 {
     routes_replaced();
     match new_route(new_routes, vehicle) {
         Some(route) => route.customers().contains(&customer),
-        None => stands(plan, customer, vehicle),
+        None => true,
     }
 }
 
@@ -202,7 +217,7 @@ fn new_route(new_routes: &[(u32, Arc<Route>)], vehicle: u32) -> Option<&Arc<Rout
 }
 
 /// Whether a customer stands on a vehicle.
-fn stands(plan: &Plan, customer: u32, vehicle: u32) -> bool
+pub(crate) fn stands(plan: &Plan, customer: u32, vehicle: u32) -> bool
     ensures { IsTrue result ↔ StandsOn plan.now.routes customer vehicle }
 {
     match plan.place_of(customer) {

@@ -1,8 +1,5 @@
-use Rattle.move_core.proofs.ByEffect.{order_effect, stay_effect}
+use Rattle.move_core.proofs.ByEffect.{by_untouched_kept}
 use Rattle.move_core.proofs.laws.moves_keep_the_untouched.Goals as goal
 
-pub returns-clause-order : goal.returns-clause-order
-returns-clause-order c = order_effect
-
-pub returns-clause-stay : goal.returns-clause-stay
-returns-clause-stay c = stay_effect
+pub returns : goal.returns
+returns c = by_untouched_kept (record { replaced = c.routes_replaced.ensures; places = c.customers_stand_by_route.ensures; among = c.among_is_tested.ensures })

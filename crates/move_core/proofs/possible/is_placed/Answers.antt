@@ -1,9 +1,9 @@
-use Rattle.std.proofs.Common.{sym}
-use Rattle.move_core.proofs.Placed.{placed_from_stands, not_placed}
+use Rattle.std.proofs.Common.{◌∙◌}
+use Rattle.move_core.proofs.Placed.{placed_by_place}
 use Rattle.move_core.proofs.possible.is_placed.Goals as goal
 
-pub returns-in-Some : goal.returns-in-Some
-returns-in-Some c = sym (placed_from_stands c.args.plan.now.routes c.args.customer _ _ c.in-Some.ensures.stands)
-
-pub returns-in-None : goal.returns-in-None
-returns-in-None c = sym (not_placed c.args.plan.now.routes c.args.customer c.in-None.ensures.nowhere)
+pub returns : goal.returns
+returns c =
+    c.is_some.ensures
+    ∙ placed_by_place (record { replaced = c.routes_replaced.ensures; places = c.customers_stand_by_route.ensures; among = c.among_is_tested.ensures })
+    c.args.plan.now.routes c.args.customer _ c.place_of.ensures.stands c.place_of.ensures.nowhere

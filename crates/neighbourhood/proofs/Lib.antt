@@ -1,0 +1,12 @@
+pub mod Firsts
+pub mod Betters
+pub mod Pairs
+pub mod Shifts
+pub mod Orders
+pub mod Ways
+pub mod Reversals
+pub mod Costs
+pub mod Carried
+pub mod Allowing
+pub mod Between
+pub mod Inside

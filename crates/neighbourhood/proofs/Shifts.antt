@@ -1,0 +1,177 @@
+use Rattle.std.proofs.Common.{◌≡◌, ◌≢◌, ℕ, ◌+◌, ◌<◌, ◌≤◌, ◌⊎◌, inl, inr, refl, sym, subst, arith, List, [], ◌∷◌, length, Option, true}
+use Rattle.std.proofs.lemmas.Bool.{cases_order, cases_eq}
+use Rattle.dimension_core.specs.Setting.{Setting}
+use Rattle.plan_core.specs.Plan.{route_at}
+use Rattle.move_core.specs.declared.moves.Move.{Move}
+use Rattle.move_core.specs.declared.moves.Move.TheVariants.{Insert, Remove, Shift, Swap, Reverse, Cross}
+use Rattle.move_core.specs.Moves.{is_possible}
+use Rattle.pin_core.specs.View.{ViewState}
+use Rattle.neighbourhood.specs.Best.{Counts, cost_after, cost_before, numbers_of, IsLower}
+use Rattle.neighbourhood.specs.Search.{IsBestBelow, IsNext}
+use Rattle.neighbourhood.specs.Laws.{Laws}
+use Rattle.neighbourhood.proofs.Firsts.{best_on}
+
+-- the numbers of a shift from v to w, by the lengths of their routes
+pub record AreShift (v w lv lw p n a : ℕ) : Type 0 where
+  pub place : 1 ≤ p
+  pub some : 1 ≤ n
+  pub few : n ≤ 3
+  pub fits : p + n ≤ lv + 1
+  pub at : 1 ≤ a
+  pub inside : v ≡ w → a + n ≤ lw + 1
+  pub outside : v ≢ w → a ≤ lw + 1
+
+-- a move of a kind
+pub record IsShift (v w lv lw : ℕ) (rest : List ℕ) (mv : Move) : Type 0 where
+  pub p : ℕ
+  pub n : ℕ
+  pub a : ℕ
+  pub is : mv ≡ Shift v p n w a
+  pub are : AreShift v w lv lw p n a
+  pub below : IsLower (p ∷ n ∷ w ∷ a ∷ []) rest
+
+module _ (law : Laws) where
+  later : {A : Type 0} (x y : ℕ) → y < x → (x < y) ⊎ ((x ≡ y) × A) → ⊥
+  later x y h (inl k) = absurd (omega arith)
+  later x y h (inr (e, a)) = absurd (omega arith)
+
+  same_head : (x : ℕ) (xs ys : List ℕ) → (x < x) ⊎ ((x ≡ x) × IsLower xs ys) → IsLower xs ys
+  same_head x xs ys (inl h) = absurd (omega arith)
+  same_head x xs ys (inr (e, h)) = h
+
+  -- a move that counts, with numbers below those of some shift
+  pub shift_below : (s : Setting) (view : ViewState) (skip : List Move) (v w : ℕ) (mv : Move) (rest : List ℕ) → Counts s view skip v w mv
+      → IsLower (numbers_of mv) (1 ∷ v ∷ rest) → IsShift v w (length (route_at view.routes v)) (length (route_at view.routes w)) rest mv
+  shift_below s view skip v w (Insert c u p) rest counts h = absurd counts.near
+  shift_below s view skip v w (Remove u p) rest counts h = absurd counts.near
+  shift_below s view skip v w (Swap u p x q) rest counts h = absurd (later 2 1 (omega arith) h)
+  shift_below s view skip v w (Reverse u i j) rest counts h = absurd (later 3 1 (omega arith) h)
+  shift_below s view skip v w (Cross u k x l) rest counts h = absurd (later 4 1 (omega arith) h)
+  shift_below s view skip v w (Shift u p n x a) rest counts h =
+      let eu : u ≡ v = counts.near.0 in
+      let ex : x ≡ w = counts.near.1 in
+      let can = subst (λ (z : ℕ). is_possible s.customers view.routes (Shift v p n z a) ≡ true) ex (subst (λ (z : ℕ). is_possible s.customers view.routes (Shift z p n x a) ≡ true) eu counts.possible) in
+      let f = (law.possible.shift s.customers view.routes v p n w a).0 can in
+      let k = subst (λ (z : ℕ). IsLower (1 ∷ v ∷ p ∷ n ∷ z ∷ a ∷ []) (1 ∷ v ∷ rest)) ex (subst (λ (z : ℕ). IsLower (1 ∷ z ∷ p ∷ n ∷ x ∷ a ∷ []) (1 ∷ v ∷ rest)) eu h) in
+      record {
+        p = p;
+        n = n;
+        a = a;
+        is = rw (eu, ex) refl;
+        are = record { place = f.from.low; some = f.from.some; few = counts.near.2; fits = f.from.high; at = f.onto.low; inside = λ e. (f.onto.inside e).0; outside = f.onto.outside };
+        below = same_head v (p ∷ n ∷ w ∷ a ∷ []) rest (same_head 1 (v ∷ p ∷ n ∷ w ∷ a ∷ []) (v ∷ rest) k);
+      }
+
+  back : (v w p n a : ℕ) (rest : List ℕ) (mv : Move) → mv ≡ Shift v p n w a → IsLower (p ∷ n ∷ w ∷ a ∷ []) rest → IsLower (numbers_of mv) (1 ∷ v ∷ rest)
+  back v w p n a rest mv e h = subst (λ (m : Move). IsLower (numbers_of m) (1 ∷ v ∷ rest)) (sym e) (inr (refl, inr (refl, h)))
+
+  -- the bound goes on where no shift lies between
+  pub shift_on : (s : Setting) (view : ViewState) (skip : List Move) (v w : ℕ) (b c : List ℕ) (best : Option (Move × ℕ)) → IsLower b c
+      → ((p n a : ℕ) → AreShift v w (length (route_at view.routes v)) (length (route_at view.routes w)) p n a → IsLower (p ∷ n ∷ w ∷ a ∷ []) c → IsLower (p ∷ n ∷ w ∷ a ∷ []) b)
+      → IsBestBelow (Counts s view skip v w) (cost_after s view) (cost_before s view) (1 ∷ v ∷ b) best
+      → IsBestBelow (Counts s view skip v w) (cost_after s view) (cost_before s view) (1 ∷ v ∷ c) best
+  shift_on s view skip v w b c best up all g =
+      best_on (Counts s view skip v w) (cost_after s view) (cost_before s view) (1 ∷ v ∷ b) (1 ∷ v ∷ c) best (inr (refl, inr (refl, up)))
+      (λ m counts h. let k = shift_below s view skip v w m c counts h in back v w k.p k.n k.a b m k.is (all k.p k.n k.a k.are k.below)) g
+
+  -- from one place in the other route to the next
+  pub shift_next : (s : Setting) (view : ViewState) (skip : List Move) (v w p n a : ℕ)
+      → IsNext (Counts s view skip v w) (Shift v p n w a) (1 ∷ v ∷ p ∷ n ∷ w ∷ (a + 1) ∷ [])
+  shift_next s view skip v w p n a = record {
+    up = inr (refl, inr (refl, inr (refl, inr (refl, inr (refl, inl (omega arith))))));
+    all = λ m counts h.
+        let k = shift_below s view skip v w m (p ∷ n ∷ w ∷ (a + 1) ∷ []) counts h in
+        split m k.p k.n k.a k.is k.below;
+  }
+    where
+      here : (m : Move) (p' n' a' : ℕ) → m ≡ Shift v p' n' w a' → p' ≡ p → n' ≡ n → (a' ≡ a) ⊎ ((a' < a) ⊎ (a < a')) → a' < a + 1
+          → IsLower (numbers_of m) (numbers_of (Shift v p n w a)) ⊎ (m ≡ Shift v p n w a)
+      here m p' n' a' e ep en (inl ea) h = inr (rw (ep, en, ea) at e)
+      here m p' n' a' e ep en (inr (inl k)) h = inl (back v w p' n' a' (p ∷ n ∷ w ∷ a ∷ []) m e (inr (ep, inr (en, inr (refl, inl k)))))
+      here m p' n' a' e ep en (inr (inr k)) h = absurd (omega arith)
+
+      split : (m : Move) (p' n' a' : ℕ) → m ≡ Shift v p' n' w a' → IsLower (p' ∷ n' ∷ w ∷ a' ∷ []) (p ∷ n ∷ w ∷ (a + 1) ∷ [])
+          → IsLower (numbers_of m) (numbers_of (Shift v p n w a)) ⊎ (m ≡ Shift v p n w a)
+      split m p' n' a' e (inl h) = inl (back v w p' n' a' (p ∷ n ∷ w ∷ a ∷ []) m e (inl h))
+      split m p' n' a' e (inr (ep, inl h)) = inl (back v w p' n' a' (p ∷ n ∷ w ∷ a ∷ []) m e (inr (ep, inl h)))
+      split m p' n' a' e (inr (ep, inr (en, inl h))) = absurd (omega arith)
+      split m p' n' a' e (inr (ep, inr (en, inr (ew, inl h)))) = here m p' n' a' e ep en (cases_order a' a) h
+      split m p' n' a' e (inr (ep, inr (en, inr (ew, inr (ea, h))))) = absurd h
+
+  -- the steps between the loops
+  pub to_row : (v lv lw p n w p' n' a' : ℕ) → AreShift v w lv lw p' n' a' → IsLower (p' ∷ n' ∷ w ∷ a' ∷ []) (p ∷ n ∷ w ∷ 1 ∷ []) → IsLower (p' ∷ n' ∷ w ∷ a' ∷ []) (p ∷ n ∷ [])
+  to_row v lv lw p n w p' n' a' are (inl h) = inl h
+  to_row v lv lw p n w p' n' a' are (inr (e, inl h)) = inr (e, inl h)
+  to_row v lv lw p n w p' n' a' are (inr (e, inr (f, inl h))) = absurd (omega arith)
+  to_row v lv lw p n w p' n' a' are (inr (e, inr (f, inr (g, inl h)))) = let k = are.at in absurd (omega arith)
+  to_row v lv lw p n w p' n' a' are (inr (e, inr (f, inr (g, inr (i, h))))) = absurd h
+
+  pub row_done : (v lv lw p n w end p' n' a' : ℕ) → (v ≡ w → lw + 1 < end + n) → (v ≢ w → lw + 1 < end) → AreShift v w lv lw p' n' a'
+      → IsLower (p' ∷ n' ∷ w ∷ a' ∷ []) (p ∷ (n + 1) ∷ []) → IsLower (p' ∷ n' ∷ w ∷ a' ∷ []) (p ∷ n ∷ w ∷ end ∷ [])
+  row_done v lv lw p n w end p' n' a' within beyond are (inl h) = inl h
+  row_done v lv lw p n w end p' n' a' within beyond are (inr (e, inl h)) = split (cases_order n' n)
+    where
+      below : n' ≡ n → (v ≡ w) ⊎ (v ≡ w → ⊥) → a' < end
+      below f (inl same) = let k = are.inside same in let l = within same in omega arith
+      below f (inr o) = let k = are.outside o in let l = beyond o in omega arith
+
+      split : (n' ≡ n) ⊎ ((n' < n) ⊎ (n < n')) → IsLower (p' ∷ n' ∷ w ∷ a' ∷ []) (p ∷ n ∷ w ∷ end ∷ [])
+      split (inl f) = inr (e, inr (f, inr (refl, inl (below f (cases_eq v w)))))
+      split (inr (inl f)) = inr (e, inl f)
+      split (inr (inr f)) = absurd (omega arith)
+  row_done v lv lw p n w end p' n' a' within beyond are (inr (e, inr (f, h))) = absurd h
+
+  pub row_skipped : (v lv lw p n w p' n' a' : ℕ) → lv + 1 < p + n → AreShift v w lv lw p' n' a' → IsLower (p' ∷ n' ∷ w ∷ a' ∷ []) (p ∷ (n + 1) ∷ []) → IsLower (p' ∷ n' ∷ w ∷ a' ∷ []) (p ∷ n ∷ [])
+  row_skipped v lv lw p n w p' n' a' out are (inl h) = inl h
+  row_skipped v lv lw p n w p' n' a' out are (inr (e, inl h)) =
+      let k = are.fits in inr (e, inl (omega arith))
+  row_skipped v lv lw p n w p' n' a' out are (inr (e, inr (f, h))) = absurd h
+
+  pub to_place : (v lv lw p w p' n' a' : ℕ) → AreShift v w lv lw p' n' a' → IsLower (p' ∷ n' ∷ w ∷ a' ∷ []) (p ∷ 1 ∷ []) → IsLower (p' ∷ n' ∷ w ∷ a' ∷ []) (p ∷ [])
+  to_place v lv lw p w p' n' a' are (inl h) = inl h
+  to_place v lv lw p w p' n' a' are (inr (e, inl h)) = let k = are.some in absurd (omega arith)
+  to_place v lv lw p w p' n' a' are (inr (e, inr (f, h))) = absurd h
+
+  pub place_done : (v lv lw p w p' n' a' : ℕ) → AreShift v w lv lw p' n' a' → IsLower (p' ∷ n' ∷ w ∷ a' ∷ []) ((p + 1) ∷ []) → IsLower (p' ∷ n' ∷ w ∷ a' ∷ []) (p ∷ 4 ∷ [])
+  place_done v lv lw p w p' n' a' are (inl h) = split (cases_order p' p)
+    where
+      split : (p' ≡ p) ⊎ ((p' < p) ⊎ (p < p')) → IsLower (p' ∷ n' ∷ w ∷ a' ∷ []) (p ∷ 4 ∷ [])
+      split (inl e) = let k = are.few in inr (e, inl (omega arith))
+      split (inr (inl f)) = inl f
+      split (inr (inr f)) = absurd (omega arith)
+  place_done v lv lw p w p' n' a' are (inr (e, h)) = absurd h
+
+  -- the first shift, and after the last one
+  pub shifts_begin : (s : Setting) (view : ViewState) (skip : List Move) (v w : ℕ) (best : Option (Move × ℕ))
+      → IsBestBelow (Counts s view skip v w) (cost_after s view) (cost_before s view) (1 ∷ []) best
+      → IsBestBelow (Counts s view skip v w) (cost_after s view) (cost_before s view) (1 ∷ v ∷ 1 ∷ []) best
+  shifts_begin s view skip v w best g =
+      best_on (Counts s view skip v w) (cost_after s view) (cost_before s view) (1 ∷ []) (1 ∷ v ∷ 1 ∷ []) best (inr (refl, tt))
+      (λ m counts h. let k = shift_below s view skip v w m (1 ∷ []) counts h in none m k.p k.n k.a k.are.place k.below) g
+    where
+      none : (m : Move) (p n a : ℕ) → 1 ≤ p → IsLower (p ∷ n ∷ w ∷ a ∷ []) (1 ∷ []) → IsLower (numbers_of m) (1 ∷ [])
+      none m p n a low (inl h) = absurd (omega arith)
+      none m p n a low (inr (e, h)) = absurd h
+
+  pub shifts_end : (s : Setting) (view : ViewState) (skip : List Move) (v w : ℕ) (best : Option (Move × ℕ))
+      → IsBestBelow (Counts s view skip v w) (cost_after s view) (cost_before s view) (1 ∷ v ∷ (length (route_at view.routes v) + 1) ∷ []) best
+      → IsBestBelow (Counts s view skip v w) (cost_after s view) (cost_before s view) (2 ∷ []) best
+  shifts_end s view skip v w best g =
+      best_on (Counts s view skip v w) (cost_after s view) (cost_before s view) (1 ∷ v ∷ (length (route_at view.routes v) + 1) ∷ []) (2 ∷ []) best (inl (omega arith))
+      (λ m counts h. split m counts h) g
+    where
+      split : (m : Move) → Counts s view skip v w m → IsLower (numbers_of m) (2 ∷ []) → IsLower (numbers_of m) (1 ∷ v ∷ (length (route_at view.routes v) + 1) ∷ [])
+      split (Insert c u p) counts h = absurd counts.near
+      split (Remove u p) counts h = absurd counts.near
+      split (Swap u p x q) counts (inl h) = absurd (omega arith)
+      split (Swap u p x q) counts (inr (e, h)) = absurd h
+      split (Reverse u i j) counts h = absurd (later 3 2 (omega arith) h)
+      split (Cross u k x l) counts h = absurd (later 4 2 (omega arith) h)
+      split (Shift u p n x a) counts h =
+          let eu : u ≡ v = counts.near.0 in
+          let ex : x ≡ w = counts.near.1 in
+          let can = subst (λ (z : ℕ). is_possible s.customers view.routes (Shift v p n z a) ≡ true) ex (subst (λ (z : ℕ). is_possible s.customers view.routes (Shift z p n x a) ≡ true) eu counts.possible) in
+          let f = (law.possible.shift s.customers view.routes v p n w a).0 can in
+          let fit = f.from.high in
+          let some = f.from.some in
+          inr (refl, inr (eu, inl (omega arith)))

@@ -1,0 +1,7 @@
+pub mod View
+pub mod Best
+pub mod Search
+pub mod Ways
+pub mod Between
+pub mod Savings
+pub mod Laws

@@ -1,0 +1,37 @@
+use Rattle.std.specs.Prelude.{◌≡◌, ℕ, ◌+◌, ◌⊎◌, List, Option, Some, None, Contains}
+use Rattle.pin_core.specs.Pins.{PinState, pin_of}
+use Rattle.move_core.specs.declared.moves.Move.{Move}
+use Rattle.dimension_core.specs.Setting.{Setting}
+use Rattle.pin_core.specs.View.{ViewState}
+use Rattle.neighbourhood.specs.Best.{Counts, cost_after, cost_before, numbers_of, IsLower, IsFirstLeast}
+
+-- what the best so far gains
+abbrev pub gain_of : Option (Move × ℕ) → ℕ
+gain_of None = 0
+gain_of (Some p) = p.1
+
+-- a move with P whose numbers come before a bound
+abbrev pub IsBelow : (Move → Type 0) → List ℕ → Move → Type 0
+IsBelow P bound mv = P mv × IsLower (numbers_of mv) bound
+
+-- the best so far is the first least of the moves with P whose numbers come before a bound, or there is none
+abbrev pub IsBestBelow : (Move → Type 0) → (Move → ℕ) → ℕ → List ℕ → Option (Move × ℕ) → Type 0
+IsBestBelow P cost before bound None = (mv : Move) → ¬ IsBelow P bound mv
+IsBestBelow P cost before bound (Some p) = IsFirstLeast (IsBelow P bound) cost before p.0 p.1
+
+-- of the moves with P, x is the only one between its own numbers and a bound
+pub record IsNext (P : Move → Type 0) (x : Move) (bound : List ℕ) : Type 0 where
+  pub up : IsLower (numbers_of x) bound
+  pub all : (mv : Move) → P mv → IsLower (numbers_of mv) bound → IsLower (numbers_of mv) (numbers_of x) ⊎ (mv ≡ x)
+
+-- none of some customers is pinned
+abbrev pub AreLoose : PinState → List ℕ → Type 0
+AreLoose s customers = (c : ℕ) → Contains customers c → pin_of s c ≡ None
+
+-- the best of the moves near (v, w) that count and whose numbers come before a bound
+abbrev pub IsBestSoFar : Setting → ViewState → List Move → ℕ → ℕ → List ℕ → Option (Move × ℕ) → Type 0
+IsBestSoFar s view skip v w bound best = IsBestBelow (Counts s view skip v w) (cost_after s view) (cost_before s view) bound best
+
+-- a move loses hops of one cost and gains hops of another
+abbrev pub IsSaving : Setting → ViewState → Move → ℕ → ℕ → Type 0
+IsSaving s view mv lost gained = cost_after s view mv + lost ≡ cost_before s view + gained

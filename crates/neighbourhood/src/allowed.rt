@@ -1,0 +1,482 @@
+//! What a view allows.
+ghost use Rattle.std.specs.Prelude.{◌≡◌, ◌≢◌, ◌≤◌, ◌<◌, ◌+◌, ◌-◌, ◌++◌, ◌↔◌, true, false, length, take, drop, IsTrue, All, Contains};
+ghost use Rattle.dimension_core.specs.Setup.{setting};
+ghost use Rattle.move_core.specs.declared.moves.Move.TheVariants.{Shift, Swap, Reverse, Cross};
+ghost use Rattle.move_core.specs.Moves.{is_possible, stretch};
+ghost use Rattle.pin_core.specs.View.{pins_of};
+ghost use Rattle.neighbourhood.specs.View.{IsViewOf};
+ghost use Rattle.neighbourhood.specs.Best.{IsNear, IsAllowed};
+ghost use Rattle.neighbourhood.specs.Between.{IsBetween, IsInside};
+ghost use Rattle.neighbourhood.specs.Laws.{Laws};
+ghost use Rattle.neighbourhood.specs.Search.{AreLoose};
+ghost use Rattle.neighbourhood.specs.Ways.{way_of};
+
+use crate::fits::fits;
+use callback_store::Meter;
+use dimension_core::Setup;
+use move_core::Move;
+use pin_core::View;
+
+/// The customers of a route from one place on, before another.
+fn part(route: &[u32], from: u32, to: u32) -> &[u32]
+    requires low { 1 ≤ from }
+    requires order { from ≤ to }
+    requires high { to ≤ length route.now + 1 }
+    ensures { result.now ≡ take (to - from) (drop (from - 1) route.now) }
+{
+    &route[from as usize - 1..to as usize - 1]
+}
+
+/// The customers of a route before a place.
+fn front_of(route: &[u32], to: u32) -> &[u32]
+    requires low { 1 ≤ to }
+    requires high { to ≤ length route.now + 1 }
+    ensures { result.now ≡ take (to - 1) route.now }
+{
+    &route[..to as usize - 1]
+}
+
+/// The customers of a route after so many.
+fn back_of(route: &[u32], count: usize) -> &[u32]
+    requires { count ≤ length route.now }
+    ensures { result.now ≡ drop count route.now }
+{
+    &route[count..]
+}
+
+/// Whether none of some customers is pinned.
+fn are_loose(view: &View, customers: &[u32]) -> bool
+    requires laws { Laws }
+    requires known { All (λ c. (1 ≤ c) × (c ≤ length view.now.pinned)) customers.now }
+    ensures { IsTrue result ↔ AreLoose (pins_of view.now) customers.now }
+{
+    for customer in customers {
+        if view.is_pinned(*customer) {
+            return false;
+        }
+    }
+    true
+}
+
+/// Whether a move is to be skipped.
+fn is_skipped(skip: &[Move], mv: &Move) -> bool
+    ensures { IsTrue result ↔ Contains skip.now mv.now }
+{
+    skip.contains(mv)
+}
+
+/// Whether a move between two vehicles is allowed, by its new routes in parts.
+fn allows_between(
+    view: &View,
+    setup: &Setup,
+    skip: &[Move],
+    mv: Move,
+    v: u32,
+    w: u32,
+    x: u32,
+    y: u32,
+    over: &[u32],
+    back: &[u32],
+    v_front: &[u32],
+    v_middle: &[u32],
+    v_back: &[u32],
+    w_front: &[u32],
+    w_middle: &[u32],
+    w_back: &[u32],
+    meter: &mut Meter,
+) -> bool
+    requires laws { Laws }
+    requires view { IsViewOf (setting setup.now) view.now }
+    requires possible { is_possible (setting setup.now).customers view.now.routes mv ≡ true }
+    requires between { IsBetween view.now.routes mv v w x y over.now back.now (v_front.now ++ (v_middle.now ++ v_back.now)) (w_front.now ++ (w_middle.now ++ w_back.now)) }
+    ensures { IsTrue result ↔ IsAllowed (setting setup.now) view.now skip.now mv }
+{
+    if x <= view.front(v) {
+        return false;
+    }
+    if y <= view.front(w) {
+        return false;
+    }
+    if !are_loose(view, over) {
+        return false;
+    }
+    if !are_loose(view, back) {
+        return false;
+    }
+    if is_skipped(skip, &mv) {
+        return false;
+    }
+    if !fits(
+        setup, v, v_front, false, v_middle, &[], &[], v_back, meter,
+    ) {
+        return false;
+    }
+    fits(
+        setup, w, w_front, false, w_middle, &[], &[], w_back, meter,
+    )
+}
+
+/// Whether a move inside a vehicle is allowed, by its new route in parts.
+fn allows_inside(
+    view: &View,
+    setup: &Setup,
+    skip: &[Move],
+    mv: Move,
+    v: u32,
+    x: u32,
+    front: &[u32],
+    turned: bool,
+    first: &[u32],
+    second: &[u32],
+    third: &[u32],
+    back: &[u32],
+    meter: &mut Meter,
+) -> bool
+    requires laws { Laws }
+    requires view { IsViewOf (setting setup.now) view.now }
+    requires possible { is_possible (setting setup.now).customers view.now.routes mv ≡ true }
+    requires inside { IsInside view.now.routes mv v x (front.now ++ (way_of turned first.now ++ (second.now ++ (third.now ++ back.now)))) }
+    ensures { IsTrue result ↔ IsAllowed (setting setup.now) view.now skip.now mv }
+{
+    if x <= view.front(v) {
+        return false;
+    }
+    if is_skipped(skip, &mv) {
+        return false;
+    }
+    fits(
+        setup, v, front, turned, first, second, third, back, meter,
+    )
+}
+
+/// Whether a shift inside a vehicle is allowed.
+fn allows_shift_inside(
+    view: &View,
+    setup: &Setup,
+    skip: &[Move],
+    v: u32,
+    place: u32,
+    length: u32,
+    at: u32,
+    meter: &mut Meter,
+) -> bool
+    requires laws { Laws }
+    requires view { IsViewOf (setting setup.now) view.now }
+    requires possible { is_possible (setting setup.now).customers view.now.routes (Shift v place length v at) ≡ true }
+    ensures { IsTrue result ↔ IsAllowed (setting setup.now) view.now skip.now (Shift v place length v at) }
+{
+    let mv = Move::Shift {
+        vehicle: v,
+        place,
+        length,
+        to: v,
+        at,
+    };
+    let route = view.customers(v);
+    let stretch = part(route, place, place + length);
+    if at < place {
+        let front = front_of(route, at);
+        let between = part(route, at, place);
+        let back = back_of(route, place as usize - 1 + length as usize);
+        return allows_inside(
+            view,
+            setup,
+            skip,
+            mv,
+            v,
+            at,
+            front,
+            false,
+            stretch,
+            between,
+            &[],
+            back,
+            meter,
+        );
+    }
+    let front = front_of(route, place);
+    let between = part(route, place + length, at + length);
+    let back = back_of(route, at as usize - 1 + length as usize);
+    allows_inside(
+        view,
+        setup,
+        skip,
+        mv,
+        v,
+        place,
+        front,
+        false,
+        between,
+        stretch,
+        &[],
+        back,
+        meter,
+    )
+}
+
+/// Whether a swap inside a vehicle, named from its first place, is allowed.
+fn allows_swap_inside(
+    view: &View,
+    setup: &Setup,
+    skip: &[Move],
+    v: u32,
+    place: u32,
+    at: u32,
+    meter: &mut Meter,
+) -> bool
+    requires laws { Laws }
+    requires view { IsViewOf (setting setup.now) view.now }
+    requires possible { is_possible (setting setup.now).customers view.now.routes (Swap v place v at) ≡ true }
+    requires order { place < at }
+    ensures { IsTrue result ↔ IsAllowed (setting setup.now) view.now skip.now (Swap v place v at) }
+{
+    let mv = Move::Swap {
+        vehicle: v,
+        place,
+        other: v,
+        at,
+    };
+    let route = view.customers(v);
+    let front = front_of(route, place);
+    let here = part(route, place, place + 1);
+    let between = part(route, place + 1, at);
+    let there = part(route, at, at + 1);
+    let back = back_of(route, at as usize);
+    allows_inside(
+        view, setup, skip, mv, v, place, front, false, there, between, here, back, meter,
+    )
+}
+
+/// Whether a reverse is allowed.
+fn allows_reverse(
+    view: &View,
+    setup: &Setup,
+    skip: &[Move],
+    v: u32,
+    first: u32,
+    last: u32,
+    meter: &mut Meter,
+) -> bool
+    requires laws { Laws }
+    requires view { IsViewOf (setting setup.now) view.now }
+    requires possible { is_possible (setting setup.now).customers view.now.routes (Reverse v first last) ≡ true }
+    ensures { IsTrue result ↔ IsAllowed (setting setup.now) view.now skip.now (Reverse v first last) }
+{
+    let mv = Move::Reverse {
+        vehicle: v,
+        first,
+        last,
+    };
+    let route = view.customers(v);
+    let front = front_of(route, first);
+    let stretch = part(route, first, last + 1);
+    let back = back_of(route, last as usize);
+    allows_inside(
+        view,
+        setup,
+        skip,
+        mv,
+        v,
+        first,
+        front,
+        true,
+        stretch,
+        &[],
+        &[],
+        back,
+        meter,
+    )
+}
+
+/// Whether a shift between two vehicles is allowed.
+fn allows_shift(
+    view: &View,
+    setup: &Setup,
+    skip: &[Move],
+    v: u32,
+    place: u32,
+    length: u32,
+    w: u32,
+    at: u32,
+    meter: &mut Meter,
+) -> bool
+    requires laws { Laws }
+    requires view { IsViewOf (setting setup.now) view.now }
+    requires possible { is_possible (setting setup.now).customers view.now.routes (Shift v place length w at) ≡ true }
+    requires apart { v ≢ w }
+    ensures { IsTrue result ↔ IsAllowed (setting setup.now) view.now skip.now (Shift v place length w at) }
+{
+    let mv = Move::Shift {
+        vehicle: v,
+        place,
+        length,
+        to: w,
+        at,
+    };
+    let route = view.customers(v);
+    let front = front_of(route, place);
+    let stretch = part(route, place, place + length);
+    let rest = back_of(route, place as usize - 1 + length as usize);
+    let other = view.customers(w);
+    let before = front_of(other, at);
+    let after = back_of(other, at as usize - 1);
+    allows_between(
+        view,
+        setup,
+        skip,
+        mv,
+        v,
+        w,
+        place,
+        at,
+        stretch,
+        &[],
+        front,
+        &[],
+        rest,
+        before,
+        stretch,
+        after,
+        meter,
+    )
+}
+
+/// Whether a swap between two vehicles is allowed.
+fn allows_swap(
+    view: &View,
+    setup: &Setup,
+    skip: &[Move],
+    v: u32,
+    place: u32,
+    w: u32,
+    at: u32,
+    meter: &mut Meter,
+) -> bool
+    requires laws { Laws }
+    requires view { IsViewOf (setting setup.now) view.now }
+    requires possible { is_possible (setting setup.now).customers view.now.routes (Swap v place w at) ≡ true }
+    requires apart { v ≢ w }
+    ensures { IsTrue result ↔ IsAllowed (setting setup.now) view.now skip.now (Swap v place w at) }
+{
+    let mv = Move::Swap {
+        vehicle: v,
+        place,
+        other: w,
+        at,
+    };
+    let route = view.customers(v);
+    let front = front_of(route, place);
+    let here = part(route, place, place + 1);
+    let rest = back_of(route, place as usize);
+    let other = view.customers(w);
+    let before = front_of(other, at);
+    let there = part(other, at, at + 1);
+    let after = back_of(other, at as usize);
+    allows_between(
+        view, setup, skip, mv, v, w, place, at, here, there, front, there, rest, before, here,
+        after, meter,
+    )
+}
+
+/// Whether a cross is allowed.
+fn allows_cross(
+    view: &View,
+    setup: &Setup,
+    skip: &[Move],
+    v: u32,
+    keep: u32,
+    w: u32,
+    keep_other: u32,
+    meter: &mut Meter,
+) -> bool
+    requires laws { Laws }
+    requires view { IsViewOf (setting setup.now) view.now }
+    requires possible { is_possible (setting setup.now).customers view.now.routes (Cross v keep w keep_other) ≡ true }
+    ensures { IsTrue result ↔ IsAllowed (setting setup.now) view.now skip.now (Cross v keep w keep_other) }
+{
+    let mv = Move::Cross {
+        vehicle: v,
+        keep,
+        other: w,
+        keep_other,
+    };
+    let _customers = setup.customers();
+    let (front, tail) = view.customers(v).split_at(keep as usize);
+    let (before, end) = view.customers(w).split_at(keep_other as usize);
+    allows_between(
+        view,
+        setup,
+        skip,
+        mv,
+        v,
+        w,
+        keep + 1,
+        keep_other + 1,
+        tail,
+        end,
+        front,
+        &[],
+        end,
+        before,
+        &[],
+        tail,
+        meter,
+    )
+}
+
+/// Whether a move near two vehicles, or near one, that has an effect is allowed.
+pub(crate) fn allows(
+    view: &View,
+    setup: &Setup,
+    skip: &[Move],
+    v: u32,
+    w: u32,
+    mv: Move,
+    meter: &mut Meter,
+) -> bool
+    requires laws { Laws }
+    requires view { IsViewOf (setting setup.now) view.now }
+    requires possible { is_possible (setting setup.now).customers view.now.routes mv ≡ true }
+    requires near { IsNear v w mv }
+    ensures { IsTrue result ↔ IsAllowed (setting setup.now) view.now skip.now mv }
+{
+    match mv {
+        Move::Shift {
+            vehicle,
+            place,
+            length,
+            to,
+            at,
+        } => {
+            if vehicle == to {
+                allows_shift_inside(view, setup, skip, vehicle, place, length, at, meter)
+            } else {
+                allows_shift(view, setup, skip, vehicle, place, length, to, at, meter)
+            }
+        }
+        Move::Swap {
+            vehicle,
+            place,
+            other,
+            at,
+        } => {
+            if vehicle == other {
+                allows_swap_inside(view, setup, skip, vehicle, place, at, meter)
+            } else {
+                allows_swap(view, setup, skip, vehicle, place, other, at, meter)
+            }
+        }
+        Move::Reverse {
+            vehicle,
+            first,
+            last,
+        } => allows_reverse(view, setup, skip, vehicle, first, last, meter),
+        Move::Cross {
+            vehicle,
+            keep,
+            other,
+            keep_other,
+        } => allows_cross(view, setup, skip, vehicle, keep, other, keep_other, meter),
+        Move::Insert { .. } | Move::Remove { .. } => false,
+    }
+}

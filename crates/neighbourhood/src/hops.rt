@@ -1,0 +1,48 @@
+//! What the ways between stops cost.
+ghost use Rattle.std.specs.Prelude.{◌≡◌, ◌+◌, ◌≤◌, ◌<◌, [], ◌∷◌, ◌++◌, length, IfOk};
+ghost use Rattle.callback_store.specs.Tables.{table_at};
+ghost use Rattle.dimension_core.specs.Setup.{setting};
+ghost use Rattle.neighbourhood.specs.Laws.{Laws};
+ghost use Rattle.neighbourhood.specs.View.{IsViewOf};
+ghost use Rattle.neighbourhood.specs.Ways.{hop, AreStops};
+
+use callback_store::Meter;
+use dimension_core::Setup;
+use pin_core::View;
+use std::alloc::{AllocError, Global};
+
+/// What the way from a stop to the next one costs; a vehicle that stays at the depot drives no way.
+pub(crate) fn hop(setup: &Setup, i: u32, j: u32, meter: &mut Meter) -> u64
+    requires from { i ≤ (setting setup.now).customers }
+    requires to { j ≤ (setting setup.now).customers }
+    ensures value { result ≡ hop (table_at (setting setup.now).tables (setting setup.now).cost) i j }
+    ensures small { result ≤ 1000000000 }
+{
+    if j == 0 && i == 0 {
+        return 0;
+    }
+    let _customers = setup.customers();
+    setup.registry().ask(setup.cost(), meter, i, j)
+}
+
+/// The stops of a vehicle: the depot, its customers, the depot.
+pub(crate) fn stops_of(
+    alloc: Global,
+    view: &View,
+    setup: &Setup,
+    v: u32,
+) -> Result<Vec<u32>, AllocError>
+    requires laws { Laws }
+    requires view { IsViewOf (setting setup.now) view.now }
+    requires low { 1 ≤ v }
+    requires high { v ≤ (setting setup.now).vehicles }
+    ensures { IfOk result (λ all. AreStops (setting setup.now).customers view.now.routes v all.items) }
+{
+    let _customers = setup.customers();
+    let customers = view.customers(v);
+    let mut all = Vec::with_capacity(alloc, customers.len() + 2)?;
+    all.push(0)?;
+    all.extend_from_slice(customers)?;
+    all.push(0)?;
+    Ok(all)
+}

@@ -1,0 +1,7 @@
+//! The neighbourhood of two vehicles, or of one: the best move near them, found and proved best.
+#![tactic(auto)]
+
+mod allowed;
+mod fits;
+mod hops;
+mod laws;

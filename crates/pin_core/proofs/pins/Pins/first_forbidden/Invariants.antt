@@ -1,0 +1,8 @@
+use Rattle.std.proofs.Common.{ℕ, ◌<◌}
+use Rattle.plan_core.specs.Plan.{changes_of, with_routes}
+use Rattle.pin_core.specs.Override.{IsPassed}
+use Rattle.pin_core.proofs.pins.Pins.first_forbidden.Given as goal
+
+-- no pin of the touched customers so far forbids
+abbrev pub invariant-loop-k : goal.invariant-loop-k
+invariant-loop-k l = (j : ℕ) → j < l.k → IsPassed l.self (with_routes (changes_of l.new_routes) l.plan.routes) l.touched l.free j

@@ -1,0 +1,16 @@
+use Rattle.plan_core.specs.Plan.{changes_of, with_routes}
+use Rattle.plan_core.specs.declared.touch.Touch.{Touch}
+use Rattle.pin_core.specs.Pins.{IsHeld}
+use Rattle.std.proofs.lemmas.Option.{slice_get-get_or}
+use Rattle.pin_core.proofs.Standing.{before_more, before_all}
+use Rattle.pin_core.proofs.pins.Pins.first_loose.Goals as goal
+
+pub loop-touch-preserved : goal.loop-touch-preserved
+loop-touch-preserved c =
+    before_more (λ (t : Touch). IsHeld c.args.self.now (with_routes (changes_of c.args.new_routes.now) c.args.plan.now.routes) t.customer) c.args.touched.now c.loop-touch.touch-index
+    _ (slice_get-get_or c.args.touched.now c.loop-touch.touch-index _ c.loop-touch-test.true) c.if-leaves.ensures c.loop-touch.invariant
+
+pub returns : goal.returns
+returns c =
+    before_all (λ (t : Touch). IsHeld c.args.self.now (with_routes (changes_of c.args.new_routes.now) c.args.plan.now.routes) t.customer) c.args.touched.now c.loop-touch.touch-index
+    c.loop-touch-test.false c.loop-touch.invariant
