@@ -1,0 +1,10 @@
+pub mod Policies
+pub mod Override
+pub mod State
+pub mod Rules
+pub mod Pinning
+pub mod Step
+pub mod History
+pub mod Listing
+pub mod Delta
+pub mod Questions

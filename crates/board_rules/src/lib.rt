@@ -1,0 +1,21 @@
+//! The rules of the board: its calls and replies, which reply is right in which state, and what a history of calls leaves.
+//!
+//! Nothing here runs: the types are those of the board's calls, the definitions stand in `specs/`, and the laws over them are the
+//! contracts of functions that do nothing.
+#![tactic(auto)]
+
+mod call;
+mod delta;
+mod laws;
+mod reply;
+mod review;
+mod row;
+
+pub use call::{Call, Entry, Event};
+pub use delta::Delta;
+pub use reply::{AskFault, Denial, Fault, Refusal, Reply};
+pub use review::Review;
+pub use row::Row;
+
+#[cfg(test)]
+mod tests;
