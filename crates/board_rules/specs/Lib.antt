@@ -8,3 +8,5 @@ pub mod History
 pub mod Listing
 pub mod Delta
 pub mod Questions
+pub mod Good
+pub mod Given

@@ -50,6 +50,15 @@ basis_of state session = record {
   pins = state.pins;
 }
 
+-- facts that say the same, of the vehicles of the fleet alone where a commit is concerned
+pub record Agree (s : Setting) (b c : Basis) : Type 0 where
+  pub is_open : b.is_open ≡ c.is_open
+  pub may : (operation : Operation) (object : Object) → b.may operation object ≡ c.may operation object
+  pub version : b.version ≡ c.version
+  pub is_changed : (base v : ℕ) → 1 ≤ v → v ≤ s.vehicles → b.is_changed base v ≡ c.is_changed base v
+  pub routes : b.routes ≡ c.routes
+  pub pins : b.pins ≡ c.pins
+
 -- ---- what the rules ask
 
 -- whether a number is 1 to n

@@ -13,6 +13,7 @@ mod row;
 
 pub use call::{Call, Entry, Event};
 pub use delta::Delta;
+pub use laws::{changes_by_stamps, right_replies_keep_good_states, verdicts_by_agreeing_facts};
 pub use reply::{AskFault, Denial, Fault, Refusal, Reply};
 pub use review::Review;
 pub use row::Row;
