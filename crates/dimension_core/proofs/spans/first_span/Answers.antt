@@ -1,6 +1,6 @@
 use Rattle.dimension_core.specs.Setup.{setting}
-use Rattle.board_core.proofs.Spanning.{first_at, first_none}
-use Rattle.board_core.proofs.listing.first_span.Goals as goal
+use Rattle.dimension_core.proofs.Spanning.{first_at, first_none}
+use Rattle.dimension_core.proofs.spans.first_span.Goals as goal
 
 pub unreachable-requires : goal.unreachable-requires
 unreachable-requires g c =

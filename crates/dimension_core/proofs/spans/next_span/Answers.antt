@@ -1,7 +1,7 @@
 use Rattle.std.proofs.Common.{◌<◌, length, refl, arith}
 use Rattle.dimension_core.specs.Setup.{setting}
-use Rattle.board_core.proofs.Spanning.{next_at, next_none, from_known}
-use Rattle.board_core.proofs.listing.next_span.Goals as goal
+use Rattle.dimension_core.proofs.Spanning.{next_at, next_none, from_known}
+use Rattle.dimension_core.proofs.spans.next_span.Goals as goal
 
 pub extend-requires-clause-from : goal.extend-requires-clause-from
 extend-requires-clause-from g c =
@@ -17,7 +17,7 @@ unreachable-requires g c =
     (next_at s _ _ _ _ _ _ _ _ _ _ _ c.registry-registry.ensures.value c.dimensions.ensures.value c.requires.dimension c.index-dimensions-k.is c.requires.place c.requires.span
     c.node_before-from.ensures refl c.in-None.ensures.span)
 
-pub returns : goal.returns
-returns g c =
+pub returns-clause-span : goal.returns-clause-span
+returns-clause-span g c =
     next_at (setting c.args.setup.now) _ _ _ _ _ _ _ _ _ _ _ c.registry-registry.ensures.value c.dimensions.ensures.value c.requires.dimension c.index-dimensions-k.is c.requires.place c.requires.span
     c.node_before-from.ensures refl c.in-Some.ensures.span
