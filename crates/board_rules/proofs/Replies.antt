@@ -19,7 +19,7 @@ use Rattle.board_rules.specs.declared.reply.Reply.{Reply}
 use Rattle.board_rules.specs.declared.reply.Reply.TheVariants.{Done, Session, Committed, Denied, Refused}
 use Rattle.board_rules.specs.Override.{DoPinsAllow, IsAllowed}
 use Rattle.board_rules.specs.State.{BoardState}
-use Rattle.board_rules.specs.Rules.{Basis, IsVerdictBy, IsOut, PassesSession, PassesFleet, PassesVehicles, PassesVersion, PassesBase, PassesEffect, PassesCustomers, PassesFronts, PassesPins, PassesAll, basis_of, are_in_fleet, first_barred_vehicle, first_stale, first_barred_customer, may_override, routes_after}
+use Rattle.board_rules.specs.Rules.{Basis, IsVerdictBy, PassesSession, PassesFleet, PassesVehicles, PassesVersion, PassesBase, PassesEffect, PassesCustomers, PassesFronts, PassesPins, PassesAll, basis_of, are_in_fleet, first_barred_vehicle, first_stale, first_barred_customer, may_override, routes_after}
 use Rattle.board_rules.specs.Step.{IsReply, IsAnswer}
 use Rattle.board_rules.specs.Good.{IsGood}
 use Rattle.board_rules.specs.Given.{Laws}
