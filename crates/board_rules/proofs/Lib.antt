@@ -1,6 +1,8 @@
 mod Agreeing
+mod Currency
 mod Finds
 mod Good
+mod Headline
 mod Histories
 mod Outs
 mod Replies

@@ -10,3 +10,4 @@ pub mod Delta
 pub mod Questions
 pub mod Good
 pub mod Given
+pub mod Proposals
