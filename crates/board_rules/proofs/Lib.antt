@@ -1,10 +1,14 @@
 mod Agreeing
+mod Bounds
 mod Currency
+mod Existing
 mod Finds
 mod Good
 mod Headline
 mod Histories
 mod Outs
 mod Replies
+mod Spots
 mod Stamps
 mod Standing
+mod Touching
