@@ -3,12 +3,12 @@ use Rattle.std.specs.Prelude.{ℕ, Bool, List, [], ◌∷◌, Result, Ok, Err}
 use Rattle.rbac_core.specs.declared.command.Command.{Command}
 use Rattle.rbac_core.specs.declared.command.Outcome.{Outcome}
 use Rattle.rbac_core.specs.declared.command.Outcome.TheVariants as outcomes
-use Rattle.rbac_core.specs.declared.command.Refusal.{Refusal as PolicyRefusal}
-use Rattle.rbac_core.specs.declared.command.Refusal.TheVariants as narrow
-use Rattle.rbac_core.specs.declared.objects.Operation.TheVariants as operations
-use Rattle.rbac_core.specs.declared.objects.ObjectRange.TheVariants as ranges
-use Rattle.rbac_core.specs.State.{PolicyState, no_policy}
-use Rattle.rbac_core.specs.Commands.{user_added, role_added, assigned, granted, opened}
+use Rattle.policy_core.specs.declared.refusal.Refusal.{Refusal as PolicyRefusal}
+use Rattle.policy_core.specs.declared.refusal.Refusal.TheVariants as narrow
+use Rattle.permission_core.specs.declared.objects.Operation.TheVariants as operations
+use Rattle.permission_core.specs.declared.objects.ObjectRange.TheVariants as ranges
+use Rattle.policy_core.specs.State.{PolicyState, no_policy}
+use Rattle.policy_core.specs.Commands.{user_added, role_added, assigned, granted, opened}
 use Rattle.rbac_core.specs.Step.{step}
 use Rattle.dimension_core.specs.Setting.{Setting}
 use Rattle.board_rules.specs.declared.reply.Refusal.{Refusal}

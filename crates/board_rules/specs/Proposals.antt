@@ -1,10 +1,10 @@
 -- What a proposal has to meet, in the words of the sources: roles that exist, all commits, all vehicles, all customers, and cumuls that exist.
 use Rattle.std.specs.Prelude.{ℕ, ◌≡◌, ◌≤◌, ◌<◌, ◌⊎◌, true, All, List, length, Some, None}
-use Rattle.rbac_core.specs.State.{is_session}
-use Rattle.rbac_core.specs.Access.{CheckAccess}
-use Rattle.rbac_core.specs.declared.objects.Operation.TheVariants as operations
-use Rattle.rbac_core.specs.declared.objects.Object.{Object}
-use Rattle.rbac_core.specs.declared.objects.Object.TheVariants as objects
+use Rattle.policy_core.specs.State.{is_session}
+use Rattle.policy_core.specs.Access.{CheckAccess}
+use Rattle.permission_core.specs.declared.objects.Operation.TheVariants as operations
+use Rattle.permission_core.specs.declared.objects.Object.{Object}
+use Rattle.permission_core.specs.declared.objects.Object.TheVariants as objects
 use Rattle.dimension_core.specs.Setting.{Setting}
 use Rattle.dimension_core.specs.Feasible.{IsFeasible}
 use Rattle.dimension_core.specs.NewRoutes.{IsOut}

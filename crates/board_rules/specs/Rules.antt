@@ -1,12 +1,12 @@
 -- The verdict on a proposal: the first rule that fails, in the order of the rules.
 use Rattle.std.specs.Prelude.{ℕ, ◌≡◌, ◌≤◌, ◌<◌, Bool, true, false, not, ◌&&◌, nat_le, List, length, drop, find, Option, Some, None}
 use Rattle.std.specs.List.{list_any, list_all}
-use Rattle.rbac_core.specs.State.{is_session}
-use Rattle.rbac_core.specs.Access.{has_access}
-use Rattle.rbac_core.specs.declared.objects.Operation.{Operation}
-use Rattle.rbac_core.specs.declared.objects.Operation.TheVariants as operations
-use Rattle.rbac_core.specs.declared.objects.Object.{Object}
-use Rattle.rbac_core.specs.declared.objects.Object.TheVariants as objects
+use Rattle.policy_core.specs.State.{is_session}
+use Rattle.policy_core.specs.Access.{has_access}
+use Rattle.permission_core.specs.declared.objects.Operation.{Operation}
+use Rattle.permission_core.specs.declared.objects.Operation.TheVariants as operations
+use Rattle.permission_core.specs.declared.objects.Object.{Object}
+use Rattle.permission_core.specs.declared.objects.Object.TheVariants as objects
 use Rattle.dimension_core.specs.Setting.{Setting}
 use Rattle.dimension_core.specs.Feasible.{IsFeasible}
 use Rattle.dimension_core.specs.NewRoutes.{IsOut}

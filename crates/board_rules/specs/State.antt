@@ -1,7 +1,7 @@
 -- What calls of a board change: the policy, the plan, the pins and frozen lengths, and the list of commits.
 use Rattle.std.specs.Prelude.{ℕ, List, [], replicate, None}
 use Rattle.dimension_core.specs.Setting.{Setting}
-use Rattle.rbac_core.specs.State.{PolicyState}
+use Rattle.policy_core.specs.State.{PolicyState}
 use Rattle.pin_core.specs.Pins.{PinState}
 use Rattle.board_rules.specs.Policies.{opening_policy}
 

@@ -1,0 +1,10 @@
+mod AccessLaws
+mod BreakLaws
+mod CommandLaws
+mod CountLaws
+mod FewerLaws
+mod NumberLaws
+mod ReviewLaws
+mod SetLaws
+mod SlotLaws
+mod WiderLaws
