@@ -17,6 +17,10 @@ use Rattle.move_core.specs.Moves.{named_by}
 use Rattle.move_core.specs.Touched.{touched_by}
 use Rattle.board_rules.specs.declared.reply.Denial.{Denial}
 use Rattle.board_rules.specs.declared.reply.Denial.TheVariants.{NoSession, BadVehicle, AccessVehicle, Ahead, Stale, BadPlace, AccessCustomer, Frozen, Pinned, Bound}
+use Rattle.board_rules.specs.declared.call.Call.TheVariants.{Propose}
+use Rattle.board_rules.specs.declared.reply.Reply.{Reply}
+use Rattle.board_rules.specs.declared.reply.Reply.TheVariants.{Done, Session, Committed, Denied, Refused}
+use Rattle.board_rules.specs.Step.{IsReply}
 use Rattle.board_rules.specs.Override.{IsAllowed, DoPinsAllow}
 use Rattle.board_rules.specs.State.{BoardState}
 use Rattle.board_rules.specs.Rules.{Basis, IsVerdict, PassesSession, PassesFleet, PassesVehicles, PassesVersion, PassesBase, PassesEffect, PassesCustomers, PassesFronts, PassesPins, PassesAll, basis_of, are_in_fleet, is_one_of, is_changed_after, first_barred_vehicle, first_stale, first_barred_customer, may_override, routes_after}
@@ -165,3 +169,12 @@ module _ (by_commits : (commits : List (List ℕ)) (base v : ℕ) → (is_change
     (λ h. (h.0.0.0.0.0.0.0.0.0, fleet.0 h.0.0.0.0.0.0.0.0.1, vehicles.0 h.0.0.0.0.0.0.0.1, h.0.0.0.0.0.0.1, current.0 h.0.0.0.0.0.1, h.0.0.0.0.1, customers.0 h.0.0.0.1, h.0.0.1, pins.0 h.0.1, h.1)),
     (λ h. (((((((((h.0, fleet.1 h.1), vehicles.1 h.2), h.3), current.1 h.4), h.5), customers.1 h.6), h.7), pins.1 h.8), h.9)),
   )
+
+-- a right reply to a proposal is one of two
+pub committed_or_denied : (s : Setting) (state : BoardState) (session base : ℕ) (mv : Move) (reply : Reply) → IsReply s state (Propose session base mv) reply
+    → ((n : ℕ) × (reply ≡ Committed n)) ⊎ ((denial : Denial) × (reply ≡ Denied denial))
+committed_or_denied s state session base mv (Committed n) h = inl (n, refl)
+committed_or_denied s state session base mv (Denied d) h = inr (d, refl)
+committed_or_denied s state session base mv Done h = absurd h
+committed_or_denied s state session base mv (Session n) h = absurd h
+committed_or_denied s state session base mv (Refused r) h = absurd h

@@ -1,3 +1,4 @@
+mod Accesses
 mod Agreeing
 mod Bounds
 mod Currency
@@ -6,8 +7,11 @@ mod Finds
 mod Good
 mod Headline
 mod Histories
+mod Keeping
+mod Orders
 mod Outs
 mod Replies
+mod Settled
 mod Spots
 mod Stamps
 mod Standing

@@ -28,7 +28,7 @@ opening_policy customers vehicles =
     let granted_admin = granted (assigned named root root) root operations.Admin ranges.Board in
     opened granted_admin root (root ∷ [])
 
--- a refusal of the policy as one of the board
+-- a refusal of the policy as one of the board; want of memory is no answer of a step
 abbrev pub refusal_of : PolicyRefusal → Refusal
 refusal_of narrow.NoSession = refusals.NoSession
 refusal_of narrow.NoAccess = refusals.NoAccess
