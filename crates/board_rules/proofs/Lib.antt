@@ -1,6 +1,9 @@
 mod Accesses
 mod Agreeing
 mod Bounds
+mod Breaking
+mod Commands
+mod Counted
 mod Currency
 mod Existing
 mod Finds
@@ -11,6 +14,7 @@ mod Keeping
 mod Orders
 mod Outs
 mod Replies
+mod Separation
 mod Settled
 mod Spots
 mod Stamps

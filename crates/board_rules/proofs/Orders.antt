@@ -64,7 +64,7 @@ unfolding first_free
 free_below roles r h = found_below (λ role. not (has roles role)) 0 256 r h
 
 -- past its end a list gives 0
-past_end : (xs : List ℕ) (k : ℕ) → length xs ≤ k → slice_index xs k ≡ 0
+pub past_end : (xs : List ℕ) (k : ℕ) → length xs ≤ k → slice_index xs k ≡ 0
 past_end [] k h = refl
 past_end (x ∷ xs) zero h = absurd (omega (arith, h))
 past_end (x ∷ xs) (suc k) h = past_end xs k (omega (arith, h))
