@@ -287,19 +287,33 @@ module _ (p : PolicyState) (order : IsOrder p.order) (is : IsSeparate p) where
       let q : PolicyState = after p (DeleteInheritance senior junior) in
       lessened p is order q next (pair_within p.order (slot_of p senior) (slot_of p junior)) (kept_authorized q.users q.order) (kept_authorized_within q.users q.order) refl refl refl
       (fewer_pairs q.order p.order next order (pair_within p.order (slot_of p senior) (slot_of p junior)) p.users) refl
-  separate (CreateSsdSet name number roles) next h = ssd_created_keeps name number roles.items h
+  separate (CreateSsdSet name number roles) next h = ssd_created_keeps name number roles h
   separate (AddSsdRoleMember name role) next h = ssd_joined_keeps name role h
   separate (DeleteSsdRoleMember name role) next h = ssd_left_keeps name role h
   separate (DeleteSsdSet name) next h = with_ssd p is _ (AreSets-without_set p.ssd name is.ssd_sets) (breaking-without_set (authorized p) p.ssd name is.ssd)
   separate (SetSsdSetCardinality name number) next h = ssd_numbered_keeps name number h
-  separate (CreateDsdSet name number roles) next h = dsd_created_keeps name number roles.items h
+  separate (CreateDsdSet name number roles) next h = dsd_created_keeps name number roles h
   separate (AddDsdRoleMember name role) next h = dsd_joined_keeps name role h
   separate (DeleteDsdRoleMember name role) next h = dsd_left_keeps name role h
   separate (DeleteDsdSet name) next h = with_dsd p is _ (AreSets-without_set p.dsd name is.dsd_sets) (breaking-without_set (counted_all p) p.dsd name is.dsd)
   separate (SetDsdSetCardinality name number) next h = dsd_numbered_keeps name number h
-  separate (CreateSession user roles) next h = record { ssd_sets = is.ssd_sets; dsd_sets = is.dsd_sets; ssd = is.ssd; dsd = opened_keeps user roles.items h }
+  separate (CreateSession user roles) next h = record { ssd_sets = is.ssd_sets; dsd_sets = is.dsd_sets; ssd = is.ssd; dsd = opened_keeps user roles h }
   separate (DeleteSession session) next h = with_sessions p is (remove_entry (nat_eq session) p.sessions) p.last
       (breaking_removed (λ (x : Session). counted p.counting p.order x.active) (nat_eq session) p.sessions p.dsd is.dsd)
   separate (AddActiveRole session role) next h = activated_keeps session role h
   separate (DropActiveRole session role) next h = dropped_keeps session role
   separate Migrate next h = migrated_keeps p is
+
+-- the policy after a command that was answered, refused or not
+answered_keeps : (p next : PolicyState) (outcome : Outcome) (refusal : Option PolicyRefusal) → IsSeparate p → (refusal ≡ None → IsSeparate next) → IsSeparate (answered p refusal next outcome).0
+answered_keeps p next outcome None is keeps = keeps refl
+answered_keeps p next outcome (Some e) is keeps = is
+
+none_second : (a b : Option PolicyRefusal) → option_or a b ≡ None → b ≡ None
+none_second a b h = (none_or a b h).1
+
+pub separate_after : (p : PolicyState) (session : ℕ) (command : Command) → IsOrder p.order → IsOrder (after p command).order → IsSeparate p → IsSeparate (policy_after p session command)
+unfolding policy_after step
+separate_after p session command order next is =
+    answered_keeps p (after p command) (outcome_of p command) (option_or (guard p session command) (refusal_of p command)) is
+    (λ none. separate p order is command next (none_second (guard p session command) (refusal_of p command) none))

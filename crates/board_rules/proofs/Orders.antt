@@ -13,13 +13,14 @@ use Rattle.role_hierarchy.specs.Order.{Order, stands, no_order, with_slot, with_
 use Rattle.role_hierarchy.specs.Below.{IsOrder}
 use Rattle.role_hierarchy.specs.BelowLaws.{order-with_pair}
 use Rattle.policy_core.specs.declared.refusal.Refusal.{Refusal as PolicyRefusal}
-use Rattle.policy_core.specs.State.{PolicyState, slot_of, no_policy}
-use Rattle.policy_core.specs.Commands.{user_added, role_at, role_added}
+use Rattle.policy_core.specs.State.{PolicyState, slot_of}
+use Rattle.policy_core.specs.Commands.{role_at, role_added}
+use Rattle.policy_core.specs.Opening.{opening}
 use Rattle.rbac_core.specs.declared.command.Command.{Command}
 use Rattle.rbac_core.specs.declared.command.Command.TheVariants.{AddUser, DeleteUser, AddRole, DeleteRole, AssignUser, DeassignUser, GrantPermission, RevokePermission, AddInheritance, DeleteInheritance, CreateSsdSet, AddSsdRoleMember, DeleteSsdRoleMember, DeleteSsdSet, SetSsdSetCardinality, CreateDsdSet, AddDsdRoleMember, DeleteDsdRoleMember, DeleteDsdSet, SetDsdSetCardinality, CreateSession, DeleteSession, AddActiveRole, DropActiveRole, Migrate}
 use Rattle.rbac_core.specs.declared.command.Outcome.{Outcome}
 use Rattle.rbac_core.specs.Step.{step, answered, guard, refusal_of, after, outcome_of}
-use Rattle.board_rules.specs.Policies.{root, opening_policy, policy_after}
+use Rattle.board_rules.specs.Policies.{policy_after}
 
 -- each slot is below 256
 pub AllSlots : List (List ℕ × ℕ) → Type 0
@@ -167,7 +168,7 @@ module _ (customers vehicles : ℕ) where
     slots = h.slots;
   }
 
-  settled : (p : PolicyState) (command : Command) → IsSettled customers vehicles p → IsSettled customers vehicles (after p command)
+  pub settled : (p : PolicyState) (command : Command) → IsSettled customers vehicles p → IsSettled customers vehicles (after p command)
   settled p (AddRole role) h = settled_role p role h
   settled p (DeleteRole role) h = settled_gone p role h
   settled p (AddInheritance senior junior) h = settled_inherited p senior junior h
@@ -204,20 +205,17 @@ module _ (customers vehicles : ℕ) where
   settled_after p session command h =
       answered_settled p (after p command) (outcome_of p command) (option_or (guard p session command) (refusal_of p command)) h (settled p command h)
 
-  pub settled_first : IsSettled customers vehicles (opening_policy customers vehicles)
-  unfolding opening_policy AllSlots
-  settled_first =
-      let none : IsSettled customers vehicles (no_policy customers vehicles) = record {
-        customers_are = refl;
-        vehicles_are = refl;
-        order = record {
-          rows = length-replicate {A = ℕ} 256 0;
-          small = λ a b h. absurd (both_ways (has 0 b) (has-empty b) (sym (ap (λ r. has r b) (empty_row 256 a)) ∙ h));
-        };
-        slots = tt;
-      } in
-      let first = settled_role (user_added (no_policy customers vehicles) root) root (settled (no_policy customers vehicles) (AddUser root) none) in
-      record { customers_are = first.customers_are; vehicles_are = first.vehicles_are; order = first.order; slots = first.slots }
+  pub settled_first : IsSettled customers vehicles (opening customers vehicles)
+  unfolding AllSlots
+  settled_first = record {
+    customers_are = refl;
+    vehicles_are = refl;
+    order = record {
+      rows = length-replicate {A = ℕ} 256 0;
+      small = λ a b h. absurd (both_ways (has 0 b) (has-empty b) (sym (ap (λ r. has r b) (empty_row 256 a)) ∙ h));
+    };
+    slots = (omega arith, tt);
+  }
     where
       empty_row : (n k : ℕ) → slice_index (replicate n 0) k ≡ 0
       empty_row zero k = refl

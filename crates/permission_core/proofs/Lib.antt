@@ -1,1 +1,2 @@
+mod RangeLaws
 mod RowLaws

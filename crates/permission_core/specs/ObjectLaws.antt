@@ -1,9 +1,9 @@
 -- Sets of objects in thirty-two words.
-use Rattle.std.proofs.Common.{◌≡◌, ℕ, zero, suc, true, sym, ap, inl, inr, ◌⊎◌, ◌↔◌, eqb, ◌+◌, ◌-◌, ◌≤◌, ◌/◌, ◌^◌, ◌<◌, List, length, set, ◌∙◌, arith}
+use Rattle.std.proofs.Common.{◌≡◌, ℕ, zero, suc, true, false, not, sym, ap, inl, inr, ◌⊎◌, ◌↔◌, eqb, ◌+◌, ◌-◌, ◌≤◌, ◌/◌, ◌^◌, ◌<◌, List, length, set, ◌∙◌, arith}
 use Rattle.std.proofs.lemmas.List.{length-set}
-use Rattle.std.proofs.lemmas.Bool.{eqb-true, eq-eqb, or_left, or_right, or_cases, cases_eq}
+use Rattle.std.proofs.lemmas.Bool.{eqb-true, eq-eqb, ne_eqb, or_left, or_right, or_cases, and_parts, and_from, cases_eq, cases_lt, false≢true}
 use Rattle.role_hierarchy.specs.Roles.{has}
-use Rattle.role_hierarchy.specs.RoleLaws.{has-with_role}
+use Rattle.role_hierarchy.specs.RoleLaws.{has-with_role, has-without}
 use Rattle.role_hierarchy.specs.WordLaws.{small_set}
 use Rattle.permission_core.specs.Objects.{AreWords, with_range, without_range}
 use Rattle.role_hierarchy.specs.Roles.{with_role, without}
@@ -56,4 +56,26 @@ has-with_range set first (suc n) o =
             | inl e ↦ or_right _ _ (eq-eqb o (first + n) e)
             | inr ne ↦ or_left _ _ (before.1 (inr (r.0, omega (arith, r.1))))
           ]
+      ]) )
+
+-- after REVOKE over a range a set has what it had but for the objects of the range
+pub has-without_range : (set first n o : ℕ) → (has (without_range set first n) o ≡ true) ↔ ((has set o ≡ true) × ((o < first) ⊎ (first + n ≤ o)))
+unfolding without_range
+has-without_range set first zero o = ((λ h. (h, elim (cases_lt o first) [ inl low ↦ inl low | inr high ↦ inr (omega arith) ])), (λ c. c.0))
+has-without_range set first (suc n) o =
+    let before = has-without_range set first n o in
+    let is = has-without (without_range set first n) (first + n) o in
+    ( (λ h.
+        let parts = and_parts _ _ (sym is ∙ h) in
+        let old = before.0 parts.1 in
+        (old.0, elim old.1 [
+          | inl low ↦ inl low
+          | inr high ↦ elim (cases_eq o (first + n)) [
+              | inl e ↦ absurd (false≢true (sym (ap not (eq-eqb o (first + n) e)) ∙ parts.0))
+              | inr ne ↦ inr (omega arith)
+            ]
+        ]))
+    , (λ c. is ∙ elim c.1 [
+        | inl low ↦ and_from _ _ (ap not (ne_eqb o (first + n) (λ e. absurd (omega arith)))) (before.1 (c.0, inl low))
+        | inr high ↦ and_from _ _ (ap not (ne_eqb o (first + n) (λ e. absurd (omega arith)))) (before.1 (c.0, inr (omega arith)))
       ]) )

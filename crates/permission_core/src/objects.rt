@@ -1,8 +1,9 @@
 //! Operations on objects, and sets of objects: the OPS and OBS of ANSI INCITS 359-2004, 6.1.
-ghost use Rattle.std.specs.Prelude.{◌≡◌, ◌<◌, ◌≤◌, ◌+◌, ◌-◌};
+ghost use Rattle.std.specs.Prelude.{◌≡◌, ◌<◌, ◌≤◌, ◌+◌, ◌-◌, ◌*◌, ◌^◌};
 ghost use Rattle.role_hierarchy.specs.Roles.{has, with_role, without};
 ghost use Rattle.std.specs.Prelude.{is_some, is_none, IfSome};
-ghost use Rattle.permission_core.specs.Objects.{index_of, number_of, is_object, first_of, size_of, is_bad_range, with_range, without_range};
+ghost use Rattle.role_hierarchy.specs.Words.{joined};
+ghost use Rattle.permission_core.specs.Objects.{AreWords, index_of, number_of, is_object, first_of, size_of, is_bad_range, with_range, without_range};
 
 use std::marker::Model;
 
@@ -135,6 +136,15 @@ impl ObjectSet {
         ObjectSet { words: [0; 32] }
     }
 
+    /// The words in which the members stand, object 64 * k + i at digit i of word k, for a crate
+    /// that goes over them word by word.
+    pub fn words(&self) -> &[u64; 32]
+        ensures value { joined result.now ≡ self.now }
+        ensures whole { AreWords result.now }
+    {
+        &self.words
+    }
+
     /// Whether the object is a member.
     pub fn contains(&self, object: u32) -> bool
         requires { object < 2048 }
@@ -152,15 +162,31 @@ impl ObjectSet {
         self.words[place] |= 1 << (object % 64);
     }
 
-    /// The objects from `first` on, up to but not with `end`, become members.
+    /// The objects from `first` on, up to but not with `end`, become members: whole words at a
+    /// time.
     pub fn insert_range(&mut self, first: u32, end: u32)
         requires order { first ≤ end }
         requires small { end ≤ 2048 }
         ensures { self.new ≡ with_range self.old first (end - first) }
     {
-        for object in first..end {
-            self.insert(object);
+        let mut from = first;
+        while from < end {
+            let place = from / 64;
+            let high = (end - 64 * place).min(64);
+            self.insert_in(place, from % 64, high);
+            from = 64 * place + high;
         }
+    }
+
+    /// The objects of one word from its digit `low` on, up to but not with `high`, become members.
+    fn insert_in(&mut self, place: u32, low: u32, high: u32)
+        requires place { place < 32 }
+        requires order { low ≤ high }
+        requires small { high ≤ 64 }
+        ensures { self.new ≡ with_range self.old (64 * place + low) (high - low) }
+    {
+        let digits = ones_between(low, high);
+        self.words[place as usize] |= digits;
     }
 
     /// The object is no member any more.
@@ -172,14 +198,51 @@ impl ObjectSet {
         self.words[place] &= !(1 << (object % 64));
     }
 
-    /// The objects from `first` on, up to but not with `end`, are no members any more.
+    /// The objects from `first` on, up to but not with `end`, are no members any more: whole words
+    /// at a time.
     pub fn remove_range(&mut self, first: u32, end: u32)
         requires order { first ≤ end }
         requires small { end ≤ 2048 }
         ensures { self.new ≡ without_range self.old first (end - first) }
     {
-        for object in first..end {
-            self.remove(object);
+        let mut from = first;
+        while from < end {
+            let place = from / 64;
+            let high = (end - 64 * place).min(64);
+            self.remove_in(place, from % 64, high);
+            from = 64 * place + high;
         }
     }
+
+    /// The objects of one word from its digit `low` on, up to but not with `high`, are no members
+    /// any more.
+    fn remove_in(&mut self, place: u32, low: u32, high: u32)
+        requires place { place < 32 }
+        requires order { low ≤ high }
+        requires small { high ≤ 64 }
+        ensures { self.new ≡ without_range self.old (64 * place + low) (high - low) }
+    {
+        let digits = ones_between(low, high);
+        self.words[place as usize] &= !digits;
+    }
+}
+
+/// The word whose digits 1 stand from `low` on, up to but not with `high`.
+fn ones_between(low: u32, high: u32) -> u64
+    requires order { low ≤ high }
+    requires small { high ≤ 64 }
+    ensures { result ≡ 2 ^ high - 2 ^ low }
+{
+    below(high) - below(low)
+}
+
+/// The word whose digits 1 stand below that place; all of them where it is 64.
+fn below(place: u32) -> u64
+    requires { place ≤ 64 }
+    ensures { result ≡ 2 ^ place - 1 }
+{
+    if place == 64 {
+        return u64::MAX;
+    }
+    (1 << place) - 1
 }

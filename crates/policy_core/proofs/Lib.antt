@@ -4,6 +4,7 @@ mod CommandLaws
 mod CountLaws
 mod FewerLaws
 mod NumberLaws
+mod OpeningLaws
 mod ReviewLaws
 mod SetLaws
 mod SlotLaws

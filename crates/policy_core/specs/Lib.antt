@@ -1,5 +1,6 @@
 pub mod Access
 pub mod Commands
+pub mod Opening
 pub mod Reviews
 pub mod Seen
 pub mod State

@@ -4,10 +4,12 @@ ghost use Rattle.std.specs.Map.{lookup};
 ghost use Rattle.role_hierarchy.specs.Below.{IsOrder};
 ghost use Rattle.separation_core.specs.Groups.{AreSets};
 ghost use Rattle.policy_core.specs.State.{IsPolicy, no_policy, user_of};
+ghost use Rattle.policy_core.specs.Opening.{opening, set_up};
 
+use crate::refusal::Refusal;
 use crate::session::{Counting, Session};
 use indexmap::IndexMap;
-use permission_core::Permissions;
+use permission_core::{ObjectRange, Operation, Permissions};
 use role_hierarchy::{Hierarchy, RoleSet};
 use separation_core::{Name, Sets};
 use std::alloc::{AllocError, Global};
@@ -71,6 +73,35 @@ impl Policy {
         })
     }
 
+    /// The policy that a board begins with: the user `root`, assigned to the role `root`, which may
+    /// `admin` the board and nothing else, and session 1 of that user with that role active.
+    pub fn opening(alloc: Global, customers: u32, vehicles: u32) -> Result<Policy, AllocError>
+        requires customers { customers ≤ 1000 }
+        requires vehicles { vehicles ≤ 1000 }
+        ensures { IfOk result (λ policy. policy ≡ opening customers vehicles) }
+    {
+        let Some(root) = Name::new(b"root") else {
+            unreachable!()
+        };
+        let mut policy = Policy::new(alloc, customers, vehicles)?;
+        match policy.set_up(root) {
+            Ok(()) => Ok(policy),
+            Err(_) => Err(AllocError),
+        }
+    }
+
+    /// Adds the user and the role of that name, and opens a session of it.
+    fn set_up(&mut self, root: Name) -> Result<(), Refusal>
+        ensures { OnOk result (self.new ≡ set_up self.old root) }
+    {
+        self.add_user(root)?;
+        self.add_role(root)?;
+        self.assign_user(root, root)?;
+        self.grant_permission(root, Operation::Admin, ObjectRange::Board)?;
+        self.create_session(root, &[root])?;
+        Ok(())
+    }
+
     /// An equal policy, which changes apart from this one.
     pub fn copy(&self) -> Result<Policy, AllocError>
         ensures { IfOk result (λ policy. policy ≡ self.now) }
@@ -115,6 +146,13 @@ impl Policy {
         ensures small { result ≤ 1000 }
     {
         self.customers
+    }
+
+    /// Which roles of a session DSD counts.
+    pub fn counting(&self) -> Counting
+        ensures { result ≡ self.now.counting }
+    {
+        self.counting
     }
 
     /// How many vehicles there are, at most 1,000.

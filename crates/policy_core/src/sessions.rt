@@ -4,7 +4,7 @@ ghost use Rattle.std.specs.Map.{lookup};
 ghost use Rattle.std.specs.Result.{result_err};
 ghost use Rattle.std.specs.List.{list_all};
 ghost use Rattle.role_hierarchy.specs.Below.{closed};
-ghost use Rattle.policy_core.specs.State.{is_session, is_role, user_of, with_session, broken_dsd, counted};
+ghost use Rattle.policy_core.specs.State.{is_session, session_of, is_role, user_of, with_session, broken_dsd, counted};
 ghost use Rattle.policy_core.specs.Commands.{Says, authorized_for, slots_of, opened, open_refusal, shut, close_refusal, activated, activate_refusal, deactivated, deactivate_refusal, migrated, migrate_refusal, migrated_session};
 
 use crate::policy::Policy;
@@ -158,6 +158,24 @@ impl Policy {
         self.counting = Counting::Inherited;
         empty_broken(&mut self.sessions, &self.order, &self.dsd);
         Ok(())
+    }
+
+    /// The number of the session that was created last, 0 where none was. The next one is one
+    /// more, and no number is used twice.
+    pub fn last_session(&self) -> u32
+        ensures { result ≡ self.now.last }
+    {
+        self.last
+    }
+
+    /// The roles that are active in the session; none where there is no such session.
+    pub fn active_roles(&self, session: u32) -> RoleSet
+        ensures { result ≡ (session_of self.now session).active }
+    {
+        match self.sessions.get(&session) {
+            Some(found) => found.active,
+            None => RoleSet::new(),
+        }
     }
 
     /// The session of the number.

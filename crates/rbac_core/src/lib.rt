@@ -4,11 +4,18 @@
 #![tactic(auto)]
 
 mod command;
+mod effects;
+mod names;
 mod steps;
 mod twin;
 
 pub use command::{Command, Outcome};
+pub use effects::{access_stays, affected};
+pub use names::Names;
 pub use permission_core::{Object, ObjectRange, ObjectSet, Operation};
 pub use policy_core::{Counting, Policy, Refusal, Session};
 pub use steps::{carry_out, guard, guard_by, is_own, step};
 pub use twin::Twin;
+
+#[cfg(test)]
+mod tests;

@@ -114,7 +114,7 @@ pub fn carry_out(policy: &mut Policy, command: &Command) -> Result<Outcome, Refu
             number,
             roles,
         } => {
-            policy.create_ssd_set(*name, *number, roles)?;
+            policy.create_ssd_set(*name, *number, roles.as_slice())?;
             Ok(Outcome::Done)
         }
         Command::AddSsdRoleMember { name, role } => {
@@ -138,7 +138,7 @@ pub fn carry_out(policy: &mut Policy, command: &Command) -> Result<Outcome, Refu
             number,
             roles,
         } => {
-            policy.create_dsd_set(*name, *number, roles)?;
+            policy.create_dsd_set(*name, *number, roles.as_slice())?;
             Ok(Outcome::Done)
         }
         Command::AddDsdRoleMember { name, role } => {
@@ -158,7 +158,7 @@ pub fn carry_out(policy: &mut Policy, command: &Command) -> Result<Outcome, Refu
             Ok(Outcome::Done)
         }
         Command::CreateSession { user, roles } => {
-            let number = policy.create_session(*user, roles)?;
+            let number = policy.create_session(*user, roles.as_slice())?;
             Ok(Outcome::Session(number))
         }
         Command::DeleteSession { session } => {
