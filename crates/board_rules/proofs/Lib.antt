@@ -9,6 +9,7 @@ mod Existing
 mod Finds
 mod Good
 mod Headline
+mod Held
 mod Histories
 mod Keeping
 mod Orders

@@ -12,3 +12,4 @@ pub mod Questions
 pub mod Good
 pub mod Given
 pub mod Proposals
+pub mod Separate

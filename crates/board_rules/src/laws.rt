@@ -32,6 +32,7 @@ ghost use Rattle.board_rules.specs.History.{Opening, History, state_after, turns
 ghost use Rattle.board_rules.specs.Good.{IsGood, state_of, state_at};
 ghost use Rattle.board_rules.specs.Given.{Laws};
 ghost use Rattle.board_rules.specs.Proposals.{MayCommit, IsFirstFailed};
+ghost use Rattle.board_rules.specs.Separate.{IsSeparated};
 ghost use Rattle.board_rules.specs.Unchanged.{KeepsTheRest};
 
 use dimension_core::{first_out_is_alone, spans_go_on};
@@ -104,6 +105,12 @@ pub fn histories_settle_policies()
     ensures customers { (h : History) → (state_of h).policy.customers ≡ h.opening.setting.customers }
     ensures vehicles { (h : History) → (state_of h).policy.vehicles ≡ h.opening.setting.vehicles }
     ensures access { (h : History) (session : ℕ) (operation : Operation) (object : Object) → (has_access (state_of h).policy session operation object ≡ true) ↔ CheckAccess (state_of h).policy session operation object }
+{}
+
+/// After a history separation of duty holds: of each SSD set fewer roles than its number are among those for which a user is
+/// authorized, and of each DSD set fewer than its number among those that are counted for a session.
+pub fn separation_of_duty_holds()
+    ensures { (h : History) → IsSeparated (state_of h).policy }
 {}
 
 /// The headline. After each legal history a proposal is committed exactly where its session exists, each named vehicle is in the fleet,
