@@ -50,11 +50,11 @@ fn what_the_policy_refuses(rt: HostRuntime) -> Result<(), Fail> {
 #[test]
 fn texts_of_faults(rt: HostRuntime) -> Result<(), Fail> {
     assert_eq!(rt;
-        format!(in rt.alloc(); "{}", Fault::Full)?,
+        format!(in rt.alloc(); "{}", Fault::Full)?.as_str(),
         "the journal is full"
     );
     assert_eq!(rt;
-        format!(in rt.alloc(); "{}", AskFault::NoUser)?,
+        format!(in rt.alloc(); "{}", AskFault::NoUser)?.as_str(),
         "there is no such user"
     );
     Ok(())
