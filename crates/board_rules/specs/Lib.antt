@@ -1,0 +1,15 @@
+pub mod Policies
+pub mod Override
+pub mod State
+pub mod Rules
+pub mod Pinning
+pub mod Step
+pub mod Unchanged
+pub mod History
+pub mod Listing
+pub mod Delta
+pub mod Questions
+pub mod Good
+pub mod Given
+pub mod Proposals
+pub mod Separate
