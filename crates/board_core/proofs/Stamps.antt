@@ -2,7 +2,8 @@
 use Rattle.std.proofs.Common.{◌≡◌, ℕ, zero, suc, ◌+◌, Bool, true, false, List, [], ◌∷◌, refl, ap, ◌∙◌, arith}
 use Rattle.std.specs.Prelude.{◌||◌, nat_lt, if◌then◌else◌}
 use Rattle.std.proofs.lemmas.Grind.{common_steps}
-use Rattle.plan_core.specs.Commits.{has, last_commit}
+use Rattle.plan_core.specs.Among.{is_among}
+use Rattle.plan_core.specs.Commits.{last_commit}
 use Rattle.board_core.specs.Rules.{is_changed_after}
 
 -- the number of the last commit of one more list, of whose rest the last is n
@@ -27,5 +28,5 @@ pub changed_by_stamp : (commits : List (List ℕ)) (base v : ℕ) → is_changed
 unfolding first_last
 changed_by_stamp [] zero v = refl
 changed_by_stamp [] (suc base) v = grind (arith, common_steps)
-changed_by_stamp (c ∷ cs) zero v = ap (λ b. has v c || b) (changed_by_stamp cs zero v) ∙ below (has v c) (last_commit v cs)
-changed_by_stamp (c ∷ cs) (suc base) v = changed_by_stamp cs base v ∙ above (has v c) base (last_commit v cs)
+changed_by_stamp (c ∷ cs) zero v = ap (λ b. is_among v c || b) (changed_by_stamp cs zero v) ∙ below (is_among v c) (last_commit v cs)
+changed_by_stamp (c ∷ cs) (suc base) v = changed_by_stamp cs base v ∙ above (is_among v c) base (last_commit v cs)

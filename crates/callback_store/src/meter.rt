@@ -13,7 +13,7 @@ pub struct Meter {
 
 impl Meter {
     ghost use Rattle.std.specs.Prelude.{◌≡◌};
-    ghost use Rattle.callback_store.specs.Meter.{after_ask, after_probe, after_walk};
+    ghost use Rattle.callback_store.specs.Meter.{after_ask, after_probe, after_walk, AsksAtMost};
 
     /// A meter that has counted nothing.
     pub fn new() -> Meter
@@ -28,7 +28,8 @@ impl Meter {
 
     /// Counts one ask.
     pub fn ask(&mut self)
-        ensures { self.new ≡ after_ask self.old }
+        ensures value { self.new ≡ after_ask self.old }
+        ensures one { AsksAtMost self.old self.new 1 }
     {
         self.asks = self.asks.saturating_add(1);
     }

@@ -1,5 +1,5 @@
 ghost use Rattle.std.specs.Prelude.{◌≡◌, ℕ, ◌+◌, ◌*◌, ◌<◌, ◌≤◌, ◌↔◌, true, false, List, [], ◌∷◌, ◌++◌, length, map, IfOk, OnErr, IsErrOf, nat_lt};
-ghost use Rattle.callback_store.specs.Meter.{after_ask};
+ghost use Rattle.callback_store.specs.Meter.{after_ask, AsksAtMost};
 ghost use Rattle.callback_store.specs.Tables.{AreTables, slot_table, pair_table, node_table, table_at, nodes_of, is_fitting, entry};
 
 use crate::meter::Meter;
@@ -160,6 +160,7 @@ impl Registry {
         ensures answer { result ≡ entry (table_at (tables self.now) id) i j }
         ensures small { result ≤ 1000000000 }
         ensures counted { meter.new ≡ after_ask meter.old }
+        ensures one { AsksAtMost meter.old meter.new 1 }
     {
         let slot = &self.slots[id.index as usize];
         slot.ask(meter, i, j)

@@ -1,6 +1,6 @@
 ghost use Rattle.std.specs.Prelude.{◌≡◌, ℕ, ◌<◌, ◌≤◌, List};
 ghost use Rattle.callback_store.specs.Callback.{PairsOf, PairsOf-prop, IsPairsOf};
-ghost use Rattle.callback_store.specs.Meter.{after_ask};
+ghost use Rattle.callback_store.specs.Meter.{after_ask, AsksAtMost};
 
 use crate::meter::Meter;
 
@@ -47,6 +47,7 @@ impl Transit {
         ensures answer { result ≡ entry (pair_table self.now) i j }
         ensures small { result ≤ 1000000000 }
         ensures counted { meter.new ≡ after_ask meter.old }
+        ensures one { AsksAtMost meter.old meter.new 1 }
     {
         meter.ask();
         (self.call)(i, j)

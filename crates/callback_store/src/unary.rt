@@ -1,6 +1,6 @@
 ghost use Rattle.std.specs.Prelude.{◌≡◌, ℕ, ◌<◌, ◌≤◌, List, slice_index};
 ghost use Rattle.callback_store.specs.Callback.{TableOf, TableOf-prop, IsTableOf};
-ghost use Rattle.callback_store.specs.Meter.{after_ask};
+ghost use Rattle.callback_store.specs.Meter.{after_ask, AsksAtMost};
 
 use crate::meter::Meter;
 
@@ -46,6 +46,7 @@ impl Unary {
         ensures answer { result ≡ slice_index (node_table self.now).entries i }
         ensures small { result ≤ 1000000000 }
         ensures counted { meter.new ≡ after_ask meter.old }
+        ensures one { AsksAtMost meter.old meter.new 1 }
     {
         meter.ask();
         (self.call)(i)

@@ -1,4 +1,5 @@
 ghost use Rattle.std.specs.Prelude.{◌≡◌, ℕ, ◌+◌, ◌*◌, ◌≤◌, All, List, length, MatchOption};
+ghost use Rattle.callback_store.specs.Meter.{AsksAtMost};
 ghost use Rattle.dimension_core.specs.Feasible.{FitsAll, IsFirstOut};
 ghost use Rattle.dimension_core.specs.Setting.{Setting, IsSetting};
 ghost use Rattle.dimension_core.specs.Setup.{setting};
@@ -15,7 +16,7 @@ pub fn first_out(setup: &Setup, vehicle: u32, route: &[u32], meter: &mut Meter) 
     requires low { 1 ≤ vehicle }
     requires high { vehicle ≤ (setting setup.now).vehicles }
     ensures first { MatchOption result (FitsAll (setting setup.now) vehicle route.now) (IsFirstOut (setting setup.now) vehicle route.now) }
-    ensures asks { meter.new.asks ≤ meter.old.asks + length (setting setup.now).dimensions * (length route.now + 1) }
+    ensures asks { AsksAtMost meter.old meter.new (length (setting setup.now).dimensions * (length route.now + 1)) }
     ensures sound { IsSetting (setting setup.now) }
 {
     for (k, dimension) in setup.dimensions().iter().enumerate() {

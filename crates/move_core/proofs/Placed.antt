@@ -3,9 +3,9 @@ use Rattle.std.proofs.lemmas.List.{get_or_default, append_assoc, drop_more}
 use Rattle.std.proofs.lemmas.List.Folds.{Any-from_list_any, list_any_at}
 use Rattle.plan_core.specs.declared.touch.Touch.{Touch}
 use Rattle.plan_core.specs.Plan.{StandsAt, IsPlaced, route_at}
-use Rattle.plan_core.specs.Commits.{has}
+use Rattle.plan_core.specs.Among.{is_among as has}
 use Rattle.plan_core.proofs.Places.{contains_from_stands, stands_from_contains}
-use Rattle.plan_core.proofs.LastCommits.{contains_from_has, has_from_contains}
+use Rattle.plan_core.proofs.LastCommits.{contains_from_among as contains_from_has, among_from_contains as has_from_contains}
 use Rattle.move_core.specs.Moves.{is_placed}
 use Rattle.move_core.specs.Touched.{touches}
 

@@ -7,9 +7,9 @@ use Rattle.std.proofs.lemmas.List.Folds.{list_any-append}
 use Rattle.plan_core.specs.declared.touch.Touch.{Touch}
 use Rattle.plan_core.specs.Plan.{StandsAt, route_at, with_routes}
 use Rattle.plan_core.proofs.Places.{contains_from_stands, stands_from_contains}
-use Rattle.plan_core.proofs.LastCommits.{contains_from_has, has_from_contains}
+use Rattle.plan_core.proofs.LastCommits.{contains_from_among as contains_from_has, among_from_contains as has_from_contains}
 use Rattle.plan_core.proofs.Exchange.{length-with_routes}
-use Rattle.plan_core.specs.Commits.{has}
+use Rattle.plan_core.specs.Among.{is_among as has}
 use Rattle.move_core.specs.declared.moves.Move.{Move}
 use Rattle.move_core.specs.declared.moves.Move.TheVariants.{Insert, Remove, Shift, Swap, Reverse, Cross}
 use Rattle.move_core.specs.Moves.{is_possible, changes_by, stretch, without, customer_at}

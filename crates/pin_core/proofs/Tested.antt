@@ -2,7 +2,7 @@ use Rattle.std.proofs.Common.{◌≡◌, ℕ, zero, suc, ◌+◌, ◌-◌, ◌<�
 use Rattle.std.proofs.lemmas.Bool.{and_parts, leb-true, cases_eq, ne_eqb}
 use Rattle.plan_core.specs.declared.touch.Touch.{Touch}
 use Rattle.plan_core.specs.Plan.{route_at}
-use Rattle.plan_core.specs.Commits.{has}
+use Rattle.plan_core.specs.Among.{is_among as has}
 use Rattle.pin_core.specs.Pins.{PinState, StandsOn, DoPinsHold, DoFrontsFit}
 use Rattle.pin_core.specs.Allowed.{IsTouched, AreAllTouched}
 use Rattle.pin_core.proofs.Standing.{contains_from_test, stands_from_contains}

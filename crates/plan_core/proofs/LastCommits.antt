@@ -3,18 +3,19 @@ use Rattle.std.proofs.lemmas.Bool.{ne_eqb, eq-eqb, eqb-true, cases_eq, cases_ord
 use Rattle.std.proofs.lemmas.List.{get_or_default, get_or-set_same, get_or-set_other, length-set, length_push}
 use Rattle.std.proofs.lemmas.List.Folds.{Any-from_list_any, list_any_at}
 use Rattle.plan_core.specs.Plan.{Changes, PlanState, AreApart, replaced, with_stamps}
-use Rattle.plan_core.specs.Commits.{IsChange, IsCurrentAt, IsLastCommit, AreStamps, has, last_commit, named_vehicles}
+use Rattle.plan_core.specs.Among.{is_among}
+use Rattle.plan_core.specs.Commits.{IsChange, IsCurrentAt, IsLastCommit, AreStamps, last_commit, named_vehicles}
 use Rattle.plan_core.proofs.Exchange.{length-with_stamps}
 
 -- a set holds a vehicle exactly where the test says so
-pub contains_from_has : (v : ℕ) (xs : List ℕ) → has v xs ≡ true → Contains xs v
-contains_from_has v xs h =
+pub contains_from_among : (v : ℕ) (xs : List ℕ) → is_among v xs ≡ true → Contains xs v
+contains_from_among v xs h =
     let some = Any-from_list_any (λ w. w == v) xs h in
     let same : some.1 ≡ v = eqb-true some.1 v some.4 in
     (some.0, some.2, get_or_default xs some.0 v some.1 some.2 ∙ some.3 ∙ same)
 
-pub has_from_contains : (v : ℕ) (xs : List ℕ) → Contains xs v → has v xs ≡ true
-has_from_contains v xs (k, h, e) = list_any_at (λ w. w == v) xs k v h (eq-eqb (get_or xs k v) v e)
+pub among_from_contains : (v : ℕ) (xs : List ℕ) → Contains xs v → is_among v xs ≡ true
+among_from_contains v xs (k, h, e) = list_any_at (λ w. w == v) xs k v h (eq-eqb (get_or xs k v) v e)
 
 -- the commits after the first one, counted on
 change_later : (s : List ℕ) (ss : List (List ℕ)) (j k v : ℕ) → j ≡ k + 1 → IsChange ss k v → IsChange (s ∷ ss) j v
@@ -46,9 +47,9 @@ last_some v s ss m some l = record {
     after v s ss m (suc k) above l c = l.latest k (omega arith) (change_earlier s ss (suc k) k v (omega arith) (omega arith) c)
 
 -- where it has none, the first set decides
-last_none : (v : ℕ) (s : List ℕ) (ss : List (List ℕ)) (b : Bool) → has v s ≡ b → IsLastCommit ss v 0 → IsLastCommit (s ∷ ss) v (if b then 1 else 0)
+last_none : (v : ℕ) (s : List ℕ) (ss : List (List ℕ)) (b : Bool) → is_among v s ≡ b → IsLastCommit ss v 0 → IsLastCommit (s ∷ ss) v (if b then 1 else 0)
 last_none v s ss true h l = record {
-  made = inr (record { low = omega arith; high = omega arith; changed = contains_from_has v s h });
+  made = inr (record { low = omega arith; high = omega arith; changed = contains_from_among v s h });
   latest = λ k above c. after v s ss k above l c;
 }
   where
@@ -60,12 +61,12 @@ last_none v s ss false h l = record {
   latest = λ k above c. none v s ss k h l c above;
 }
   where
-    none : (v : ℕ) (s : List ℕ) (ss : List (List ℕ)) (k : ℕ) → has v s ≡ false → IsLastCommit ss v 0 → IsChange (s ∷ ss) k v → 0 < k → ⊥
+    none : (v : ℕ) (s : List ℕ) (ss : List (List ℕ)) (k : ℕ) → is_among v s ≡ false → IsLastCommit ss v 0 → IsChange (s ∷ ss) k v → 0 < k → ⊥
     none v s ss zero h l c above = omega arith
-    none v s ss (suc zero) h l c above = let yes = has_from_contains v s c.changed in let e : true ≡ false = sym yes ∙ h in cc
+    none v s ss (suc zero) h l c above = let yes = among_from_contains v s c.changed in let e : true ≡ false = sym yes ∙ h in cc
     none v s ss (suc (suc k)) h l c above = l.latest (suc k) (omega arith) (change_earlier s ss (suc (suc k)) (suc k) v (omega arith) (omega arith) c)
 
-last_cons : (v : ℕ) (s : List ℕ) (ss : List (List ℕ)) (m : ℕ) (b : Bool) → has v s ≡ b → IsLastCommit ss v m
+last_cons : (v : ℕ) (s : List ℕ) (ss : List (List ℕ)) (m : ℕ) (b : Bool) → is_among v s ≡ b → IsLastCommit ss v m
     → IsLastCommit (s ∷ ss) v (if nat_lt 0 m then m + 1 else if b then 1 else 0)
 last_cons v s ss zero b h l = last_none v s ss b h l
 last_cons v s ss (suc m) b h l = rw (lt-ltb 0 (suc m) (omega arith)) (last_some v s ss (suc m) (omega arith) l)
@@ -73,7 +74,7 @@ last_cons v s ss (suc m) b h l = rw (lt-ltb 0 (suc m) (omega arith)) (last_some 
 -- the number is what its name says
 pub last_is : (commits : List (List ℕ)) (v : ℕ) → IsLastCommit commits v (last_commit v commits)
 last_is [] v = record { made = inl refl; latest = λ k above c. omega (arith, c.low, c.high) }
-last_is (s ∷ ss) v = last_cons v s ss (last_commit v ss) (has v s) refl (last_is ss v)
+last_is (s ∷ ss) v = last_cons v s ss (last_commit v ss) (is_among v s) refl (last_is ss v)
 
 pub current_to : (commits : List (List ℕ)) (base v n : ℕ) → IsLastCommit commits v n → IsCurrentAt commits base v → n ≤ base
 current_to commits base v n l current = split commits base v n l.made current (cases_order base n)
@@ -95,11 +96,11 @@ last_only commits v n m l k =
 
 -- one more commit
 pub last_commit-push : (commits : List (List ℕ)) (changed : List ℕ) (v : ℕ)
-    → last_commit v (commits ++ changed ∷ []) ≡ (if has v changed then length commits + 1 else last_commit v commits)
+    → last_commit v (commits ++ changed ∷ []) ≡ (if is_among v changed then length commits + 1 else last_commit v commits)
 last_commit-push [] changed v = refl
 last_commit-push (s ∷ ss) changed v =
-    ap (λ (n : ℕ). if nat_lt 0 n then n + 1 else if has v s then 1 else 0) (last_commit-push ss changed v)
-    ∙ pushed (has v changed) (has v s) (length ss) (last_commit v ss)
+    ap (λ (n : ℕ). if nat_lt 0 n then n + 1 else if is_among v s then 1 else 0) (last_commit-push ss changed v)
+    ∙ pushed (is_among v changed) (is_among v s) (length ss) (last_commit v ss)
   where
     pushed : (b d : Bool) (n m : ℕ) → (if nat_lt 0 (if b then n + 1 else m) then (if b then n + 1 else m) + 1 else if d then 1 else 0)
         ≡ (if b then suc n + 1 else if nat_lt 0 m then m + 1 else if d then 1 else 0)
@@ -108,12 +109,12 @@ last_commit-push (s ∷ ss) changed v =
 
 -- the stamps after some changes
 stamps_at : (changes : Changes) (n : ℕ) (stamps : List ℕ) (v vehicles : ℕ) → AreApart vehicles changes → 1 ≤ v → v ≤ length stamps
-    → slice_index (with_stamps changes n stamps) (v - 1) ≡ (if has v (named_vehicles changes) then n else slice_index stamps (v - 1))
+    → slice_index (with_stamps changes n stamps) (v - 1) ≡ (if is_among v (named_vehicles changes) then n else slice_index stamps (v - 1))
 stamps_at [] n stamps v vehicles apart low high = refl
 stamps_at (c ∷ cs) n stamps v vehicles (one, top, once, apart) low high =
     let long : v ≤ length (slice_set stamps (c.0 - 1) n) = rw (length-set stamps (c.0 - 1) n) high in
     stamps_at cs n (slice_set stamps (c.0 - 1) n) v vehicles apart low long
-    ∙ split (has v (named_vehicles cs)) c.0 v n stamps one low high (cases_eq c.0 v)
+    ∙ split (is_among v (named_vehicles cs)) c.0 v n stamps one low high (cases_eq c.0 v)
   where
     split : (b : Bool) (w v n : ℕ) (stamps : List ℕ) → 1 ≤ w → 1 ≤ v → v ≤ length stamps → (w ≡ v) ⊎ (w ≡ v → ⊥)
         → (if b then n else slice_index (slice_set stamps (w - 1) n) (v - 1)) ≡ (if w == v || b then n else slice_index stamps (v - 1))
@@ -132,7 +133,7 @@ stamps_more commits plan changes kept apart = record {
   stamps = λ v low high.
       let long : v ≤ length plan.stamps = rw (length-with_stamps changes (plan.version + 1) plan.stamps) at high in
       stamps_at changes (plan.version + 1) plan.stamps v (length plan.stamps) apart low long
-      ∙ ap (λ (n : ℕ). if has v (named_vehicles changes) then n + 1 else slice_index plan.stamps (v - 1)) kept.version
-      ∙ ap (λ (n : ℕ). if has v (named_vehicles changes) then length commits + 1 else n) (kept.stamps v low long)
+      ∙ ap (λ (n : ℕ). if is_among v (named_vehicles changes) then n + 1 else slice_index plan.stamps (v - 1)) kept.version
+      ∙ ap (λ (n : ℕ). if is_among v (named_vehicles changes) then length commits + 1 else n) (kept.stamps v low long)
       ∙ sym (last_commit-push commits (named_vehicles changes) v);
 }

@@ -1,8 +1,12 @@
-pub mod Places
+pub mod Costs
 pub mod Exchange
+pub mod Fronts
+pub mod Kept
+pub mod KnownRoutes
+pub mod LastCommits
+pub mod Outs
+pub mod Places
 pub mod Settled
 pub mod Short
-pub mod LastCommits
-pub mod Ways
-pub mod Kept
 pub mod Tested
+pub mod Ways

@@ -52,3 +52,14 @@ pub not_there : (routes : List (List ℕ)) (row : List ℕ) (c v : ℕ) (r : Lis
 not_there routes row c v r homes home e out w p s =
     let same : w ≡ v = sym (homes.at c w p s) ∙ sym home in
     out (subst (λ (xs : List ℕ). Contains xs c) (ap (λ (u : ℕ). route_at routes u) same ∙ sym e) (contains_from_stands routes c w p s))
+
+-- who is read at a place of a route stands there
+pub stands_at : (routes : List (List ℕ)) (v k : ℕ) → 1 ≤ v → v ≤ length routes → k < length (route_at routes v) → StandsAt routes (get_or (route_at routes v) k 0) v (k + 1)
+stands_at routes v k low high h =
+    let back : k + 1 - 1 ≡ k = omega arith in
+    record {
+      low = low;
+      high = high;
+      place = omega arith;
+      found = ap (λ (n : ℕ). slice_get (route_at routes v) n) back ∙ slice_get-get_or (route_at routes v) k 0 h;
+    }

@@ -1,13 +1,12 @@
-use Rattle.std.proofs.Common.{◌≡◌, ◌≢◌, ℕ, zero, suc, ◌+◌, ◌-◌, ◌<◌, ◌≤◌, ◌⊎◌, ◌∙◌, sym, ap, subst, arith, inl, inr, List, [], ◌∷◌, length, slice_get, get_or, map, All, true, false, nat_eq}
+use Rattle.std.proofs.Common.{◌≡◌, ◌≢◌, ℕ, zero, suc, ◌+◌, ◌-◌, ◌<◌, ◌≤◌, ◌⊎◌, ◌∙◌, sym, ap, subst, arith, inl, inr, List, [], ◌∷◌, length, get_or, map, All, true, false, nat_eq}
 use Rattle.std.specs.List.{IsDistinct, list_any}
 use Rattle.std.proofs.lemmas.Bool.{ne_eqb, eqb-true, cases_order}
 use Rattle.std.proofs.lemmas.List.{get_or_default, get_or_past, length-map}
 use Rattle.std.proofs.lemmas.List.Elements.{recursion_from_All, All-from_get_or}
 use Rattle.std.proofs.lemmas.List.Folds.{Any-from_list_any}
-use Rattle.std.proofs.lemmas.Option.{slice_get-get_or}
 use Rattle.std.proofs.lemmas.Map.Steps.{length-le_from_distinct_below}
 use Rattle.plan_core.specs.Plan.{StandsAt, IsPlan, route_at}
-use Rattle.plan_core.proofs.Places.{map_read}
+use Rattle.plan_core.proofs.Places.{map_read, stands_at}
 
 -- no number stands at two places of a list
 abbrev IsApart : List ℕ → Type 0
@@ -46,16 +45,6 @@ few_numbers xs n apart within =
         let read : get_or (0 ∷ xs) some.0 0 ≡ some.1 = get_or_default (0 ∷ xs) some.0 0 some.1 some.2 ∙ some.3 in
         let small : get_or (0 ∷ xs) some.0 0 < n + 1 = at xs n high some.0 some.2 in
         omega arith
-
-stands_at : (routes : List (List ℕ)) (v k : ℕ) → 1 ≤ v → v ≤ length routes → k < length (route_at routes v) → StandsAt routes (get_or (route_at routes v) k 0) v (k + 1)
-stands_at routes v k low high h =
-    let back : k + 1 - 1 ≡ k = omega arith in
-    record {
-      low = low;
-      high = high;
-      place = omega arith;
-      found = ap (λ (n : ℕ). slice_get (route_at routes v) n) back ∙ slice_get-get_or (route_at routes v) k 0 h;
-    }
 
 route_short : (n : ℕ) (routes : List (List ℕ)) (v : ℕ) → IsPlan n routes → 1 ≤ v → v ≤ length routes → length (route_at routes v) ≤ n
 route_short n routes v plan low high =

@@ -1,40 +1,32 @@
-use Rattle.std.proofs.Common.{◌≡◌, ℕ, zero, suc, ◌-◌, ◌≤◌, ◌∙◌, sym, ap, subst, refl, arith, List, [], ◌∷◌, slice_get, get_or, Some, Bool, true, false, not, nat_le, ◌&&◌, ◌||◌}
+use Rattle.std.proofs.Common.{◌≡◌, ℕ, zero, suc, ◌-◌, ◌≤◌, ◌∙◌, sym, ap, subst, refl, arith, List, [], ◌∷◌, slice_get, get_or, Some, Bool, true, false, not, nat_le, ◌||◌}
 use Rattle.std.specs.List.{list_any}
 use Rattle.std.proofs.lemmas.Bool.{and_parts, not-true, leb-true}
 use Rattle.std.proofs.lemmas.List.Folds.{list_any_at}
 use Rattle.plan_core.specs.Plan.{IsPlan}
-use Rattle.plan_core.specs.Commits.{has}
-use Rattle.plan_core.proofs.LastCommits.{has_from_contains}
+use Rattle.plan_core.specs.Among.{is_among}
+use Rattle.plan_core.specs.Tested.{is_route, is_plan}
+use Rattle.plan_core.proofs.LastCommits.{among_from_contains}
 use Rattle.plan_core.proofs.Places.{contains_from_place}
-
--- A test that a plan written out passes: each customer is 1 to n, and stands neither later on its route nor on a later route.
-abbrev pub is_route : ℕ → List ℕ → List (List ℕ) → Bool
-is_route n [] later = true
-is_route n (c ∷ cs) later = nat_le 1 c && (nat_le c n && (not (has c cs) && (not (list_any (λ r. has c r) later) && is_route n cs later)))
-
-abbrev pub is_plan : ℕ → List (List ℕ) → Bool
-is_plan n [] = true
-is_plan n (r ∷ rs) = is_route n r rs && is_plan n rs
 
 -- what the test of one customer says
 record IsFree (n c : ℕ) (cs : List ℕ) (later : List (List ℕ)) : Type 0 where
   low : 1 ≤ c
   high : c ≤ n
-  once : has c cs ≡ false
-  here : list_any (λ r. has c r) later ≡ false
+  once : is_among c cs ≡ false
+  here : list_any (λ r. is_among c r) later ≡ false
   rest : is_route n cs later ≡ true
 
 free_from_test : (n c : ℕ) (cs : List ℕ) (later : List (List ℕ)) → is_route n (c ∷ cs) later ≡ true → IsFree n c cs later
 free_from_test n c cs later t =
     let a = and_parts (nat_le 1 c) _ t in
     let b = and_parts (nat_le c n) _ a.1 in
-    let d = and_parts (not (has c cs)) _ b.1 in
-    let e = and_parts (not (list_any (λ r. has c r) later)) _ d.1 in
+    let d = and_parts (not (is_among c cs)) _ b.1 in
+    let e = and_parts (not (list_any (λ r. is_among c r) later)) _ d.1 in
     record {
       low = leb-true 1 c a.0;
       high = leb-true c n b.0;
-      once = not-true (has c cs) d.0;
-      here = not-true (list_any (λ r. has c r) later) e.0;
+      once = not-true (is_among c cs) d.0;
+      here = not-true (list_any (λ r. is_among c r) later) e.0;
       rest = e.1;
     }
 
@@ -51,11 +43,11 @@ route_known n (d ∷ cs) later (suc i) c t e = route_known n cs later i c (free_
 
 -- a customer of the route is on no later route
 route_apart : (n : ℕ) (cs : List ℕ) (later : List (List ℕ)) (i c : ℕ) → is_route n cs later ≡ true → slice_get cs i ≡ Some c
-    → list_any (λ r. has c r) later ≡ false
+    → list_any (λ r. is_among c r) later ≡ false
 route_apart n [] later i c t e = absurd cc
 route_apart n (d ∷ cs) later zero c t e =
     let same : d ≡ c = cc in
-    subst (λ (m : ℕ). list_any (λ r. has m r) later ≡ false) same (free_from_test n d cs later t).here
+    subst (λ (m : ℕ). list_any (λ r. is_among m r) later ≡ false) same (free_from_test n d cs later t).here
 route_apart n (d ∷ cs) later (suc i) c t e = route_apart n cs later i c (free_from_test n d cs later t).rest e
 
 -- and at one place of it
@@ -64,10 +56,10 @@ route_alone n [] later i j c t e f = absurd cc
 route_alone n (d ∷ cs) later zero zero c t e f = refl
 route_alone n (d ∷ cs) later zero (suc j) c t e f =
     let same : d ≡ c = cc in
-    absurd (clash (has c cs) (has_from_contains c cs (contains_from_place cs j c f)) (subst (λ (m : ℕ). has m cs ≡ false) same (free_from_test n d cs later t).once))
+    absurd (clash (is_among c cs) (among_from_contains c cs (contains_from_place cs j c f)) (subst (λ (m : ℕ). is_among m cs ≡ false) same (free_from_test n d cs later t).once))
 route_alone n (d ∷ cs) later (suc i) zero c t e f =
     let same : d ≡ c = cc in
-    absurd (clash (has c cs) (has_from_contains c cs (contains_from_place cs i c e)) (subst (λ (m : ℕ). has m cs ≡ false) same (free_from_test n d cs later t).once))
+    absurd (clash (is_among c cs) (among_from_contains c cs (contains_from_place cs i c e)) (subst (λ (m : ℕ). is_among m cs ≡ false) same (free_from_test n d cs later t).once))
 route_alone n (d ∷ cs) later (suc i) (suc j) c t e f = ap (λ (m : ℕ). suc m) (route_alone n cs later i j c (free_from_test n d cs later t).rest e f)
 
 plan_known : (n : ℕ) (routes : List (List ℕ)) (k i c : ℕ) → is_plan n routes ≡ true → slice_get (get_or routes k []) i ≡ Some c → (1 ≤ c) × (c ≤ n)
@@ -76,10 +68,10 @@ plan_known n (r ∷ rs) zero i c t e = route_known n r rs i c (and_parts (is_rou
 plan_known n (r ∷ rs) (suc k) i c t e = plan_known n rs k i c (and_parts (is_route n r rs) _ t).1 e
 
 -- who stands on some route is found by the test
-found_on : (routes : List (List ℕ)) (k i c : ℕ) → slice_get (get_or routes k []) i ≡ Some c → list_any (λ r. has c r) routes ≡ true
+found_on : (routes : List (List ℕ)) (k i c : ℕ) → slice_get (get_or routes k []) i ≡ Some c → list_any (λ r. is_among c r) routes ≡ true
 found_on [] k i c e = absurd cc
-found_on (r ∷ rs) zero i c e = list_any_at (λ s. has c s) (r ∷ rs) zero [] (omega arith) (has_from_contains c r (contains_from_place r i c e))
-found_on (r ∷ rs) (suc k) i c e = or_right (has c r) (list_any (λ s. has c s) rs) (found_on rs k i c e)
+found_on (r ∷ rs) zero i c e = list_any_at (λ s. is_among c s) (r ∷ rs) zero [] (omega arith) (among_from_contains c r (contains_from_place r i c e))
+found_on (r ∷ rs) (suc k) i c e = or_right (is_among c r) (list_any (λ s. is_among c s) rs) (found_on rs k i c e)
   where
     or_right : (b d : Bool) → d ≡ true → (b || d) ≡ true
     or_right true d h = refl
@@ -90,9 +82,9 @@ plan_alone : (n : ℕ) (routes : List (List ℕ)) (k l i j c : ℕ) → is_plan 
 plan_alone n [] k l i j c t e f = absurd cc
 plan_alone n (r ∷ rs) zero zero i j c t e f = (refl, route_alone n r rs i j c (and_parts (is_route n r rs) _ t).0 e f)
 plan_alone n (r ∷ rs) zero (suc l) i j c t e f =
-    absurd (clash (list_any (λ s. has c s) rs) (found_on rs l j c f) (route_apart n r rs i c (and_parts (is_route n r rs) _ t).0 e))
+    absurd (clash (list_any (λ s. is_among c s) rs) (found_on rs l j c f) (route_apart n r rs i c (and_parts (is_route n r rs) _ t).0 e))
 plan_alone n (r ∷ rs) (suc k) zero i j c t e f =
-    absurd (clash (list_any (λ s. has c s) rs) (found_on rs k i c e) (route_apart n r rs j c (and_parts (is_route n r rs) _ t).0 f))
+    absurd (clash (list_any (λ s. is_among c s) rs) (found_on rs k i c e) (route_apart n r rs j c (and_parts (is_route n r rs) _ t).0 f))
 plan_alone n (r ∷ rs) (suc k) (suc l) i j c t e f =
     let p = plan_alone n rs k l i j c (and_parts (is_route n r rs) _ t).1 e f in (ap (λ (m : ℕ). suc m) p.0, p.1)
 

@@ -1,5 +1,5 @@
-use Rattle.std.specs.Prelude.{◌≡◌, ℕ, ◌+◌, ◌-◌, ◌<◌, ◌≤◌, ◌⊎◌, Bool, ◌==◌, nat_lt, if◌then◌else◌, List, [], ◌∷◌, length, map, slice_index_or, Contains}
-use Rattle.std.specs.List.{list_any}
+use Rattle.std.specs.Prelude.{◌≡◌, ℕ, ◌+◌, ◌-◌, ◌<◌, ◌≤◌, ◌⊎◌, nat_lt, if◌then◌else◌, List, [], ◌∷◌, length, map, slice_index_or, Contains}
+use Rattle.plan_core.specs.Among.{is_among}
 use Rattle.plan_core.specs.Plan.{Changes, PlanState, stamp_of}
 
 -- The commits of a plan are a list of sets of vehicles: the k-th set, counted from 1, holds the vehicles that commit k changed.
@@ -19,16 +19,12 @@ pub record IsLastCommit (commits : List (List ℕ)) (v n : ℕ) : Type 0 where
   pub made : (n ≡ 0) ⊎ IsChange commits n v
   pub latest : IsCurrentAt commits n v
 
--- whether a set of vehicles holds v
-abbrev pub has : ℕ → List ℕ → Bool
-has v changed = list_any (λ w. w == v) changed
-
 -- the number of the last commit that changed vehicle v, or 0 where none did
 abbrev pub last_commit : ℕ → List (List ℕ) → ℕ
 last_commit v [] = 0
 last_commit v (changed ∷ rest) =
     if nat_lt 0 (last_commit v rest) then last_commit v rest + 1
-    else if has v changed then 1
+    else if is_among v changed then 1
     else 0
 
 -- the vehicles that some changes name

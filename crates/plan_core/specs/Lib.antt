@@ -1,4 +1,9 @@
-pub mod Plan
-pub mod Homes
+pub mod Among
+pub mod Bounds
 pub mod Commits
 pub mod Cost
+pub mod Front
+pub mod Homes
+pub mod Laws
+pub mod Plan
+pub mod Tested

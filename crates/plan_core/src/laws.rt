@@ -1,7 +1,9 @@
 //! Laws of the definitions, each the contract of a function that does nothing.
-ghost use Rattle.std.specs.Prelude.{◌≡◌, ℕ, ◌+◌, ◌≤◌, ◌↔◌, List, [], ◌∷◌, ◌++◌, length, slice_get, Some, if◌then◌else◌};
-ghost use Rattle.plan_core.specs.Plan.{PlanState, Changes, IsPlan, IsNamed, AreApart, route_at, with_routes, replaced};
-ghost use Rattle.plan_core.specs.Commits.{IsCurrentAt, IsLastCommit, AreStamps, has, last_commit, named_vehicles};
+ghost use Rattle.std.specs.Prelude.{◌≡◌, ℕ, ◌+◌, ◌≤◌, ◌↔◌, List, [], ◌∷◌, ◌++◌, length, if◌then◌else◌};
+ghost use Rattle.plan_core.specs.Plan.{PlanState, Changes, AreApart, replaced};
+ghost use Rattle.plan_core.specs.Laws.{RoutesAreReplaced, RoutesAreKnown, CustomersStandByRoute, AmongIsTested, PlansAreTested, WaysJoin, CostsDifferByNamed, FrontsAreCommon};
+ghost use Rattle.plan_core.specs.Among.{is_among};
+ghost use Rattle.plan_core.specs.Commits.{IsCurrentAt, IsLastCommit, AreStamps, last_commit, named_vehicles};
 
 /// A vehicle is current at a base exactly if the number of the last commit that changed it is not above the base, and that number is
 /// what its name says.
@@ -13,7 +15,7 @@ pub fn currency_by_stamps()
 
 /// One more commit is the last one of the vehicles that it changed, and leaves that of all others.
 pub fn commits_by_one_more()
-    ensures { (commits : List (List ℕ)) (changed : List ℕ) (v : ℕ) → last_commit v (commits ++ changed ∷ []) ≡ (if has v changed then length commits + 1 else last_commit v commits) }
+    ensures { (commits : List (List ℕ)) (changed : List ℕ) (v : ℕ) → last_commit v (commits ++ changed ∷ []) ≡ (if is_among v changed then length commits + 1 else last_commit v commits) }
 {}
 
 /// A plan that keeps the numbers of some commits keeps, after one more, those of all.
@@ -23,14 +25,40 @@ pub fn stamps_by_one_more()
 
 /// Each named vehicle has its new route afterwards, and all others keep theirs.
 pub fn routes_replaced()
-    ensures count { (changes : Changes) (routes : List (List ℕ)) → length (with_routes changes routes) ≡ length routes }
-    ensures others { (changes : Changes) (routes : List (List ℕ)) (v : ℕ) → AreApart (length routes) changes → 1 ≤ v → ¬ IsNamed changes v → route_at (with_routes changes routes) v ≡ route_at routes v }
-    ensures named { (changes : Changes) (routes : List (List ℕ)) (k : ℕ) (c : ℕ × List ℕ) → AreApart (length routes) changes → slice_get changes k ≡ Some c → route_at (with_routes changes routes) c.0 ≡ c.1 }
-    ensures first { (v : ℕ) (route : List ℕ) (rest : Changes) (routes : List (List ℕ)) → AreApart (length routes) ((v, route) ∷ rest) → route_at (with_routes ((v, route) ∷ rest) routes) v ≡ route }
-    ensures second { (v : ℕ) (route : List ℕ) (c : ℕ × List ℕ) (routes : List (List ℕ)) → AreApart (length routes) (c ∷ (v, route) ∷ []) → route_at (with_routes (c ∷ (v, route) ∷ []) routes) v ≡ route }
+    ensures { RoutesAreReplaced }
 {}
 
-/// No route has more customers than there are, since none of them stands twice.
-pub fn routes_are_short()
-    ensures { (customers : ℕ) (routes : List (List ℕ)) (v : ℕ) → IsPlan customers routes → length (route_at routes v) ≤ customers }
+/// No route has more customers than there are, since none of them stands twice, and each holds customers of the plan alone.
+pub fn routes_are_known()
+    ensures { RoutesAreKnown }
+{}
+
+/// A customer stands at a place exactly where the route has it.
+pub fn customers_stand_by_route()
+    ensures { CustomersStandByRoute }
+{}
+
+/// The test whether a number is among some numbers says that.
+pub fn among_is_tested()
+    ensures { AmongIsTested }
+{}
+
+/// Routes that are written out and pass the test are a plan.
+pub fn plans_are_tested()
+    ensures { PlansAreTested }
+{}
+
+/// The cost of a way is that of its parts.
+pub fn ways_join()
+    ensures { WaysJoin }
+{}
+
+/// The cost after new routes differs by those of the named vehicles alone.
+pub fn costs_differ_by_named()
+    ensures { CostsDifferByNamed }
+{}
+
+/// Two lists have one longest common front.
+pub fn fronts_are_common()
+    ensures { FrontsAreCommon }
 {}

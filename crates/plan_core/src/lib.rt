@@ -1,14 +1,22 @@
 //! The plan of a fleet: one route for each vehicle, which commit changed each of them last, and what the routes cost.
 #![tactic(auto)]
 
+mod bounds;
+mod cost;
+mod front;
 mod laws;
 mod plan;
 mod replace;
 mod route;
 mod touch;
 
+pub use bounds::first_bound;
+pub use cost::route_cost;
+pub use front::common_front;
 pub use laws::{
-    commits_by_one_more, currency_by_stamps, routes_are_short, routes_replaced, stamps_by_one_more,
+    among_is_tested, commits_by_one_more, costs_differ_by_named, currency_by_stamps,
+    customers_stand_by_route, fronts_are_common, plans_are_tested, routes_are_known,
+    routes_replaced, stamps_by_one_more, ways_join,
 };
 pub use plan::Plan;
 pub use route::Route;

@@ -1,11 +1,13 @@
-ghost use Rattle.std.specs.Prelude.{◌≡◌, ℕ, ◌+◌, ◌*◌, ◌-◌, ◌≤◌, ◌<◌, ◌↔◌, List, [], length, replicate, Some, IfOk, IfSome, IfNone, IsTrue};
+ghost use Rattle.std.specs.Prelude.{◌≡◌, ℕ, ◌+◌, ◌*◌, ◌-◌, ◌≤◌, ◌<◌, ◌↔◌, List, [], length, replicate, Some, IfOk, IfSome, IfNone, IsTrue, All};
+ghost use Rattle.callback_store.specs.Meter.{AsksAtMost};
 ghost use Rattle.callback_store.specs.Tables.{table_at};
 ghost use Rattle.dimension_core.specs.Setup.{setting};
 ghost use Rattle.plan_core.specs.Plan.{routes_of, changes_of, StandsAt, IsPlaced, IsPlan, AreChanges, AreSizes, route_at, stamp_of, with_routes, replaced};
-ghost use Rattle.plan_core.specs.Cost.{route_cost, cost_of};
+ghost use Rattle.plan_core.specs.Cost.{cost_of, asks_of};
 
+use crate::cost::cost_of_routes;
 use crate::replace::exchange_all;
-use crate::route::{Route, cost_of_routes, place_in};
+use crate::route::{Route, place_in};
 use callback_store::Meter;
 use dimension_core::Setup;
 use std::alloc::{AllocError, Global};
@@ -80,6 +82,7 @@ impl Plan {
         requires high { vehicle ≤ length self.now.routes }
         ensures value { result.now.value ≡ route_at self.now.routes vehicle }
         ensures short { length result.now.value ≤ 1000 }
+        ensures known { All (λ c. (1 ≤ c) × (c ≤ self.now.customers)) result.now.value }
         ensures sound { IsPlan self.now.customers self.now.routes }
     {
         &self.routes[vehicle as usize - 1]
@@ -125,9 +128,12 @@ impl Plan {
     }
 
     /// The sum of the setup's cost callback over the neighbouring stops of all routes that are not empty.
+    ///
+    /// It asks the callback at most once for each placed customer and once for each route that is not empty.
     pub fn cost(&self, setup: &Setup, meter: &mut Meter) -> u64
         requires { self.now.customers ≡ (setting setup.now).customers }
-        ensures { result ≡ cost_of (table_at (setting setup.now).tables (setting setup.now).cost) self.now.routes }
+        ensures value { result ≡ cost_of (table_at (setting setup.now).tables (setting setup.now).cost) self.now.routes }
+        ensures asks { AsksAtMost meter.old meter.new (asks_of self.now.routes) }
     {
         cost_of_routes(setup.registry(), setup.cost(), &self.routes, meter)
     }

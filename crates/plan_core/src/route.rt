@@ -1,12 +1,6 @@
-ghost use Rattle.std.specs.Prelude.{◌≡◌, ◌==◌, ◌+◌, ◌-◌, ◌*◌, ◌<◌, ◌≤◌, ℕ, List, length, slice_get, Some, MatchOption, All, Contains};
-ghost use Rattle.plan_core.specs.Cost.{route_cost, cost_of};
-ghost use Rattle.plan_core.specs.Plan.{routes_of};
-ghost use Rattle.callback_store.specs.Registry.{tables};
-ghost use Rattle.callback_store.specs.Tables.{nodes_of, table_at};
+ghost use Rattle.std.specs.Prelude.{◌≡◌, ◌==◌, ◌-◌, ◌≤◌, ℕ, List, length, slice_get, Some, MatchOption, Contains};
 
-use callback_store::{Meter, Registry, TransitId};
 use std::marker::Model;
-use std::sync::Arc;
 
 /// The customers of a vehicle in the order of its stops. The depot at both ends is not among them.
 #[derive(Drop)]
@@ -67,46 +61,4 @@ pub(crate) fn place_in(route: &[u32], customer: u32) -> Option<u32>
         None => None,
         Some(index) => Some(index as u32 + 1),
     }
-}
-
-/// The sum of a callback's answers over neighbouring stops of a route: the depot, its customers, the depot.
-fn cost_of_route(registry: &Registry, cost: TransitId, route: &[u32], meter: &mut Meter) -> u64
-    requires registered { cost < length (tables registry.now) }
-    requires depot { 0 < nodes_of (tables registry.now) }
-    requires known { All (λ c. c < nodes_of (tables registry.now)) route.now }
-    requires short { length route.now ≤ 1000 }
-    ensures value { result ≡ route_cost (table_at (tables registry.now) cost) route.now }
-    ensures small { result ≤ 1001000000000 }
-{
-    if route.is_empty() {
-        return 0;
-    }
-    let mut from = 0;
-    let mut sum = 0;
-    for customer in route {
-        sum += registry.ask(cost, meter, from, *customer);
-        from = *customer;
-    }
-    sum + registry.ask(cost, meter, from, 0)
-}
-
-/// The sum over some routes.
-pub(crate) fn cost_of_routes(
-    registry: &Registry,
-    cost: TransitId,
-    routes: &[Arc<Route>],
-    meter: &mut Meter,
-) -> u64
-    requires registered { cost < length (tables registry.now) }
-    requires depot { 0 < nodes_of (tables registry.now) }
-    requires known { All (λ r. All (λ c. c < nodes_of (tables registry.now)) r.value) routes.now }
-    requires short { All (λ r. length r.value ≤ 1000) routes.now }
-    requires few { length routes.now ≤ 1000 }
-    ensures { result ≡ cost_of (table_at (tables registry.now) cost) (routes_of routes.now) }
-{
-    let mut sum = 0;
-    for route in routes {
-        sum += cost_of_route(registry, cost, route.customers(), meter);
-    }
-    sum
 }

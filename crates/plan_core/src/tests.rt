@@ -2,8 +2,9 @@ ghost use Rattle.std.specs.Prelude.{◌≡◌, ◌+◌, ◌*◌, [], ◌∷◌, 
 ghost use Rattle.plan_core.specs.Plan.{changes_of};
 
 use crate::{
-    Plan, Route, commits_by_one_more, currency_by_stamps, routes_are_short, routes_replaced,
-    stamps_by_one_more,
+    Plan, Route, among_is_tested, commits_by_one_more, common_front, costs_differ_by_named,
+    currency_by_stamps, customers_stand_by_route, fronts_are_common, plans_are_tested, route_cost,
+    routes_are_known, routes_replaced, stamps_by_one_more, ways_join,
 };
 use callback_store::{Meter, Registry, Transit};
 use dimension_core::Setup;
@@ -85,12 +86,33 @@ fn stamps_the_changed_vehicle_alone(rt: HostRuntime) -> Result<(), Fail> {
 fn a_route_gives_its_customers_back(rt: HostRuntime) -> Result<(), Fail> {
     let route = Route::new(vec![in rt.alloc(); 3u32, 1]?);
     assert_eq!(rt; route.into_customers().as_slice(), [3, 1].as_slice());
-    currency_by_stamps();
-    commits_by_one_more();
-    stamps_by_one_more();
-    routes_replaced();
-    routes_are_short();
     Ok(())
+}
+
+#[test]
+fn laws_are_called() {
+    among_is_tested();
+    commits_by_one_more();
+    costs_differ_by_named();
+    currency_by_stamps();
+    customers_stand_by_route();
+    fronts_are_common();
+    plans_are_tested();
+    routes_are_known();
+    routes_replaced();
+    stamps_by_one_more();
+    ways_join();
+}
+
+#[test]
+fn the_common_front_ends_where_routes_differ(rt: HostRuntime) {
+    assert_eq!(rt; common_front(&[], &[]), 0);
+    assert_eq!(rt; common_front(&[4, 2], &[]), 0);
+    assert_eq!(rt; common_front(&[4, 2, 7], &[4, 2, 9]), 2);
+    assert_eq!(rt; common_front(&[4, 2, 7], &[4, 2]), 2);
+    assert_eq!(rt; common_front(&[4, 2], &[4, 2, 7]), 2);
+    assert_eq!(rt; common_front(&[4, 2, 7], &[4, 3, 7]), 1);
+    assert_eq!(rt; common_front(&[4, 2, 7], &[4, 2, 7]), 3);
 }
 
 /// From node i to node j the cost is 10 i + j, so a route of 1 and 2 costs 1, 12 and 20.
@@ -113,5 +135,9 @@ fn costs_the_way_out_and_home(rt: HostRuntime) -> Result<(), Fail> {
     plan.replace(changes);
     assert_eq!(rt; plan.cost(&setup, &mut meter), 66);
     assert_eq!(rt; meter.asks, 5);
+    assert_eq!(rt; route_cost(&setup, &[1, 2], &mut meter), 33);
+    assert_eq!(rt; route_cost(&setup, &[3], &mut meter), 33);
+    assert_eq!(rt; route_cost(&setup, &[], &mut meter), 0);
+    assert_eq!(rt; meter.asks, 10);
     Ok(())
 }

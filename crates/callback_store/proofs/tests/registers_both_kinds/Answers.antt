@@ -1,5 +1,5 @@
 use Rattle.std.proofs.Common.{rules, ◌+◌, ◌*◌, [], ◌∷◌, refl, arith}
-use Rattle.callback_store.proofs.Values.{small_at}
+use Rattle.callback_store.specs.Closures.{small_at}
 use borrow.Pointer.Called.{post_made}
 use Rattle.callback_store.specs.Boxed.{post_of_closure}
 use Rattle.callback_store.proofs.tests.registers_both_kinds.OwnLists.{own-1, at-1-1, own-2, at-2-1}

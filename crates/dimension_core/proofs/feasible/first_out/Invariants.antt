@@ -1,4 +1,5 @@
-use Rattle.std.proofs.Common.{ℕ, ◌<◌, ◌≤◌, ◌+◌, ◌*◌, length}
+use Rattle.std.proofs.Common.{ℕ, ◌<◌, ◌+◌, ◌*◌, length}
+use Rattle.callback_store.specs.Meter.{AsksAtMost}
 use Rattle.dimension_core.specs.Setup.{setting}
 use Rattle.dimension_core.specs.Feasible.{FitsIn}
 use Rattle.dimension_core.proofs.feasible.first_out.Given as goal
@@ -7,5 +8,5 @@ use Rattle.dimension_core.proofs.feasible.first_out.Given as goal
 abbrev pub invariant-loop-k : goal.invariant-loop-k
 invariant-loop-k g l = record {
   fits : (n : ℕ) → n < l.k → FitsIn (setting l.setup) n l.vehicle l.route;
-  asks : l.meter.asks ≤ l.fn.meter.asks + l.k * (length l.route + 1);
+  asks : AsksAtMost l.fn.meter l.meter (l.k * (length l.route + 1));
 }

@@ -1,6 +1,6 @@
 use Rattle.std.proofs.Common.{rules, refl, arith}
 use borrow.Pointer.Called.{post_made}
-use Rattle.callback_store.proofs.Values.{pairs_of_function}
+use Rattle.callback_store.specs.Closures.{pairs_of_function}
 use Rattle.callback_store.specs.Boxed.{post_of_closure}
 use Rattle.dimension_core.proofs.tests.spans_stop_by_stop.OwnLists.{own-1, at-1-1}
 use Rattle.dimension_core.proofs.tests.spans_stop_by_stop.Goals as goal

@@ -1,6 +1,6 @@
 use Rattle.std.proofs.Common.{[], ◌∷◌, ◌+◌, ◌*◌, rules, refl, arith}
 use borrow.Pointer.Called.{post_made}
-use Rattle.callback_store.proofs.Values.{pairs_of_function}
+use Rattle.callback_store.specs.Closures.{pairs_of_function}
 use Rattle.callback_store.specs.Boxed.{post_of_closure}
 use Rattle.plan_core.proofs.Tested.{plan_from_test}
 use Rattle.plan_core.proofs.tests.costs_the_way_out_and_home.OwnLists.{own-1, at-1-1}
