@@ -67,12 +67,19 @@ pub fn keep_words<'a>(
     Ok(())
 }
 
+/// Makes `kept` all words of a line, as `keep_words` has them.
+pub fn keep_all_words<'a>(kept: &mut Vec<&'a [u8]>, line: &'a [u8]) -> Result<(), AllocError>
+    ensures { OnOk result (map (λ w. w.now) kept.new.items ≡ words line.now) }
+{
+    keep_words(kept, line, usize::MAX)
+}
+
 /// All words of a line, as `keep_words` has them.
 pub fn words_of(alloc: Global, line: &[u8]) -> Result<Vec<&[u8]>, AllocError>
     ensures { IfOk result (λ v. map (λ w. w.now) v.items ≡ words line.now) }
 {
     let mut kept = Vec::new(alloc);
-    keep_words(&mut kept, line, usize::MAX)?;
+    keep_all_words(&mut kept, line)?;
     Ok(kept)
 }
 
