@@ -1,0 +1,3 @@
+pub mod Table
+pub mod Arguments
+pub mod Reading
