@@ -1,11 +1,10 @@
 -- Names are kept one by one.
-use Rattle.std.proofs.Common.{◌≡◌, ℕ, zero, suc, ◌+◌, ◌<◌, Bool, true, false, cond, List, [], ◌∷◌, ◌++◌, length, take, map, get_or, Result, Ok, Err, refl, sym, ap, ◌∙◌, subst, arith, Bor}
+use Rattle.std.proofs.Common.{◌≡◌, ℕ, zero, suc, ◌+◌, ◌<◌, Bool, true, false, List, [], ◌∷◌, ◌++◌, length, take, map, get_or, Err, refl, sym, ap, ◌∙◌, arith, Bor}
 use Rattle.std.specs.Prelude.{◌&&◌}
 use Rattle.std.specs.List.{list_all}
 use Rattle.std.proofs.lemmas.List.{take_more}
 use Rattle.std.proofs.lemmas.List.Folds.{list_all-append}
 use Rattle.separation_core.specs.Names.{is_name}
-use Rattle.board_lines.specs.declared.command.LineFault.{LineFault}
 use Rattle.board_lines.specs.declared.command.LineFault.TheVariants as faults
 use Rattle.board_lines.specs.Arguments.{names_arg}
 

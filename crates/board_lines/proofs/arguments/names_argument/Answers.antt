@@ -1,4 +1,3 @@
-use Rattle.std.proofs.Common.{arith}
 use Rattle.board_lines.proofs.Roles.{names_fail, one_more}
 use Rattle.board_lines.proofs.arguments.names_argument.Goals as goal
 
