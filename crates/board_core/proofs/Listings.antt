@@ -8,11 +8,10 @@ use Rattle.std.proofs.lemmas.List.Elements.{All-push, filter-append}
 use Rattle.dimension_core.specs.declared.range.Range.{Range}
 use Rattle.dimension_core.specs.Cumuls.{IsEarly, table_of}
 use Rattle.dimension_core.specs.Setting.{Setting, dimension_at}
-use Rattle.dimension_core.proofs.Reach.{span_early}
 use Rattle.plan_core.specs.Plan.{route_at}
 use Rattle.board_core.specs.Moves.{is_placed}
 use Rattle.board_core.specs.Listing.{RowShown, Spot, spot_of, route_spots, placed_spots, unassigned_spots, HasEarlyValues}
-use Rattle.board_core.specs.Spans.{AreSpans, no_range}
+use Rattle.dimension_core.specs.Spans.{IsSpanOf, AreSpans, no_range}
 use Rattle.board_core.specs.Shown.{row_of, row_if, Grows}
 
 abbrev spot : ℕ → ℕ → ℕ → Spot
@@ -48,6 +47,10 @@ module _ (s : Setting) (routes : List (List ℕ)) (may : Spot → Bool) where
       → Grows s routes may (x ∷ []) old new
   grows_row x spans old new has e = grows_by x spans old new (may x) refl has e
 
+-- the least number of a span is the early value
+early_of : (s : Setting) (k v : ℕ) (nodes : List ℕ) (r : Range) → IsSpanOf s k v nodes r → IsEarly (table_of s.tables (dimension_at s k)) (dimension_at s k) v nodes r.lo
+early_of s k v nodes r span = record { reached = span.inside r.lo (omega arith, span.filled); least = λ z p. (span.all z p).0 }
+
 -- the row of a place has its early values
 pub has_placed : (s : Setting) (routes : List (List ℕ)) (v p c : ℕ) (spans : List Range) → 1 ≤ v → AreSpans s v (take p (route_at routes v)) spans
     → HasEarlyValues s routes (row_of (spot v p c) spans)
@@ -61,7 +64,7 @@ has_placed s routes v p c spans low h =
           let within : k < length spans = omega (arith, mapped) in
           let at : slice_index (map (λ r. r.lo) spans) k ≡ (slice_index_or spans k no_range).lo = get_or-map (λ r. r.lo) spans k no_range 0 within in
           subst (λ (y : ℕ). IsEarly (table_of s.tables (dimension_at s k)) (dimension_at s k) v (take p (route_at routes v)) y) (sym at)
-          (span_early (table_of s.tables (dimension_at s k)) (dimension_at s k) v (take p (route_at routes v)) (slice_index_or spans k no_range) (h.each k (omega arith)));
+          (early_of s k v (take p (route_at routes v)) (slice_index_or spans k no_range) (h.each k (omega arith)));
     }
 
 -- and that of a customer that stands nowhere has none

@@ -7,40 +7,13 @@ use Rattle.std.proofs.lemmas.List.Elements.{All-take, All-drop, All-append, All-
 use Rattle.std.proofs.lemmas.Option.{slice_get-get_or}
 use Rattle.plan_core.specs.Plan.{Changes, StandsAt, IsPlan, AreApart, IsNamed, route_at, with_routes}
 use Rattle.dimension_core.specs.Setting.{Setting}
-use Rattle.dimension_core.specs.Feasible.{FitsAll, IsFirstOut, IsFeasible}
+use Rattle.dimension_core.specs.Feasible.{FitsAll, IsFeasible}
+use Rattle.dimension_core.specs.NewRoutes.{AllFit, AllKnown, IsOut}
 use Rattle.board_core.specs.declared.call.Move.TheVariants.{Insert}
 use Rattle.board_core.specs.declared.reply.Denial.{Denial}
 use Rattle.board_core.specs.Moves.{new_routes}
-use Rattle.board_core.specs.Rules.{Basis, AllFit, IsOut, IsJudged}
-use Rattle.board_core.specs.Kept.{AllKnown}
+use Rattle.board_core.specs.Rules.{Basis, IsJudged}
 use Rattle.board_core.proofs.Early.{CanInsert}
-
--- what is out of bounds in a first dimension is not in bounds in all
-pub out_fits : (s : Setting) (v : ℕ) (r : List ℕ) (d : ℕ) → IsFirstOut s v r d → FitsAll s v r → ⊥
-out_fits s v r d out fits = let low = out.low in let high = out.high in out.out (fits (d - 1) (omega arith))
-
--- what holds of the rest of some new routes, as far as those before it are in bounds, holds of all of them
-pub record IsRest (s : Setting) (all rest : Changes) : Type 0 where
-  pub fits : AllFit s rest → AllFit s all
-  pub outs : (v d : ℕ) → IsOut s rest v d → IsOut s all v d
-  pub known : AllKnown s rest
-
-pub rest_all : (s : Setting) (all : Changes) → AllKnown s all → IsRest s all all
-rest_all s all known = record { fits = λ f. f; outs = λ v d o. o; known = known }
-
-pub rest_next : (s : Setting) (all rest next : Changes) (c : ℕ × List ℕ) → IsRest s all rest → rest ≡ c ∷ next → FitsAll s c.0 c.1 → IsRest s all next
-rest_next s all rest next c r e fits =
-    let r' = subst (λ (cs : Changes). IsRest s all cs) e r in
-    record { fits = λ f. r'.fits (fits, f); outs = λ v d o. r'.outs v d ((λ no. absurd (no fits)), (λ yes. o)); known = r'.known.1 }
-
-pub rest_out : (s : Setting) (all rest next : Changes) (c : ℕ × List ℕ) (d : ℕ) → IsRest s all rest → rest ≡ c ∷ next → IsFirstOut s c.0 c.1 d → IsOut s all c.0 d
-rest_out s all rest next c d r e out =
-    let r' = subst (λ (cs : Changes). IsRest s all cs) e r in
-    r'.outs c.0 d ((λ no. (refl, out)), (λ fits. absurd (out_fits s c.0 c.1 d out fits)))
-
-pub rest_known : (s : Setting) (all rest next : Changes) (c : ℕ × List ℕ) → IsRest s all rest → rest ≡ c ∷ next
-    → (1 ≤ c.0) × (c.0 ≤ s.vehicles) × All (λ customer. customer ≤ s.customers) c.1
-rest_known s all rest next c r e = (subst (λ (cs : Changes). AllKnown s cs) e r.known).0
 
 -- one new route that is in bounds keeps a plan feasible
 feasible_one : (s : Setting) (routes : List (List ℕ)) (v : ℕ) (r : List ℕ) → length routes ≡ s.vehicles → 1 ≤ v → v ≤ s.vehicles → FitsAll s v r

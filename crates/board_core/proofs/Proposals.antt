@@ -6,8 +6,9 @@ use Rattle.board_core.specs.declared.call.Move.{Move}
 use Rattle.board_core.specs.declared.call.Move.TheVariants.{Insert}
 use Rattle.board_core.specs.declared.reply.Denial.TheVariants.{Bound}
 use Rattle.board_core.specs.Moves.{new_routes}
-use Rattle.board_core.specs.Rules.{AllFit, IsOut, IsBoundsVerdict, IsVerdictBy, early_denial, fleet_denial, effect_denial}
-use Rattle.board_core.specs.Kept.{HeldState, IsReady, AllKnown, held_basis}
+use Rattle.dimension_core.specs.NewRoutes.{AllFit, AllKnown, IsOut}
+use Rattle.board_core.specs.Rules.{IsBoundsVerdict, IsVerdictBy, early_denial, fleet_denial, effect_denial}
+use Rattle.board_core.specs.Kept.{HeldState, IsReady, held_basis}
 use Rattle.board_core.proofs.Early.{Passes, passes, can_insert, early_parts}
 use Rattle.board_core.proofs.Inserts.{plan-inserted}
 use Rattle.board_core.proofs.Outs.{known_insert, feasible_all, out_feasible, judged_bounds}

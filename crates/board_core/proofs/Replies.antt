@@ -14,7 +14,8 @@ use Rattle.board_core.specs.declared.reply.Reply.{Reply}
 use Rattle.board_core.specs.declared.reply.Reply.TheVariants.{Done, Committed, Denied, Refused}
 use Rattle.board_core.specs.State.{BoardState}
 use Rattle.board_core.specs.Moves.{new_routes}
-use Rattle.board_core.specs.Rules.{IsOut, IsBoundsVerdict, IsJudged, IsVerdict, early_denial, basis_of}
+use Rattle.dimension_core.specs.NewRoutes.{IsOut}
+use Rattle.board_core.specs.Rules.{IsBoundsVerdict, IsJudged, IsVerdict, early_denial, basis_of}
 use Rattle.board_core.specs.Step.{IsReply}
 
 -- what is not refuted of two numbers' equality holds

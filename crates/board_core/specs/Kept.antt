@@ -1,5 +1,5 @@
 -- What a board's core holds, and what it keeps of its history.
-use Rattle.std.specs.Prelude.{◌≡◌, ℕ, ◌+◌, ◌-◌, ◌<◌, ◌≤◌, nat_lt, List, [], ◌∷◌, length, slice_index, Option, Some, None, All}
+use Rattle.std.specs.Prelude.{◌≡◌, ℕ, ◌+◌, ◌-◌, ◌<◌, ◌≤◌, nat_lt, List, length, slice_index, Option, Some, None}
 use Rattle.dimension_core.specs.Setting.{Setting}
 use Rattle.dimension_core.specs.Feasible.{IsFeasible}
 use Rattle.root_policy.specs.Policy.{PolicyState, PolicyRows, Shows, after_command}
@@ -7,7 +7,7 @@ use Rattle.root_policy.specs.declared.command.PolicyCommand.{PolicyCommand}
 use Rattle.root_policy.specs.declared.command.Refusal.{Refusal}
 use Rattle.root_policy.specs.Access.{is_open, allows}
 use Rattle.root_policy.specs.declared.operation.Operation.TheVariants as operations
-use Rattle.plan_core.specs.Plan.{PlanState, Changes, stamp_of, replaced}
+use Rattle.plan_core.specs.Plan.{PlanState, stamp_of, replaced}
 use Rattle.plan_core.specs.Commits.{AreStamps}
 use Rattle.board_core.specs.declared.call.Entry.{Entry}
 use Rattle.board_core.specs.declared.reply.Reply.{Reply}
@@ -83,11 +83,6 @@ pub record IsReady (s : Setting) (held : HeldState) : Type 0 where
   pub sized : length held.plan.routes ≡ s.vehicles
   pub feasible : IsFeasible s held.plan.routes
   pub room : held.plan.version < 16777216
-
--- each new route is of a vehicle and customers of the board
-abbrev pub AllKnown : Setting → Changes → Type 0
-AllKnown s [] = Unit {0}
-AllKnown s (c ∷ cs) = ((1 ≤ c.0) × (c.0 ≤ s.vehicles) × All (λ customer. customer ≤ s.customers) c.1) × AllKnown s cs
 
 -- the reply to a policy command that is refused so, or not at all
 abbrev pub refused_by : Option Refusal → Reply

@@ -5,7 +5,6 @@ pub mod Step
 pub mod History
 pub mod Listing
 pub mod Shown
-pub mod Spans
 pub mod Kept
 pub mod Alone
 pub mod Boards

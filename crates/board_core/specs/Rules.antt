@@ -1,5 +1,5 @@
 -- The verdict on a proposal: the first rule that fails, in the order of the rules.
-use Rattle.std.specs.Prelude.{ℕ, ◌≡◌, Bool, not, ◌&&◌, nat_le, nat_lt, if◌then◌else◌, List, [], ◌∷◌, length, drop, find, Option, Some, None}
+use Rattle.std.specs.Prelude.{ℕ, ◌≡◌, Bool, not, ◌&&◌, nat_le, nat_lt, if◌then◌else◌, List, length, drop, find, Option, Some, None}
 use Rattle.std.specs.List.{list_any, list_all}
 use Rattle.std.specs.Option.{option_map}
 use Rattle.root_policy.specs.Access.{has_session, has_access}
@@ -9,7 +9,8 @@ use Rattle.root_policy.specs.declared.operation.Object.TheVariants as objects
 use Rattle.plan_core.specs.Plan.{Changes, with_routes}
 use Rattle.plan_core.specs.Among.{is_among}
 use Rattle.dimension_core.specs.Setting.{Setting}
-use Rattle.dimension_core.specs.Feasible.{FitsAll, IsFirstOut, IsFeasible}
+use Rattle.dimension_core.specs.Feasible.{IsFeasible}
+use Rattle.dimension_core.specs.NewRoutes.{IsOut}
 use Rattle.board_core.specs.declared.call.Move.{Move}
 use Rattle.board_core.specs.declared.reply.Denial.{Denial}
 use Rattle.board_core.specs.declared.reply.Denial.TheVariants.{NoSession, BadVehicle, AccessVehicle, Ahead, Stale, BadPlace, AccessCustomer, Bound}
@@ -94,17 +95,6 @@ basis_of s state session base = record {
   is_changed = is_changed_after state.commits base;
   routes = state.routes;
 }
-
--- each new route is in bounds in each dimension
-abbrev pub AllFit : Setting → Changes → Type 0
-AllFit s [] = Unit {0}
-AllFit s (c ∷ cs) = FitsAll s c.0 c.1 × AllFit s cs
-
--- The first new route that is out of bounds in some dimension is that of the vehicle, and d is the first such dimension.
-abbrev pub IsOut : Setting → Changes → ℕ → ℕ → Type 0
-IsOut s [] vehicle d = ⊥
-IsOut s (c ∷ cs) vehicle d =
-    (¬ FitsAll s c.0 c.1 → (vehicle ≡ c.0) × IsFirstOut s c.0 c.1 d) × (FitsAll s c.0 c.1 → IsOut s cs vehicle d)
 
 -- rule: the new plan is feasible
 abbrev pub IsBoundsVerdict : Setting → List (List ℕ) → Changes → Option Denial → Type 0

@@ -1,5 +1,6 @@
 //! A board: a setup and the core that was opened with it.
 ghost use Rattle.std.specs.Prelude.{◌≡◌, ◌≤◌, ◌↔◌, ◌∷◌, ◌++◌, [], true, false, length, IfOk, OnErr, IsErrOf};
+ghost use Rattle.callback_store.specs.Meter.{NoCountFell};
 ghost use Rattle.dimension_core.specs.Setup.{setting};
 ghost use Rattle.board_core.specs.Kept.{IsKept};
 ghost use Rattle.board_core.specs.Alone.{IsKept-prop};
@@ -50,6 +51,7 @@ impl Board {
         ensures full { IsErrOf result Fault.Full ↔ ((is_turn (history self.old).opening.desks (history self.old).entries event.desk event.turn ≡ true) × (length (history self.old).entries ≡ (history self.old).opening.setting.max_events)) }
         ensures err { OnErr result (history self.new ≡ history self.old) }
         ensures legal { IsLegal (history self.new) }
+        ensures meter { NoCountFell meter.old meter.new }
     {
         self.core.apply(&self.setup, event, meter)
     }

@@ -1,5 +1,6 @@
 //! The data of a board: what is held of its state, its journal and the turns of its desks.
 ghost use Rattle.std.specs.Prelude.{◌≡◌, ◌≤◌, ◌<◌, ◌↔◌, vec_len, vec_capacity, ◌∷◌, ◌++◌, [], true, false, length, IfOk, OnErr, IsErrOf};
+ghost use Rattle.callback_store.specs.Meter.{NoCountFell};
 ghost use Rattle.dimension_core.specs.Setup.{setting};
 ghost use Rattle.dimension_core.specs.Setting.{Setting};
 ghost use Rattle.board_core.specs.History.{is_turn, state_after};
@@ -88,6 +89,7 @@ impl Core {
         ensures out_of_turn { IsErrOf result Fault.OutOfTurn ↔ (is_turn (length self.old.turns) self.old.journal event.desk event.turn ≡ false) }
         ensures full { IsErrOf result Fault.Full ↔ ((is_turn (length self.old.turns) self.old.journal event.desk event.turn ≡ true) × (length self.old.journal ≡ (setting setup.now).max_events)) }
         ensures err { OnErr result (self.new ≡ self.old) }
+        ensures meter { NoCountFell meter.old meter.new }
     {
         if !self.is_turn(event.desk, event.turn) {
             return Err(Fault::OutOfTurn);
@@ -115,6 +117,7 @@ impl Core {
         ensures ok { IfOk result (λ reply. self.new.journal ≡ self.old.journal ++ record { desk = event.desk; turn = event.turn; call = event.call; reply = reply } ∷ []) }
         ensures desks { length self.new.turns ≡ length self.old.turns }
         ensures err { OnErr result (self.new ≡ self.old) }
+        ensures meter { NoCountFell meter.old meter.new }
     {
         let _few = setup.max_events();
         let alloc = *self.journal.allocator();

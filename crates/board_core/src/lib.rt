@@ -3,7 +3,6 @@
 
 mod board;
 mod body;
-mod bounds;
 mod call;
 mod laws;
 mod listing;

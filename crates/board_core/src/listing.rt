@@ -1,17 +1,15 @@
 //! Listings: the rows of a plan that a session may read, each with its early values.
-ghost use Rattle.std.specs.Prelude.{◌≡◌, ℕ, ◌+◌, ◌≤◌, ◌<◌, ◌++◌, length, take, map, filter, IfOk, All};
+ghost use Rattle.std.specs.Prelude.{◌≡◌, ℕ, ◌≤◌, ◌++◌, length, map, filter, IfOk, All};
 ghost use Rattle.dimension_core.specs.Setup.{setting};
-ghost use Rattle.dimension_core.specs.Cumuls.{last_of};
 ghost use Rattle.root_policy.specs.Access.{allows};
 ghost use Rattle.plan_core.specs.Plan.{route_at};
 ghost use Rattle.board_core.specs.Listing.{Spot, spot_of, route_spots, placed_spots, unassigned_spots, all_spots, HasEarlyValues};
 ghost use Rattle.board_core.specs.Moves.{is_placed};
-ghost use Rattle.board_core.specs.Spans.{IsSpanOf, AreSpans, IsFit};
 ghost use Rattle.board_core.specs.Shown.{is_shown, row_of, row_if, Grows, IsListable};
 
 use crate::row::Row;
 use callback_store::Meter;
-use dimension_core::{Range, Setup};
+use dimension_core::{Range, Setup, extend_spans, first_spans};
 use plan_core::Plan;
 use root_policy::{Object, Operation, Policy};
 use std::alloc::{AllocError, Global};
@@ -73,8 +71,9 @@ fn push_route(
         return Ok(());
     }
     let mut spans = first_spans(alloc, setup, vehicle, route)?;
+    let mut meter = Meter::new();
     for before in 0..route.len() {
-        extend_spans(setup, vehicle, route, before, &mut spans);
+        extend_spans(setup, vehicle, route, before, &mut spans, &mut meter);
         let place = before as u32 + 1;
         push_row(
             alloc,
@@ -154,80 +153,4 @@ fn early_values(alloc: Global, spans: &[Range]) -> Result<Vec<u64>, AllocError>
         early.push(span.lo)?;
     }
     Ok(early)
-}
-
-/// The cumuls with which the vehicle may leave the depot, in each dimension.
-fn first_spans(
-    alloc: Global,
-    setup: &Setup,
-    vehicle: u32,
-    route: &[u32],
-) -> Result<Vec<Range>, AllocError>
-    requires fit { IsFit (setting setup.now) vehicle route.now }
-    requires some { 0 < length route.now }
-    ensures { IfOk result (λ spans. AreSpans (setting setup.now) vehicle (take 0 route.now) spans.items) }
-{
-    let mut spans = Vec::new(alloc);
-    for k in 0..setup.dimensions().len() {
-        spans.push(first_span(setup, k, vehicle, route))?;
-    }
-    Ok(spans)
-}
-
-/// The cumuls with which the vehicle may leave the depot, in the dimension at the place `k`.
-fn first_span(setup: &Setup, k: usize, vehicle: u32, route: &[u32]) -> Range
-    requires fit { IsFit (setting setup.now) vehicle route.now }
-    requires some { 0 < length route.now }
-    requires dimension { k < length (setting setup.now).dimensions }
-    ensures { IsSpanOf (setting setup.now) k vehicle (take 0 route.now) result }
-{
-    match setup.dimensions()[k].start(vehicle) {
-        Some(span) => span,
-        None => unreachable!(),
-    }
-}
-
-/// Brings the cumuls of each dimension to the next customer of the route, before whom so many others stand.
-fn extend_spans(setup: &Setup, vehicle: u32, route: &[u32], before: usize, spans: &mut [Range])
-    requires fit { IsFit (setting setup.now) vehicle route.now }
-    requires place { before < length route.now }
-    requires spans { AreSpans (setting setup.now) vehicle (take before route.now) spans.old }
-    ensures { AreSpans (setting setup.now) vehicle (take (before + 1) route.now) spans.new }
-{
-    for k in 0..spans.len() {
-        spans[k] = next_span(setup, k, vehicle, route, before, spans[k]);
-    }
-}
-
-/// The cumuls at the next customer, in the dimension at the place `k`.
-fn next_span(
-    setup: &Setup,
-    k: usize,
-    vehicle: u32,
-    route: &[u32],
-    before: usize,
-    span: Range,
-) -> Range
-    requires fit { IsFit (setting setup.now) vehicle route.now }
-    requires dimension { k < length (setting setup.now).dimensions }
-    requires place { before < length route.now }
-    requires span { IsSpanOf (setting setup.now) k vehicle (take before route.now) span }
-    ensures { IsSpanOf (setting setup.now) k vehicle (take (before + 1) route.now) result }
-{
-    let from = node_before(route, before);
-    let to = route[before];
-    let mut meter = Meter::new();
-    let registry = setup.registry();
-    match setup.dimensions()[k].extend(registry, span, from, to, vehicle, &mut meter) {
-        Some(next) => next,
-        None => unreachable!(),
-    }
-}
-
-/// The stop before a customer of the route: the depot where the customer is the first.
-fn node_before(route: &[u32], before: usize) -> u32
-    requires { before ≤ length route.now }
-    ensures { result ≡ last_of 0 (take before route.now) }
-{
-    if before == 0 { 0 } else { route[before - 1] }
 }

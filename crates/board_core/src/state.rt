@@ -1,5 +1,6 @@
 //! What is held of a board's state, and how proposals and policy commands are judged by it.
 ghost use Rattle.std.specs.Prelude.{◌≡◌, ℕ, ◌+◌, ◌≤◌, ◌<◌, nat_lt, replicate, [], ◌∷◌, insert, length, Some, None, IfNone, IfSome, IfOk, OnErr, MatchOption};
+ghost use Rattle.callback_store.specs.Meter.{NoCountFell};
 ghost use Rattle.dimension_core.specs.Setup.{setting};
 ghost use Rattle.root_policy.specs.Policy.{PolicyState, Shows, opening_policy, command_refusal};
 ghost use Rattle.root_policy.specs.Access.{is_open, allows};
@@ -12,12 +13,11 @@ ghost use Rattle.board_core.specs.State.{BoardState};
 ghost use Rattle.board_core.specs.Step.{guarded, IsReply, after};
 ghost use Rattle.board_core.specs.Kept.{Holds, held_basis, IsProposed, proposed, IsReady, refused_by, policy_after};
 
-use crate::bounds::first_bound;
 use crate::call::{Call, Event, Move};
 use crate::reply::{Denial, Reply};
 use callback_store::Meter;
 use dimension_core::Setup;
-use plan_core::{Plan, Route, stamps_by_one_more};
+use plan_core::{Plan, Route, first_bound, stamps_by_one_more};
 use root_policy::{Object, Operation, Policy, PolicyCommand, Refusal};
 use std::alloc::{AllocError, Global};
 use std::marker::Model;
@@ -251,6 +251,7 @@ impl State {
         ensures reply { IfOk result (IsProposed (setting setup.now) (held_basis (setting setup.now) self.old session base) base mv) }
         ensures held { IfOk result (λ reply. self.new ≡ proposed self.old mv reply) }
         ensures err { OnErr result (self.new ≡ self.old) }
+        ensures meter { NoCountFell meter.old meter.new }
     {
         let _sound = self.plan.customers();
         if let Some(denial) = self.early_denial(setup, session, base, mv) {
@@ -276,6 +277,7 @@ impl State {
         ensures reply { (state : BoardState) → Holds (setting setup.now) self.old state → IfOk result (λ reply. ∥ IsReply (setting setup.now) state event.now.call reply ∥₁) }
         ensures held { (state : BoardState) → Holds (setting setup.now) self.old state → IfOk result (λ reply. Holds (setting setup.now) self.new (after state event.now.call reply)) }
         ensures err { OnErr result (self.new ≡ self.old) }
+        ensures meter { NoCountFell meter.old meter.new }
     {
         stamps_by_one_more();
         let _sizes = self.plan.version();

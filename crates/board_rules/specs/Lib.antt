@@ -4,7 +4,12 @@ pub mod State
 pub mod Rules
 pub mod Pinning
 pub mod Step
+pub mod Unchanged
 pub mod History
 pub mod Listing
 pub mod Delta
 pub mod Questions
+pub mod Good
+pub mod Given
+pub mod Proposals
+pub mod Separate

@@ -3,10 +3,10 @@ use Rattle.std.specs.Prelude.{◌≡◌, ℕ, ◌+◌, ◌<◌, Bool, not, ◌&&
 use Rattle.std.specs.List.{range_with_len}
 use Rattle.dimension_core.specs.Cumuls.{IsEarly, table_of}
 use Rattle.dimension_core.specs.Setting.{Setting, dimension_at}
-use Rattle.rbac_core.specs.declared.objects.Operation.{Operation}
-use Rattle.rbac_core.specs.declared.objects.Operation.TheVariants as operations
-use Rattle.rbac_core.specs.declared.objects.Object.{Object}
-use Rattle.rbac_core.specs.declared.objects.Object.TheVariants as objects
+use Rattle.permission_core.specs.declared.objects.Operation.{Operation}
+use Rattle.permission_core.specs.declared.objects.Operation.TheVariants as operations
+use Rattle.permission_core.specs.declared.objects.Object.{Object}
+use Rattle.permission_core.specs.declared.objects.Object.TheVariants as objects
 use Rattle.plan_core.specs.declared.touch.Touch.{Touch}
 use Rattle.plan_core.specs.Plan.{route_at}
 use Rattle.move_core.specs.Moves.{is_placed}

@@ -1,8 +1,8 @@
 -- Pins and freezes: why a call on them is refused, the first reason that holds, and what it changes.
 use Rattle.std.specs.Prelude.{ℕ, ◌+◌, Bool, not, ◌&&◌, nat_le, nat_lt, if◌then◌else◌, List, length, position, is_some, is_none, Option, Some, None}
 use Rattle.std.specs.Option.{option_map, option_or}
-use Rattle.rbac_core.specs.declared.objects.Operation.TheVariants as operations
-use Rattle.rbac_core.specs.declared.objects.Object.TheVariants as objects
+use Rattle.permission_core.specs.declared.objects.Operation.TheVariants as operations
+use Rattle.permission_core.specs.declared.objects.Object.TheVariants as objects
 use Rattle.dimension_core.specs.Setting.{Setting}
 use Rattle.plan_core.specs.Plan.{route_at}
 use Rattle.plan_core.specs.Among.{is_among}

@@ -1,14 +1,13 @@
 -- Questions, which change nothing: why one is not answered, the first reason that holds, and the answers.
-use Rattle.std.specs.Prelude.{ℕ, Bool, not, if◌then◌else◌, List, map, filter, Option, Some, None}
+use Rattle.std.specs.Prelude.{ℕ, Bool, not, if◌then◌else◌, List, Option, Some, None}
 use Rattle.std.specs.Option.{option_or}
-use Rattle.role_hierarchy.specs.Roles.{has}
-use Rattle.rbac_core.specs.State.{PolicyState, is_session, session_of}
-use Rattle.rbac_core.specs.Access.{has_access}
-use Rattle.rbac_core.specs.Commands.{is_user, is_role, held_by, slot_of}
-use Rattle.rbac_core.specs.declared.objects.Operation.{Operation}
-use Rattle.rbac_core.specs.declared.objects.Operation.TheVariants as operations
-use Rattle.rbac_core.specs.declared.objects.Object.{Object}
-use Rattle.rbac_core.specs.declared.objects.Object.TheVariants as objects
+use Rattle.policy_core.specs.State.{PolicyState, is_session, is_user, is_role}
+use Rattle.policy_core.specs.Access.{has_access}
+use Rattle.policy_core.specs.Reviews.{assigned_users, assigned_roles, session_roles}
+use Rattle.permission_core.specs.declared.objects.Operation.{Operation}
+use Rattle.permission_core.specs.declared.objects.Operation.TheVariants as operations
+use Rattle.permission_core.specs.declared.objects.Object.{Object}
+use Rattle.permission_core.specs.declared.objects.Object.TheVariants as objects
 use Rattle.board_rules.specs.declared.reply.AskFault.{AskFault}
 use Rattle.board_rules.specs.declared.reply.AskFault.TheVariants.{NoSession, NoAccess, NoUser, NoRole, NotThere}
 use Rattle.board_rules.specs.declared.review.Review.{Review}
@@ -35,15 +34,11 @@ missing policy (Active number) = if is_session policy number then None else Some
 unfoldable pub review_fault : BoardState → ℕ → Review → Option AskFault
 review_fault state session which = option_or (audit_fault state session) (missing state.policy which)
 
--- the roles of a set by name, in order of creation
-abbrev pub names_in : PolicyState → ℕ → List (List ℕ)
-names_in policy roles = map (λ r. r.0) (filter (λ r. has roles r.1) policy.roles)
-
--- the names that a review shows, in order of creation
+-- the names that a review shows
 abbrev pub review_of : PolicyState → Review → List (List ℕ)
-review_of policy (Users role) = map (λ u. u.0) (filter (λ u. has u.1 (slot_of policy role)) policy.users)
-review_of policy (Roles user) = names_in policy (held_by policy user)
-review_of policy (Active number) = names_in policy (session_of policy number).active
+review_of policy (Users role) = assigned_users policy role
+review_of policy (Roles user) = assigned_roles policy user
+review_of policy (Active number) = session_roles policy number
 
 -- CheckAccess of a session in the state; it is false for a session or an object that is not there
 abbrev pub check_of : BoardState → ℕ → Operation → Object → Bool

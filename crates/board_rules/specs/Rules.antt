@@ -1,16 +1,17 @@
 -- The verdict on a proposal: the first rule that fails, in the order of the rules.
-use Rattle.std.specs.Prelude.{ℕ, ◌≡◌, ◌≤◌, ◌<◌, Bool, true, false, not, ◌&&◌, nat_le, List, [], ◌∷◌, length, drop, find, Option, Some, None}
+use Rattle.std.specs.Prelude.{ℕ, ◌≡◌, ◌≤◌, ◌<◌, Bool, true, false, not, ◌&&◌, nat_le, List, length, drop, find, Option, Some, None}
 use Rattle.std.specs.List.{list_any, list_all}
-use Rattle.rbac_core.specs.State.{is_session}
-use Rattle.rbac_core.specs.Access.{has_access}
-use Rattle.rbac_core.specs.declared.objects.Operation.{Operation}
-use Rattle.rbac_core.specs.declared.objects.Operation.TheVariants as operations
-use Rattle.rbac_core.specs.declared.objects.Object.{Object}
-use Rattle.rbac_core.specs.declared.objects.Object.TheVariants as objects
+use Rattle.policy_core.specs.State.{is_session}
+use Rattle.policy_core.specs.Access.{has_access}
+use Rattle.permission_core.specs.declared.objects.Operation.{Operation}
+use Rattle.permission_core.specs.declared.objects.Operation.TheVariants as operations
+use Rattle.permission_core.specs.declared.objects.Object.{Object}
+use Rattle.permission_core.specs.declared.objects.Object.TheVariants as objects
 use Rattle.dimension_core.specs.Setting.{Setting}
-use Rattle.dimension_core.specs.Feasible.{FitsAll, IsFirstOut, IsFeasible}
+use Rattle.dimension_core.specs.Feasible.{IsFeasible}
+use Rattle.dimension_core.specs.NewRoutes.{IsOut}
 use Rattle.plan_core.specs.declared.touch.Touch.{Touch}
-use Rattle.plan_core.specs.Plan.{Changes, with_routes}
+use Rattle.plan_core.specs.Plan.{with_routes}
 use Rattle.plan_core.specs.Among.{is_among}
 use Rattle.pin_core.specs.Pins.{PinState, AreFreezesKept}
 use Rattle.pin_core.specs.Allowed.{IsFirstThawed}
@@ -50,6 +51,15 @@ basis_of state session = record {
   pins = state.pins;
 }
 
+-- facts that say the same, of the vehicles of the fleet alone where a commit is concerned
+pub record Agree (s : Setting) (b c : Basis) : Type 0 where
+  pub is_open : b.is_open ≡ c.is_open
+  pub may : (operation : Operation) (object : Object) → b.may operation object ≡ c.may operation object
+  pub version : b.version ≡ c.version
+  pub is_changed : (base v : ℕ) → 1 ≤ v → v ≤ s.vehicles → b.is_changed base v ≡ c.is_changed base v
+  pub routes : b.routes ≡ c.routes
+  pub pins : b.pins ≡ c.pins
+
 -- ---- what the rules ask
 
 -- whether a number is 1 to n
@@ -79,17 +89,6 @@ may_override b customer = b.may operations.Override (objects.Customer customer)
 -- the routes once the named vehicles have their new ones
 abbrev pub routes_after : List (List ℕ) → Move → List (List ℕ)
 routes_after routes mv = with_routes (changes_by routes mv) routes
-
--- each new route is in bounds in each dimension
-abbrev pub AllFit : Setting → Changes → Type 0
-AllFit s [] = Unit {0}
-AllFit s (c ∷ cs) = FitsAll s c.0 c.1 × AllFit s cs
-
--- The first new route that is out of bounds in some dimension is that of the vehicle, and d is the first such dimension.
-abbrev pub IsOut : Setting → Changes → ℕ → ℕ → Type 0
-IsOut s [] vehicle d = ⊥
-IsOut s (c ∷ cs) vehicle d =
-    (¬ FitsAll s c.0 c.1 → (vehicle ≡ c.0) × IsFirstOut s c.0 c.1 d) × (FitsAll s c.0 c.1 → IsOut s cs vehicle d)
 
 -- ---- the rules in their order, each with those before it
 

@@ -1,7 +1,9 @@
-ghost use Rattle.std.specs.Prelude.{◌≡◌};
+ghost use Rattle.std.specs.Prelude.{◌≡◌, ◌↔◌, IfOk, IsErr};
+ghost use Rattle.policy_core.specs.declared.refusal.Refusal.TheVariants.{NoMemory};
 
 use rbac_core::Refusal as PolicyRefusal;
 use separation_core::Name;
+use std::alloc::AllocError;
 use thiserror::Error;
 
 /// The first rule that a proposal fails, in the order in which the rules are tried. Vehicles, places and dimensions count from 1.
@@ -71,6 +73,35 @@ pub enum Refusal {
     NotPlaced,
     /// The length does not lie between the old one and what the call allows.
     Length,
+}
+
+impl Refusal {
+    ghost use Rattle.board_rules.specs.Policies.{refusal_of};
+
+    /// What the policy refuses, as the board says it. Want of memory is no refusal, and stays that.
+    pub fn of_policy(refusal: PolicyRefusal) -> Result<Refusal, AllocError>
+        ensures ok { IfOk result (λ r. r ≡ refusal_of refusal) }
+        ensures err { IsErr result ↔ (refusal ≡ NoMemory) }
+    {
+        match refusal {
+            PolicyRefusal::NoSession => Ok(Refusal::NoSession),
+            PolicyRefusal::NoAccess => Ok(Refusal::NoAccess),
+            PolicyRefusal::NoUser => Ok(Refusal::NoUser),
+            PolicyRefusal::NoRole => Ok(Refusal::NoRole),
+            PolicyRefusal::NoSet => Ok(Refusal::NoSet),
+            PolicyRefusal::BadObject => Ok(Refusal::BadObject),
+            PolicyRefusal::Already => Ok(Refusal::Already),
+            PolicyRefusal::NotThere => Ok(Refusal::NotThere),
+            PolicyRefusal::NotAuthorized => Ok(Refusal::NotAuthorized),
+            PolicyRefusal::Cycle => Ok(Refusal::Cycle),
+            PolicyRefusal::InSet => Ok(Refusal::InSet),
+            PolicyRefusal::Number => Ok(Refusal::Number),
+            PolicyRefusal::Ssd(set) => Ok(Refusal::Ssd(set)),
+            PolicyRefusal::Dsd(set) => Ok(Refusal::Dsd(set)),
+            PolicyRefusal::Full => Ok(Refusal::Full),
+            PolicyRefusal::NoMemory => Err(AllocError),
+        }
+    }
 }
 
 /// The answer to a call.

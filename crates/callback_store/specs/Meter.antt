@@ -32,8 +32,8 @@ pub record NoCountFell (old new : Meter) : Type 0 where
   pub walks : old.walks ≤ new.walks
 
 -- nothing was asked
-pub no_ask : (m : Meter) → AsksAtMost m m 0
-no_ask m = record { probes = refl; walks = refl; least = omega arith; most = omega arith }
+pub no_ask : (m : Meter) (n : ℕ) → AsksAtMost m m n
+no_ask m n = record { probes = refl; walks = refl; least = omega arith; most = omega arith }
 
 -- asks after asks are at most as many as both together
 pub asks_after : (a b c : Meter) (m n k : ℕ) → AsksAtMost a b m → AsksAtMost b c n → m + n ≤ k → AsksAtMost a c k

@@ -4,7 +4,7 @@ use Rattle.callback_store.specs.Tables.{Table}
 use Rattle.dimension_core.specs.declared.range.Range.{Range}
 use Rattle.dimension_core.specs.Cumuls.{Bounds, IsStart, IsStep, IsWithin, IsSpan, GoOn, Reaches, last_of, IsInBounds, IsEarly}
 
-last_of-push : (n : ℕ) (ms : List ℕ) (m : ℕ) → last_of n (ms ++ m ∷ []) ≡ m
+pub last_of-push : (n : ℕ) (ms : List ℕ) (m : ℕ) → last_of n (ms ++ m ∷ []) ≡ m
 last_of-push n [] m = refl
 last_of-push n (k ∷ ms) m = last_of-push k ms m
 

@@ -1,8 +1,9 @@
-ghost use Rattle.std.specs.Prelude.{◌≡◌, ℕ, ◌+◌, ◌<◌, ◌≤◌, ◌↔◌, true, false, List, [], ◌∷◌, ◌++◌, length, slice_index, IfSome, IfOk, IsErrOf, IsTrue, Some, None, All};
+ghost use Rattle.std.specs.Prelude.{◌≡◌, ℕ, ◌+◌, ◌<◌, ◌≤◌, ◌↔◌, true, false, List, [], ◌∷◌, ◌++◌, length, slice_index, IfSome, IfOk, IsErrOf, IsTrue, Some, None, All, MatchOption};
 ghost use Rattle.std.specs.Result.{result_err};
 ghost use Rattle.callback_store.specs.Meter.{after_ask, AsksAtMost};
 ghost use Rattle.callback_store.specs.Registry.{tables};
 ghost use Rattle.dimension_core.specs.Cumuls.{Bounds, IsStart, IsStep, IsWithin, IsSpan, IsServed, cap_of, range_of, IsInBounds, Reaches, table_of, last_of, dimension_refusal, is_in_range, are_caps, are_ranges, is_sized, IsEarly};
+ghost use Rattle.dimension_core.specs.Onward.{IsBefore};
 
 use crate::range::Range;
 use callback_store::{Meter, Registry, TransitId};
@@ -229,6 +230,76 @@ impl Dimension {
         }
     }
 
+    /// The cumuls that a vehicle may have at node `i` before one of the range at node `j`, and none where there are none: `extend`
+    /// backwards. It asks the callback once.
+    pub fn precede(
+        &self,
+        registry: &Registry,
+        range: Range,
+        i: u32,
+        j: u32,
+        vehicle: u32,
+        meter: &mut Meter,
+    ) -> Option<Range>
+        requires served { IsServed (tables registry.now) self.now }
+        requires filled { range.lo ≤ range.hi }
+        requires from { i < length self.now.ranges }
+        requires to { j < length self.now.ranges }
+        requires low { 1 ≤ vehicle }
+        requires high { vehicle ≤ length self.now.caps }
+        ensures span { IsSpan result (IsBefore (table_of (tables registry.now) self.now) self.now vehicle i j range) }
+        ensures small { IfSome result (λ r. r.hi ≤ 1000000000000) }
+        ensures counted { meter.new ≡ after_ask meter.old }
+        ensures one { AsksAtMost meter.old meter.new 1 }
+    {
+        let way = registry.ask(self.id(), meter, i, j);
+        if range.hi < way {
+            return None;
+        }
+        let node = self.range(i);
+        let most = way + self.slack_max();
+        let lo = range.lo.saturating_sub(most).max(node.lo);
+        let hi = (range.hi - way).min(node.hi).min(self.cap(vehicle));
+        if lo <= hi {
+            Some(Range { lo, hi })
+        } else {
+            None
+        }
+    }
+
+    /// The cumuls that a vehicle may have at the last of some more nodes, and that node, after those of the range at the node `from`, and
+    /// none where there are none. Whatever was done before, of which the range is the span and `from` the last node, the range that it
+    /// gives is the span of that and these nodes. It asks the callback at most once for each node.
+    pub fn carry(
+        &self,
+        registry: &Registry,
+        range: Range,
+        from: u32,
+        nodes: &[u32],
+        vehicle: u32,
+        meter: &mut Meter,
+    ) -> Option<(Range, u32)>
+        requires served { IsServed (tables registry.now) self.now }
+        requires from { from < length self.now.ranges }
+        requires known { All (λ node. node < length self.now.ranges) nodes.now }
+        requires low { 1 ≤ vehicle }
+        requires high { vehicle ≤ length self.now.caps }
+        ensures span { (done : List ℕ) → IsSpan (Some range) (Reaches (table_of (tables registry.now) self.now) self.now vehicle done) → from ≡ last_of 0 done
+            → MatchOption result
+            (IsSpan None (Reaches (table_of (tables registry.now) self.now) self.now vehicle (done ++ nodes.now)))
+            (λ r. IsSpan (Some r.0) (Reaches (table_of (tables registry.now) self.now) self.now vehicle (done ++ nodes.now)) × (r.1 ≡ last_of 0 (done ++ nodes.now))) }
+        ensures known { IfSome result (λ r. r.1 < length self.now.ranges) }
+        ensures asks { AsksAtMost meter.old meter.new (length nodes.now) }
+    {
+        let mut reached = range;
+        let mut last = from;
+        for node in nodes {
+            reached = self.extend(registry, reached, last, *node, vehicle, meter)?;
+            last = *node;
+        }
+        Some((reached, last))
+    }
+
     /// The cumuls that a vehicle may have at the last of some nodes on its way from the depot, and none where there are
     /// none. The first of them is the early value at that node. It asks the callback at most once for each node.
     #[tactic(auto, using(crate::proofs::Reach::span_early))]
@@ -279,9 +350,9 @@ impl Dimension {
         }
         match self.reach(registry, route, vehicle, meter) {
             None => false,
-            Some(range) => {
+            Some(arrival) => {
                 let last = route[route.len() - 1];
-                self.extend(registry, range, last, 0, vehicle, meter)
+                self.extend(registry, arrival, last, 0, vehicle, meter)
                     .is_some()
             }
         }

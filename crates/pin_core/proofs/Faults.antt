@@ -1,4 +1,4 @@
-use Rattle.std.proofs.Common.{◌≡◌, ℕ, ◌<◌, ◌≤◌, ◌⊎◌, ◌∙◌, sym, subst, inl, inr, List, length, slice_get, slice_index_or, Some, Bool, true, false, All}
+use Rattle.std.proofs.Common.{◌≡◌, ℕ, ◌<◌, ◌≤◌, ◌⊎◌, ◌∙◌, sym, subst, inl, inr, List, length, slice_get, Some, Bool, true, false, All}
 use Rattle.std.proofs.lemmas.Bool.{cases_order}
 use Rattle.std.proofs.lemmas.Option.{slice_get_within, get_or_from_slice_get}
 use Rattle.plan_core.specs.declared.touch.Touch.{Touch}
@@ -7,7 +7,7 @@ use Rattle.plan_core.specs.Commits.{named_vehicles}
 use Rattle.pin_core.specs.declared.fault.PinFault.{PinFault}
 use Rattle.pin_core.specs.declared.fault.PinFault.TheVariants.{Frozen, Pinned}
 use Rattle.pin_core.specs.Pins.{PinState, IsHeld, DoPinsHold, IsFrontKept, AreFreezesKept}
-use Rattle.pin_core.specs.Allowed.{IsFirstFailing, IsFirstThawed, IsFirstLoose, IsPinFault}
+use Rattle.pin_core.specs.Allowed.{IsFirstFailing, IsPinFault}
 use Rattle.pin_core.specs.Override.{IsPassed, DoPinsPass, IsFirstForbidden, IsFaultWith}
 use Rattle.pin_core.proofs.Fronts.{kept_named}
 

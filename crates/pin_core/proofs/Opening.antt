@@ -1,6 +1,6 @@
 use Rattle.std.proofs.Common.{◌≡◌, ℕ, zero, suc, ◌≤◌, ◌-◌, ◌∙◌, sym, subst, refl, arith, List, length, replicate, get_or, Option, Some, None}
 use Rattle.plan_core.specs.Plan.{route_at}
-use Rattle.pin_core.specs.Pins.{PinState, DoPinsHold, DoFrontsFit}
+use Rattle.pin_core.specs.Pins.{DoPinsHold, DoFrontsFit}
 
 -- a row that begins with one value at each place has it at each place
 same_row : {X : Type 0} (n k : ℕ) (x : X) → get_or (replicate n x) k x ≡ x

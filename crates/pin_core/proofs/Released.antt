@@ -1,17 +1,17 @@
-use Rattle.std.proofs.Common.{◌≡◌, ◌≢◌, ℕ, zero, suc, ◌+◌, ◌-◌, ◌<◌, ◌≤◌, ◌⊎◌, ◌∙◌, sym, ap, subst, refl, arith, inl, inr, List, [], ◌∷◌, length, get_or, slice_get, slice_set, slice_index_or, Option, Some, None, Bool, true, false, nat_le, ◌&&◌, if◌then◌else◌}
+use Rattle.std.proofs.Common.{◌≡◌, ◌≢◌, ℕ, zero, suc, ◌+◌, ◌-◌, ◌<◌, ◌≤◌, ◌⊎◌, ◌∙◌, sym, ap, subst, refl, arith, inl, inr, List, [], ◌∷◌, length, get_or, slice_get, slice_set, Option, Some, None, Bool, true, false, nat_le, ◌&&◌}
 use Rattle.std.proofs.lemmas.Bool.{and_parts, and_from, leb-true, le-leb, cases_eq}
 use Rattle.std.proofs.lemmas.Option.{slice_get_read}
 use Rattle.std.proofs.lemmas.List.{set-get_or, same_lists, get_or-set_same, get_or-set_other, length-set, get_or_default}
 use Rattle.plan_core.specs.declared.touch.Touch.{Touch}
 use Rattle.plan_core.specs.Plan.{route_at}
-use Rattle.plan_core.specs.Commits.{has}
+use Rattle.plan_core.specs.Among.{is_among}
 use Rattle.pin_core.specs.Pins.{PinState, StandsOn, IsHeld, DoPinsHold, pin_of, with_pin}
 use Rattle.pin_core.specs.Allowed.{IsTouched, AreAllTouched}
 use Rattle.pin_core.specs.Override.{pin_left, pins_left, after_commit}
 use Rattle.pin_core.proofs.Standing.{contains_from_test, test_from_contains, contains_from_stands, stands_from_contains}
 
 -- the test of a pin says whether the customer stands on its vehicle
-stands_from_test : (routes : List (List ℕ)) (c v : ℕ) → (nat_le 1 v && has c (route_at routes v)) ≡ true → StandsOn routes c v
+stands_from_test : (routes : List (List ℕ)) (c v : ℕ) → (nat_le 1 v && is_among c (route_at routes v)) ≡ true → StandsOn routes c v
 stands_from_test routes c v t =
     let a = and_parts (nat_le 1 v) _ t in
     let low : 1 ≤ v = leb-true 1 v a.0 in
@@ -26,24 +26,24 @@ stands_from_test routes c v t =
     fleet : (routes : List (List ℕ)) (k : ℕ) → 1 ≤ v → (i : ℕ) → i < length (get_or routes (v - 1) []) → v ≤ length routes
     fleet routes k low i h = let inside = some_route routes (v - 1) i h in omega arith
 
-test_from_stands : (routes : List (List ℕ)) (c v : ℕ) → StandsOn routes c v → (nat_le 1 v && has c (route_at routes v)) ≡ true
+test_from_stands : (routes : List (List ℕ)) (c v : ℕ) → StandsOn routes c v → (nat_le 1 v && is_among c (route_at routes v)) ≡ true
 test_from_stands routes c v s = and_from _ _ (le-leb 1 v s.1.low) (test_from_contains c (route_at routes v) (contains_from_stands routes c v s))
 
 pub left_stands : (routes : List (List ℕ)) (c v : ℕ) → StandsOn routes c v → pin_left routes c (Some v) ≡ Some v
 left_stands routes c v s = rw (test_from_stands routes c v s) refl
 
 pub left_gone : (routes : List (List ℕ)) (c v : ℕ) → ¬ StandsOn routes c v → pin_left routes c (Some v) ≡ None
-left_gone routes c v out = split (nat_le 1 v && has c (route_at routes v)) refl
+left_gone routes c v out = split (nat_le 1 v && is_among c (route_at routes v)) refl
   where
-    split : (b : Bool) → (nat_le 1 v && has c (route_at routes v)) ≡ b → pin_left routes c (Some v) ≡ None
+    split : (b : Bool) → (nat_le 1 v && is_among c (route_at routes v)) ≡ b → pin_left routes c (Some v) ≡ None
     split true e = absurd (out (stands_from_test routes c v e))
     split false e = rw e refl
 
 left_some : (routes : List (List ℕ)) (c v : ℕ) (pin : Option ℕ) → pin_left routes c pin ≡ Some v → StandsOn routes c v
 left_some routes c v None e = absurd cc
-left_some routes c v (Some w) e = split (nat_le 1 w && has c (route_at routes w)) refl
+left_some routes c v (Some w) e = split (nat_le 1 w && is_among c (route_at routes w)) refl
   where
-    split : (b : Bool) → (nat_le 1 w && has c (route_at routes w)) ≡ b → StandsOn routes c v
+    split : (b : Bool) → (nat_le 1 w && is_among c (route_at routes w)) ≡ b → StandsOn routes c v
     split true t =
         let is : Some w ≡ Some v = sym (left_stands routes c w (stands_from_test routes c w t)) ∙ e in
         let same : w ≡ v = cc in
@@ -143,9 +143,9 @@ left_begins s routes touched = record { fronts = refl; counted = refl; each = λ
 -- the pins that are left from those that were left
 left_again : (routes : List (List ℕ)) (c : ℕ) (pin : Option ℕ) → pin_left routes c (pin_left routes c pin) ≡ pin_left routes c pin
 left_again routes c None = refl
-left_again routes c (Some v) = split (nat_le 1 v && has c (route_at routes v)) refl
+left_again routes c (Some v) = split (nat_le 1 v && is_among c (route_at routes v)) refl
   where
-    split : (b : Bool) → (nat_le 1 v && has c (route_at routes v)) ≡ b → pin_left routes c (pin_left routes c (Some v)) ≡ pin_left routes c (Some v)
+    split : (b : Bool) → (nat_le 1 v && is_among c (route_at routes v)) ≡ b → pin_left routes c (pin_left routes c (Some v)) ≡ pin_left routes c (Some v)
     split true e = let is = left_stands routes c v (stands_from_test routes c v e) in ap (pin_left routes c) is
     split false e = rw e refl
 

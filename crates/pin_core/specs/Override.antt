@@ -1,8 +1,8 @@
 -- Pins of which a session may override some.
-use Rattle.std.specs.Prelude.{◌≡◌, ℕ, ◌+◌, ◌<◌, ◌≤◌, ◌⊎◌, ◌&&◌, nat_le, if◌then◌else◌, List, [], ◌∷◌, slice_get, Option, Some, None, Bool, true, false}
+use Rattle.std.specs.Prelude.{◌≡◌, ℕ, ◌+◌, ◌<◌, ◌⊎◌, ◌&&◌, nat_le, if◌then◌else◌, List, [], ◌∷◌, slice_get, Option, Some, None, Bool, true, false}
 use Rattle.plan_core.specs.declared.touch.Touch.{Touch}
 use Rattle.plan_core.specs.Plan.{route_at}
-use Rattle.plan_core.specs.Commits.{has}
+use Rattle.plan_core.specs.Among.{is_among}
 use Rattle.pin_core.specs.declared.fault.PinFault.{PinFault}
 use Rattle.pin_core.specs.declared.fault.PinFault.TheVariants.{Frozen, Pinned}
 use Rattle.pin_core.specs.Pins.{PinState, IsHeld, AreFreezesKept}
@@ -33,7 +33,7 @@ IsFaultWith s routes others vehicles touched free (Pinned v p) =
 -- what is left of a customer's pin: the pin itself where the customer stands on that vehicle, else none
 abbrev pub pin_left : List (List ℕ) → ℕ → Option ℕ → Option ℕ
 pin_left routes c None = None
-pin_left routes c (Some v) = if nat_le 1 v && has c (route_at routes v) then Some v else None
+pin_left routes c (Some v) = if nat_le 1 v && is_among c (route_at routes v) then Some v else None
 
 -- what is left of the pins of customers c, c + 1 and so on
 abbrev pub pins_left : List (List ℕ) → ℕ → List (Option ℕ) → List (Option ℕ)

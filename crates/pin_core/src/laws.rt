@@ -1,13 +1,13 @@
 //! Laws of the definitions, each the contract of a function that does nothing.
-ghost use Rattle.std.specs.Prelude.{◌≡◌, ℕ, ◌≤◌, ◌<◌, ◌↔◌, ◌⊎◌, List, Bool, length, replicate, slice_get, Some, None, All};
+ghost use Rattle.std.specs.Prelude.{◌≡◌, ℕ, ◌≤◌, ◌⊎◌, List, Bool, length, replicate, Some, None, All};
 ghost use Rattle.plan_core.specs.declared.touch.Touch.{Touch};
-ghost use Rattle.plan_core.specs.Plan.{Changes, AreApart, with_routes};
-ghost use Rattle.plan_core.specs.Plan.{route_at};
+ghost use Rattle.plan_core.specs.Plan.{Changes, AreApart, route_at};
 ghost use Rattle.plan_core.specs.Commits.{named_vehicles};
 ghost use Rattle.pin_core.specs.declared.fault.PinFault.{PinFault};
-ghost use Rattle.pin_core.specs.Pins.{PinState, StandsOn, IsHeld, DoPinsHold, IsFrontKept, AreFreezesKept, DoFrontsFit, pin_of, front_of, with_pin, with_front};
+ghost use Rattle.pin_core.specs.Pins.{PinState, StandsOn, IsHeld, DoPinsHold, AreFreezesKept, DoFrontsFit, pin_of, front_of, with_pin, with_front};
 ghost use Rattle.pin_core.specs.Allowed.{IsTouched, AreAllTouched, IsPinFault};
 ghost use Rattle.pin_core.specs.Override.{DoPinsPass, IsFaultWith, after_commit};
+ghost use Rattle.pin_core.specs.Laws.{FreezesAreByNamed};
 
 use plan_core::routes_replaced;
 
@@ -40,8 +40,7 @@ pub fn front_still_fits()
 
 /// The freezes are kept exactly where the front of each named vehicle is.
 pub fn freezes_by_named()
-    ensures { (s : PinState) (changes : Changes) (routes : List (List ℕ)) → AreApart (length routes) changes
-        → AreFreezesKept s routes (with_routes changes routes) ↔ ((j v : ℕ) → slice_get (named_vehicles changes) j ≡ Some v → IsFrontKept s routes (with_routes changes routes) v) }
+    ensures { FreezesAreByNamed }
 {
     routes_replaced();
 }

@@ -5,7 +5,7 @@ use crate::{
     PinFault, Pins, View, faults_are_determined, freezes_by_named, front_still_fits,
     fronts_within_routes, opening_holds, pin_holds, pins_after_commits, unpin_holds,
 };
-use plan_core::{Plan, Route, Touch};
+use plan_core::{Plan, Route, Touch, plans_are_tested};
 use std::alloc::{AllocError, Global};
 use std::sync::Arc;
 use std::test::Fail;
@@ -28,6 +28,7 @@ fn two_and_one(alloc: Global) -> Result<Plan, AllocError>
 {
     let mut plan = Plan::new(alloc, 4, 2)?;
     let changes = pair(alloc, &[1, 2], &[4])?;
+    plans_are_tested();
     plan.replace(changes);
     Ok(plan)
 }
@@ -194,6 +195,7 @@ fn one_and_two(alloc: Global) -> Result<Plan, AllocError>
 {
     let mut plan = Plan::new(alloc, 4, 2)?;
     let changes = pair(alloc, &[1], &[4, 2])?;
+    plans_are_tested();
     plan.replace(changes);
     Ok(plan)
 }

@@ -1,4 +1,5 @@
 pub mod Among
+pub mod Bounds
 pub mod Commits
 pub mod Cost
 pub mod Front

@@ -1,4 +1,5 @@
 use Rattle.std.specs.declared.sync.Arc.{Arc}
+pub use Rattle.dimension_core.specs.NewRoutes.{Changes}
 use Rattle.std.specs.Prelude.{map, ◌≡◌, ℕ, ◌+◌, ◌-◌, ◌≤◌, ◌⊎◌, List, [], ◌∷◌, length, slice_get, slice_set, slice_index, slice_index_or, Some}
 
 -- A plan as contracts see it: how many customers there are, the route of each vehicle (the first is that of vehicle 1), how many
@@ -28,10 +29,6 @@ IsPlaced routes c = (v : ℕ) × ((p : ℕ) × StandsAt routes c v p)
 pub record IsPlan (customers : ℕ) (routes : List (List ℕ)) : Type 0 where
   pub known : (c v p : ℕ) → StandsAt routes c v p → (1 ≤ c) × (c ≤ customers)
   pub alone : (c v p w q : ℕ) → StandsAt routes c v p → StandsAt routes c w q → (v ≡ w) × (p ≡ q)
-
--- new routes, each for a vehicle
-abbrev pub Changes : Type 0
-Changes = List (ℕ × List ℕ)
 
 -- shared routes as lists, and as new routes
 abbrev pub routes_of : {Z : Type 0} → List (Arc (List ℕ) Z) → List (List ℕ)

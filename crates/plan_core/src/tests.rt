@@ -2,7 +2,7 @@ ghost use Rattle.std.specs.Prelude.{◌≡◌, ◌+◌, ◌*◌, [], ◌∷◌, 
 ghost use Rattle.plan_core.specs.Plan.{changes_of};
 
 use crate::{
-    Plan, Route, among_is_tested, common_front, commits_by_one_more, costs_differ_by_named,
+    Plan, Route, among_is_tested, commits_by_one_more, common_front, costs_differ_by_named,
     currency_by_stamps, customers_stand_by_route, fronts_are_common, plans_are_tested, route_cost,
     routes_are_known, routes_replaced, stamps_by_one_more, ways_join,
 };

@@ -1,7 +1,2 @@
-pub mod BelowLaws
-pub mod Chains
-pub mod Counts
-pub mod OrderLaws
-pub mod RoleLaws
-mod Rows
-mod WordLaws
+mod Counts
+mod OrderLaws

@@ -45,10 +45,10 @@ fn link_row(reach: &mut [RoleSet], senior: u8, juniors: RoleSet)
         Closes (λ a b. pair a b || (a == senior && has juniors b)) reach.new }
 {
     juniors.is_small();
-    for junior in 0..256u32 {
-        if juniors.contains(junior as u8) {
-            link(reach, senior, junior as u8);
-        }
+    let mut from = 0;
+    while let Some(junior) = juniors.next_from(from) {
+        link(reach, senior, junior);
+        from = junior as u32 + 1;
     }
 }
 
@@ -260,6 +260,13 @@ impl Hierarchy {
         self.reach[a as usize].contains(b)
     }
 
+    /// Whether the two stand in an immediate pair, the first the senior.
+    pub fn has_pair(&self, senior: u8, junior: u8) -> bool
+        ensures { result ≡ stands self.now senior junior }
+    {
+        self.pairs[senior as usize].contains(junior)
+    }
+
     /// The roles to which the role is senior, itself among them.
     pub fn juniors(&self, role: u8) -> RoleSet
         ensures value { result ≡ juniors_of self.now role }
@@ -278,10 +285,10 @@ impl Hierarchy {
         roles.is_small();
         self.is_order();
         let mut below = RoleSet::new();
-        for role in 0..256u32 {
-            if roles.contains(role as u8) {
-                below = below.union(self.juniors(role as u8));
-            }
+        let mut from = 0;
+        while let Some(role) = roles.next_from(from) {
+            below = below.union(self.juniors(role));
+            from = role as u32 + 1;
         }
         below
     }

@@ -1,7 +1,7 @@
 use Rattle.std.proofs.Common.{take}
 use Rattle.dimension_core.specs.Setup.{setting}
 use Rattle.board_core.specs.Listing.{route_spots}
-use Rattle.board_core.specs.Spans.{AreSpans}
+use Rattle.dimension_core.specs.Spans.{AreSpans}
 use Rattle.board_core.specs.Shown.{Grows, is_shown}
 use Rattle.board_core.proofs.listing.push_route.Given as goal
 

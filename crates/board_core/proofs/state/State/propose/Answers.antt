@@ -1,8 +1,8 @@
 use Rattle.std.proofs.Common.{◌+◌, sym, ap, subst, ◌∙◌, length}
 use Rattle.dimension_core.specs.Setup.{setting}
 use Rattle.plan_core.specs.Plan.{PlanState, Changes, IsPlan, AreChanges, changes_of, with_routes}
-use Rattle.board_core.specs.Rules.{AllFit, IsOut}
-use Rattle.board_core.specs.Kept.{HeldState, AllKnown}
+use Rattle.dimension_core.specs.NewRoutes.{AllFit, AllKnown, IsOut}
+use Rattle.board_core.specs.Kept.{HeldState}
 use Rattle.board_core.proofs.Proposals.{fleet_none, effect_none, known, changes_ok, plan_ok, bound_ok, commit_ok}
 use Rattle.board_core.proofs.state.State.propose.Goals as goal
 
@@ -32,7 +32,7 @@ returns-in-Some-first_bound-clause-reply g c =
     bound_ok (setting a.setup.now) a.self.now a.session a.base a.mv c.requires plan c.in_default.ensures
     c.in-Some-first_bound.vehicle c.in-Some-first_bound.dimension
     (subst (λ (cs : Changes). IsOut (setting a.setup.now) cs c.in-Some-first_bound.vehicle c.in-Some-first_bound.dimension)
-    (ap (λ xs. changes_of xs) c.deref.ensures.value ∙ c.in_ok-changes.ensures) c.in-Some-first_bound.ensures)
+    (ap (λ xs. changes_of xs) c.deref.ensures.value ∙ c.in_ok-changes.ensures) c.in-Some-first_bound.ensures.first)
 
 pub replace-requires-clause-changes : goal.replace-requires-clause-changes
 replace-requires-clause-changes g c =
@@ -56,5 +56,5 @@ returns-clause-reply g c =
     let plan = subst (λ (h : HeldState). IsPlan h.plan.customers h.plan.routes) c.self.view_is c.customers-sound.ensures.sound in (
       c.version.ensures.value ∙ ap (λ (p : PlanState). p.version) c.replace.ensures ∙ ap (λ (h : HeldState). h.plan.version + 1) c.self.view_is,
       commit_ok (setting a.setup.now) a.self.now a.session a.base a.mv c.requires plan c.in_default.ensures
-          (subst (λ (cs : Changes). AllFit (setting a.setup.now) cs) (ap (λ xs. changes_of xs) c.deref.ensures.value ∙ c.in_ok-changes.ensures) c.in_default-first_bound.ensures),
+          (subst (λ (cs : Changes). AllFit (setting a.setup.now) cs) (ap (λ xs. changes_of xs) c.deref.ensures.value ∙ c.in_ok-changes.ensures) c.in_default-first_bound.ensures.first),
     )

@@ -1,6 +1,6 @@
 use Rattle.std.proofs.Common.{◌≤◌, subst, arith}
 use Rattle.dimension_core.specs.declared.range.Range.{Range}
-use Rattle.dimension_core.proofs.Spans.{extended_span}
+use Rattle.dimension_core.proofs.Extended.{extended_span}
 use Rattle.dimension_core.proofs.dimension.Dimension.extend.Goals as goal
 
 pub returns-then-lo-hi-clause-span : goal.returns-then-lo-hi-clause-span

@@ -10,7 +10,7 @@ loop-node-init g c = record {
   span = span_start (table_of (tables c.args.registry.now) c.args.self.now) _ _ _ c.in_ok-range.ensures.span;
   last = refl;
   small = c.in_ok-range.ensures.small;
-  asks = no_ask _;
+  asks = no_ask _ _;
   known = c.in_ok-range.ensures.depot;
 }
 

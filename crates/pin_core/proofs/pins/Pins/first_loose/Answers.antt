@@ -1,7 +1,6 @@
 use Rattle.plan_core.specs.Plan.{changes_of, with_routes}
 use Rattle.plan_core.specs.declared.touch.Touch.{Touch}
 use Rattle.pin_core.specs.Pins.{IsHeld}
-use Rattle.std.proofs.Common.{refl, get_or}
 use Rattle.std.proofs.lemmas.Option.{slice_get-get_or}
 use Rattle.pin_core.proofs.Standing.{before_more, before_all}
 use Rattle.pin_core.proofs.pins.Pins.first_loose.Goals as goal

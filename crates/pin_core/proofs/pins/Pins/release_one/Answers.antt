@@ -1,5 +1,5 @@
-use Rattle.std.proofs.Common.{◌≡◌, ◌∙◌, sym, ap, subst, Some, ℕ, Option, None}
-use Rattle.pin_core.specs.Pins.{StandsOn, with_pin, pin_of}
+use Rattle.std.proofs.Common.{◌≡◌, ◌∙◌, sym, ap, ℕ, Option, None}
+use Rattle.pin_core.specs.Pins.{with_pin, pin_of}
 use Rattle.pin_core.specs.Override.{pin_left}
 use Rattle.pin_core.proofs.Released.{left_stands, left_gone, pin_again}
 use Rattle.pin_core.proofs.pins.Pins.release_one.Goals as goal

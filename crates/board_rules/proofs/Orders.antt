@@ -1,0 +1,223 @@
+-- What the policy of every history keeps: its sizes, and an order whose rows are those of 256 slots.
+use Rattle.std.proofs.Common.{◌≡◌, ℕ, zero, suc, ◌+◌, ◌<◌, ◌≤◌, ◌⊎◌, inl, inr, Bool, true, false, List, [], ◌∷◌, length, map, replicate, Option, Some, None, refl, sym, ap, ◌∙◌, subst, arith, length-set}
+use Rattle.std.specs.Prelude.{slice_index, slice_set, slice_index_or, cond, unwrap_or, find, not, ◌&&◌, bytes_eq, Result, Ok, Err}
+use Rattle.std.specs.List.{range_with_len}
+use Rattle.std.specs.Map.{lookup, remove_entry}
+use Rattle.std.specs.Option.{option_map_or, option_or}
+use Rattle.std.proofs.lemmas.Bool.{cases_eq, cases_lt, and_parts, both_ways}
+use Rattle.std.proofs.lemmas.List.{length-map, length-replicate, get_or-set_same, get_or-set_other, get_or-map}
+use Rattle.indexmap.specs.IndexMap.{insert_entry}
+use Rattle.role_hierarchy.specs.Roles.{has, with_role, without, first_free}
+use Rattle.role_hierarchy.specs.RoleLaws.{has-empty, has-without}
+use Rattle.role_hierarchy.specs.Order.{Order, stands, no_order, with_slot, with_pair, without_pair, without_slot}
+use Rattle.role_hierarchy.specs.Below.{IsOrder}
+use Rattle.role_hierarchy.specs.BelowLaws.{order-with_pair}
+use Rattle.policy_core.specs.declared.refusal.Refusal.{Refusal as PolicyRefusal}
+use Rattle.policy_core.specs.State.{PolicyState, slot_of}
+use Rattle.policy_core.specs.Commands.{role_at, role_added}
+use Rattle.policy_core.specs.Opening.{opening}
+use Rattle.rbac_core.specs.declared.command.Command.{Command}
+use Rattle.rbac_core.specs.declared.command.Command.TheVariants.{AddUser, DeleteUser, AddRole, DeleteRole, AssignUser, DeassignUser, GrantPermission, RevokePermission, AddInheritance, DeleteInheritance, CreateSsdSet, AddSsdRoleMember, DeleteSsdRoleMember, DeleteSsdSet, SetSsdSetCardinality, CreateDsdSet, AddDsdRoleMember, DeleteDsdRoleMember, DeleteDsdSet, SetDsdSetCardinality, CreateSession, DeleteSession, AddActiveRole, DropActiveRole, Migrate}
+use Rattle.rbac_core.specs.declared.command.Outcome.{Outcome}
+use Rattle.rbac_core.specs.Step.{step, answered, guard, refusal_of, after, outcome_of}
+use Rattle.board_rules.specs.Policies.{policy_after}
+
+-- each slot is below 256
+pub AllSlots : List (List ℕ × ℕ) → Type 0
+AllSlots [] = Unit {0}
+AllSlots (e ∷ es) = (e.1 < 256) × AllSlots es
+
+slot_small : (roles : List (List ℕ × ℕ)) (name : List ℕ) → AllSlots roles → unwrap_or (lookup (bytes_eq name) roles) 0 < 256
+unfolding AllSlots
+slot_small [] name h = omega arith
+slot_small (e ∷ es) name h = elim (bytes_eq name e.0) as (λ t. unwrap_or (cond t (Some e.1) (lookup (bytes_eq name) es)) 0 < 256) [
+  | true ↦ h.0
+  | false ↦ slot_small es name h.1
+]
+
+slots_with : (roles : List (List ℕ × ℕ)) (name : List ℕ) (slot : ℕ) → slot < 256 → AllSlots roles → AllSlots (insert_entry bytes_eq roles name slot)
+unfolding AllSlots
+slots_with [] name slot small h = (small, tt)
+slots_with (e ∷ es) name slot small h = elim (bytes_eq name e.0) as (λ t. AllSlots (cond t ((e.0, slot) ∷ es) (e ∷ insert_entry bytes_eq es name slot))) [
+  | true ↦ (small, h.1)
+  | false ↦ (h.0, slots_with es name slot small h.1)
+]
+
+slots_less : (test : List ℕ → Bool) (roles : List (List ℕ × ℕ)) → AllSlots roles → AllSlots (remove_entry test roles)
+unfolding AllSlots
+slots_less test [] h = h
+slots_less test (e ∷ es) h = elim (test e.0) as (λ t. AllSlots (cond t es (e ∷ remove_entry test es))) [
+  | true ↦ h.1
+  | false ↦ (h.0, slots_less test es h.1)
+]
+
+-- a free slot is one of the 256
+found_below : (p : ℕ → Bool) (a n r : ℕ) → find p (range_with_len a n) ≡ Some r → r < a + n
+found_below p a zero r h = absurd cc
+found_below p a (suc n) r h = by_test (p a) a n (find p (range_with_len (a + 1) n)) r (λ e. found_below p (a + 1) n r e) h
+  where
+    by_test : (t : Bool) (a n : ℕ) (rest : Option ℕ) (r : ℕ) → (rest ≡ Some r → r < a + 1 + n) → cond t (Some a) rest ≡ Some r → r < a + suc n
+    by_test true a n rest r later e = let same : a ≡ r = cc in omega (arith, same)
+    by_test false a n rest r later e = let below = later e in omega (arith, below)
+
+free_below : (roles r : ℕ) → first_free roles ≡ Some r → r < 256
+unfolding first_free
+free_below roles r h = found_below (λ role. not (has roles role)) 0 256 r h
+
+-- past its end a list gives 0
+pub past_end : (xs : List ℕ) (k : ℕ) → length xs ≤ k → slice_index xs k ≡ 0
+past_end [] k h = refl
+past_end (x ∷ xs) zero h = absurd (omega (arith, h))
+past_end (x ∷ xs) (suc k) h = past_end xs k (omega (arith, h))
+
+-- the members of each row are slots
+RowsSmall : List ℕ → Type 0
+RowsSmall pairs = (a b : ℕ) → has (slice_index pairs a) b ≡ true → b < 256
+
+rows_set : (pairs : List ℕ) (at row : ℕ) → ((b : ℕ) → has row b ≡ true → b < 256) → RowsSmall pairs → RowsSmall (slice_set pairs at row)
+unfolding RowsSmall
+rows_set pairs at row small rows a b h = elim (cases_eq a at) [
+  | inr other ↦ rows a b (sym (ap (λ r. has r b) (get_or-set_other pairs at a row 0 other)) ∙ h)
+  | inl same ↦ elim (cases_lt at (length pairs)) [
+    | inl within ↦ small b (sym (ap (λ r. has r b) (ap (λ n. slice_index (slice_set pairs at row) n) same ∙ get_or-set_same pairs at row 0 within)) ∙ h)
+    | inr past ↦
+        let none : slice_index (slice_set pairs at row) a ≡ 0 = past_end (slice_set pairs at row) a (omega (arith, past, same, length-set pairs at row)) in
+        absurd (both_ways (has 0 b) (has-empty b) (sym (ap (λ r. has r b) none) ∙ h))
+  ]
+]
+
+less_small : (pairs : List ℕ) (a slot b : ℕ) → RowsSmall pairs → has (without (slice_index pairs a) slot) b ≡ true → b < 256
+unfolding RowsSmall
+less_small pairs a slot b rows h = rows a b (and_parts _ _ (sym (has-without (slice_index pairs a) slot b) ∙ h)).1
+
+rows_less : (pairs : List ℕ) (slot : ℕ) → RowsSmall pairs → RowsSmall (map (λ row. without row slot) pairs)
+unfolding RowsSmall
+rows_less pairs slot rows a b h = elim (cases_lt a (length pairs)) [
+  | inl within ↦ less_small pairs a slot b rows (sym (ap (λ r. has r b) (get_or-map (λ row. without row slot) pairs a 0 0 within)) ∙ h)
+  | inr past ↦
+      let none : slice_index (map (λ row. without row slot) pairs) a ≡ 0 = past_end (map (λ row. without row slot) pairs) a (omega (arith, past, length-map pairs (λ row. without row slot))) in
+      absurd (both_ways (has 0 b) (has-empty b) (sym (ap (λ r. has r b) none) ∙ h))
+]
+
+-- the policy is over so many customers and vehicles, and its order has the rows of 256 slots
+pub record IsSettled (customers vehicles : ℕ) (p : PolicyState) : Type 0 where
+  pub customers_are : p.customers ≡ customers
+  pub vehicles_are : p.vehicles ≡ vehicles
+  pub order : IsOrder p.order
+  pub slots : AllSlots p.roles
+
+module _ (customers vehicles : ℕ) where
+  settled_order : (p : PolicyState) → IsSettled customers vehicles p → (order : Order) (q : PolicyState) → q.customers ≡ p.customers → q.vehicles ≡ p.vehicles
+      → q.roles ≡ p.roles → q.order ≡ order → IsOrder order → IsSettled customers vehicles q
+  settled_order p h order q c v roles at is = record {
+    customers_are = c ∙ h.customers_are;
+    vehicles_are = v ∙ h.vehicles_are;
+    order = subst IsOrder (sym at) is;
+    slots = subst AllSlots (sym roles) h.slots;
+  }
+
+  role_added_at : (p : PolicyState) (role : List ℕ) (free : Option ℕ) → ((r : ℕ) → free ≡ Some r → r < 256) → IsSettled customers vehicles p
+      → IsSettled customers vehicles (option_map_or (role_at p role) free p)
+  role_added_at p role None small h = h
+  role_added_at p role (Some slot) small h = record {
+    customers_are = h.customers_are;
+    vehicles_are = h.vehicles_are;
+    order = record { rows = h.order.rows; small = h.order.small };
+    slots = slots_with p.roles role slot (small slot refl) h.slots;
+  }
+
+  pub settled_role : (p : PolicyState) (role : List ℕ) → IsSettled customers vehicles p → IsSettled customers vehicles (role_added p role)
+  settled_role p role h = role_added_at p role (first_free p.order.roles) (free_below p.order.roles) h
+
+  settled_gone : (p : PolicyState) (role : List ℕ) → IsSettled customers vehicles p → IsSettled customers vehicles (after p (DeleteRole role))
+  unfolding RowsSmall
+  settled_gone p role h =
+      let slot : ℕ = slot_of p role in
+      let less : List ℕ = map (λ row. without row slot) p.order.pairs in
+      record {
+        customers_are = h.customers_are;
+        vehicles_are = h.vehicles_are;
+        order = record {
+          rows = length-set less slot 0 ∙ (length-map p.order.pairs (λ row. without row slot) ∙ h.order.rows);
+          small = rows_set less slot 0 (λ b there. absurd (both_ways (has 0 b) (has-empty b) there)) (rows_less p.order.pairs slot h.order.small);
+        };
+        slots = slots_less (bytes_eq role) p.roles h.slots;
+      }
+
+  settled_uninherited : (p : PolicyState) (senior junior : List ℕ) → IsSettled customers vehicles p → IsSettled customers vehicles (after p (DeleteInheritance senior junior))
+  unfolding RowsSmall
+  settled_uninherited p senior junior h =
+      let a : ℕ = slot_of p senior in
+      let b : ℕ = slot_of p junior in
+      let row : ℕ = without (slice_index p.order.pairs a) b in
+      record {
+        customers_are = h.customers_are;
+        vehicles_are = h.vehicles_are;
+        order = record {
+          rows = length-set p.order.pairs a row ∙ h.order.rows;
+          small = rows_set p.order.pairs a row (λ c there. less_small p.order.pairs a b c h.order.small there) h.order.small;
+        };
+        slots = h.slots;
+      }
+
+  settled_inherited : (p : PolicyState) (senior junior : List ℕ) → IsSettled customers vehicles p → IsSettled customers vehicles (after p (AddInheritance senior junior))
+  settled_inherited p senior junior h = record {
+    customers_are = h.customers_are;
+    vehicles_are = h.vehicles_are;
+    order = order-with_pair p.order h.order (slot_of p senior) (slot_of p junior) (slot_small p.roles senior h.slots) (slot_small p.roles junior h.slots);
+    slots = h.slots;
+  }
+
+  pub settled : (p : PolicyState) (command : Command) → IsSettled customers vehicles p → IsSettled customers vehicles (after p command)
+  settled p (AddRole role) h = settled_role p role h
+  settled p (DeleteRole role) h = settled_gone p role h
+  settled p (AddInheritance senior junior) h = settled_inherited p senior junior h
+  settled p (DeleteInheritance senior junior) h = settled_uninherited p senior junior h
+  settled p (AddUser user) h = settled_order p h p.order (after p (AddUser user)) refl refl refl refl h.order
+  settled p (DeleteUser user) h = settled_order p h p.order (after p (DeleteUser user)) refl refl refl refl h.order
+  settled p (AssignUser user role) h = settled_order p h p.order (after p (AssignUser user role)) refl refl refl refl h.order
+  settled p (DeassignUser user role) h = settled_order p h p.order (after p (DeassignUser user role)) refl refl refl refl h.order
+  settled p (GrantPermission role operation range) h = settled_order p h p.order (after p (GrantPermission role operation range)) refl refl refl refl h.order
+  settled p (RevokePermission role operation range) h = settled_order p h p.order (after p (RevokePermission role operation range)) refl refl refl refl h.order
+  settled p (CreateSsdSet name number roles) h = settled_order p h p.order (after p (CreateSsdSet name number roles)) refl refl refl refl h.order
+  settled p (AddSsdRoleMember name role) h = settled_order p h p.order (after p (AddSsdRoleMember name role)) refl refl refl refl h.order
+  settled p (DeleteSsdRoleMember name role) h = settled_order p h p.order (after p (DeleteSsdRoleMember name role)) refl refl refl refl h.order
+  settled p (DeleteSsdSet name) h = settled_order p h p.order (after p (DeleteSsdSet name)) refl refl refl refl h.order
+  settled p (SetSsdSetCardinality name number) h = settled_order p h p.order (after p (SetSsdSetCardinality name number)) refl refl refl refl h.order
+  settled p (CreateDsdSet name number roles) h = settled_order p h p.order (after p (CreateDsdSet name number roles)) refl refl refl refl h.order
+  settled p (AddDsdRoleMember name role) h = settled_order p h p.order (after p (AddDsdRoleMember name role)) refl refl refl refl h.order
+  settled p (DeleteDsdRoleMember name role) h = settled_order p h p.order (after p (DeleteDsdRoleMember name role)) refl refl refl refl h.order
+  settled p (DeleteDsdSet name) h = settled_order p h p.order (after p (DeleteDsdSet name)) refl refl refl refl h.order
+  settled p (SetDsdSetCardinality name number) h = settled_order p h p.order (after p (SetDsdSetCardinality name number)) refl refl refl refl h.order
+  settled p (CreateSession user roles) h = settled_order p h p.order (after p (CreateSession user roles)) refl refl refl refl h.order
+  settled p (DeleteSession session) h = settled_order p h p.order (after p (DeleteSession session)) refl refl refl refl h.order
+  settled p (AddActiveRole session role) h = settled_order p h p.order (after p (AddActiveRole session role)) refl refl refl refl h.order
+  settled p (DropActiveRole session role) h = settled_order p h p.order (after p (DropActiveRole session role)) refl refl refl refl h.order
+  settled p Migrate h = settled_order p h p.order (after p Migrate) refl refl refl refl h.order
+
+  answered_settled : (p next : PolicyState) (outcome : Outcome) (refusal : Option PolicyRefusal) → IsSettled customers vehicles p → IsSettled customers vehicles next
+      → IsSettled customers vehicles (answered p refusal next outcome).0
+  answered_settled p next outcome None h g = g
+  answered_settled p next outcome (Some e) h g = h
+
+  pub settled_after : (p : PolicyState) (session : ℕ) (command : Command) → IsSettled customers vehicles p → IsSettled customers vehicles (policy_after p session command)
+  unfolding policy_after step
+  settled_after p session command h =
+      answered_settled p (after p command) (outcome_of p command) (option_or (guard p session command) (refusal_of p command)) h (settled p command h)
+
+  pub settled_first : IsSettled customers vehicles (opening customers vehicles)
+  unfolding AllSlots
+  settled_first = record {
+    customers_are = refl;
+    vehicles_are = refl;
+    order = record {
+      rows = length-replicate {A = ℕ} 256 0;
+      small = λ a b h. absurd (both_ways (has 0 b) (has-empty b) (sym (ap (λ r. has r b) (empty_row 256 a)) ∙ h));
+    };
+    slots = (omega arith, tt);
+  }
+    where
+      empty_row : (n k : ℕ) → slice_index (replicate n 0) k ≡ 0
+      empty_row zero k = refl
+      empty_row (suc n) zero = refl
+      empty_row (suc n) (suc k) = empty_row n k

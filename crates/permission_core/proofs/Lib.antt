@@ -1,0 +1,2 @@
+mod RangeLaws
+mod RowLaws

@@ -1,0 +1,3 @@
+pub mod ObjectLaws
+pub mod Objects
+pub mod Permissions

@@ -1,0 +1,9 @@
+//! Operations on the objects of a dispatch board, and which role may do which of them to which
+//! objects: OPS, OBS and PA of ANSI INCITS 359-2004, 6.1.
+#![tactic(auto)]
+
+mod objects;
+mod permissions;
+
+pub use objects::{Object, ObjectRange, ObjectSet, Operation};
+pub use permissions::Permissions;

@@ -1,0 +1,157 @@
+-- What the commands' judgements say of the whole policy.
+use Rattle.std.proofs.Common.{◌≡◌, ◌≤◌, ◌+◌, cond, ℕ, Bool, true, false, List, [], ◌∷◌, map, filter, not, ap₂, Option, Some, None, sym, refl, subst, ap, ◌∙◌, arith}
+use Rattle.std.specs.Prelude.{bytes_eq, nat_eq, is_some}
+use Rattle.std.specs.Option.{option_map, option_or}
+use Rattle.indexmap.specs.IndexMap.{insert_entry}
+use Rattle.std.specs.Map.{lookup, remove_entry}
+use Rattle.std.proofs.lemmas.Bool.{and_parts}
+use Rattle.role_hierarchy.specs.Roles.{has, without}
+use Rattle.role_hierarchy.specs.Order.{Order, with_slot, with_pair}
+use Rattle.role_hierarchy.specs.Below.{closed, IsOrder}
+use Rattle.role_hierarchy.specs.RoleLaws.{has-without}
+use Rattle.role_hierarchy.specs.BelowLaws.{closed_fewer, closed-with_slot}
+use Rattle.separation_core.specs.Groups.{AreSets, Groups, first_broken, first_breaking}
+use Rattle.separation_core.specs.GroupLaws.{first_broken-fewer}
+use Rattle.permission_core.specs.Permissions.{Rows}
+use Rattle.policy_core.specs.declared.refusal.Refusal.{Refusal}
+use Rattle.policy_core.specs.declared.refusal.Refusal.TheVariants.{Ssd, Dsd}
+use Rattle.policy_core.specs.declared.session.Session.{Session}
+use Rattle.policy_core.specs.declared.session.Counting.{Counting}
+use Rattle.policy_core.specs.declared.session.Counting.TheVariants.{Active}
+use Rattle.policy_core.specs.State.{HasSlots, PolicyState, IsPolicy, no_policy, authorized, counted, counted_all, numbers_of, rise, broken_ssd, broken_dsd, with_roles, with_session, is_session, broken}
+use Rattle.policy_core.proofs.BreakLaws.{breaking_inserted, broken_at, breaking_removed, breaking_filtered, closed_none, none_breaks}
+use Rattle.policy_core.proofs.CountLaws.{counted_fewer, counted-with_slot}
+use Rattle.policy_core.proofs.NumberLaws.{numbers-present, rise-removed, rise-filter, rise-opened}
+
+-- what DSD counts of a session
+abbrev pub counted_of : PolicyState → Session → ℕ
+counted_of p s = counted p.counting p.order s.active
+
+pub none_mapped : (f : List ℕ → Refusal) (found : Option (List ℕ)) → option_map f found ≡ None → found ≡ None
+none_mapped f None h = refl
+none_mapped f (Some x) h = cc
+
+module _ (p now : PolicyState) (same : p ≡ now) (is : IsPolicy p) where
+  -- the one user whose roles change is judged for all
+  pub roles_judged : (user : List ℕ) (roles : ℕ) (found : Option (List ℕ)) → found ≡ first_broken (closed p.order roles) p.ssd → option_map Ssd found ≡ broken_ssd (with_roles now user roles)
+  roles_judged user roles found h =
+      let P : PolicyState → Type 0 = λ s. option_map Ssd found ≡ broken_ssd (with_roles s user roles) in
+      subst P same (ap (option_map Ssd) (h ∙ sym (breaking_inserted (closed p.order) bytes_eq user roles p.users p.ssd is.ssd)))
+
+  whole_user : (user : List ℕ) → AreSets p.ssd → first_breaking (authorized (with_roles p user 0)) p.ssd ≡ None
+  whole_user user are = breaking_inserted (closed p.order) bytes_eq user 0 p.users p.ssd is.ssd ∙ ap (λ s. first_broken s p.ssd) (closed_none p.order) ∙ none_breaks p.ssd are
+
+  -- a new user without roles
+  pub user_whole : (user : List ℕ) (users : List (List ℕ × ℕ)) (roles : ℕ) → users ≡ insert_entry bytes_eq p.users user roles → roles ≡ 0 → AreSets p.ssd → IsPolicy (record p { users = users })
+  user_whole user users roles is_inserted none are =
+      let P : List (List ℕ × ℕ) → Type 0 = λ us. IsPolicy (record p { users = us }) in
+      subst P (sym (is_inserted ∙ ap (insert_entry bytes_eq p.users user) none)) (record { ssd = whole_user user are; dsd = is.dsd; slots = is.slots; numbers = is.numbers; few_customers = is.few_customers; few_vehicles = is.few_vehicles })
+
+  -- a user with fewer roles
+  pub fewer_whole : IsOrder p.order → (user : List ℕ) (held left : ℕ) → Some held ≡ lookup (bytes_eq user) p.users → ((q : ℕ) → has left q ≡ true → has held q ≡ true) → broken_ssd (with_roles now user left) ≡ None
+  fewer_whole order user held left there within =
+      sym (roles_judged user left None (sym (first_broken-fewer (closed p.order left) (closed p.order held) p.ssd (closed_fewer p.order order left held within)
+        (broken_at (closed p.order) (bytes_eq user) held p.users p.ssd is.ssd there))))
+
+  -- the one session whose roles change is judged for all
+  pub session_judged : (number : ℕ) (session : Session) (found : Option (List ℕ)) → found ≡ first_broken (counted_of p session) p.dsd → option_map Dsd found ≡ broken_dsd (with_session now number session)
+  session_judged number session found h =
+      let P : PolicyState → Type 0 = λ s. option_map Dsd found ≡ broken_dsd (with_session s number session) in
+      subst P same (ap (option_map Dsd) (h ∙ sym (breaking_inserted (counted_of p) nat_eq number session p.sessions p.dsd is.dsd)))
+
+  -- a session with fewer active roles
+  pub fewer_active : IsOrder p.order → (number : ℕ) (session next : Session) → Some session ≡ lookup (nat_eq number) p.sessions → ((q : ℕ) → has next.active q ≡ true → has session.active q ≡ true) → broken_dsd (with_session now number next) ≡ None
+  fewer_active order number session next there within =
+      sym (session_judged number next None (sym (first_broken-fewer (counted_of p next) (counted_of p session) p.dsd (counted_fewer p.counting p.order order next.active session.active within)
+        (broken_at (counted_of p) (nat_eq number) session p.sessions p.dsd is.dsd there))))
+
+  -- a session less
+  pub shut_whole : (number : ℕ) (sessions : List (ℕ × Session)) → sessions ≡ remove_entry (nat_eq number) p.sessions → IsPolicy (record p { sessions = sessions })
+  shut_whole number sessions is_removed =
+      let P : List (ℕ × Session) → Type 0 = λ xs. IsPolicy (record p { sessions = xs }) in
+      subst P (sym is_removed) (record { ssd = is.ssd; dsd = breaking_removed (counted_of p) (nat_eq number) p.sessions p.dsd is.dsd; slots = is.slots; numbers = rise-removed 0 p.last (nat_eq number) p.sessions is.numbers; few_customers = is.few_customers; few_vehicles = is.few_vehicles })
+
+  -- a session that is changed
+  pub put_whole : (number : ℕ) (s : Session) → is_session now number ≡ true → broken_dsd (with_session now number s) ≡ None → (sessions : List (ℕ × Session)) → sessions ≡ insert_entry nat_eq p.sessions number s → IsPolicy (record p { sessions = sessions })
+  put_whole number s there whole sessions is_put =
+      let P : List (ℕ × Session) → Type 0 = λ xs. IsPolicy (record p { sessions = xs }) in
+      let here : is_session p number ≡ true = ap (λ (q : PolicyState). is_session q number) same ∙ there in
+      let none : broken_dsd (with_session p number s) ≡ None = ap (λ (q : PolicyState). broken_dsd (with_session q number s)) same ∙ whole in
+      subst P (sym is_put) (record { ssd = is.ssd; dsd = none_mapped Dsd _ none; slots = is.slots; numbers = ap (rise 0 p.last) (numbers-present number s p.sessions here) ∙ is.numbers; few_customers = is.few_customers; few_vehicles = is.few_vehicles })
+
+  -- a session that is opened
+  pub opened_whole : (s : Session) → broken_dsd (with_session now (now.last + 1) s) ≡ None → (sessions : List (ℕ × Session)) → sessions ≡ insert_entry nat_eq p.sessions (p.last + 1) s → IsPolicy (record p { sessions = sessions; last = p.last + 1 })
+  opened_whole s whole sessions is_put =
+      let P : List (ℕ × Session) → Type 0 = λ xs. IsPolicy (record p { sessions = xs; last = p.last + 1 }) in
+      let none : broken_dsd (with_session p (p.last + 1) s) ≡ None = ap (λ (q : PolicyState). broken_dsd (with_session q (q.last + 1) s)) same ∙ whole in
+      subst P (sym is_put) (record { ssd = is.ssd; dsd = none_mapped Dsd _ none; slots = is.slots; numbers = rise-opened 0 p.last s p.sessions (omega arith) is.numbers; few_customers = is.few_customers; few_vehicles = is.few_vehicles })
+
+pub without_within : (roles slot q : ℕ) → has (without roles slot) q ≡ true → has roles q ≡ true
+without_within roles slot q h = (and_parts _ _ (sym (has-without roles slot q) ∙ h)).1
+
+pub fewer_of : (roles slot left : ℕ) → left ≡ without roles slot → (q : ℕ) → has left q ≡ true → has roles q ≡ true
+fewer_of roles slot left is q h = without_within roles slot q (ap (λ s. has s q) (sym is) ∙ h)
+
+-- a policy is its parts
+pub same_parts : (p : PolicyState) (users : List (List ℕ × ℕ)) (roles : List (List ℕ × ℕ)) (order : Order) (grants : Rows) (ssd dsd : Groups) (sessions : List (ℕ × Session)) →
+    users ≡ p.users → roles ≡ p.roles → order ≡ p.order → grants ≡ p.grants → ssd ≡ p.ssd → dsd ≡ p.dsd → sessions ≡ p.sessions →
+    record p { users = users; roles = roles; order = order; grants = grants; ssd = ssd; dsd = dsd; sessions = sessions } ≡ p
+same_parts p users roles order grants ssd dsd sessions e0 e1 e2 e3 e4 e5 e6 =
+    ap (λ x. record p { users = x; roles = roles; order = order; grants = grants; ssd = ssd; dsd = dsd; sessions = sessions }) e0
+    ∙ ap (λ x. record p { roles = x; order = order; grants = grants; ssd = ssd; dsd = dsd; sessions = sessions }) e1
+    ∙ ap (λ x. record p { order = x; grants = grants; ssd = ssd; dsd = dsd; sessions = sessions }) e2
+    ∙ ap (λ x. record p { grants = x; ssd = ssd; dsd = dsd; sessions = sessions }) e3
+    ∙ ap (λ x. record p { ssd = x; dsd = dsd; sessions = sessions }) e4
+    ∙ ap (λ x. record p { dsd = x; sessions = sessions }) e5
+    ∙ ap (λ x. record p { sessions = x }) e6
+
+pub none_is_policy : (customers vehicles : ℕ) → customers ≤ 1000 → vehicles ≤ 1000 → (p : PolicyState) → p ≡ no_policy customers vehicles → IsPolicy p
+unfolding first_breaking
+none_is_policy customers vehicles few some p is =
+    let none : IsPolicy (no_policy customers vehicles) = record { ssd = refl; dsd = refl; slots = record { there = λ a slot h. cc; apart = λ a b slot h k. cc }; numbers = refl; few_customers = few; few_vehicles = some } in
+    subst IsPolicy (sym is) none
+
+same_authorized : (few many : Order) → ((roles : ℕ) → closed few roles ≡ closed many roles) → (users : List (List ℕ × ℕ)) → map (λ u. closed few u.1) users ≡ map (λ u. closed many u.1) users
+same_authorized few many same [] = refl
+same_authorized few many same (u ∷ users) = ap₂ (λ x xs. x ∷ xs) (same u.1) (same_authorized few many same users)
+
+same_counted : (counting : Counting) (few many : Order) → ((active : ℕ) → counted counting few active ≡ counted counting many active) → (sessions : List (ℕ × Session)) → map (λ s. counted counting few s.1.active) sessions ≡ map (λ s. counted counting many s.1.active) sessions
+same_counted counting few many same [] = refl
+same_counted counting few many same (s ∷ sessions) = ap₂ (λ x xs. x ∷ xs) (same s.1.active) (same_counted counting few many same sessions)
+
+-- a new role, at a slot in which no pair stands
+pub role_whole : (p : PolicyState) → IsPolicy p → (roles : List (List ℕ × ℕ)) (order : Order) (slot : ℕ) → order ≡ with_slot p.order slot → HasSlots roles order.roles → IsPolicy (record p { roles = roles; order = order })
+role_whole p is roles order slot is_order slots =
+    let same : (given : ℕ) → closed order given ≡ closed p.order given = λ given. ap (λ o. closed o given) is_order ∙ closed-with_slot p.order slot given in
+    let as_before : (active : ℕ) → counted p.counting order active ≡ counted p.counting p.order active = λ active. ap (λ o. counted p.counting o active) is_order ∙ counted-with_slot p.counting p.order slot active in
+    record {
+      ssd = ap (λ all. first_breaking all p.ssd) (same_authorized order p.order same p.users) ∙ is.ssd;
+      dsd = ap (λ all. first_breaking all p.dsd) (same_counted p.counting order p.order as_before p.sessions) ∙ is.dsd;
+      slots = slots; numbers = is.numbers; few_customers = is.few_customers; few_vehicles = is.few_vehicles;
+    }
+
+both_none : {X : Type 0} (a b : Option X) → option_or a b ≡ None → (a ≡ None) × (b ≡ None)
+both_none None b h = (refl, h)
+both_none (Some x) b h = cc
+
+-- a pair more: users and sessions are judged anew
+pub pair_whole : (p now : PolicyState) → p ≡ now → IsPolicy p → (above below : ℕ) → broken (record now { order = with_pair now.order above below }) ≡ None → (order : Order) → order ≡ with_pair p.order above below → IsPolicy (record p { order = order })
+pair_whole p now same is above below whole order is_order =
+    let P : Order → Type 0 = λ o. IsPolicy (record p { order = o }) in
+    let none = both_none _ _ (ap (λ (q : PolicyState). broken (record q { order = with_pair q.order above below })) same ∙ whole) in
+    subst P (sym is_order) (record { ssd = none_mapped Ssd _ none.0; dsd = none_mapped Dsd _ none.1; slots = is.slots; numbers = is.numbers; few_customers = is.few_customers; few_vehicles = is.few_vehicles })
+
+-- a user less, and its sessions
+pub gone_whole : (p : PolicyState) → IsPolicy p → (user : List ℕ) (users : List (List ℕ × ℕ)) (sessions : List (ℕ × Session)) → users ≡ remove_entry (bytes_eq user) p.users → sessions ≡ filter (λ e. not (bytes_eq e.1.user user)) p.sessions →
+    IsPolicy (record p { users = users; sessions = sessions })
+gone_whole p is user users sessions is_removed is_filtered =
+    let P : List (List ℕ × ℕ) → List (ℕ × Session) → Type 0 = λ us ss. IsPolicy (record p { users = us; sessions = ss }) in
+    let kept : (ℕ × Session) → Bool = λ e. not (bytes_eq e.1.user user) in
+    let given : (ℕ × Session) → ℕ = λ e. counted_of p e.1 in
+    let whole : P (remove_entry (bytes_eq user) p.users) (filter kept p.sessions) = record {
+      ssd = breaking_removed (closed p.order) (bytes_eq user) p.users p.ssd is.ssd;
+      dsd = breaking_filtered given kept p.sessions p.dsd is.dsd;
+      slots = is.slots; numbers = rise-filter 0 p.last kept p.sessions is.numbers; few_customers = is.few_customers; few_vehicles = is.few_vehicles;
+    } in
+    let Q : List (List ℕ × ℕ) → Type 0 = λ us. P us sessions in
+    subst Q (sym is_removed) (subst (P (remove_entry (bytes_eq user) p.users)) (sym is_filtered) whole)

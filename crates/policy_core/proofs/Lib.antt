@@ -1,0 +1,11 @@
+mod AccessLaws
+mod BreakLaws
+mod CommandLaws
+mod CountLaws
+mod FewerLaws
+mod NumberLaws
+mod OpeningLaws
+mod ReviewLaws
+mod SetLaws
+mod SlotLaws
+mod WiderLaws

@@ -1,0 +1,12 @@
+use Rattle.std.proofs.Common.{ap, ◌∙◌}
+use Rattle.separation_core.specs.Groups.{first_breaking}
+use Rattle.separation_core.specs.GroupLaws.{breaking-without_set}
+use Rattle.policy_core.specs.Seen.{state_of}
+use Rattle.policy_core.specs.State.{counted_all}
+use Rattle.policy_core.proofs.SetLaws.{dsd_whole}
+use Rattle.policy_core.proofs.policy.Policy.delete_dsd_set.Goals as goal
+
+pub invariant_of-self-2 : goal.invariant_of-self-2
+invariant_of-self-2 c =
+    let p = state_of c.self.inside in
+    dsd_whole p c.self.invariant c.delete.new.self (ap (first_breaking (counted_all p)) c.in_default.ensures.ok ∙ breaking-without_set (counted_all p) p.dsd c.args.name c.self.invariant.dsd)

@@ -1,0 +1,8 @@
+use Rattle.std.proofs.Common.{refl}
+use Rattle.policy_core.proofs.CommandLaws.{fewer_whole, fewer_of}
+use Rattle.policy_core.proofs.policy.Policy.judge_deassign.Goals as goal
+
+pub returns-clause-whole : goal.returns-clause-whole
+returns-clause-whole c =
+    let held = c.in-Some.held in
+    fewer_whole c.args.self.now c.args.self.now refl c.is_policy.ensures.whole c.is_policy.ensures.order c.args.user held c.remove.new.self c.in-Some.ensures (fewer_of held c.in-Some-slot_of.slot c.remove.new.self c.remove.ensures)

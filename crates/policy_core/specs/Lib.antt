@@ -1,0 +1,7 @@
+pub mod Access
+pub mod Commands
+pub mod Opening
+pub mod Reviews
+pub mod Seen
+pub mod State
+pub mod Wider

@@ -1,0 +1,22 @@
+-- What one more pair in the order gives to users and sessions.
+use Rattle.std.specs.Prelude.{ℕ, if◌then◌else◌, List, [], ◌∷◌, ◌++◌, bit_or}
+use Rattle.role_hierarchy.specs.Roles.{has}
+use Rattle.role_hierarchy.specs.Order.{Order}
+use Rattle.role_hierarchy.specs.Below.{closed, juniors_of}
+use Rattle.policy_core.specs.declared.session.Session.{Session}
+
+-- what stands below the roles with one more pair, where the senior stands below them; else nothing new does
+abbrev pub wider : Order → ℕ → ℕ → ℕ → List ℕ
+wider order s j roles = if has (closed order roles) s then bit_or (closed order roles) (juniors_of order j) ∷ [] else []
+
+-- the same for each entry's roles
+abbrev pub all_wider : {E : Type 0} → Order → ℕ → ℕ → (E → ℕ) → List E → List ℕ
+all_wider order s j roles_in [] = []
+all_wider order s j roles_in (e ∷ es) = wider order s j (roles_in e) ++ all_wider order s j roles_in es
+
+-- the roles of a user, and those of a session
+abbrev pub held_in : List ℕ × ℕ → ℕ
+held_in u = u.1
+
+abbrev pub active_in : ℕ × Session → ℕ
+active_in s = s.1.active

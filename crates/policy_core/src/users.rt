@@ -1,0 +1,174 @@
+//! Users and the roles that they are assigned to.
+ghost use Rattle.std.specs.Prelude.{◌≡◌, ℕ, ◌<◌, ◌≤◌, [], ◌∷◌, List, None, Some, OnOk, OnErr, IfErr, IfOk, IfNone, IfSome, ◌↔◌, ◌+◌, ◌-◌, true, false, bytes_eq, nat_eq, is_some, is_none, map, unwrap_or, length, filter, not};
+ghost use Rattle.std.specs.Map.{lookup};
+ghost use Rattle.std.specs.Result.{result_err};
+ghost use Rattle.role_hierarchy.specs.Roles.{without};
+ghost use Rattle.policy_core.specs.State.{is_user, held_by, slot_of, with_roles, broken_ssd};
+ghost use Rattle.policy_core.specs.Commands.{Says, add_user_refusal, user_added, delete_user_refusal, user_gone, assign_refusal, assigned, narrowed, deassigned, deassign_refusal};
+
+use crate::policy::Policy;
+use crate::refusal::Refusal;
+use crate::session::Session;
+use indexmap::IndexMap;
+use role_hierarchy::RoleSet;
+use separation_core::Name;
+
+impl Policy {
+    /// AddUser. In this order `Already`, `Full`; `NoMemory` may come in place of any answer.
+    pub fn add_user(&mut self, user: Name) -> Result<(), Refusal>
+        ensures ok { OnOk result (self.new ≡ user_added self.old user) }
+        ensures allowed { OnOk result (add_user_refusal self.old user ≡ None) }
+        ensures err { OnErr result (self.new ≡ self.old) }
+        ensures refused { IfErr result (λ e. Says e (add_user_refusal self.old user)) }
+    {
+        if let Some(refusal) = self.refusal_of_add_user(user) {
+            return Err(refusal);
+        }
+        self.ssd.are_sets();
+        let Ok(_) = self.users.insert(user, RoleSet::new()) else {
+            return Err(Refusal::NoMemory);
+        };
+        Ok(())
+    }
+
+    #[tactic(auto, unfolding(crate::specs::Commands::add_user_refusal))]
+    fn refusal_of_add_user(&self, user: Name) -> Option<Refusal>
+        ensures { result ≡ add_user_refusal self.now user }
+    {
+        if self.users.contains_key(&user) {
+            return Some(Refusal::Already);
+        }
+        if self.users.len() >= 1024 {
+            return Some(Refusal::Full);
+        }
+        None
+    }
+
+    /// DeleteUser: its assignments and its sessions go with it. `NoUser` where there is no such user.
+    #[tactic(auto, unfolding(crate::specs::Commands::delete_user_refusal))]
+    pub fn delete_user(&mut self, user: Name) -> Result<(), Refusal>
+        ensures ok { OnOk result (self.new ≡ user_gone self.old user) }
+        ensures err { OnErr result (self.new ≡ self.old) }
+        ensures refused { result_err result ≡ delete_user_refusal self.old user }
+    {
+        let Some(_) = self.users.shift_remove(&user) else {
+            return Err(Refusal::NoUser);
+        };
+        drop_sessions_of(&mut self.sessions, user);
+        Ok(())
+    }
+
+    /// AssignUser. In this order `NoUser`, `NoRole`, `Already`, `Ssd`.
+    pub fn assign_user(&mut self, user: Name, role: Name) -> Result<(), Refusal>
+        ensures ok { OnOk result (self.new ≡ assigned self.old user role) }
+        ensures err { OnErr result (self.new ≡ self.old) }
+        ensures refused { result_err result ≡ assign_refusal self.old user role }
+    {
+        let roles = self.judge_assign(user, role)?;
+        self.put_roles(user, roles);
+        Ok(())
+    }
+
+    /// The roles that the user would have.
+    #[tactic(auto, unfolding(crate::specs::Commands::assign_refusal))]
+    fn judge_assign(&self, user: Name, role: Name) -> Result<RoleSet, Refusal>
+        ensures refused { result_err result ≡ assign_refusal self.now user role }
+        ensures there { OnOk result (is_user self.now user ≡ true) }
+        ensures roles { IfOk result (λ roles. with_roles self.now user roles ≡ assigned self.now user role) }
+        ensures whole { OnOk result (broken_ssd (assigned self.now user role) ≡ None) }
+    {
+        let Some(held) = self.roles_of(user) else {
+            return Err(Refusal::NoUser);
+        };
+        let Some(slot) = self.slot_of(role) else {
+            return Err(Refusal::NoRole);
+        };
+        if held.contains(slot) {
+            return Err(Refusal::Already);
+        }
+        let mut roles = held;
+        roles.insert(slot);
+        match self.refusal_of_roles(user, roles) {
+            Some(refusal) => Err(refusal),
+            None => Ok(roles),
+        }
+    }
+
+    /// DeassignUser. In this order `NoUser`, `NoRole`, `NotThere`.
+    pub fn deassign_user(&mut self, user: Name, role: Name) -> Result<(), Refusal>
+        ensures ok { OnOk result (self.new ≡ deassigned self.old user role) }
+        ensures err { OnErr result (self.new ≡ self.old) }
+        ensures refused { result_err result ≡ deassign_refusal self.old user role }
+    {
+        let roles = self.judge_deassign(user, role)?;
+        self.put_roles(user, roles);
+        let allowed = self.order.closure(roles);
+        self.narrow_sessions_of(user, allowed);
+        Ok(())
+    }
+
+    /// The roles that the user would have.
+    #[tactic(auto, unfolding(crate::specs::Commands::deassign_refusal))]
+    fn judge_deassign(&self, user: Name, role: Name) -> Result<RoleSet, Refusal>
+        ensures refused { result_err result ≡ deassign_refusal self.now user role }
+        ensures there { OnOk result (is_user self.now user ≡ true) }
+        ensures roles { IfOk result (λ roles. roles ≡ without (held_by self.now user) (slot_of self.now role)) }
+        ensures whole { IfOk result (λ roles. broken_ssd (with_roles self.now user roles) ≡ None) }
+    {
+        let Some(held) = self.roles_of(user) else {
+            return Err(Refusal::NoUser);
+        };
+        let Some(slot) = self.slot_of(role) else {
+            return Err(Refusal::NoRole);
+        };
+        if !held.contains(slot) {
+            return Err(Refusal::NotThere);
+        }
+        self.is_policy();
+        let mut roles = held;
+        roles.remove(slot);
+        Ok(roles)
+    }
+
+    /// Takes from the sessions of a user each active role that is not allowed.
+    fn narrow_sessions_of(&mut self, user: Name, allowed: RoleSet)
+        ensures { self.new ≡ narrowed self.old user allowed }
+    {
+        self.order.is_order();
+        self.sessions.retain(|_, session| {
+            if session.user == user {
+                session.active = session.active.common(allowed);
+            }
+            true
+        });
+    }
+
+    /// Why the user may not be assigned to these roles: the first set that it would break.
+    fn refusal_of_roles(&self, user: Name, roles: RoleSet) -> Option<Refusal>
+        ensures { result ≡ broken_ssd (with_roles self.now user roles) }
+    {
+        match self.ssd.broken_by(self.order.closure(roles)) {
+            Some(set) => Some(Refusal::Ssd(set)),
+            None => None,
+        }
+    }
+
+    /// Puts the user's roles in the place of those that it has.
+    fn put_roles(&mut self, user: Name, roles: RoleSet)
+        requires there { is_some (lookup (bytes_eq user) self.old.users) ≡ true }
+        requires whole { broken_ssd (with_roles self.old user roles) ≡ None }
+        ensures { self.new ≡ with_roles self.old user roles }
+    {
+        match self.users.insert(user, roles) {
+            Ok(_) => {}
+            Err(_) => unreachable!(),
+        }
+    }
+}
+
+/// Takes away the sessions of the user.
+fn drop_sessions_of(sessions: &mut IndexMap<u32, Session>, user: Name)
+    ensures { sessions.new.entries ≡ filter (λ e. not (bytes_eq e.1.user user)) sessions.old.entries }
+{
+    sessions.retain(|_, session| session.user != user);
+}

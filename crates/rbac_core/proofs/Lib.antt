@@ -1,0 +1,3 @@
+mod AffectedLaws
+mod StayLaws
+mod StepLaws

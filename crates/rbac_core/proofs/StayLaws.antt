@@ -1,0 +1,58 @@
+-- A session that is not affected by a command keeps its access.
+use Rattle.std.proofs.Common.{◌≡◌, ℕ, ◌+◌, Bool, false, List, map, Option, Some, None, sym, refl, ◌∙◌}
+use Rattle.std.specs.Prelude.{nat_eq, bytes_eq}
+use Rattle.std.specs.List.{list_any}
+use Rattle.std.specs.Option.{option_map_or}
+use Rattle.indexmap.specs.IndexMap.{insert_entry}
+use Rattle.std.proofs.lemmas.Bool.{or_parts}
+use Rattle.role_hierarchy.specs.Roles.{without, first_free}
+use Rattle.role_hierarchy.specs.Order.{without_pair, without_slot}
+use Rattle.role_hierarchy.specs.Below.{closed}
+use Rattle.permission_core.specs.declared.objects.Operation.{Operation}
+use Rattle.permission_core.specs.declared.objects.Object.{Object}
+use Rattle.policy_core.specs.declared.session.Session.{Session as ASession}
+use Rattle.policy_core.specs.State.{PolicyState, held_by, slot_of}
+use Rattle.policy_core.specs.Access.{has_access, reaches}
+use Rattle.policy_core.specs.Commands.{activated, assigned, deactivated, deassigned, dsd_created, dsd_deleted, dsd_joined, dsd_left, dsd_numbered, granted, inherited, kept_authorized, migrated, migrated_session, opened, revoked, role_added, role_at, role_gone, shut, slots_of, ssd_created, ssd_deleted, ssd_joined, ssd_left, ssd_numbered, uninherited, user_added, user_gone}
+use Rattle.rbac_core.specs.declared.command.Command.{Command}
+use Rattle.rbac_core.specs.declared.command.Command.TheVariants.{AddUser, DeleteUser, AddRole, DeleteRole, AssignUser, DeassignUser, GrantPermission, RevokePermission, AddInheritance, DeleteInheritance, CreateSsdSet, AddSsdRoleMember, DeleteSsdRoleMember, DeleteSsdSet, SetSsdSetCardinality, CreateDsdSet, AddDsdRoleMember, DeleteDsdRoleMember, DeleteDsdSet, SetDsdSetCardinality, CreateSession, DeleteSession, AddActiveRole, DropActiveRole, Migrate}
+use Rattle.rbac_core.specs.Step.{after}
+use Rattle.rbac_core.specs.Affected.{affected_sessions}
+use Rattle.rbac_core.proofs.AffectedLaws.{access_is, same_sessions, with_slot_access, nowhere, numbers-mapped, kept_found, left_found, lookup-other, lookup-removed, same_active, migrated_active}
+
+module _ (p : PolicyState) (at : ℕ) (doing : Operation) (what : Object) where
+  pub stays : (command : Command) → list_any (nat_eq at) (affected_sessions p command (after p command)) ≡ false → has_access (after p command) at doing what ≡ has_access p at doing what
+  unfolding reaches
+  stays (AddUser user) none = same_sessions p (user_added p user) at doing what (λ found. refl) refl
+  stays (DeleteUser user) none = same_sessions p (user_gone p user) at doing what (λ found. refl) (left_found p at doing what user none)
+  stays (AddRole role) none = by (first_free p.order.roles)
+    where
+      by : (slot : Option ℕ) → has_access (option_map_or (role_at p role) slot p) at doing what ≡ has_access p at doing what
+      by None = refl
+      by (Some slot) = same_sessions p (role_at p role slot) at doing what (with_slot_access p (insert_entry bytes_eq p.roles role slot) slot doing what) refl
+  stays (DeleteRole role) none = nowhere p at doing what (role_gone p role) (numbers-mapped (kept_authorized (map (λ u. (u.0, without u.1 (slot_of p role))) p.users) (without_slot p.order (slot_of p role))) p.sessions) none
+  stays (AssignUser user role) none = same_sessions p (assigned p user role) at doing what (λ found. refl) refl
+  stays (DeassignUser user role) none = same_sessions p (deassigned p user role) at doing what (λ found. refl) (kept_found p at doing what user (closed p.order (without (held_by p user) (slot_of p role))) none)
+  stays (GrantPermission role operation range) none = nowhere p at doing what (granted p role operation range) refl none
+  stays (RevokePermission role operation range) none = nowhere p at doing what (revoked p role operation range) refl none
+  stays (AddInheritance senior junior) none = nowhere p at doing what (inherited p senior junior) refl none
+  stays (DeleteInheritance senior junior) none = nowhere p at doing what (uninherited p senior junior) (numbers-mapped (kept_authorized p.users (without_pair p.order (slot_of p senior) (slot_of p junior))) p.sessions) none
+  stays (CreateSsdSet name number roles) none = same_sessions p (ssd_created p name number roles) at doing what (λ found. refl) refl
+  stays (AddSsdRoleMember name role) none = same_sessions p (ssd_joined p name role) at doing what (λ found. refl) refl
+  stays (DeleteSsdRoleMember name role) none = same_sessions p (ssd_left p name role) at doing what (λ found. refl) refl
+  stays (DeleteSsdSet name) none = same_sessions p (ssd_deleted p name) at doing what (λ found. refl) refl
+  stays (SetSsdSetCardinality name number) none = same_sessions p (ssd_numbered p name number) at doing what (λ found. refl) refl
+  stays (CreateDsdSet name number roles) none = same_sessions p (dsd_created p name number roles) at doing what (λ found. refl) refl
+  stays (AddDsdRoleMember name role) none = same_sessions p (dsd_joined p name role) at doing what (λ found. refl) refl
+  stays (DeleteDsdRoleMember name role) none = same_sessions p (dsd_left p name role) at doing what (λ found. refl) refl
+  stays (DeleteDsdSet name) none = same_sessions p (dsd_deleted p name) at doing what (λ found. refl) refl
+  stays (SetDsdSetCardinality name number) none = same_sessions p (dsd_numbered p name number) at doing what (λ found. refl) refl
+  stays (CreateSession user roles) none = same_sessions p (opened p user roles) at doing what (λ found. refl) (lookup-other at (p.last + 1) (record { user = user; active = slots_of p roles }) p.sessions (or_parts _ _ none).0)
+  stays (DeleteSession number) none = same_sessions p (shut p number) at doing what (λ found. refl) (lookup-removed at number p.sessions (or_parts _ _ none).0)
+  stays (AddActiveRole number role) none = same_sessions p (activated p number role) at doing what (λ found. refl) (lookup-other at number _ p.sessions (or_parts _ _ none).0)
+  stays (DropActiveRole number role) none = same_sessions p (deactivated p number role) at doing what (λ found. refl) (lookup-other at number _ p.sessions (or_parts _ _ none).0)
+  stays Migrate none =
+      let k : ASession → ASession = migrated_session p.order p.dsd in
+      access_is (migrated p) at doing what
+      ∙ same_active p at doing what k (migrated_active p at doing what (migrated p) k refl none)
+      ∙ sym (access_is p at doing what)

@@ -1,0 +1,12 @@
+pub use Rattle.permission_core.specs.ObjectLaws
+pub use Rattle.permission_core.specs.Objects
+pub use Rattle.permission_core.specs.Permissions
+pub use Rattle.policy_core.specs.Access
+pub use Rattle.policy_core.specs.Commands
+pub use Rattle.policy_core.specs.Opening
+pub use Rattle.policy_core.specs.Reviews
+pub use Rattle.policy_core.specs.State
+pub mod Affected
+pub mod Step
+pub mod Tried
+pub mod Twins

@@ -1,0 +1,6 @@
+-- A policy, and the state that a tried command would bring.
+use Rattle.policy_core.specs.State.{PolicyState}
+
+pub record Tried : Type 0 where
+  pub now : PolicyState
+  pub tried : PolicyState

@@ -1,0 +1,21 @@
+//! Role-based access control of a dispatch board, as in ANSI INCITS 359-2004: commands on a
+//! policy and who may give them, a spare policy on which a command is tried, and the sessions
+//! whose access a command may change.
+#![tactic(auto)]
+
+mod command;
+mod effects;
+mod names;
+mod steps;
+mod twin;
+
+pub use command::{Command, Outcome};
+pub use effects::{access_stays, affected};
+pub use names::Names;
+pub use permission_core::{Object, ObjectRange, ObjectSet, Operation};
+pub use policy_core::{Counting, Policy, Refusal, Session};
+pub use steps::{carry_out, guard, guard_by, is_own, step};
+pub use twin::Twin;
+
+#[cfg(test)]
+mod tests;

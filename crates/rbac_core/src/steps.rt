@@ -1,0 +1,193 @@
+//! One step of a policy: the guard, and then the command.
+ghost use Rattle.std.specs.Prelude.{◌≡◌, OnOk, OnErr, IfOk, IfErr, None, Ok};
+ghost use Rattle.policy_core.specs.Commands.{Says};
+ghost use Rattle.policy_core.specs.Access.{has_access};
+ghost use Rattle.rbac_core.specs.Step.{is_own, guard_by, guard, refusal_of, after, outcome_of, step, IsRefused};
+
+use crate::command::{Command, Outcome};
+use policy_core::{Policy, Refusal};
+
+/// Whether the acting session belongs to the user whom a session command concerns: the user that
+/// is named, or that of the session that is named. No command but CreateSession, DeleteSession,
+/// AddActiveRole and DropActiveRole concerns a user.
+pub fn is_own(policy: &Policy, session: u32, command: &Command) -> bool
+    ensures { result ≡ is_own policy.now session command.now }
+{
+    let Some(acting) = policy.user_of(session) else {
+        return false;
+    };
+    let concerned = match command {
+        Command::CreateSession { user, .. } => Some(*user),
+        Command::DeleteSession { session } => policy.user_of(*session),
+        Command::AddActiveRole { session, .. } => policy.user_of(*session),
+        Command::DropActiveRole { session, .. } => policy.user_of(*session),
+        _ => None,
+    };
+    match concerned {
+        Some(user) => acting == user,
+        None => false,
+    }
+}
+
+/// Why the session may not give the command, by what its caller knows of its access: `NoSession`,
+/// then `NoAccess` where it is no administrator and the command is not its own user's.
+#[tactic(auto, unfolding(crate::specs::Step::guard_by))]
+pub fn guard_by(policy: &Policy, session: u32, command: &Command, admin: bool) -> Option<Refusal>
+    ensures { result ≡ guard_by admin policy.now session command.now }
+{
+    if !policy.is_session(session) {
+        return Some(Refusal::NoSession);
+    }
+    if !admin && !is_own(policy, session, command) {
+        return Some(Refusal::NoAccess);
+    }
+    None
+}
+
+/// Why the session may not give the command: `NoSession`, then `NoAccess` where it may not
+/// `admin` the board and the command is not its own user's.
+pub fn guard(policy: &Policy, session: u32, command: &Command) -> Option<Refusal>
+    ensures { result ≡ guard policy.now session command.now }
+{
+    guard_by(policy, session, command, policy.is_administrator(session))
+}
+
+/// Carries out the command, whoever gives it.
+pub fn carry_out(policy: &mut Policy, command: &Command) -> Result<Outcome, Refusal>
+    ensures ok { OnOk result (policy.new ≡ after policy.old command.now) }
+    ensures outcome { IfOk result (λ outcome. outcome ≡ outcome_of policy.old command.now) }
+    ensures allowed { OnOk result (refusal_of policy.old command.now ≡ None) }
+    ensures err { OnErr result (policy.new ≡ policy.old) }
+    ensures refused { IfErr result (λ e. Says e (refusal_of policy.old command.now)) }
+{
+    match command {
+        Command::AddUser { user } => {
+            policy.add_user(*user)?;
+            Ok(Outcome::Done)
+        }
+        Command::DeleteUser { user } => {
+            policy.delete_user(*user)?;
+            Ok(Outcome::Done)
+        }
+        Command::AddRole { role } => {
+            policy.add_role(*role)?;
+            Ok(Outcome::Done)
+        }
+        Command::DeleteRole { role } => {
+            policy.delete_role(*role)?;
+            Ok(Outcome::Done)
+        }
+        Command::AssignUser { user, role } => {
+            policy.assign_user(*user, *role)?;
+            Ok(Outcome::Done)
+        }
+        Command::DeassignUser { user, role } => {
+            policy.deassign_user(*user, *role)?;
+            Ok(Outcome::Done)
+        }
+        Command::GrantPermission {
+            role,
+            operation,
+            range,
+        } => {
+            policy.grant_permission(*role, *operation, *range)?;
+            Ok(Outcome::Done)
+        }
+        Command::RevokePermission {
+            role,
+            operation,
+            range,
+        } => {
+            policy.revoke_permission(*role, *operation, *range)?;
+            Ok(Outcome::Done)
+        }
+        Command::AddInheritance { senior, junior } => {
+            policy.add_inheritance(*senior, *junior)?;
+            Ok(Outcome::Done)
+        }
+        Command::DeleteInheritance { senior, junior } => {
+            policy.delete_inheritance(*senior, *junior)?;
+            Ok(Outcome::Done)
+        }
+        Command::CreateSsdSet {
+            name,
+            number,
+            roles,
+        } => {
+            policy.create_ssd_set(*name, *number, roles.as_slice())?;
+            Ok(Outcome::Done)
+        }
+        Command::AddSsdRoleMember { name, role } => {
+            policy.add_ssd_role_member(*name, *role)?;
+            Ok(Outcome::Done)
+        }
+        Command::DeleteSsdRoleMember { name, role } => {
+            policy.delete_ssd_role_member(*name, *role)?;
+            Ok(Outcome::Done)
+        }
+        Command::DeleteSsdSet { name } => {
+            policy.delete_ssd_set(*name)?;
+            Ok(Outcome::Done)
+        }
+        Command::SetSsdSetCardinality { name, number } => {
+            policy.set_ssd_set_cardinality(*name, *number)?;
+            Ok(Outcome::Done)
+        }
+        Command::CreateDsdSet {
+            name,
+            number,
+            roles,
+        } => {
+            policy.create_dsd_set(*name, *number, roles.as_slice())?;
+            Ok(Outcome::Done)
+        }
+        Command::AddDsdRoleMember { name, role } => {
+            policy.add_dsd_role_member(*name, *role)?;
+            Ok(Outcome::Done)
+        }
+        Command::DeleteDsdRoleMember { name, role } => {
+            policy.delete_dsd_role_member(*name, *role)?;
+            Ok(Outcome::Done)
+        }
+        Command::DeleteDsdSet { name } => {
+            policy.delete_dsd_set(*name)?;
+            Ok(Outcome::Done)
+        }
+        Command::SetDsdSetCardinality { name, number } => {
+            policy.set_dsd_set_cardinality(*name, *number)?;
+            Ok(Outcome::Done)
+        }
+        Command::CreateSession { user, roles } => {
+            let number = policy.create_session(*user, roles.as_slice())?;
+            Ok(Outcome::Session(number))
+        }
+        Command::DeleteSession { session } => {
+            policy.delete_session(*session)?;
+            Ok(Outcome::Done)
+        }
+        Command::AddActiveRole { session, role } => {
+            policy.add_active_role(*session, *role)?;
+            Ok(Outcome::Done)
+        }
+        Command::DropActiveRole { session, role } => {
+            policy.drop_active_role(*session, *role)?;
+            Ok(Outcome::Done)
+        }
+        Command::Migrate => {
+            policy.migrate()?;
+            Ok(Outcome::Done)
+        }
+    }
+}
+
+/// One step: the guard, and then the command. `NoMemory` may come in place of any answer.
+pub fn step(policy: &mut Policy, session: u32, command: &Command) -> Result<Outcome, Refusal>
+    ensures ok { IfOk result (λ outcome. step policy.old session command.now ≡ (policy.new, Ok outcome)) }
+    ensures err { OnErr result (policy.new ≡ policy.old) }
+    ensures refused { IfErr result (λ e. IsRefused e (step policy.old session command.now) policy.old) }
+{
+    if let Some(refusal) = guard(policy, session, command) {
+        return Err(refusal);
+    }
+    carry_out(policy, command)
+}

@@ -1,0 +1,134 @@
+//! A policy with a spare one, on which a command is tried.
+ghost use Rattle.std.specs.Prelude.{◌≡◌, None, OnOk, IfOk, IfErr, true};
+ghost use Rattle.policy_core.specs.Commands.{Says};
+ghost use Rattle.rbac_core.specs.Step.{refusal_of, after, outcome_of, guard, guard_by};
+ghost use Rattle.rbac_core.specs.Twins.{Follows};
+
+use crate::command::{Command, Outcome};
+use crate::steps::{carry_out, guard};
+use policy_core::{Policy, Refusal};
+use std::alloc::AllocError;
+use std::marker::Model;
+use std::mem;
+
+/// How the spare policy lies to the other.
+#[derive(Drop)]
+enum Lag {
+    /// They are equal.
+    Even,
+    /// The spare one lacks this command.
+    Behind(Command),
+    /// A command was tried on the spare one, and did not stand.
+    Ahead,
+}
+
+/// A policy with a spare one. A command is tried on the spare policy, and the two are exchanged
+/// where it is to stand; the one that is spare then lacks that command, and is brought up by it
+/// before the next is tried. So no command copies a policy, but for the one after a command that
+/// was tried and given up.
+///
+/// Contracts see the policy, and the state that `settle` would bring.
+#[derive(Drop)]
+pub struct Twin {
+    policy: Policy,
+    spare: Policy,
+    lag: Lag,
+}
+
+impl Model for Twin {
+    ghost use Rattle.rbac_core.specs.Tried.{Tried};
+
+    ghost Value = { Tried };
+
+    ghost use Rattle.rbac_core.specs.Twins.{Follows, tried_of};
+
+    ghost view = { λ a. record { now = a.policy; tried = tried_of a.lag a.spare a.policy } };
+
+    ghost invariant = { λ a. Follows a.lag a.spare a.policy };
+}
+
+impl Twin {
+    /// The policy with a spare copy.
+    pub fn new(policy: Policy) -> Result<Twin, AllocError>
+        ensures { IfOk result (λ twin. twin ≡ record { now = policy; tried = policy }) }
+    {
+        let spare = policy.copy()?;
+        Ok(Twin {
+            policy,
+            spare,
+            lag: Lag::Even,
+        })
+    }
+
+    /// The policy.
+    pub fn policy(&self) -> &Policy
+        ensures { result.now ≡ self.now.now }
+    {
+        &self.policy
+    }
+
+    /// The policy as `settle` would make it: after the command that was tried last, and the
+    /// policy itself where none was.
+    pub fn tried(&self) -> &Policy
+        ensures { result.now ≡ self.now.tried }
+    {
+        match self.lag {
+            Lag::Ahead => &self.spare,
+            _ => &self.policy,
+        }
+    }
+
+    /// Tries the command on the spare policy, which is brought up to the other first, whoever
+    /// gives it. The policy stays as it is; after a refusal nothing is tried.
+    pub fn prepare(&mut self, command: &Command) -> Result<Outcome, Refusal>
+        ensures now { self.new.now ≡ self.old.now }
+        ensures ok { OnOk result (self.new.tried ≡ after self.old.now command.now) }
+        ensures outcome { IfOk result (λ outcome. outcome ≡ outcome_of self.old.now command.now) }
+        ensures allowed { OnOk result (refusal_of self.old.now command.now ≡ None) }
+        ensures refused { IfErr result (λ e. Says e (refusal_of self.old.now command.now)) }
+    {
+        if !even_out(&self.policy, &mut self.spare, &mut self.lag) {
+            return Err(Refusal::NoMemory);
+        }
+        let outcome = carry_out(&mut self.spare, command)?;
+        self.lag = Lag::Ahead;
+        Ok(outcome)
+    }
+
+    /// Exchanges the two policies: what was tried stands. The caller owes that this command was
+    /// tried last, and was not refused. It takes no memory.
+    pub fn settle(&mut self, command: Command)
+        requires allowed { refusal_of self.old.now command ≡ None }
+        requires tried { self.old.tried ≡ after self.old.now command }
+        ensures { self.new ≡ record { now = self.old.tried; tried = self.old.tried } }
+    {
+        if let Lag::Ahead = self.lag {
+            mem::swap(&mut self.policy, &mut self.spare);
+            self.lag = Lag::Behind(command);
+        }
+    }
+}
+
+/// Makes the spare policy equal to the other, by the command that it lacks, or by a copy; `false`
+/// where a growth was refused.
+fn even_out(policy: &Policy, spare: &mut Policy, lag: &mut Lag) -> bool
+    requires { Follows lag.old spare.old policy.now }
+    ensures follows { Follows lag.new spare.new policy.now }
+    ensures even { (result ≡ true) → spare.new ≡ policy.now }
+{
+    let even = match lag {
+        Lag::Even => true,
+        Lag::Behind(command) => carry_out(spare, command).is_ok(),
+        Lag::Ahead => match policy.copy() {
+            Ok(copy) => {
+                *spare = copy;
+                true
+            }
+            Err(_) => false,
+        },
+    };
+    if even {
+        *lag = Lag::Even;
+    }
+    even
+}
