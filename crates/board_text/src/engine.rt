@@ -1,25 +1,32 @@
 //! The engine of lines.
 
-ghost use Rattle.std.specs.Prelude.{◌≡◌, ◌<◌, ◌⊎◌, ◌∷◌, [], ◌++◌, List, ℕ, OnOk, OnErr, IfOk, IfErr};
+ghost use Rattle.std.specs.Prelude.{◌≡◌, ◌<◌, ◌⊎◌, ◌∷◌, [], ◌++◌, List, ℕ, Some, IfSome, MatchOption, length, OnOk, OnErr, IfOk, IfErr};
+ghost use Rattle.std.specs.Io.KnownBytes.{Appends};
 ghost use Rattle.board_text.specs.Reading.{read_of};
 ghost use Rattle.board_text.specs.Fronts.{Gives};
-ghost use Rattle.board_text.specs.Running.{body, Served, ServeBroken, Progress, Broken, IsLine, BrokenWithin, Finished, Answered, Stopped};
+ghost use Rattle.board_text.specs.Running.{body, Grows, Served, ServeBroken, Progress, Broken, IsLine, HasNoEnd, BrokenWithin, Finished, Reaches, Answered, Stopped};
 ghost use Rattle.board_text.specs.declared.command.Command.{Command};
 
-use crate::answer::{Answer, Outcome, Rows, has_reply, is_refusal, push_outcome};
-use crate::command::{Command, LineFault};
+use crate::answer::{Answer, Outcome, Rows};
+use crate::command::Command;
 use crate::front::Front;
-use crate::reading::read_line;
+use crate::outbox::Outbox;
+use crate::reading::read_words;
 use crate::run_fault::{Counts, RunFault};
-use crate::tally::Tally;
-use crate::write::write_whole;
 use board_core::{AskFault, Call, Fault};
-use std::alloc::Global;
+use std::alloc::{AllocError, Global};
 use std::io::{Read, Write};
+use text_words::keep_all_words;
 
 /// Memory ran out.
 #[derive(Clone, Copy, Drop)]
 struct OutOfMemory;
+
+impl From<AllocError> for OutOfMemory {
+    fn from(_e: AllocError) -> OutOfMemory {
+        OutOfMemory
+    }
+}
 
 fn submit<R, F: Front<R>>(rt: &R, front: &mut F, call: Call) -> Result<Answer, OutOfMemory>
     requires { F.ready front.old }
@@ -47,12 +54,15 @@ fn list<R, F: Front<R>>(rt: &R, front: &mut F, session: u32) -> Result<Answer, O
     }
 }
 
+/// The words of the line in work, in a buffer that is kept from line to line.
+type Words<'a> = Vec<&'a [u8]>;
+
 /// Asks the front what a line says.
-fn answer<R, F: Front<R>>(
+fn answer<'a, R, F: Front<R>>(
     rt: &R,
-    alloc: Global,
     front: &mut F,
-    line: &[u8],
+    words: &mut Words<'a>,
+    line: &'a [u8],
 ) -> Result<Outcome, OutOfMemory>
     requires { F.ready front.old }
     ensures ready { F.ready front.new }
@@ -60,142 +70,221 @@ fn answer<R, F: Front<R>>(
     ensures err { OnErr result ((front.new ≡ front.old) ⊎ F.refuses front.old front.new) }
 {
     let text = line.strip_suffix(b"\r".as_slice()).unwrap_or(line);
-    match read_line(alloc, text) {
+    keep_all_words(words, text)?;
+    match read_words(words.as_slice()) {
         Ok(Command::Skip) => Ok(Outcome::Nothing),
         Ok(Command::Submit(call)) => Ok(Outcome::Said(submit(rt, front, call)?)),
         Ok(Command::List { session }) => Ok(Outcome::Said(list(rt, front, session)?)),
-        Err(LineFault::NoMemory) => Err(OutOfMemory),
         Err(fault) => Ok(Outcome::Bad(fault)),
     }
 }
 
-/// Answers a line and writes the text of it.
-fn serve<R, F: Front<R>, W: Write>(
+/// Answers a line and holds the text of it.
+fn serve<'a, R, F: Front<R>>(
     rt: &R,
-    alloc: Global,
     front: &mut F,
-    writer: &mut W,
-    tally: &mut Tally,
-    line: &[u8],
+    outbox: &mut Outbox,
+    words: &mut Words<'a>,
+    line: &'a [u8],
 ) -> Result<(), RunFault>
-    requires seen { tally.old.seen < 4294967296 }
+    requires seen { outbox.old.tally.seen < 4294967296 }
     requires ready { F.ready front.old }
     ensures ready { F.ready front.new }
-    ensures ok { OnOk result (Served F.step front.old front.new (W.contents writer.old) (W.contents writer.new)
-        line.now tally.old.seen tally.new.seen tally.old.lines tally.new.lines tally.old.refused tally.new.refused) }
-    ensures err { IfErr result (λ e. ServeBroken F.step F.refuses e front.old front.new
-        (W.contents writer.old) (W.contents writer.new) line.now) }
+    ensures ok { OnOk result (Grows outbox.old.held.items outbox.new.held.items (λ out. Served F.step front.old front.new out line.now
+        outbox.old.tally.seen outbox.new.tally.seen outbox.old.tally.lines outbox.new.tally.lines
+        outbox.old.tally.refused outbox.new.tally.refused)) }
+    ensures held { OnErr result (outbox.new.held.items ≡ outbox.old.held.items) }
+    ensures err { IfErr result (λ e. ServeBroken F.step F.refuses e front.old front.new line.now) }
 {
-    let Ok(outcome) = answer(rt, alloc, front, line) else {
+    let Ok(outcome) = answer(rt, front, words, line) else {
         return Err(RunFault::NoMemory);
     };
-    let mut text = String::new(alloc);
-    push_outcome(&mut text, &outcome)?;
-    write_whole(writer, text.as_bytes())?;
-    tally.count(has_reply(&outcome), is_refusal(&outcome));
+    outbox.put(&outcome)?;
     Ok(())
 }
 
 /// How many bytes a line may have.
 const MOST_BYTES: usize = 4096;
 
-/// Takes one byte: at a line end the line is answered.
-fn take_byte<R, F: Front<R>, W: Write>(
-    rt: &R,
-    alloc: Global,
-    front: &mut F,
-    writer: &mut W,
-    tally: &mut Tally,
-    partial: &mut Vec<u8>,
-    byte: u8,
-) -> Result<(), RunFault>
-    requires line { IsLine partial.old.items }
-    requires ready { F.ready front.old }
-    ensures ready { F.ready front.new }
-    ensures ok { OnOk result (Progress F.step front.old front.new (W.contents writer.old) (W.contents writer.new)
-        (partial.old.items ++ byte ∷ []) partial.new.items tally.old.seen tally.new.seen
-        tally.old.lines tally.new.lines tally.old.refused tally.new.refused) }
-    ensures err { IfErr result (λ e. Broken F.step F.refuses e front.old front.new (W.contents writer.old)
-        (W.contents writer.new) tally.old.seen (partial.old.items ++ byte ∷ [])) }
+/// What stands before the first line end, and what stands after it, if there is one.
+#[inline(always)]
+fn next_line(piece: &[u8]) -> (&[u8], Option<&[u8]>)
+    ensures plain { HasNoEnd result.0.now }
+    ensures parts { MatchOption result.1 (piece.now ≡ result.0.now) (λ rest. piece.now ≡ result.0.now ++ 10 ∷ rest.now) }
+    ensures shorter { IfSome result.1 (λ rest. length rest.now < length piece.now) }
 {
-    if byte == b'\n' {
-        if tally.is_full() {
-            return Err(RunFault::Read);
+    for (i, byte) in piece.iter().enumerate() {
+        if *byte == b'\n' {
+            return (&piece[..i], Some(&piece[i + 1..]));
         }
-        serve(rt, alloc, front, writer, tally, partial.as_slice())?;
-        partial.clear();
-        return Ok(());
     }
-    if partial.len() >= MOST_BYTES {
+    (piece, None)
+}
+
+/// Puts what has come of a line behind what had come of it.
+fn keep(partial: &mut Vec<u8>, more: &[u8]) -> Result<(), RunFault>
+    requires line { IsLine partial.old.items }
+    requires plain { HasNoEnd more.now }
+    ensures ok { OnOk result ((partial.new.items ≡ partial.old.items ++ more.now) × IsLine partial.new.items) }
+    ensures err { IfErr result (λ e. (e ≡ RunFault.NoMemory) ⊎ ((e ≡ RunFault.LongLine) × (4096 < length (partial.old.items ++ more.now)))) }
+{
+    if more.len() > MOST_BYTES - partial.len() {
         return Err(RunFault::LongLine);
     }
-    partial.push(byte)?;
+    partial.extend_from_slice(more)?;
     Ok(())
 }
 
-/// Takes the next bytes, and answers each line that is whole now.
-fn feed<R, F: Front<R>, W: Write>(
+/// Answers the line that ends behind these bytes.
+fn take_line<'a, R, F: Front<R>>(
     rt: &R,
     alloc: Global,
     front: &mut F,
-    writer: &mut W,
-    tally: &mut Tally,
+    outbox: &mut Outbox,
     partial: &mut Vec<u8>,
+    words: &mut Words<'a>,
+    more: &'a [u8],
+) -> Result<(), RunFault>
+    requires line { IsLine partial.old.items }
+    requires plain { HasNoEnd more.now }
+    requires ready { F.ready front.old }
+    ensures ready { F.ready front.new }
+    ensures ok { OnOk result (Grows outbox.old.held.items outbox.new.held.items (λ out. Progress F.step front.old front.new out
+        (partial.old.items ++ (more.now ++ 10 ∷ [])) partial.new.items outbox.old.tally.seen outbox.new.tally.seen
+        outbox.old.tally.lines outbox.new.tally.lines outbox.old.tally.refused outbox.new.tally.refused)) }
+    ensures err { IfErr result (λ e. Grows outbox.old.held.items outbox.new.held.items (λ out. Broken F.step F.refuses e front.old front.new
+        out outbox.old.tally.seen (partial.old.items ++ (more.now ++ 10 ∷ [])))) }
+{
+    if outbox.tally.is_full() {
+        return Err(RunFault::Read);
+    }
+    if partial.is_empty() && more.len() <= MOST_BYTES {
+        serve(rt, front, outbox, words, more)?;
+        return Ok(());
+    }
+    keep(partial, more)?;
+    serve(
+        rt,
+        front,
+        outbox,
+        &mut Vec::new(alloc),
+        partial.as_slice(),
+    )?;
+    partial.clear();
+    Ok(())
+}
+
+/// Takes the next bytes, and answers each line that is whole now, until the replies that are held are to be handed on:
+/// what is then left of the bytes.
+fn feed<'a, R, F: Front<R>>(
+    rt: &R,
+    alloc: Global,
+    front: &mut F,
+    outbox: &mut Outbox,
+    partial: &mut Vec<u8>,
+    piece: &'a [u8],
+) -> Result<&'a [u8], RunFault>
+    requires line { IsLine partial.old.items }
+    requires ready { F.ready front.old }
+    ensures ready { F.ready front.new }
+    ensures ok { IfOk result (λ left. (used : List ℕ) × (piece.now ≡ used ++ left.now)
+        × Grows outbox.old.held.items outbox.new.held.items (λ out. Progress F.step front.old front.new out
+        (partial.old.items ++ used) partial.new.items outbox.old.tally.seen outbox.new.tally.seen
+        outbox.old.tally.lines outbox.new.tally.lines outbox.old.tally.refused outbox.new.tally.refused)) }
+    ensures shorter { 0 < length piece.now → IfOk result (λ left. length left.now < length piece.now) }
+    ensures err { IfErr result (λ e. Grows outbox.old.held.items outbox.new.held.items (λ out. BrokenWithin F.step F.refuses e
+        front.old front.new out outbox.old.tally.seen partial.old.items piece.now)) }
+{
+    let mut words = Vec::with_capacity(alloc, MANY_WORDS)?;
+    let mut left = piece;
+    'lines: loop {
+        let (line, after) = next_line(left);
+        let Some(after) = after else {
+            keep(partial, line)?;
+            return Ok(b"".as_slice());
+        };
+        take_line(rt, alloc, front, outbox, partial, &mut words, line)?;
+        if outbox.is_full() {
+            return Ok(after);
+        }
+        left = after;
+    }
+}
+
+/// How many words most lines have at most.
+const MANY_WORDS: usize = 8;
+
+/// Takes the next bytes, answers each line that is whole now, and hands on replies that are many.
+fn take_piece<R, F: Front<R>, W: Write>(
+    rt: &R,
+    alloc: Global,
+    front: &mut F,
+    outbox: &mut Outbox,
+    partial: &mut Vec<u8>,
+    writer: &mut W,
     piece: &[u8],
 ) -> Result<(), RunFault>
     requires line { IsLine partial.old.items }
     requires ready { F.ready front.old }
+    requires none { outbox.old.held.items ≡ [] }
     ensures ready { F.ready front.new }
-    ensures ok { OnOk result (Progress F.step front.old front.new (W.contents writer.old) (W.contents writer.new)
-        (partial.old.items ++ piece.now) partial.new.items tally.old.seen tally.new.seen
-        tally.old.lines tally.new.lines tally.old.refused tally.new.refused) }
-    ensures err { IfErr result (λ e. BrokenWithin F.step F.refuses e front.old front.new (W.contents writer.old)
-        (W.contents writer.new) tally.old.seen partial.old.items piece.now) }
+    ensures ok { OnOk result ((sent : List ℕ) × Appends (W.contents writer.old) (W.contents writer.new) sent × Progress F.step front.old front.new
+        (sent ++ outbox.new.held.items) (partial.old.items ++ piece.now) partial.new.items outbox.old.tally.seen outbox.new.tally.seen
+        outbox.old.tally.lines outbox.new.tally.lines outbox.old.tally.refused outbox.new.tally.refused) }
+    ensures err { IfErr result (λ e. (out : List ℕ) × Reaches e (W.contents writer.old) (W.contents writer.new) out
+        × BrokenWithin F.step F.refuses e front.old front.new out outbox.old.tally.seen partial.old.items piece.now) }
 {
-    for byte in piece {
-        take_byte(rt, alloc, front, writer, tally, partial, *byte)?;
+    let mut left = piece;
+    'parts: while !left.is_empty() {
+        match feed(rt, alloc, front, outbox, partial, left) {
+            Ok(after) => left = after,
+            Err(fault) => return Err(outbox.close(writer, fault)),
+        }
+        if outbox.is_full() {
+            outbox.hand_on(writer)?;
+        }
     }
     Ok(())
 }
 
 /// Answers what stands behind the last line end, if anything does.
-fn finish<R, F: Front<R>, W: Write>(
+fn finish<R, F: Front<R>>(
     rt: &R,
     alloc: Global,
     front: &mut F,
-    writer: &mut W,
-    tally: &mut Tally,
+    outbox: &mut Outbox,
     partial: &[u8],
 ) -> Result<(), RunFault>
     requires line { IsLine partial.now }
     requires ready { F.ready front.old }
     ensures ready { F.ready front.new }
-    ensures ok { OnOk result (Finished F.step front.old front.new (W.contents writer.old) (W.contents writer.new)
-        partial.now tally.old.lines tally.new.lines tally.old.refused tally.new.refused) }
-    ensures err { IfErr result (λ e. Broken F.step F.refuses e front.old front.new (W.contents writer.old)
-        (W.contents writer.new) tally.old.seen partial.now) }
+    ensures ok { OnOk result (Grows outbox.old.held.items outbox.new.held.items (λ out. Finished F.step front.old front.new out
+        partial.now outbox.old.tally.lines outbox.new.tally.lines outbox.old.tally.refused outbox.new.tally.refused)) }
+    ensures err { IfErr result (λ e. Grows outbox.old.held.items outbox.new.held.items (λ out. Broken F.step F.refuses e
+        front.old front.new out outbox.old.tally.seen partial.now)) }
 {
     if partial.is_empty() {
         return Ok(());
     }
-    if tally.is_full() {
+    if outbox.tally.is_full() {
         return Err(RunFault::Read);
     }
-    serve(rt, alloc, front, writer, tally, partial)?;
-    let Ok(()) = writer.flush() else {
-        return Err(RunFault::Write);
-    };
+    serve(rt, front, outbox, &mut Vec::new(alloc), partial)?;
     Ok(())
 }
 
+/// How many bytes are read at a time.
+const CHUNK_BYTES: usize = 65_536;
+
 /// Reads lines to the end of the input, has the front answer each, and writes the replies, in order.
 ///
-/// A line ends at a line feed or at the end of the input, and one carriage return before that end is dropped. What was
-/// written is flushed before each read, and at the end. An error of the reader or the writer ends the run at once, also
-/// `Interrupted`; so does a write that takes no byte.
+/// A line ends at a line feed or at the end of the input, and one carriage return before that end is dropped. Replies are
+/// gathered; before each read, and at the end, they are written and the writer is flushed. An error of the reader or the
+/// writer ends the run at once, also `Interrupted`; so does a write that takes no byte.
 ///
-/// At a fault other than `Write`, the replies to all earlier lines were written in full; at `Write` a front of them was.
-/// At `NoMemory` the front may have taken the call of the line in work, whose reply is then not written.
+/// At a fault other than `Write`, the replies to all earlier lines were written in full; at `Write` a front of them was,
+/// and the front stands after the calls of all lines that were answered, whether their replies were written or not. At
+/// `NoMemory` it may have taken the call of the line in work, whose reply is then not written.
 pub fn run_lines<R, F: Front<R>, I: Read, W: Write>(
     rt: &R,
     alloc: Global,
@@ -211,31 +300,32 @@ pub fn run_lines<R, F: Front<R>, I: Read, W: Write>(
         (I.remaining reader.new) (W.contents writer.old) (W.contents writer.new)) }
 {
     let mut partial = Vec::new(alloc);
-    let mut tally = Tally::new();
-    let mut chunk = [0u8; 512];
+    let mut outbox = Outbox::new(alloc)?;
+    let mut chunk = [0u8; CHUNK_BYTES];
     'reads: for _ in 0..u64::MAX {
-        let Ok(()) = writer.flush() else {
-            return Err(RunFault::Write);
-        };
+        outbox.flush(writer)?;
         let Ok(count) = reader.read(&mut chunk) else {
             return Err(RunFault::Read);
         };
         if count == 0 {
-            finish(rt, alloc, front, writer, &mut tally, partial.as_slice())?;
+            if let Err(fault) = finish(rt, alloc, front, &mut outbox, partial.as_slice()) {
+                return Err(outbox.close(writer, fault));
+            }
+            outbox.flush(writer)?;
             return Ok(Counts {
-                lines: tally.lines,
-                refused: tally.refused,
+                lines: outbox.tally.lines,
+                refused: outbox.tally.refused,
             });
         }
-        feed(
+        take_piece(
             rt,
             alloc,
             front,
-            writer,
-            &mut tally,
+            &mut outbox,
             &mut partial,
+            writer,
             &chunk[..count],
         )?;
     }
-    Err(RunFault::Read)
+    Err(outbox.close(writer, RunFault::Read))
 }

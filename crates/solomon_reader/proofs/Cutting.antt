@@ -1,9 +1,10 @@
 -- A text is cut at its line ends.
-use Rattle.std.proofs.Common.{◌≡◌, ℕ, suc, ◌<◌, false, eqb, List, [], ◌∷◌, length, refl, sym, ap, ◌∙◌, arith}
+use Rattle.std.proofs.Common.{◌≡◌, ℕ, suc, ◌<◌, false, eqb, List, [], ◌∷◌, length, map, take, Bor, refl, sym, ap, ◌∙◌, arith}
 use Rattle.std.specs.List.{slice_split, join_with_byte}
 use Rattle.std.specs.Io.BufRead.{strip_last}
 use Rattle.std.proofs.lemmas.List.Splits.{length-slice_split, join_with_byte-slice_split}
 use Rattle.std.proofs.lemmas.Bool.Decides.{nat_tests}
+use Rattle.std.proofs.lemmas.List.{length-map, length-take}
 use Rattle.solomon_reader.specs.Cuts.{lines, lines_of_parts}
 
 first_of : (part : List ℕ) (parts : List (List ℕ)) → 0 < length parts → lines_of_parts (part ∷ parts) ≡ strip_last 13 part ∷ lines_of_parts parts
@@ -30,3 +31,8 @@ line_last text line rest lt cut none =
     let same : line ≡ text = sym (ap (join_with_byte 10) cut) ∙ join_with_byte-slice_split 10 text in
     let some : 0 < length line = rw same lt in
     ap lines_of_parts cut ∙ last_of line some ∙ (rw (lines_none rest none) refl)
+
+-- a line whose first words are none has none
+pub no_words : (kept : List (Bor (List ℕ))) (ws : List (List ℕ)) (most : ℕ) → 0 < most → length kept ≡ 0 → map (λ w. w.now) kept ≡ take most ws → ws ≡ []
+no_words kept [] most lt e t = refl
+no_words kept (w ∷ ws) most lt e t = absurd (omega (arith, ap (length {A = List ℕ}) t, length-map kept (λ w. w.now), length-take most (w ∷ ws)))

@@ -1,5 +1,5 @@
 -- The fields of a line are read one after the other.
-use Rattle.std.proofs.Common.{◌≡◌, ℕ, List, [], ◌∷◌, length, map, get_or, Bor, Result, Ok, Bool, true, false, cond, eqb, refl, ap, ◌∙◌, arith}
+use Rattle.std.proofs.Common.{◌≡◌, ℕ, List, [], ◌∷◌, length, map, get_or, take, Bor, Result, Ok, Bool, true, false, cond, eqb, refl, ap, ◌∙◌, arith}
 use Rattle.std.specs.Prelude.{◌&&◌, ◌||◌, nat_lt, nat_le}
 use Rattle.text_words.specs.Words.{words}
 use Rattle.solomon_reader.specs.Cuts.{Numbered, numbered}
@@ -37,9 +37,6 @@ fleet_checked n [] = refl
 fleet_checked n (x ∷ []) = refl
 fleet_checked n (x ∷ y ∷ []) = two n (field_value x) (field_value y) (is_field x) (is_field y)
 fleet_checked n (x ∷ y ∷ z ∷ more) = rw (not_two (length more)) refl
-
-pub fleet_line : (missing n : ℕ) (text : List ℕ) (given item : List (List ℕ)) (full more : List Numbered) → full ≡ numbered n text ∷ more → item ≡ words text → given ≡ item → fleet_of n given ≡ fleet_read missing full
-fleet_line missing n text given item full more f w g = rw (f, g, w) (fleet_checked n (words text))
 
 -- ---- a node row
 
@@ -112,3 +109,31 @@ joined count n row false l f = refl
 pub row_checked : (count n : ℕ) (ws : List (List ℕ)) → row_of count n ws ≡ checked (row_checks count n ws) (node_of ws)
 unfolding row_of
 row_checked count n ws = ap (λ (r : Result (ℕ × Node) Fault). need (nat_lt count 1001) Count n >>= λ _. r >>= row_after count n) (fields_checked n ws) ∙ joined count n (value_at 0 ws, node_of ws) (nat_lt count 1001) (eqb (length ws) 7) (list_all is_field ws)
+
+-- ---- the first words of a line decide, with one more than its part has
+
+pub fleet_few : (n : ℕ) (ws : List (List ℕ)) → fleet_of n (take 3 ws) ≡ fleet_of n ws
+unfolding fleet_of
+fleet_few n [] = refl
+fleet_few n (a ∷ []) = refl
+fleet_few n (a ∷ b ∷ []) = refl
+fleet_few n (a ∷ b ∷ c ∷ more) = refl
+
+fields_few : (n : ℕ) (ws : List (List ℕ)) → row_fields_of n (take 8 ws) ≡ row_fields_of n ws
+unfolding row_fields_of
+fields_few n [] = refl
+fields_few n (a ∷ []) = refl
+fields_few n (a ∷ b ∷ []) = refl
+fields_few n (a ∷ b ∷ c ∷ []) = refl
+fields_few n (a ∷ b ∷ c ∷ d ∷ []) = refl
+fields_few n (a ∷ b ∷ c ∷ d ∷ e ∷ []) = refl
+fields_few n (a ∷ b ∷ c ∷ d ∷ e ∷ f ∷ []) = refl
+fields_few n (a ∷ b ∷ c ∷ d ∷ e ∷ f ∷ g ∷ []) = refl
+fields_few n (a ∷ b ∷ c ∷ d ∷ e ∷ f ∷ g ∷ h ∷ more) = refl
+
+pub row_few : (count n : ℕ) (ws : List (List ℕ)) → row_of count n (take 8 ws) ≡ row_of count n ws
+unfolding row_of
+row_few count n ws = ap (λ (r : Result (ℕ × Node) Fault). need (nat_lt count 1001) Count n >>= λ _. r >>= row_after count n) (fields_few n ws)
+
+pub fleet_line : (missing n : ℕ) (text : List ℕ) (given item : List (List ℕ)) (full more : List Numbered) → full ≡ numbered n text ∷ more → item ≡ take 3 (words text) → given ≡ item → fleet_of n given ≡ fleet_read missing full
+fleet_line missing n text given item full more f w g = rw (f, g, w) (fleet_few n (words text) ∙ fleet_checked n (words text))

@@ -69,6 +69,14 @@ abbrev pub is_node_heading : List (List ℕ) → Bool
 is_node_heading [] = false
 is_node_heading (word ∷ more) = is_keyword (codes "CUST") word
 
+-- the words are the heading whose check has that kind
+abbrev pub heading_test : Kind → List (List ℕ) → Bool
+heading_test Vehicle words = is_vehicle words
+heading_test Fleet words = is_fleet_heading words
+heading_test Customer words = is_customer words
+heading_test Heading words = is_node_heading words
+heading_test _ words = false
+
 -- ---- the checks of each part; the line of a part that is missing is given
 
 abbrev pub name_checks : ℕ → List Numbered → List Check

@@ -2,8 +2,9 @@
 
 ghost use Rattle.std.specs.Prelude.{◌≡◌, map};
 ghost use Rattle.solomon_reader.specs.Fields.{whole_number, is_zeros, field, is_keyword, trimmed_start, trimmed_end, trimmed, is_name_byte, is_name};
-ghost use Rattle.solomon_reader.specs.Checks.{is_vehicle, is_fleet_heading, is_customer, is_node_heading};
+ghost use Rattle.solomon_reader.specs.Checks.{is_vehicle, is_fleet_heading, is_customer, is_node_heading, heading_test};
 
+use crate::fault::Kind;
 use text_words::{cut_at, is_gap, number_of};
 
 /// The greatest length of a name.
@@ -45,7 +46,7 @@ fn is_keyword(keyword: &[u8], word: &[u8]) -> bool
     word.eq_ignore_ascii_case(keyword)
 }
 
-pub fn is_vehicle(words: &[&[u8]]) -> bool
+fn is_vehicle(words: &[&[u8]]) -> bool
     ensures { result ≡ is_vehicle (map (λ w. w.now) words.now) }
 {
     match words {
@@ -54,7 +55,7 @@ pub fn is_vehicle(words: &[&[u8]]) -> bool
     }
 }
 
-pub fn is_fleet_heading(words: &[&[u8]]) -> bool
+fn is_fleet_heading(words: &[&[u8]]) -> bool
     ensures { result ≡ is_fleet_heading (map (λ w. w.now) words.now) }
 {
     match words {
@@ -63,7 +64,7 @@ pub fn is_fleet_heading(words: &[&[u8]]) -> bool
     }
 }
 
-pub fn is_customer(words: &[&[u8]]) -> bool
+fn is_customer(words: &[&[u8]]) -> bool
     ensures { result ≡ is_customer (map (λ w. w.now) words.now) }
 {
     match words {
@@ -72,12 +73,25 @@ pub fn is_customer(words: &[&[u8]]) -> bool
     }
 }
 
-pub fn is_node_heading(words: &[&[u8]]) -> bool
+fn is_node_heading(words: &[&[u8]]) -> bool
     ensures { result ≡ is_node_heading (map (λ w. w.now) words.now) }
 {
     match words {
         [word, ..] => is_keyword(b"CUST", word),
         [] => false,
+    }
+}
+
+/// Whether the words, or the first three of them, are the heading whose check has that kind.
+pub fn is_heading(kind: Kind, words: &[&[u8]]) -> bool
+    ensures { result ≡ heading_test kind (map (λ w. w.now) words.now) }
+{
+    match kind {
+        Kind::Vehicle => is_vehicle(words),
+        Kind::Fleet => is_fleet_heading(words),
+        Kind::Customer => is_customer(words),
+        Kind::Heading => is_node_heading(words),
+        _ => false,
     }
 }
 

@@ -1,12 +1,12 @@
 //! The lines of a text that are not blank.
 
-ghost use Rattle.std.specs.Prelude.{◌≡◌, ◌+◌, ◌<◌, ◌^◌, [], ◌∷◌, length, map, IfOk, MatchOption};
+ghost use Rattle.std.specs.Prelude.{◌≡◌, ◌+◌, ◌<◌, ◌^◌, [], ◌∷◌, length, map, take, IfOk, MatchOption};
 ghost use Rattle.std.specs.Io.BufRead.{strip_last};
 ghost use Rattle.text_words.specs.Words.{words};
 ghost use Rattle.solomon_reader.specs.Cuts.{lines, full_left, number_after, numbered};
 
-use std::alloc::{AllocError, Global};
-use text_words::{cut_at, words_of};
+use std::alloc::AllocError;
+use text_words::{cut_at, keep_words};
 
 /// What is left of a text, and the number of its next line.
 #[derive(Drop)]
@@ -16,12 +16,11 @@ pub struct Lines<'a> {
     ghost fits: { number + length rest.now < 2 ^ 64 },
 }
 
-/// A line by its number, its bytes and its words.
+/// A line by its number and its bytes.
 #[derive(Drop)]
 pub struct Line<'a> {
     pub number: usize,
     pub text: &'a [u8],
-    pub words: Vec<&'a [u8]>,
 }
 
 /// The first line of a text, and what follows its line end.
@@ -38,12 +37,17 @@ fn first_line(text: &[u8]) -> (&[u8], &[u8])
 }
 
 impl<'a> Lines<'a> {
-    /// The next line that is not blank.
-    pub fn next_full(&mut self, alloc: Global) -> Result<Option<Line<'a>>, AllocError>
+    /// The next line that is not blank. Its first words, at most `most` of them, are then in `kept`.
+    pub fn next_full(
+        &mut self,
+        kept: &mut Vec<&'a [u8]>,
+        most: usize,
+    ) -> Result<Option<Line<'a>>, AllocError>
+        requires { 0 < most }
         ensures line { IfOk result (λ o. MatchOption o
             ((full_left self.old.number self.old.rest.now ≡ []) × (self.new.number ≡ number_after self.old.number self.old.rest.now))
             (λ line. (full_left self.old.number self.old.rest.now ≡ numbered line.number line.text.now ∷ full_left self.new.number self.new.rest.now)
-            × (map (λ w. w.now) line.words.items ≡ words line.text.now)
+            × (map (λ w. w.now) kept.new.items ≡ take most (words line.text.now))
             × (number_after self.new.number self.new.rest.now ≡ number_after self.old.number self.old.rest.now))) }
     {
         'lines: while !self.rest.is_empty() {
@@ -52,13 +56,9 @@ impl<'a> Lines<'a> {
             self.rest = rest;
             self.number = number + 1;
             let text = line.strip_suffix(b"\r".as_slice()).unwrap_or(line);
-            let words = words_of(alloc, text)?;
-            if !words.is_empty() {
-                return Ok(Some(Line {
-                    number,
-                    text,
-                    words,
-                }));
+            keep_words(kept, text, most)?;
+            if !kept.is_empty() {
+                return Ok(Some(Line { number, text }));
             }
         }
         Ok(None)

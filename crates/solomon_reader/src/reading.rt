@@ -2,16 +2,14 @@
 
 ghost use Rattle.std.specs.Prelude.{◌≡◌, ℕ, map, OnOk, IfOk, IfErr, Ok, string_bytes};
 ghost use Rattle.solomon_reader.specs.Cuts.{full_left, number_after};
-ghost use Rattle.solomon_reader.specs.Checks.{fault, tail, checks, IsFirstFailing, is_vehicle, is_fleet_heading, is_customer, is_node_heading};
+ghost use Rattle.solomon_reader.specs.Checks.{fault, tail, checks, IsFirstFailing, heading_test};
 ghost use Rattle.solomon_reader.specs.declared.fault.Kind.{Kind};
 ghost use Rattle.solomon_reader.specs.Reading.{Gives, read_of, IsFault};
 ghost use Rattle.solomon_reader.specs.Instances.{view, IsInstance, IsSound, Plain};
 ghost use Rattle.solomon_reader.specs.Parts.{number_field, fleet_of, row_fields_of, row_of, name_read, heading_read, fleet_read, rows_read};
 
 use crate::fault::{Kind, ReadFault};
-use crate::fields::{
-    is_customer, is_fleet_heading, is_name, is_node_heading, is_vehicle, number_in, trimmed,
-};
+use crate::fields::{is_heading, is_name, number_in, trimmed};
 use crate::instance::{Instance, Node};
 use crate::lines::Lines;
 use std::alloc::Global;
@@ -22,18 +20,34 @@ const MAX_NODES: usize = 1001;
 /// The greatest number of vehicles.
 const MAX_VEHICLES: u32 = 1000;
 
+/// The greatest number of words that decide over a heading.
+const HEADING_WORDS: usize = 2;
+
+/// How many fields the line of the fleet has.
+const FLEET_FIELDS: usize = 2;
+
+/// How many fields a node row has.
+const ROW_FIELDS: usize = 7;
+
 fn number_at(word: &[u8], line: usize) -> Result<u32, ReadFault>
     ensures { Gives (λ n. n) result (number_field word.now line) }
 {
     number_in(word).ok_or(ReadFault::At(Kind::Number, line))
 }
 
-fn name(alloc: Global, lines: &mut Lines) -> Result<String, ReadFault>
+/// The words of the line in work, in a buffer that is kept from line to line.
+type Words<'a> = Vec<&'a [u8]>;
+
+fn name<'a>(
+    alloc: Global,
+    lines: &mut Lines<'a>,
+    words: &mut Words<'a>,
+) -> Result<String, ReadFault>
     ensures read { Gives (λ name. string_bytes name) result (name_read (number_after lines.old.number lines.old.rest.now) (full_left lines.old.number lines.old.rest.now)) }
     ensures rest { OnOk result (full_left lines.new.number lines.new.rest.now ≡ tail (full_left lines.old.number lines.old.rest.now)) }
     ensures count { OnOk result (number_after lines.new.number lines.new.rest.now ≡ number_after lines.old.number lines.old.rest.now) }
 {
-    let Some(line) = lines.next_full(alloc)? else {
+    let Some(line) = lines.next_full(words, 1)? else {
         return Err(ReadFault::At(Kind::Name, lines.number));
     };
     let name = trimmed(line.text);
@@ -44,32 +58,18 @@ fn name(alloc: Global, lines: &mut Lines) -> Result<String, ReadFault>
     Ok(String::from_utf8(bytes).unwrap())
 }
 
-fn vehicle(alloc: Global, lines: &mut Lines) -> Result<(), ReadFault>
-    ensures read { Gives (λ _. tt) result (heading_read Kind.Vehicle is_vehicle
+/// Reads the heading whose check has that kind.
+fn heading<'a>(lines: &mut Lines<'a>, words: &mut Words<'a>, kind: Kind) -> Result<(), ReadFault>
+    ensures read { Gives (λ _. tt) result (heading_read kind (heading_test kind)
         (number_after lines.old.number lines.old.rest.now) (full_left lines.old.number lines.old.rest.now)) }
     ensures rest { OnOk result (full_left lines.new.number lines.new.rest.now ≡ tail (full_left lines.old.number lines.old.rest.now)) }
     ensures count { OnOk result (number_after lines.new.number lines.new.rest.now ≡ number_after lines.old.number lines.old.rest.now) }
 {
-    let Some(line) = lines.next_full(alloc)? else {
-        return Err(ReadFault::At(Kind::Vehicle, lines.number));
+    let Some(line) = lines.next_full(words, HEADING_WORDS + 1)? else {
+        return Err(ReadFault::At(kind, lines.number));
     };
-    if !is_vehicle(line.words.as_slice()) {
-        return Err(ReadFault::At(Kind::Vehicle, line.number));
-    }
-    Ok(())
-}
-
-fn fleet_heading(alloc: Global, lines: &mut Lines) -> Result<(), ReadFault>
-    ensures read { Gives (λ _. tt) result (heading_read Kind.Fleet is_fleet_heading
-        (number_after lines.old.number lines.old.rest.now) (full_left lines.old.number lines.old.rest.now)) }
-    ensures rest { OnOk result (full_left lines.new.number lines.new.rest.now ≡ tail (full_left lines.old.number lines.old.rest.now)) }
-    ensures count { OnOk result (number_after lines.new.number lines.new.rest.now ≡ number_after lines.old.number lines.old.rest.now) }
-{
-    let Some(line) = lines.next_full(alloc)? else {
-        return Err(ReadFault::At(Kind::Fleet, lines.number));
-    };
-    if !is_fleet_heading(line.words.as_slice()) {
-        return Err(ReadFault::At(Kind::Fleet, line.number));
+    if !is_heading(kind, words.as_slice()) {
+        return Err(ReadFault::At(kind, line.number));
     }
     Ok(())
 }
@@ -89,45 +89,15 @@ fn fleet_fields(number: usize, words: &[&[u8]]) -> Result<(u32, u32), ReadFault>
     Ok((vehicles, capacity))
 }
 
-fn fleet(alloc: Global, lines: &mut Lines) -> Result<(u32, u32), ReadFault>
+fn fleet<'a>(lines: &mut Lines<'a>, words: &mut Words<'a>) -> Result<(u32, u32), ReadFault>
     ensures read { Gives (λ pair. (pair.0, pair.1)) result (fleet_read (number_after lines.old.number lines.old.rest.now) (full_left lines.old.number lines.old.rest.now)) }
     ensures rest { OnOk result (full_left lines.new.number lines.new.rest.now ≡ tail (full_left lines.old.number lines.old.rest.now)) }
     ensures count { OnOk result (number_after lines.new.number lines.new.rest.now ≡ number_after lines.old.number lines.old.rest.now) }
 {
-    let Some(line) = lines.next_full(alloc)? else {
+    let Some(line) = lines.next_full(words, FLEET_FIELDS + 1)? else {
         return Err(ReadFault::At(Kind::Fleet, lines.number));
     };
-    fleet_fields(line.number, line.words.as_slice())
-}
-
-fn customer(alloc: Global, lines: &mut Lines) -> Result<(), ReadFault>
-    ensures read { Gives (λ _. tt) result (heading_read Kind.Customer is_customer
-        (number_after lines.old.number lines.old.rest.now) (full_left lines.old.number lines.old.rest.now)) }
-    ensures rest { OnOk result (full_left lines.new.number lines.new.rest.now ≡ tail (full_left lines.old.number lines.old.rest.now)) }
-    ensures count { OnOk result (number_after lines.new.number lines.new.rest.now ≡ number_after lines.old.number lines.old.rest.now) }
-{
-    let Some(line) = lines.next_full(alloc)? else {
-        return Err(ReadFault::At(Kind::Customer, lines.number));
-    };
-    if !is_customer(line.words.as_slice()) {
-        return Err(ReadFault::At(Kind::Customer, line.number));
-    }
-    Ok(())
-}
-
-fn node_heading(alloc: Global, lines: &mut Lines) -> Result<(), ReadFault>
-    ensures read { Gives (λ _. tt) result (heading_read Kind.Heading is_node_heading
-        (number_after lines.old.number lines.old.rest.now) (full_left lines.old.number lines.old.rest.now)) }
-    ensures rest { OnOk result (full_left lines.new.number lines.new.rest.now ≡ tail (full_left lines.old.number lines.old.rest.now)) }
-    ensures count { OnOk result (number_after lines.new.number lines.new.rest.now ≡ number_after lines.old.number lines.old.rest.now) }
-{
-    let Some(line) = lines.next_full(alloc)? else {
-        return Err(ReadFault::At(Kind::Heading, lines.number));
-    };
-    if !is_node_heading(line.words.as_slice()) {
-        return Err(ReadFault::At(Kind::Heading, line.number));
-    }
-    Ok(())
+    fleet_fields(line.number, words.as_slice())
 }
 
 /// The seven fields of a node row: its number, and the node.
@@ -171,12 +141,16 @@ fn row(count: usize, number: usize, words: &[&[u8]]) -> Result<Node, ReadFault>
     Ok(node)
 }
 
-fn rows(alloc: Global, lines: &mut Lines) -> Result<Vec<Node>, ReadFault>
+fn rows<'a>(
+    alloc: Global,
+    lines: &mut Lines<'a>,
+    words: &mut Words<'a>,
+) -> Result<Vec<Node>, ReadFault>
     ensures { Gives (λ nodes. nodes.items) result (rows_read (number_after lines.old.number lines.old.rest.now) 0 (full_left lines.old.number lines.old.rest.now)) }
 {
     let mut nodes = Vec::new(alloc);
-    'rows: while let Some(line) = lines.next_full(alloc)? {
-        let node = row(nodes.len(), line.number, line.words.as_slice())?;
+    'rows: while let Some(line) = lines.next_full(words, ROW_FIELDS + 1)? {
+        let node = row(nodes.len(), line.number, words.as_slice())?;
         nodes.push(node)?;
     }
     if nodes.len() < 2 {
@@ -192,13 +166,14 @@ fn all(alloc: Global, text: &[u8]) -> Result<Instance, ReadFault>
         rest: text,
         number: 1,
     };
-    let name = name(alloc, &mut lines)?;
-    vehicle(alloc, &mut lines)?;
-    fleet_heading(alloc, &mut lines)?;
-    let (vehicles, capacity) = fleet(alloc, &mut lines)?;
-    customer(alloc, &mut lines)?;
-    node_heading(alloc, &mut lines)?;
-    let nodes = rows(alloc, &mut lines)?;
+    let mut words = Vec::new(alloc);
+    let name = name(alloc, &mut lines, &mut words)?;
+    heading(&mut lines, &mut words, Kind::Vehicle)?;
+    heading(&mut lines, &mut words, Kind::Fleet)?;
+    let (vehicles, capacity) = fleet(&mut lines, &mut words)?;
+    heading(&mut lines, &mut words, Kind::Customer)?;
+    heading(&mut lines, &mut words, Kind::Heading)?;
+    let nodes = rows(alloc, &mut lines, &mut words)?;
     Ok(Instance {
         name,
         vehicles,

@@ -1,9 +1,9 @@
 //! Words of a line, and the numbers that words are.
 #![tactic(auto)]
 
-ghost use Rattle.std.specs.Prelude.{◌≡◌, ◌<◌, ◌==◌, [], ◌∷◌, IfOk, IfSome, MatchOption, length, map};
+ghost use Rattle.std.specs.Prelude.{◌≡◌, ◌<◌, ◌≤◌, ◌==◌, true, [], ◌∷◌, IfOk, IfSome, OnOk, MatchOption, length, map, take, slice_index};
 ghost use Rattle.std.specs.List.{slice_split};
-ghost use Rattle.text_words.specs.Words.{words, number, is_gap};
+ghost use Rattle.text_words.specs.Words.{words, number, is_gap, HasNoGap};
 
 use std::alloc::{AllocError, Global};
 
@@ -12,20 +12,6 @@ pub fn is_gap(byte: u8) -> bool
     ensures { result ≡ is_gap byte }
 {
     byte == b' ' || byte == b'\t'
-}
-
-/// What stands before the first space or tab, and what stands after it, if there is one.
-fn next_part(line: &[u8]) -> (&[u8], Option<&[u8]>)
-    ensures parts { MatchOption result.1 (slice_split is_gap line.now ≡ result.0.now ∷ [])
-        (λ rest. slice_split is_gap line.now ≡ result.0.now ∷ slice_split is_gap rest.now) }
-    ensures shorter { IfSome result.1 (λ rest. length rest.now < length line.now) }
-{
-    for (i, byte) in line.iter().enumerate() {
-        if is_gap(*byte) {
-            return (&line[..i], Some(&line[i + 1..]));
-        }
-    }
-    (line, None)
 }
 
 /// What stands before the first separator, and what stands after it, if there is one.
@@ -42,21 +28,59 @@ pub fn cut_at(text: &[u8], separator: u8) -> (&[u8], Option<&[u8]>)
     (text, None)
 }
 
-/// The words of a line, from the left: what stands between its spaces and tabs. Any other byte, a
-/// carriage return too, belongs to its word.
+/// The place of the first gap from a place on, or of the line's end.
+#[inline(always)]
+fn part_end(line: &[u8], from: usize) -> usize
+    requires { from ≤ length line.now }
+    ensures from { from ≤ result }
+    ensures within { result ≤ length line.now }
+    ensures plain { HasNoGap line.now from result }
+    ensures gap { result < length line.now → is_gap (slice_index line.now result) ≡ true }
+{
+    for i in from..line.len() {
+        if is_gap(line[i]) {
+            return i;
+        }
+    }
+    line.len()
+}
+
+/// Makes `kept` the words of a line, from the left, and no more than the first `most` of them: what stands between the
+/// line's spaces and tabs. Any other byte, a carriage return too, belongs to its word. The line is gone through once, and
+/// no further than to the end of the last word that is kept.
+pub fn keep_words<'a>(
+    kept: &mut Vec<&'a [u8]>,
+    line: &'a [u8],
+    most: usize,
+) -> Result<(), AllocError>
+    ensures { OnOk result (map (λ w. w.now) kept.new.items ≡ take most (words line.now)) }
+{
+    kept.clear();
+    let mut start = 0;
+    while start < line.len() && kept.len() < most {
+        let end = part_end(line, start);
+        if start < end {
+            kept.push(&line[start..end])?;
+        }
+        start = end + 1;
+    }
+    Ok(())
+}
+
+/// Makes `kept` all words of a line, as `keep_words` has them.
+pub fn keep_all_words<'a>(kept: &mut Vec<&'a [u8]>, line: &'a [u8]) -> Result<(), AllocError>
+    ensures { OnOk result (map (λ w. w.now) kept.new.items ≡ words line.now) }
+{
+    keep_words(kept, line, usize::MAX)
+}
+
+/// All words of a line, as `keep_words` has them.
 pub fn words_of(alloc: Global, line: &[u8]) -> Result<Vec<&[u8]>, AllocError>
     ensures { IfOk result (λ v. map (λ w. w.now) v.items ≡ words line.now) }
 {
-    let mut words = Vec::new(alloc);
-    let mut rest = Some(line);
-    while let Some(text) = rest {
-        let (part, after) = next_part(text);
-        if !part.is_empty() {
-            words.push(part)?;
-        }
-        rest = after;
-    }
-    Ok(words)
+    let mut kept = Vec::new(alloc);
+    keep_all_words(&mut kept, line)?;
+    Ok(kept)
 }
 
 /// The number that a word is: 1 to 10 digits, with a value of at most 4,294,967,295.

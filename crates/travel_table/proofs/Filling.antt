@@ -1,57 +1,141 @@
-use Rattle.std.proofs.Common.{◌≡◌, ℕ, ◌+◌, ◌*◌, ◌<◌, ◌≤◌, ◌∙◌, sym, ap, refl, subst, arith, inl, inr, List, [], ◌∷◌, ◌++◌, length, slice_index, length-append}
-use Rattle.std.proofs.lemmas.Bool.{cases_lt}
-use Rattle.std.proofs.lemmas.List.{get_or_push, get_or_append_left}
+use Rattle.std.proofs.Common.{◌≡◌, ◌≢◌, ℕ, ◌+◌, ◌-◌, ◌*◌, ◌<◌, ◌≤◌, ◌∙◌, sym, ap, refl, subst, arith, inl, inr, List, length, set, slice_index}
+use Rattle.std.proofs.lemmas.Bool.{cases_lt, cases_order}
+use Rattle.std.proofs.lemmas.List.{get_or-set_other, get_or-set_same, length-set}
+use Rattle.std.specs.Int.{abs_diff}
 use Rattle.std.proofs.lemmas.Nat.{same_from_place, mul-add-lt}
 use Rattle.solomon_reader.specs.declared.instance.Node.{Node}
 use Rattle.travel_table.specs.Root.{IsRoot}
-use Rattle.travel_table.specs.Travel.{node_at, IsTravel, AreFilled, IsTravelOf}
+use Rattle.travel_table.specs.Travel.{node_at, square_between, IsTravel, AreKnown, IsTravelOf}
 use Rattle.travel_table.proofs.Squares.{square_between-comm}
 
-pushed_before : (entries : List ℕ) (t k : ℕ) → k < length entries → slice_index (entries ++ t ∷ []) k ≡ slice_index entries k
-pushed_before entries t k h = get_or_append_left entries (t ∷ []) 0 k h
+abbrev IsSmall : List ℕ → Type 0
+IsSmall entries = (k : ℕ) → k < length entries → slice_index entries k ≤ 141421342
 
-pushed_last : (entries : List ℕ) (t k : ℕ) → length entries ≡ k → slice_index (entries ++ t ∷ []) k ≡ t
-pushed_last entries t k h = get_or_push entries t 0 k h
+set_small : (entries : List ℕ) (p t : ℕ) → t ≤ 141421342 → IsSmall entries → IsSmall (set entries p t)
+set_small entries p t small f = λ k below.
+    let below' : k < length entries = subst (λ (n : ℕ). k < n) (length-set entries p t) below in
+    elim (cases_order k p) [
+      | inl same ↦ subst (λ (n : ℕ). slice_index (set entries n t) k ≤ 141421342) same (subst (λ (n : ℕ). n ≤ 141421342) (sym (get_or-set_same entries k t 0 below')) small)
+      | inr q ↦ elim q [
+        | inl h ↦ subst (λ (n : ℕ). n ≤ 141421342) (sym (get_or-set_other entries p k t 0 (λ e. absurd (omega (arith, e))))) (f k below')
+        | inr h ↦ subst (λ (n : ℕ). n ≤ 141421342) (sym (get_or-set_other entries p k t 0 (λ e. absurd (omega (arith, e))))) (f k below')
+      ]
+    ]
 
--- one entry more
-pub filled_more : (nodes : List Node) (entries : List ℕ) (i j t : ℕ) → j < length nodes → AreFilled nodes entries (i * length nodes + j)
-    → IsTravel nodes i j t → t ≤ 141421342 → AreFilled nodes (entries ++ t ∷ []) (i * length nodes + j + 1)
-filled_more nodes entries i j t h f r small = record {
-  counted = length-append entries (t ∷ []) ∙ ap (λ (n : ℕ). n + 1) f.counted;
-  travel = λ a b k below. elim (cases_lt (a * length nodes + b) (i * length nodes + j)) [
-    | inl less ↦
-        let e = pushed_before entries t (a * length nodes + b) (subst (λ (n : ℕ). a * length nodes + b < n) (sym f.counted) less) in
-        subst (λ (n : ℕ). IsTravel nodes a b n) (sym e) (f.travel a b k less)
-    | inr more ↦
-        let place : a * length nodes + b ≡ i * length nodes + j = omega arith in
-        let same = same_from_place a b i j (length nodes) k h place in
-        let e = pushed_last entries t (a * length nodes + b) (f.counted ∙ sym place) in
-        let row = subst (λ (n : ℕ). IsTravel nodes n j t) (sym same.0) r in
-        let here = subst (λ (n : ℕ). IsTravel nodes a n t) (sym same.1) row in
-        subst (λ (n : ℕ). IsTravel nodes a b n) (sym e) here
-  ];
-  small = λ k below. elim (cases_lt k (i * length nodes + j)) [
-    | inl less ↦
-        let e = pushed_before entries t k (subst (λ (n : ℕ). k < n) (sym f.counted) less) in
-        subst (λ (n : ℕ). n ≤ 141421342) (sym e) (f.small k less)
-    | inr more ↦
-        let place : k ≡ i * length nodes + j = omega arith in
-        let e = pushed_last entries t k (f.counted ∙ sym place) in
-        subst (λ (n : ℕ). n ≤ 141421342) (sym e) small
-  ];
-}
+-- two places of different pairs
+apart : (a b c d n : ℕ) → b < n → d < n → ((a ≡ c) → (b ≡ d) → ⊥) → a * n + b ≢ c * n + d
+apart a b c d n h k f = λ e. let s = same_from_place a b c d n h k e in f s.0 s.1
 
--- the travel there is known from that back
-pub filled_back : (nodes : List Node) (entries : List ℕ) (i j count : ℕ) → AreFilled nodes entries count → i < length nodes → j * length nodes + i < count
-    → IsTravel nodes i j (slice_index entries (j * length nodes + i))
-filled_back nodes entries i j count f h below =
-    subst (λ (n : ℕ). IsRoot n (slice_index entries (j * length nodes + i))) (square_between-comm (node_at nodes j) (node_at nodes i)) (f.travel j i h below)
+-- what stands at a place that neither of two writes goes to
+kept : (entries : List ℕ) (p q k t : ℕ) → k ≢ p → k ≢ q → slice_index (set (set entries p t) q t) k ≡ slice_index entries k
+kept entries p q k t f g = get_or-set_other (set entries p t) q k t 0 g ∙ get_or-set_other entries p k t 0 f
+
+written_first : (entries : List ℕ) (p q t : ℕ) → p ≢ q → p < length entries → slice_index (set (set entries p t) q t) p ≡ t
+written_first entries p q t f h = get_or-set_other (set entries p t) q p t 0 f ∙ get_or-set_same entries p t 0 h
+
+written_last : (entries : List ℕ) (p q t : ℕ) → q < length entries → slice_index (set (set entries p t) q t) q ≡ t
+written_last entries p q t h = get_or-set_same (set entries p t) q t 0 (subst (λ (n : ℕ). q < n) (sym (length-set entries p t)) h)
+
+turned : (nodes : List Node) (i j t : ℕ) → IsTravel nodes i j t → IsTravel nodes j i t
+turned nodes i j t r = subst (λ (n : ℕ). IsRoot n t) (square_between-comm (node_at nodes i) (node_at nodes j)) r
+
+-- one pair more
+pub known_more : (nodes : List Node) (entries : List ℕ) (i j t : ℕ) → i < j → j < length nodes → AreKnown nodes entries (i * length nodes + j)
+    → IsTravel nodes i j t → t ≤ 141421342
+    → AreKnown nodes (set (set entries (i * length nodes + j) t) (j * length nodes + i) t) (i * length nodes + (j + 1))
+known_more nodes entries i j t lt h f r small =
+    let n = length nodes in
+    let p = i * n + j in
+    let q = j * n + i in
+    let first : p < length entries = subst (λ (m : ℕ). p < m) (sym f.counted) (mul-add-lt i n j n (omega arith) h) in
+    let last : q < length entries = subst (λ (m : ℕ). q < m) (sym f.counted) (mul-add-lt j n i n h (omega arith)) in
+    record {
+      counted = length-set (set entries p t) q t ∙ length-set entries p t ∙ f.counted;
+      small = set_small (set entries p t) q t small (set_small entries p t small f.small);
+      own = λ a k below.
+          let other = apart a a i j n k h (λ e g. absurd (omega (arith, e, g))) in
+          let before : a * n + a < p = elim (cases_lt (a * n + a) p) [ inl before ↦ before | inr here ↦ absurd (other (omega arith)) ] in
+          kept entries p q (a * n + a) t other (apart a a j i n k (omega arith) (λ e g. absurd (omega (arith, e, g)))) ∙ f.own a k before;
+      there = λ a b less k below. elim (cases_lt (a * n + b) p) [
+        | inl before ↦
+            let e = kept entries p q (a * n + b) t (λ e. absurd (omega (arith, e))) (apart a b j i n k (omega arith) (λ e g. absurd (omega (arith, e, g)))) in
+            subst (λ (m : ℕ). IsTravel nodes a b m) (sym e) (f.there a b less k before)
+        | inr here ↦
+            let s = same_from_place a b i j n k h (omega arith) in
+            let e = written_first entries p q t (apart i j j i n h (omega arith) (λ e g. absurd (omega (arith, e, g)))) first in
+            let r' = subst (λ (m : ℕ). IsTravel nodes i j m) (sym e) r in
+            let x = subst (λ (m : ℕ). IsTravel nodes m j (slice_index (set (set entries p t) q t) (m * n + j))) (sym s.0) r' in
+            subst (λ (m : ℕ). IsTravel nodes a m (slice_index (set (set entries p t) q t) (a * n + m))) (sym s.1) x
+      ];
+      back = λ a b less k below. elim (cases_lt (a * n + b) p) [
+        | inl before ↦
+            let e = kept entries p q (b * n + a) t (apart b a i j n (omega arith) h (λ e g. absurd (omega (arith, e, g)))) (apart b a j i n (omega arith) (omega arith) (λ e g. absurd (let same : a * n + b ≡ p = ap (λ (m : ℕ). m * n + b) g ∙ ap (λ (m : ℕ). i * n + m) e in omega (arith, same)))) in
+            subst (λ (m : ℕ). IsTravel nodes a b m) (sym e) (f.back a b less k before)
+        | inr here ↦
+            let s = same_from_place a b i j n k h (omega arith) in
+            let e = written_last entries p q t last in
+            let r' = subst (λ (m : ℕ). IsTravel nodes i j m) (sym e) r in
+            let x = subst (λ (m : ℕ). IsTravel nodes m j (slice_index (set (set entries p t) q t) (j * n + m))) (sym s.0) r' in
+            subst (λ (m : ℕ). IsTravel nodes a m (slice_index (set (set entries p t) q t) (m * n + a))) (sym s.1) x
+      ];
+    }
+
+-- the way of a node to itself, the first of its pairs
+pub known_own : (nodes : List Node) (entries : List ℕ) (i : ℕ) → i < length nodes → AreKnown nodes entries (i * length nodes)
+    → AreKnown nodes (set entries (i * length nodes + i) 0) (i * length nodes + (i + 1))
+known_own nodes entries i h f =
+    let n = length nodes in
+    let p = i * n + i in
+    let here : p < length entries = subst (λ (m : ℕ). p < m) (sym f.counted) (mul-add-lt i n i n h h) in
+    let within : (a b : ℕ) → a ≤ b → b < n → a * n + b < p + 1 → a * n + b ≢ p → a * n + b < i * n = λ a b le k below other. elim (cases_lt (a * n + b) (i * n)) [
+      | inl before ↦ before
+      | inr from ↦
+          let s = same_from_place a b i (a * n + b - i * n) n k (omega arith) (omega arith) in
+          absurd (other (omega (arith, s.0, s.1)))
+    ] in
+    let stays : (k : ℕ) → k ≢ p → slice_index (set entries p 0) k ≡ slice_index entries k = λ k other. get_or-set_other entries p k 0 0 other in
+    record {
+      counted = length-set entries p 0 ∙ f.counted;
+      small = set_small entries p 0 (omega arith) f.small;
+      own = λ a k below. elim (cases_lt (a * n + a) p) [
+        | inl before ↦
+            let other : a * n + a ≢ p = λ e. absurd (omega (arith, e)) in
+            stays (a * n + a) other ∙ f.own a k (within a a (omega arith) k (omega arith) other)
+        | inr at ↦
+            let same : a * n + a ≡ p = omega arith in
+            ap (λ (m : ℕ). slice_index (set entries p 0) m) same ∙ get_or-set_same entries p 0 0 here
+      ];
+      there = λ a b less k below.
+          let other = apart a b i i n k h (λ e g. absurd (omega (arith, e, g))) in
+          subst (λ (m : ℕ). IsTravel nodes a b m) (sym (stays (a * n + b) other)) (f.there a b less k (within a b (omega arith) k (omega arith) other));
+      back = λ a b less k below.
+          let other = apart a b i i n k h (λ e g. absurd (omega (arith, e, g))) in
+          subst (λ (m : ℕ). IsTravel nodes a b m) (sym (stays (b * n + a) (apart b a i i n (omega arith) h (λ e g. absurd (omega (arith, e, g)))))) (f.back a b less k (within a b (omega arith) k (omega arith) other));
+    }
+
+no_way : (node : Node) → square_between node node ≡ 0
+no_way node =
+    let x : abs_diff node.x node.x ≡ 0 = omega arith in
+    let y : abs_diff node.y node.y ≡ 0 = omega arith in
+    rw (x, y) refl
 
 -- a table that is filled
-pub filled_whole : (nodes : List Node) (entries : List ℕ) → AreFilled nodes entries (length nodes * length nodes)
+pub known_whole : (nodes : List Node) (entries : List ℕ) → AreKnown nodes entries (length nodes * length nodes)
     → IsTravelOf nodes (record { size = length nodes; entries = entries })
-filled_whole nodes entries f = record {
-  sized = refl;
-  travel = λ i j h k. f.travel i j k (mul-add-lt i (length nodes) j (length nodes) h k);
-  small = λ i j h k. f.small (i * length nodes + j) (mul-add-lt i (length nodes) j (length nodes) h k);
-}
+known_whole nodes entries f =
+    let n = length nodes in
+    record {
+      sized = refl;
+      travel = λ i j h k. elim (cases_order i j) [
+        | inl same ↦
+            let zero_root : IsRoot 0 0 = record { low = omega arith; high = omega arith } in
+            let here : IsTravel nodes i i (slice_index entries (i * n + i)) =
+            subst (λ (m : ℕ). IsRoot m (slice_index entries (i * n + i))) (sym (no_way (node_at nodes i))) (subst (λ (m : ℕ). IsRoot 0 m) (sym (f.own i h (mul-add-lt i n i n h h))) zero_root) in
+            subst (λ (m : ℕ). IsTravel nodes i m (slice_index entries (i * n + m))) same here
+        | inr q ↦ elim q [
+          | inl less ↦ f.there i j less k (mul-add-lt i n j n h k)
+          | inr more ↦ turned nodes j i (slice_index entries (i * n + j)) (f.back j i more h (mul-add-lt j n i n k h))
+        ]
+      ];
+      small = λ i j h k. f.small (i * n + j) (subst (λ (m : ℕ). i * n + j < m) (sym f.counted) (mul-add-lt i n j n h k));
+    }

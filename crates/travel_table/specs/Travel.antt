@@ -40,8 +40,10 @@ pub record IsNear (node : Node) : Type 0 where
   pub x : node.x ≤ 9999999
   pub y : node.y ≤ 9999999
 
--- the first so many entries of a table are filled with travel
-pub record AreFilled (nodes : List Node) (entries : List ℕ) (count : ℕ) : Type 0 where
-  pub counted : length entries ≡ count
-  pub travel : (i j : ℕ) → j < length nodes → i * length nodes + j < count → IsTravel nodes i j (slice_index entries (i * length nodes + j))
-  pub small : (k : ℕ) → k < count → slice_index entries k ≤ 141421342
+-- Each pair of a node and itself or a later one, in the order of the rows, up to so many entries, has its travel both ways.
+pub record AreKnown (nodes : List Node) (entries : List ℕ) (count : ℕ) : Type 0 where
+  pub counted : length entries ≡ length nodes * length nodes
+  pub small : (k : ℕ) → k < length entries → slice_index entries k ≤ 141421342
+  pub own : (a : ℕ) → a < length nodes → a * length nodes + a < count → slice_index entries (a * length nodes + a) ≡ 0
+  pub there : (a b : ℕ) → a < b → b < length nodes → a * length nodes + b < count → IsTravel nodes a b (slice_index entries (a * length nodes + b))
+  pub back : (a b : ℕ) → a < b → b < length nodes → a * length nodes + b < count → IsTravel nodes a b (slice_index entries (b * length nodes + a))

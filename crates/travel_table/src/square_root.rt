@@ -1,11 +1,40 @@
-ghost use Rattle.std.specs.Prelude.{◌+◌, ◌*◌, ◌<◌, ◌≤◌};
+ghost use Rattle.std.specs.Prelude.{◌≡◌, ◌↔◌, ◌+◌, ◌*◌, ◌<◌, ◌≤◌, IsTrue};
+ghost use Rattle.travel_table.specs.Root.{IsRoot};
 
-/// The greatest whole number whose square is at most `n`.
-///
-/// It halves an interval, in at most 32 steps, and takes no memory.
-pub fn root(n: u64) -> u32
-    ensures low { result * result ≤ n }
-    ensures high { n < (result + 1) * (result + 1) }
+use std::num::nearest_u64_to_f64;
+
+/// From 2 to its 51st on, two neighbours among the doubles differ by one half, so that the sum of a small number and this
+/// one, which is one half below 2 to the 52nd, has the number without its fraction in its low bits, or one less.
+const SHIFT: f64 = 4503599627370495.5;
+
+/// A little more than 1, so that the root of a square, times this, is not one half below it after the shift.
+pub const UP: f64 = 1.0000000000001;
+
+/// The whole part of a number below 2 to the 32nd, or one less. Nothing is proved of it, and nothing rests on it.
+#[inline(always)]
+pub fn whole_part(x: f64) -> u32 {
+    let sum = x + SHIFT;
+    if sum <= f64::MAX {
+        (sum.to_bits() & 0xffff_ffff) as u32
+    } else {
+        0
+    }
+}
+
+/// Whether `t` is the root of `n`. Where the square of `t` is above `n`, the difference wraps to more than 2 `t`.
+#[inline(always)]
+fn is_root(n: u64, t: u64) -> bool
+    requires { t < 4294967296 }
+    ensures { IsTrue result → IsRoot n t }
+{
+    n.wrapping_sub(t * t) <= 2 * t
+}
+
+/// The root of `n`, found by halving an interval, in at most 32 steps.
+#[cold]
+#[inline(never)]
+fn halved(n: u64) -> u32
+    ensures { IsRoot n result }
 {
     let mut low = 0u64;
     let mut high = if n < 4_294_967_296 {
@@ -22,4 +51,24 @@ pub fn root(n: u64) -> u32
         }
     }
     low as u32
+}
+
+/// The greatest whole number whose square is at most `n`, which is found at once where the guess is right.
+#[inline(always)]
+pub fn root_near(n: u64, guess: u32) -> u32
+    ensures { IsRoot n result }
+{
+    if is_root(n, u64::from(guess)) {
+        guess
+    } else {
+        halved(n)
+    }
+}
+
+/// The greatest whole number whose square is at most `n`. It takes no memory.
+pub fn root(n: u64) -> u32
+    ensures low { result * result ≤ n }
+    ensures high { n < (result + 1) * (result + 1) }
+{
+    root_near(n, whole_part(nearest_u64_to_f64(n).sqrt() * UP))
 }

@@ -1,9 +1,10 @@
 ghost use Rattle.std.specs.Prelude.{◌≡◌, ℕ, ◌+◌, ◌*◌, ◌<◌, ◌≤◌, All, IfOk, OnErr, List, length};
+ghost use Rattle.std.specs.Int.{abs_diff};
 ghost use Rattle.solomon_reader.specs.declared.instance.Node.{Node};
 ghost use Rattle.travel_table.specs.Root.{IsRoot};
-ghost use Rattle.travel_table.specs.Travel.{square_between, IsNear, IsTravel, IsTravelOf, AreFilled, Distances, travel_at};
+ghost use Rattle.travel_table.specs.Travel.{square_between, IsNear, IsTravel, IsTravelOf, AreKnown, Distances, travel_at};
 
-use crate::square_root::root;
+use crate::square_root::{UP, root_near, whole_part};
 use solomon_reader::{Instance, Node};
 use std::alloc::{AllocError, Global};
 use std::marker::Model;
@@ -28,57 +29,60 @@ impl Model for Travel {
     ghost invariant = { λ a. AreDistances (record { size = a.size; entries = a.entries.items }) };
 }
 
-/// The square of how many tenths two nodes are apart.
-fn square_between(a: &Node, b: &Node) -> u64
+/// How far two coordinates are apart. The square of this signed form costs no branch.
+#[inline(always)]
+fn between(a: u32, b: u32) -> u64
+    ensures value { result ≡ abs_diff a b }
+    ensures small { result < 4294967296 }
+{
+    (i64::from(b) - i64::from(a)).unsigned_abs()
+}
+
+/// The square of how many units two nodes are apart.
+#[inline(always)]
+fn apart(a: &Node, b: &Node) -> u64
     requires from { IsNear a.now }
     requires to { IsNear b.now }
-    ensures value { result ≡ square_between a.now b.now }
-    ensures small { result ≤ 19999996000000200 }
+    ensures value { 100 * result ≡ square_between a.now b.now }
+    ensures small { result ≤ 199999960000002 }
 {
-    let dx = u64::from(a.x.abs_diff(b.x));
-    let dy = u64::from(a.y.abs_diff(b.y));
-    100 * (dx * dx + dy * dy)
+    let dx = between(a.x, b.x);
+    let dy = between(a.y, b.y);
+    dx * dx + dy * dy
 }
 
 /// The travel from one node to another.
+#[inline(always)]
 fn travel_between(a: &Node, b: &Node) -> u32
     requires from { IsNear a.now }
     requires to { IsNear b.now }
     ensures root { IsRoot (square_between a.now b.now) result }
     ensures small { result ≤ 141421342 }
 {
-    root(square_between(a, b))
+    let square = apart(a, b);
+    let guess = whole_part((square as i64 as f64).sqrt() * (10.0 * UP));
+    root_near(100 * square, guess)
 }
 
-/// The travel from node `i` to node `j`, after the pairs before it were filled in: that back, if it was.
-fn next_travel(entries: &[u32], nodes: &[Node], i: usize, j: usize) -> u32
-    requires near { All IsNear nodes.now }
-    requires from { i < length nodes.now }
-    requires to { j < length nodes.now }
-    requires filled { AreFilled nodes.now entries.now (i * length nodes.now + j) }
-    ensures travel { IsTravel nodes.now i j result }
-    ensures small { result ≤ 141421342 }
-{
-    if j < i {
-        entries[j * nodes.len() + i]
-    } else {
-        travel_between(&nodes[i], &nodes[j])
-    }
-}
-
-/// Adds the row of node `i` to the rows of the nodes before it.
-fn push_row(entries: &mut Vec<u32>, nodes: &[Node], i: usize) -> Result<(), AllocError>
+/// Fills in the travel between node `i` and itself and each later one, both ways.
+fn fill_node(entries: &mut [u32], nodes: &[Node], i: usize)
     requires near { All IsNear nodes.now }
     requires node { i < length nodes.now }
-    requires filled { AreFilled nodes.now entries.old.items (i * length nodes.now) }
-    ensures { IfOk result (λ unit. AreFilled nodes.now entries.new.items ((i + 1) * length nodes.now)) }
+    requires filled { AreKnown nodes.now entries.old (i * length nodes.now) }
+    ensures { AreKnown nodes.now entries.new ((i + 1) * length nodes.now) }
 {
-    for j in 0..nodes.len() {
-        let travel = next_travel(entries, nodes, i, j);
-        entries.push(travel)?;
+    let size = nodes.len();
+    let from = nodes[i];
+    entries[i * size + i] = 0;
+    for j in i + 1..size {
+        let travel = travel_between(&from, &nodes[j]);
+        entries[i * size + j] = travel;
+        entries[j * size + i] = travel;
     }
-    Ok(())
 }
+
+/// What stands in an entry that is not filled yet. Its bytes differ, so that a table is made by wide stores and not byte by byte.
+const UNFILLED: u32 = 1;
 
 impl Travel {
     /// The travel between the nodes of an instance. Running out of memory is its only refusal.
@@ -87,9 +91,12 @@ impl Travel {
         ensures { IfOk result (IsTravelOf instance.now.nodes.items) }
     {
         let nodes = instance.nodes.as_slice();
-        let mut entries = Vec::new(alloc);
+        let Some(room) = nodes.len().checked_mul(nodes.len()) else {
+            return Err(AllocError);
+        };
+        let mut entries = vec![in alloc; UNFILLED; room]?;
         for i in 0..nodes.len() {
-            push_row(&mut entries, nodes, i)?;
+            fill_node(entries.as_mut_slice(), nodes, i);
         }
         Ok(Travel {
             size: nodes.len(),

@@ -1,9 +1,11 @@
-use Rattle.std.proofs.Common.{◌++◌, take}
-use Rattle.board_text.specs.Running.{Progress}
+use Rattle.std.proofs.Common.{◌≡◌, List, ℕ, ◌++◌, length}
+use Rattle.board_text.specs.Running.{Grows, Progress}
 use Rattle.board_text.proofs.engine.feed.Given as goal
 
-abbrev pub invariant-loop-byte : goal.invariant-loop-byte
-invariant-loop-byte g l = record {
-  ready : g.F.Front.ready l.front;
-  progress : Progress g.F.Front.step l.fn.front l.front (g.W.Write.contents l.fn.writer) (g.W.Write.contents l.writer) (l.fn.partial.items ++ take l.byte-index l.piece) l.partial.items l.fn.tally.seen l.tally.seen l.fn.tally.lines l.tally.lines l.fn.tally.refused l.tally.refused;
-}
+-- the bytes before what is left were taken
+abbrev pub invariant-lines : goal.invariant-lines
+invariant-lines g l = (done : List ℕ) × (l.piece ≡ done ++ l.left) × g.F.Front.ready l.front
+    × Grows l.fn.outbox.held.items l.outbox.held.items (λ out. Progress g.F.Front.step l.fn.front l.front out (l.fn.partial.items ++ done) l.partial.items l.fn.outbox.tally.seen l.outbox.tally.seen l.fn.outbox.tally.lines l.outbox.tally.lines l.fn.outbox.tally.refused l.outbox.tally.refused)
+
+abbrev pub decreases-lines : goal.decreases-lines
+decreases-lines g l = length l.left

@@ -1,0 +1,11 @@
+//! The words of the program's command line.
+#![tactic(auto)]
+
+mod form;
+mod parse;
+
+pub use form::{OptionFault, Options};
+pub use parse::{options, status};
+
+#[cfg(test)]
+mod tests;
