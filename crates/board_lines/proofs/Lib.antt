@@ -1,0 +1,10 @@
+mod Booleans
+mod Lengths
+mod Roles
+mod Journals
+mod Faults
+mod Shapes
+mod Spelled
+mod Texts
+mod Commands
+mod Reread

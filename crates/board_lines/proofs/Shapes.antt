@@ -1,0 +1,254 @@
+-- What a command says is what it is made of.
+use Rattle.std.proofs.Common.{◌≡◌, ℕ, List, Some, refl}
+use Rattle.move_core.specs.declared.moves.Move.{Move}
+use Rattle.move_core.specs.declared.moves.Move.TheVariants as plan
+use Rattle.rbac_core.specs.declared.objects.Operation.{Operation}
+use Rattle.rbac_core.specs.declared.objects.Object.{Object}
+use Rattle.rbac_core.specs.declared.command.Command.{Command as PolicyCommand}
+use Rattle.rbac_core.specs.declared.command.Command.TheVariants as policy
+use Rattle.board_rules.specs.declared.call.Call.{Call}
+use Rattle.board_rules.specs.declared.call.Call.TheVariants as calls
+use Rattle.board_rules.specs.declared.review.Review.TheVariants as reviews
+use Rattle.board_lines.specs.declared.command.Command.{Command}
+use Rattle.board_lines.specs.declared.command.Command.TheVariants.{Submit, List as ListRows, Json, Audit, Check, Review}
+use Rattle.board_lines.specs.declared.word.Word.{Word}
+use Rattle.board_lines.specs.declared.word.Word.TheVariants.{Propose, Hold, Manage, Separate, Session, Ask}
+use Rattle.board_lines.specs.declared.word.MoveWord.{MoveWord}
+use Rattle.board_lines.specs.declared.word.HoldWord.{HoldWord}
+use Rattle.board_lines.specs.declared.word.ManageWord.{ManageWord}
+use Rattle.board_lines.specs.declared.word.SetWord.{SetWord}
+use Rattle.board_lines.specs.declared.word.SessionWord.{SessionWord}
+use Rattle.board_lines.specs.declared.word.AskWord.{AskWord}
+use Rattle.board_lines.specs.declared.word.Separation.TheVariants.{Static, Dynamic}
+use Rattle.board_lines.specs.declared.word.MoveWord.TheVariants as moves
+use Rattle.board_lines.specs.declared.word.HoldWord.TheVariants as holds
+use Rattle.board_lines.specs.declared.word.ManageWord.TheVariants as manages
+use Rattle.board_lines.specs.declared.word.SetWord.TheVariants as sets
+use Rattle.board_lines.specs.declared.word.SessionWord.TheVariants as sessions
+use Rattle.board_lines.specs.declared.word.AskWord.TheVariants as asks
+use Rattle.board_lines.specs.Table.{Kinds, nothing, object, range, names, number, name, operation, row_of, word_of}
+use Rattle.board_lines.specs.Arguments.{Arguments, no_more, the_object, the_range, the_names, a_number, a_name, an_operation}
+use Rattle.board_lines.specs.Reading.{command_of}
+use Rattle.board_lines.specs.Saying.{Said, say, move_said, policy_said, call_said}
+use Rattle.board_lines.specs.Grammar.{IsLine, IsCommandText}
+
+-- the kinds of some arguments
+abbrev pub kinds_of : Arguments → Kinds
+kinds_of no_more = nothing
+kinds_of (the_object o) = object
+kinds_of (the_range r) = range
+kinds_of (the_names ns) = names
+kinds_of (a_number n more) = number (kinds_of more)
+kinds_of (a_name n more) = name (kinds_of more)
+kinds_of (an_operation op more) = operation (kinds_of more)
+
+-- ---- each word names its command
+
+pub named_so : (w : Word) → word_of (row_of w).text ≡ Some w
+unfolding word_of
+named_so (Propose moves.Insert) = refl
+named_so (Propose moves.Remove) = refl
+named_so (Propose moves.Shift) = refl
+named_so (Propose moves.Swap) = refl
+named_so (Propose moves.Reverse) = refl
+named_so (Propose moves.Cross) = refl
+named_so (Hold holds.Pin) = refl
+named_so (Hold holds.Unpin) = refl
+named_so (Hold holds.Freeze) = refl
+named_so (Hold holds.Thaw) = refl
+named_so (Manage manages.AddUser) = refl
+named_so (Manage manages.DeleteUser) = refl
+named_so (Manage manages.AddRole) = refl
+named_so (Manage manages.DeleteRole) = refl
+named_so (Manage manages.Assign) = refl
+named_so (Manage manages.Deassign) = refl
+named_so (Manage manages.Grant) = refl
+named_so (Manage manages.Revoke) = refl
+named_so (Manage manages.Inherit) = refl
+named_so (Manage manages.Uninherit) = refl
+named_so (Manage manages.Migrate) = refl
+named_so (Separate Static sets.Create) = refl
+named_so (Separate Static sets.Add) = refl
+named_so (Separate Static sets.Drop) = refl
+named_so (Separate Static sets.Delete) = refl
+named_so (Separate Static sets.Number) = refl
+named_so (Separate Dynamic sets.Create) = refl
+named_so (Separate Dynamic sets.Add) = refl
+named_so (Separate Dynamic sets.Drop) = refl
+named_so (Separate Dynamic sets.Delete) = refl
+named_so (Separate Dynamic sets.Number) = refl
+named_so (Session sessions.Open) = refl
+named_so (Session sessions.Close) = refl
+named_so (Session sessions.Activate) = refl
+named_so (Session sessions.Deactivate) = refl
+named_so (Ask asks.List) = refl
+named_so (Ask asks.Json) = refl
+named_so (Ask asks.Audit) = refl
+named_so (Ask asks.Check) = refl
+named_so (Ask asks.Users) = refl
+named_so (Ask asks.Roles) = refl
+named_so (Ask asks.Active) = refl
+
+-- ---- from a command to what it says, and back
+
+-- what is said has the kinds of its word, and is read as the command
+pub record Says (said : Said) (command : Command) : Type 0 where
+  pub kinds : (row_of said.word).kinds ≡ kinds_of said.arguments
+  pub made : command_of said.session said.word said.arguments ≡ command
+
+move_says : (s b : ℕ) (mv : Move) → Says (move_said s b mv) (Submit (calls.Propose s b mv))
+unfolding command_of
+move_says s b (plan.Insert c v p) = record { kinds = refl; made = refl }
+move_says s b (plan.Remove v p) = record { kinds = refl; made = refl }
+move_says s b (plan.Shift v p l w q) = record { kinds = refl; made = refl }
+move_says s b (plan.Swap v p w q) = record { kinds = refl; made = refl }
+move_says s b (plan.Reverse v p q) = record { kinds = refl; made = refl }
+move_says s b (plan.Cross v k w l) = record { kinds = refl; made = refl }
+
+policy_says : (s : ℕ) (command : PolicyCommand) → Says (policy_said s command) (Submit (calls.Policy s command))
+unfolding command_of
+policy_says s (policy.AddUser u) = record { kinds = refl; made = refl }
+policy_says s (policy.DeleteUser u) = record { kinds = refl; made = refl }
+policy_says s (policy.AddRole r) = record { kinds = refl; made = refl }
+policy_says s (policy.DeleteRole r) = record { kinds = refl; made = refl }
+policy_says s (policy.Assign u r) = record { kinds = refl; made = refl }
+policy_says s (policy.Deassign u r) = record { kinds = refl; made = refl }
+policy_says s (policy.Grant r op over) = record { kinds = refl; made = refl }
+policy_says s (policy.Revoke r op over) = record { kinds = refl; made = refl }
+policy_says s (policy.Inherit r j) = record { kinds = refl; made = refl }
+policy_says s (policy.Uninherit r j) = record { kinds = refl; made = refl }
+policy_says s policy.Migrate = record { kinds = refl; made = refl }
+policy_says s (policy.SsdCreate x n rs) = record { kinds = refl; made = refl }
+policy_says s (policy.SsdAdd x r) = record { kinds = refl; made = refl }
+policy_says s (policy.SsdDrop x r) = record { kinds = refl; made = refl }
+policy_says s (policy.SsdDelete x) = record { kinds = refl; made = refl }
+policy_says s (policy.SsdNumber x n) = record { kinds = refl; made = refl }
+policy_says s (policy.DsdCreate x n rs) = record { kinds = refl; made = refl }
+policy_says s (policy.DsdAdd x r) = record { kinds = refl; made = refl }
+policy_says s (policy.DsdDrop x r) = record { kinds = refl; made = refl }
+policy_says s (policy.DsdDelete x) = record { kinds = refl; made = refl }
+policy_says s (policy.DsdNumber x n) = record { kinds = refl; made = refl }
+policy_says s (policy.Open u rs) = record { kinds = refl; made = refl }
+policy_says s (policy.Close n) = record { kinds = refl; made = refl }
+policy_says s (policy.Activate n r) = record { kinds = refl; made = refl }
+policy_says s (policy.Deactivate n r) = record { kinds = refl; made = refl }
+
+pub call_says : (call : Call) → Says (call_said call) (Submit call)
+unfolding command_of
+call_says (calls.Propose s b mv) = move_says s b mv
+call_says (calls.Pin s c) = record { kinds = refl; made = refl }
+call_says (calls.Unpin s c) = record { kinds = refl; made = refl }
+call_says (calls.Freeze s v l) = record { kinds = refl; made = refl }
+call_says (calls.Thaw s v l) = record { kinds = refl; made = refl }
+call_says (calls.Policy s command) = policy_says s command
+
+pub list_says : (s : ℕ) → Says (say s (Ask asks.List) no_more) (ListRows s)
+unfolding command_of
+list_says s = record { kinds = refl; made = refl }
+
+pub json_says : (s : ℕ) → Says (say s (Ask asks.Json) no_more) (Json s)
+unfolding command_of
+json_says s = record { kinds = refl; made = refl }
+
+pub audit_says : (s : ℕ) → Says (say s (Ask asks.Audit) no_more) (Audit s)
+unfolding command_of
+audit_says s = record { kinds = refl; made = refl }
+
+-- ---- from the words of a command to what it is
+
+propose_text : (s : ℕ) (w : MoveWord) (a : Arguments) (ws : List (List ℕ)) → kinds_of a ≡ (row_of (Propose w)).kinds → IsLine ws (say s (Propose w) a) → IsCommandText ws (command_of s (Propose w) a)
+unfolding command_of
+propose_text s moves.Insert (a_number c (a_number v (a_number p (a_number b no_more)))) ws e h = h
+propose_text s moves.Remove (a_number v (a_number p (a_number b no_more))) ws e h = h
+propose_text s moves.Shift (a_number v (a_number p (a_number l (a_number w (a_number q (a_number b no_more)))))) ws e h = h
+propose_text s moves.Swap (a_number v (a_number p (a_number w (a_number q (a_number b no_more))))) ws e h = h
+propose_text s moves.Reverse (a_number v (a_number p (a_number q (a_number b no_more)))) ws e h = h
+propose_text s moves.Cross (a_number v (a_number k (a_number w (a_number l (a_number b no_more))))) ws e h = h
+propose_text s _ _ ws e h = absurd (cc)
+
+hold_text : (s : ℕ) (w : HoldWord) (a : Arguments) (ws : List (List ℕ)) → kinds_of a ≡ (row_of (Hold w)).kinds → IsLine ws (say s (Hold w) a) → IsCommandText ws (command_of s (Hold w) a)
+unfolding command_of
+hold_text s holds.Pin (a_number c no_more) ws e h = h
+hold_text s holds.Unpin (a_number c no_more) ws e h = h
+hold_text s holds.Freeze (a_number v (a_number l no_more)) ws e h = h
+hold_text s holds.Thaw (a_number v (a_number l no_more)) ws e h = h
+hold_text s _ _ ws e h = absurd (cc)
+
+manage_text : (s : ℕ) (w : ManageWord) (a : Arguments) (ws : List (List ℕ)) → kinds_of a ≡ (row_of (Manage w)).kinds → IsLine ws (say s (Manage w) a) → IsCommandText ws (command_of s (Manage w) a)
+unfolding command_of
+manage_text s manages.AddUser (a_name u no_more) ws e h = h
+manage_text s manages.DeleteUser (a_name u no_more) ws e h = h
+manage_text s manages.AddRole (a_name r no_more) ws e h = h
+manage_text s manages.DeleteRole (a_name r no_more) ws e h = h
+manage_text s manages.Assign (a_name u (a_name r no_more)) ws e h = h
+manage_text s manages.Deassign (a_name u (a_name r no_more)) ws e h = h
+manage_text s manages.Grant (a_name r (an_operation op (the_range over))) ws e h = h
+manage_text s manages.Revoke (a_name r (an_operation op (the_range over))) ws e h = h
+manage_text s manages.Inherit (a_name r (a_name j no_more)) ws e h = h
+manage_text s manages.Uninherit (a_name r (a_name j no_more)) ws e h = h
+manage_text s manages.Migrate no_more ws e h = h
+manage_text s _ _ ws e h = absurd (cc)
+
+session_text : (s : ℕ) (w : SessionWord) (a : Arguments) (ws : List (List ℕ)) → kinds_of a ≡ (row_of (Session w)).kinds → IsLine ws (say s (Session w) a) → IsCommandText ws (command_of s (Session w) a)
+unfolding command_of
+session_text s sessions.Open (a_name u (the_names rs)) ws e h = h
+session_text s sessions.Close (a_number n no_more) ws e h = h
+session_text s sessions.Activate (a_number n (a_name r no_more)) ws e h = h
+session_text s sessions.Deactivate (a_number n (a_name r no_more)) ws e h = h
+session_text s _ _ ws e h = absurd (cc)
+
+ask_text : (s : ℕ) (w : AskWord) (a : Arguments) (ws : List (List ℕ)) → kinds_of a ≡ (row_of (Ask w)).kinds → IsLine ws (say s (Ask w) a) → IsCommandText ws (command_of s (Ask w) a)
+unfolding command_of
+ask_text s asks.List no_more ws e h = h
+ask_text s asks.Json no_more ws e h = h
+ask_text s asks.Audit no_more ws e h = h
+ask_text s asks.Check (an_operation op (the_object o)) ws e h = h
+ask_text s asks.Users (a_name r no_more) ws e h = h
+ask_text s asks.Roles (a_name u no_more) ws e h = h
+ask_text s asks.Active (a_number n no_more) ws e h = h
+ask_text s _ _ ws e h = absurd (cc)
+
+static_text : (s : ℕ) (w : SetWord) (a : Arguments) (ws : List (List ℕ)) → kinds_of a ≡ (row_of (Separate Static w)).kinds → IsLine ws (say s (Separate Static w) a) → IsCommandText ws (command_of s (Separate Static w) a)
+unfolding command_of
+static_text s sets.Create (a_name x (a_number n (the_names rs))) ws e h = h
+static_text s sets.Add (a_name x (a_name r no_more)) ws e h = h
+static_text s sets.Drop (a_name x (a_name r no_more)) ws e h = h
+static_text s sets.Delete (a_name x no_more) ws e h = h
+static_text s sets.Number (a_name x (a_number n no_more)) ws e h = h
+static_text s _ _ ws e h = absurd (cc)
+
+dynamic_text : (s : ℕ) (w : SetWord) (a : Arguments) (ws : List (List ℕ)) → kinds_of a ≡ (row_of (Separate Dynamic w)).kinds → IsLine ws (say s (Separate Dynamic w) a) → IsCommandText ws (command_of s (Separate Dynamic w) a)
+unfolding command_of
+dynamic_text s sets.Create (a_name x (a_number n (the_names rs))) ws e h = h
+dynamic_text s sets.Add (a_name x (a_name r no_more)) ws e h = h
+dynamic_text s sets.Drop (a_name x (a_name r no_more)) ws e h = h
+dynamic_text s sets.Delete (a_name x no_more) ws e h = h
+dynamic_text s sets.Number (a_name x (a_number n no_more)) ws e h = h
+dynamic_text s _ _ ws e h = absurd (cc)
+
+pub command_text : (s : ℕ) (w : Word) (a : Arguments) (ws : List (List ℕ)) → kinds_of a ≡ (row_of w).kinds → IsLine ws (say s w a) → IsCommandText ws (command_of s w a)
+command_text s (Propose w) a ws e h = propose_text s w a ws e h
+command_text s (Hold w) a ws e h = hold_text s w a ws e h
+command_text s (Manage w) a ws e h = manage_text s w a ws e h
+command_text s (Separate Static w) a ws e h = static_text s w a ws e h
+command_text s (Separate Dynamic w) a ws e h = dynamic_text s w a ws e h
+command_text s (Session w) a ws e h = session_text s w a ws e h
+command_text s (Ask w) a ws e h = ask_text s w a ws e h
+
+-- ---- questions
+
+pub check_says : (s : ℕ) (op : Operation) (o : Object) → Says (say s (Ask asks.Check) (an_operation op (the_object o))) (Check s op o)
+unfolding command_of
+check_says s op o = record { kinds = refl; made = refl }
+
+pub users_says : (s : ℕ) (role : List ℕ) → Says (say s (Ask asks.Users) (a_name role no_more)) (Review s (reviews.Users role))
+unfolding command_of
+users_says s role = record { kinds = refl; made = refl }
+
+pub roles_says : (s : ℕ) (user : List ℕ) → Says (say s (Ask asks.Roles) (a_name user no_more)) (Review s (reviews.Roles user))
+unfolding command_of
+roles_says s user = record { kinds = refl; made = refl }
+
+pub active_says : (s n : ℕ) → Says (say s (Ask asks.Active) (a_number n no_more)) (Review s (reviews.Active n))
+unfolding command_of
+active_says s n = record { kinds = refl; made = refl }

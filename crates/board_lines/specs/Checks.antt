@@ -1,0 +1,83 @@
+-- What is checked of a line, in order, and its fault: that of the first check that fails.
+use Rattle.std.specs.Prelude.{◌≡◌, ◌↔◌, ℕ, List, [], ◌∷◌, ◌++◌, Bool, true, false, ◌||◌, codes, map, bytes_eq, Option, None, Some, Err, if◌then◌else◌}
+use Rattle.std.specs.List.{AllByRecursion}
+use Rattle.text_words.specs.Words.{is_number, words}
+use Rattle.separation_core.specs.Names.{is_name}
+use Rattle.board_lines.specs.declared.command.LineFault.{LineFault}
+use Rattle.board_lines.specs.declared.command.LineFault.TheVariants as faults
+use Rattle.board_lines.specs.declared.word.Word.{Word}
+use Rattle.board_lines.specs.Table.{Kinds, nothing, object, range, names, number, name, operation, row_of, word_of}
+use Rattle.board_lines.specs.Arguments.{counted}
+use Rattle.board_lines.specs.Reading.{is_comment, read_of}
+
+-- a check: the fault that it answers, and whether it holds
+pub record Check : Type 0 where
+  pub fault : LineFault
+  pub holds : Bool
+
+abbrev pub check : LineFault → Bool → Check
+check f b = record { fault = f; holds = b }
+
+-- the first check that fails has that fault: every earlier one holds
+pub record IsFirstFailing (checks : List Check) (fault : LineFault) : Type 0 where
+  pub before : List Check
+  pub behind : List Check
+  pub whole : checks ≡ before ++ check fault false ∷ behind
+  pub earlier : AllByRecursion (λ c. c.holds ≡ true) before
+
+-- ---- arguments
+
+abbrev pub is_operation : List ℕ → Bool
+is_operation w =
+    bytes_eq w (codes "view") || (bytes_eq w (codes "move") || (bytes_eq w (codes "pin") || (bytes_eq w (codes "freeze")
+    || (bytes_eq w (codes "admin") || (bytes_eq w (codes "audit") || bytes_eq w (codes "override"))))))
+
+abbrev pub is_kind : List ℕ → Bool
+is_kind w = bytes_eq w (codes "board") || (bytes_eq w (codes "vehicle") || bytes_eq w (codes "customer"))
+
+abbrev pub number_check : List ℕ → Check
+number_check w = check faults.Number (is_number w)
+
+abbrev pub name_check : List ℕ → Check
+name_check w = check faults.Name (is_name w)
+
+-- an object's kind, then its numbers
+abbrev pub object_checks : List ℕ → List (List ℕ) → List Check
+object_checks kind ws = check faults.Object (is_kind kind) ∷ map number_check ws
+
+-- each word by its kind, from the left
+abbrev pub argument_checks : Kinds → List (List ℕ) → List Check
+argument_checks nothing ws = []
+argument_checks object [] = []
+argument_checks object (kind ∷ ws) = object_checks kind ws
+argument_checks range [] = []
+argument_checks range (kind ∷ ws) = object_checks kind ws
+argument_checks names ws = map name_check ws
+argument_checks (number more) [] = []
+argument_checks (number more) (w ∷ ws) = number_check w ∷ argument_checks more ws
+argument_checks (name more) [] = []
+argument_checks (name more) (w ∷ ws) = name_check w ∷ argument_checks more ws
+argument_checks (operation more) [] = []
+argument_checks (operation more) (w ∷ ws) = check faults.Op (is_operation w) ∷ argument_checks more ws
+
+-- ---- lines
+
+-- the command's word, the count of the words behind it, and those words
+abbrev pub named_checks : List (List ℕ) → Option Word → List Check
+named_checks args None = check faults.Word false ∷ []
+named_checks args (Some word) =
+    let kinds = (row_of word).kinds in
+    check faults.Word true ∷ check faults.Count (counted kinds args) ∷ argument_checks kinds args
+
+abbrev pub word_checks : List (List ℕ) → List Check
+word_checks [] = check faults.Word false ∷ []
+word_checks (word ∷ args) = named_checks args (word_of word)
+
+-- a line without words and a comment are checked for nothing
+abbrev pub line_checks : List (List ℕ) → List Check
+line_checks [] = []
+line_checks (first ∷ rest) = if is_comment first then [] else (number_check first ∷ word_checks rest)
+
+-- A line is read as a fault exactly where that fault is the first check's that fails.
+abbrev pub FaultsAreFirst : Type 0
+FaultsAreFirst = (line : List ℕ) → (fault : LineFault) → IsFirstFailing (line_checks (words line)) fault ↔ (read_of line ≡ Err fault)

@@ -1,0 +1,35 @@
+//! Numbers at the end of a text.
+
+ghost use Rattle.std.specs.Prelude.{◌≡◌, ◌++◌, ◌∷◌, OnOk, string_bytes};
+ghost use Rattle.std.specs.List.{flat_map};
+ghost use Rattle.std.specs.Fmt.{decimal};
+ghost use Rattle.board_lines.specs.Replies.{spaced};
+
+use itoa::Buffer;
+use std::alloc::AllocError;
+
+/// Puts a number at the end, without leading zeros.
+pub(crate) fn push_number(out: &mut String, n: u64) -> Result<(), AllocError>
+    ensures { OnOk result (string_bytes out.new ≡ string_bytes out.old ++ decimal n) }
+{
+    let mut digits = Buffer::new();
+    out.push_str(digits.format(n))
+}
+
+/// Puts a space and a number at the end.
+pub(crate) fn push_spaced(out: &mut String, n: u64) -> Result<(), AllocError>
+    ensures { OnOk result (string_bytes out.new ≡ string_bytes out.old ++ spaced n) }
+{
+    out.push_str(" ")?;
+    push_number(out, n)
+}
+
+/// Puts each of some numbers at the end, with a space before it.
+pub(crate) fn push_each(out: &mut String, numbers: &[u32]) -> Result<(), AllocError>
+    ensures { OnOk result (string_bytes out.new ≡ string_bytes out.old ++ flat_map spaced numbers.now) }
+{
+    for n in numbers {
+        push_spaced(out, u64::from(*n))?;
+    }
+    Ok(())
+}

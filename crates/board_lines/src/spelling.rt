@@ -1,0 +1,265 @@
+//! The texts of calls.
+
+ghost use Rattle.std.specs.Prelude.{◌≡◌, ◌++◌, [], ◌∷◌, IfOk, OnOk, string_bytes};
+ghost use Rattle.std.specs.List.{flat_map};
+ghost use Rattle.std.specs.Fmt.{decimal};
+ghost use Rattle.board_lines.specs.Replies.{spaced};
+ghost use Rattle.board_lines.specs.Saying.{operation_word, range_words, behind, move_said, policy_said, after_number, event_text};
+
+use crate::digits::{push_each, push_number};
+use board_rules::Call;
+use move_core::Move;
+use rbac_core::{Command as PolicyCommand, ObjectRange, Operation};
+use separation_core::Name;
+use std::alloc::{AllocError, Global};
+
+// ---- parts
+
+fn push_name(out: &mut String, name: &Name) -> Result<(), AllocError>
+    ensures { OnOk result (string_bytes out.new ≡ string_bytes out.old ++ 32 ∷ name.now) }
+{
+    out.push_str(" ")?;
+    out.push_str(name.as_str())
+}
+
+fn push_names(out: &mut String, names: &[Name]) -> Result<(), AllocError>
+    ensures { OnOk result (string_bytes out.new ≡ string_bytes out.old ++ behind names.now) }
+{
+    for name in names {
+        push_name(out, name)?;
+    }
+    Ok(())
+}
+
+/// Puts a command's word, which begins with a space, and numbers at the end.
+fn push_numbers(out: &mut String, word: &str, numbers: &[u32]) -> Result<(), AllocError>
+    ensures { OnOk result (string_bytes out.new ≡ string_bytes out.old ++ (word.now ++ flat_map spaced numbers.now)) }
+{
+    out.push_str(word)?;
+    push_each(out, numbers)
+}
+
+fn push_one_name(out: &mut String, word: &str, name: &Name) -> Result<(), AllocError>
+    ensures { OnOk result (string_bytes out.new ≡ string_bytes out.old ++ (word.now ++ behind (name.now ∷ []))) }
+{
+    out.push_str(word)?;
+    push_name(out, name)
+}
+
+fn push_two_names(
+    out: &mut String,
+    word: &str,
+    first: &Name,
+    second: &Name,
+) -> Result<(), AllocError>
+    ensures { OnOk result (string_bytes out.new ≡ string_bytes out.old ++ (word.now ++ behind (first.now ∷ second.now ∷ []))) }
+{
+    out.push_str(word)?;
+    push_name(out, first)?;
+    push_name(out, second)
+}
+
+fn push_name_and_number(
+    out: &mut String,
+    word: &str,
+    name: &Name,
+    number: u32,
+) -> Result<(), AllocError>
+    ensures { OnOk result (string_bytes out.new ≡ string_bytes out.old ++ (word.now ++ behind (name.now ∷ decimal number ∷ []))) }
+{
+    out.push_str(word)?;
+    push_name(out, name)?;
+    push_each(out, &[number])
+}
+
+fn push_number_and_name(
+    out: &mut String,
+    word: &str,
+    number: u32,
+    name: &Name,
+) -> Result<(), AllocError>
+    ensures { OnOk result (string_bytes out.new ≡ string_bytes out.old ++ (word.now ++ behind (decimal number ∷ name.now ∷ []))) }
+{
+    out.push_str(word)?;
+    push_each(out, &[number])?;
+    push_name(out, name)
+}
+
+fn push_operation(out: &mut String, operation: Operation) -> Result<(), AllocError>
+    ensures { OnOk result (string_bytes out.new ≡ string_bytes out.old ++ 32 ∷ operation_word operation) }
+{
+    match operation {
+        Operation::View => out.push_str(" view"),
+        Operation::Move => out.push_str(" move"),
+        Operation::Pin => out.push_str(" pin"),
+        Operation::Freeze => out.push_str(" freeze"),
+        Operation::Admin => out.push_str(" admin"),
+        Operation::Audit => out.push_str(" audit"),
+        Operation::Override => out.push_str(" override"),
+    }
+}
+
+fn push_range(out: &mut String, range: ObjectRange) -> Result<(), AllocError>
+    ensures { OnOk result (string_bytes out.new ≡ string_bytes out.old ++ behind (range_words range)) }
+{
+    match range {
+        ObjectRange::Board => out.push_str(" board"),
+        ObjectRange::Vehicles { first, last } => push_numbers(out, " vehicle", &[first, last]),
+        ObjectRange::Customers { first, last } => push_numbers(out, " customer", &[first, last]),
+    }
+}
+
+fn push_permission(
+    out: &mut String,
+    word: &str,
+    role: &Name,
+    operation: Operation,
+    range: ObjectRange,
+) -> Result<(), AllocError>
+    ensures { OnOk result (string_bytes out.new ≡ string_bytes out.old
+        ++ (word.now ++ behind (role.now ∷ operation_word operation ∷ range_words range))) }
+{
+    out.push_str(word)?;
+    push_name(out, role)?;
+    push_operation(out, operation)?;
+    push_range(out, range)
+}
+
+/// Puts a set's word, its name, its number and its roles at the end.
+fn push_set(
+    out: &mut String,
+    word: &str,
+    name: &Name,
+    number: u32,
+    roles: &[Name],
+) -> Result<(), AllocError>
+    ensures { OnOk result (string_bytes out.new ≡ string_bytes out.old ++ (word.now ++ behind (name.now ∷ decimal number ∷ roles.now))) }
+{
+    push_name_and_number(out, word, name, number)?;
+    push_names(out, roles)
+}
+
+// ---- calls, behind the session
+
+fn push_move(out: &mut String, session: u32, base: u32, mv: Move) -> Result<(), AllocError>
+    ensures { OnOk result (string_bytes out.new ≡ string_bytes out.old ++ after_number (move_said session base mv)) }
+{
+    match mv {
+        Move::Insert { customer, vehicle, place } => {
+            push_numbers(out, " insert", &[customer, vehicle, place, base])
+        }
+        Move::Remove { vehicle, place } => push_numbers(out, " remove", &[vehicle, place, base]),
+        Move::Shift { vehicle, place, length, to, at } => {
+            push_numbers(out, " shift", &[vehicle, place, length, to, at, base])
+        }
+        Move::Swap { vehicle, place, other, at } => {
+            push_numbers(out, " swap", &[vehicle, place, other, at, base])
+        }
+        Move::Reverse { vehicle, first, last } => {
+            push_numbers(out, " reverse", &[vehicle, first, last, base])
+        }
+        Move::Cross { vehicle, keep, other, keep_other } => {
+            push_numbers(out, " cross", &[vehicle, keep, other, keep_other, base])
+        }
+    }
+}
+
+fn push_policy(
+    out: &mut String,
+    session: u32,
+    command: &PolicyCommand,
+) -> Result<(), AllocError>
+    ensures { OnOk result (string_bytes out.new ≡ string_bytes out.old ++ after_number (policy_said session command.now)) }
+{
+    match command {
+        PolicyCommand::AddUser { user } => push_one_name(out, " add-user", user),
+        PolicyCommand::DeleteUser { user } => push_one_name(out, " delete-user", user),
+        PolicyCommand::AddRole { role } => push_one_name(out, " add-role", role),
+        PolicyCommand::DeleteRole { role } => push_one_name(out, " delete-role", role),
+        PolicyCommand::Assign { user, role } => push_two_names(out, " assign", user, role),
+        PolicyCommand::Deassign { user, role } => push_two_names(out, " deassign", user, role),
+        PolicyCommand::Grant { role, operation, range } => {
+            push_permission(out, " grant", role, *operation, *range)
+        }
+        PolicyCommand::Revoke { role, operation, range } => {
+            push_permission(out, " revoke", role, *operation, *range)
+        }
+        PolicyCommand::Inherit { senior, junior } => {
+            push_two_names(out, " inherit", senior, junior)
+        }
+        PolicyCommand::Uninherit { senior, junior } => {
+            push_two_names(out, " uninherit", senior, junior)
+        }
+        PolicyCommand::SsdCreate { name, number, roles } => {
+            push_set(out, " ssd-create", name, *number, roles.as_slice())
+        }
+        PolicyCommand::SsdAdd { name, role } => push_two_names(out, " ssd-add", name, role),
+        PolicyCommand::SsdDrop { name, role } => push_two_names(out, " ssd-drop", name, role),
+        PolicyCommand::SsdDelete { name } => push_one_name(out, " ssd-delete", name),
+        PolicyCommand::SsdNumber { name, number } => {
+            push_name_and_number(out, " ssd-number", name, *number)
+        }
+        PolicyCommand::DsdCreate { name, number, roles } => {
+            push_set(out, " dsd-create", name, *number, roles.as_slice())
+        }
+        PolicyCommand::DsdAdd { name, role } => push_two_names(out, " dsd-add", name, role),
+        PolicyCommand::DsdDrop { name, role } => push_two_names(out, " dsd-drop", name, role),
+        PolicyCommand::DsdDelete { name } => push_one_name(out, " dsd-delete", name),
+        PolicyCommand::DsdNumber { name, number } => {
+            push_name_and_number(out, " dsd-number", name, *number)
+        }
+        PolicyCommand::Migrate => out.push_str(" migrate"),
+        PolicyCommand::Open { user, roles } => {
+            push_one_name(out, " open", user)?;
+            push_names(out, roles.as_slice())
+        }
+        PolicyCommand::Close { session } => push_numbers(out, " close", &[*session]),
+        PolicyCommand::Activate { session, role } => {
+            push_number_and_name(out, " activate", *session, role)
+        }
+        PolicyCommand::Deactivate { session, role } => {
+            push_number_and_name(out, " deactivate", *session, role)
+        }
+    }
+}
+
+/// Puts the line of a call at the end: single spaces, numbers without leading zeros, no line end.
+pub fn push_event(out: &mut String, call: &Call) -> Result<(), AllocError>
+    ensures { OnOk result (string_bytes out.new ≡ string_bytes out.old ++ event_text call.now) }
+{
+    match call {
+        Call::Propose { session, base, mv } => {
+            push_number(out, u64::from(*session))?;
+            push_move(out, *session, *base, *mv)
+        }
+        Call::Pin { session, customer } => {
+            push_number(out, u64::from(*session))?;
+            push_numbers(out, " pin", &[*customer])
+        }
+        Call::Unpin { session, customer } => {
+            push_number(out, u64::from(*session))?;
+            push_numbers(out, " unpin", &[*customer])
+        }
+        Call::Freeze { session, vehicle, length } => {
+            push_number(out, u64::from(*session))?;
+            push_numbers(out, " freeze", &[*vehicle, *length])
+        }
+        Call::Thaw { session, vehicle, length } => {
+            push_number(out, u64::from(*session))?;
+            push_numbers(out, " thaw", &[*vehicle, *length])
+        }
+        Call::Policy { session, command } => {
+            push_number(out, u64::from(*session))?;
+            push_policy(out, *session, command)
+        }
+    }
+}
+
+/// The line of a call: single spaces, numbers without leading zeros, no line end. `read_line` of it gives that call again.
+pub fn event_text(alloc: Global, call: &Call) -> Result<String, AllocError>
+    ensures { IfOk result (λ text. string_bytes text ≡ event_text call.now) }
+{
+    let mut text = String::new(alloc);
+    push_event(&mut text, call)?;
+    Ok(text)
+}
