@@ -1,0 +1,92 @@
+-- What holds of the new routes that are left to be judged holds of all of them.
+use Rattle.std.proofs.Common.{◌≡◌, ℕ, ◌*◌, ◌≤◌, refl, sym, subst, arith, List, [], ◌∷◌, ◌++◌, append_assoc, length}
+use Rattle.std.specs.Prelude.{All}
+use Rattle.std.proofs.lemmas.List.{append-nil}
+use Rattle.std.proofs.lemmas.List.Elements.{All-cons}
+use Rattle.std.proofs.lemmas.List.Sums.{sum_by-cons}
+use Rattle.callback_store.specs.declared.meter.Meter.{Meter}
+use Rattle.callback_store.specs.Meter.{AsksAtMost, no_ask, asks_after}
+use Rattle.dimension_core.specs.Feasible.{FitsAll, IsFirstOut}
+use Rattle.dimension_core.specs.NewRoutes.{Changes, AllFit, AllKnown, IsOut}
+use Rattle.dimension_core.specs.Setting.{Setting}
+use Rattle.plan_core.specs.Plan.{route_at}
+use Rattle.range_cache.specs.Asks.{walk_asks, judge_asks}
+use Rattle.range_cache.specs.Cache.{RowState, CacheState, IsRowOf}
+use Rattle.range_cache.specs.Pending.{NewRows, AreWithin, AreNewRows, IsJudgeFault}
+use Rattle.range_cache.specs.declared.fault.JudgeFault.{JudgeFault}
+use Rattle.range_cache.specs.declared.fault.JudgeFault.TheVariants.{Bound, NoMemory}
+use Rattle.range_cache.specs.Row.{IsRowFault}
+use Rattle.range_cache.proofs.Caches.{not_out}
+
+-- the new routes that are left, after those of these rows
+pub record IsRest (s : Setting) (all rest : Changes) (rows : NewRows) : Type 0 where
+  pub fits : AllFit s rest → AllFit s all
+  pub outs : (v d : ℕ) → IsOut s rest v d → IsOut s all v d
+  pub known : AllKnown s rest
+  pub made : (more : NewRows) → AreNewRows s rest more → AreNewRows s all (rows ++ more)
+
+pub rest_all : (s : Setting) (all : Changes) → AllKnown s all → IsRest s all all []
+rest_all s all known = record { fits = λ f. f; outs = λ v d o. o; known = known; made = λ more m. m }
+
+pub rest_next : (s : Setting) (all rest next : Changes) (rows : NewRows) (c : ℕ × List ℕ) (row : RowState) → IsRest s all rest rows → rest ≡ c ∷ next → FitsAll s c.0 c.1
+    → IsRowOf s c.0 c.1 row → IsRest s all next (rows ++ (c.0, row) ∷ [])
+rest_next s all rest next rows c row r e fits new =
+    let r' = subst (λ (cs : Changes). IsRest s all cs rows) e r in
+    record {
+      fits = λ f. r'.fits (fits, f);
+      outs = λ v d o. r'.outs v d ((λ none. absurd (none fits)), (λ yes. o));
+      known = r'.known.1;
+      made = λ more m.
+          subst (λ (xs : NewRows). AreNewRows s all xs) (sym (append_assoc rows ((c.0, row) ∷ []) more))
+          (r'.made ((c.0, row) ∷ more) ((r'.known.0.0, r'.known.0.1, refl, new), m));
+    }
+
+pub rest_out : (s : Setting) (all rest next : Changes) (rows : NewRows) (c : ℕ × List ℕ) (d : ℕ) → IsRest s all rest rows → rest ≡ c ∷ next → IsFirstOut s c.0 c.1 d → IsOut s all c.0 d
+rest_out s all rest next rows c d r e out =
+    let r' = subst (λ (cs : Changes). IsRest s all cs rows) e r in
+    r'.outs c.0 d ((λ none. (refl, out)), (λ fits. absurd (not_out s c.0 c.1 d fits out)))
+
+pub rest_known : (s : Setting) (all rest next : Changes) (rows : NewRows) (c : ℕ × List ℕ) → IsRest s all rest rows → rest ≡ c ∷ next
+    → (1 ≤ c.0) × (c.0 ≤ s.vehicles) × All (λ customer. customer ≤ s.customers) c.1
+rest_known s all rest next rows c r e = (subst (λ (cs : Changes). AllKnown s cs) e r.known).0
+
+pub rest_none : (s : Setting) (all rest : Changes) (rows : NewRows) → IsRest s all rest rows → rest ≡ [] → AllFit s all × AreNewRows s all rows
+rest_none s all rest rows r e =
+    let r' = subst (λ (cs : Changes). IsRest s all cs rows) e r in
+    (r'.fits tt, subst (λ (xs : NewRows). AreNewRows s all xs) (append-nil rows) (r'.made [] tt))
+
+pub rest_fault : (s : Setting) (all rest next : Changes) (rows : NewRows) (c : ℕ × List ℕ) (e : JudgeFault) → IsRest s all rest rows → rest ≡ c ∷ next → IsRowFault s c.0 c.1 e
+    → IsJudgeFault s all e
+rest_fault s all rest next rows c (Bound v d) r e f =
+    subst (λ (w : ℕ). IsOut s all w d) (sym f.0) (rest_out s all rest next rows c d r e f.1)
+rest_fault s all rest next rows c NoMemory r e f = tt
+
+-- the rows are for vehicles of the cache
+pub rows_within : (s : Setting) (changes : Changes) (rows : NewRows) (cache : CacheState) → length cache.rows ≡ s.vehicles → AreNewRows s changes rows → AreWithin cache rows
+rows_within s [] [] cache sized new = λ k d h. absurd (omega arith)
+rows_within s (c ∷ cs) (r ∷ rs) cache sized new =
+    let e : r.0 ≡ c.0 = new.0.2 in
+    let low : 1 ≤ c.0 = new.0.0 in
+    let high : c.0 ≤ s.vehicles = new.0.1 in
+    All-cons (λ (x : ℕ × RowState). (1 ≤ x.0) × (x.0 ≤ length cache.rows)) r rs (omega arith, omega arith) (rows_within s cs rs cache sized new.1)
+rows_within s [] (r ∷ rs) cache sized new = absurd new
+rows_within s (c ∷ cs) [] cache sized new = absurd new
+
+-- what may still be asked for the rest of some new routes leads to no more than what may be asked for all
+abbrev pub MayAsk : ℕ → List (List ℕ) → Changes → Changes → Meter → Meter → Type 0
+MayAsk n routes all rest from to = (m : Meter) → AsksAtMost to m (judge_asks n routes rest) → AsksAtMost from m (judge_asks n routes all)
+
+first_asks : (n : ℕ) (routes : List (List ℕ)) (c : ℕ × List ℕ) (next : Changes) (a b m : Meter) → AsksAtMost a b (n * walk_asks (route_at routes c.0) c.1) → AsksAtMost b m (judge_asks n routes next)
+    → AsksAtMost a m (judge_asks n routes (c ∷ next))
+first_asks n routes c next a b m p q =
+    let e = sum_by-cons (λ (x : ℕ × List ℕ). n * walk_asks (route_at routes x.0) x.1) c next in
+    asks_after a b m _ _ _ p q (omega arith)
+
+pub may_next : (n : ℕ) (routes : List (List ℕ)) (all rest next : Changes) (c : ℕ × List ℕ) (from a b : Meter) → MayAsk n routes all rest from a → rest ≡ c ∷ next
+    → AsksAtMost a b (n * walk_asks (route_at routes c.0) c.1) → MayAsk n routes all next from b
+may_next n routes all rest next c from a b may e p m q =
+    may m (subst (λ (cs : Changes). AsksAtMost a m (judge_asks n routes cs)) (sym e) (first_asks n routes c next a b m p q))
+
+pub may_out : (n : ℕ) (routes : List (List ℕ)) (all rest next : Changes) (c : ℕ × List ℕ) (from a b : Meter) → MayAsk n routes all rest from a → rest ≡ c ∷ next
+    → AsksAtMost a b (n * walk_asks (route_at routes c.0) c.1) → AsksAtMost from b (judge_asks n routes all)
+may_out n routes all rest next c from a b may e p = may_next n routes all rest next c from a b may e p b (no_ask b (judge_asks n routes next))

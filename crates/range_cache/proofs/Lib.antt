@@ -1,0 +1,5 @@
+pub mod Caches
+pub mod FirstAsks
+pub mod Judged
+pub mod Rows
+pub mod Tracks

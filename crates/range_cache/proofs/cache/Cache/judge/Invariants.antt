@@ -1,0 +1,12 @@
+use Rattle.std.proofs.Common.{drop, length}
+use Rattle.dimension_core.specs.Setup.{setting}
+use Rattle.plan_core.specs.Plan.{changes_of}
+use Rattle.range_cache.proofs.Judged.{IsRest, MayAsk}
+use Rattle.range_cache.proofs.cache.Cache.judge.Given as goal
+
+-- what holds of the rest holds of all, and the rest may ask what is left
+abbrev pub invariant-loop-vehicle : goal.invariant-loop-vehicle
+invariant-loop-vehicle g l = record {
+  rest : IsRest (setting l.setup) (changes_of l.changes) (changes_of (drop l.vehicle-index l.changes)) l.rows.items;
+  asks : MayAsk (length (setting l.setup).dimensions) l.plan.routes (changes_of l.changes) (changes_of (drop l.vehicle-index l.changes)) l.fn.meter l.meter;
+}

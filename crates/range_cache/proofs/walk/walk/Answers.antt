@@ -1,0 +1,45 @@
+use Rattle.std.proofs.Common.{◌+◌, refl, arith}
+use Rattle.std.proofs.lemmas.Grind.{common_steps}
+use Rattle.callback_store.specs.Meter.{asks_after}
+use Rattle.dimension_core.specs.Feasible.{FitsIn}
+use Rattle.dimension_core.specs.Setup.{setting}
+use Rattle.range_cache.proofs.Tracks.{next_at, return_at, never, no_answer, more_push}
+use Rattle.range_cache.proofs.walk.walk.Goals as goal
+
+pub returns-in_default-clause-bounds : goal.returns-in_default-clause-bounds
+returns-in_default-clause-bounds g c =
+    let s = setting c.args.setup.now in
+    no_answer (FitsIn s c.args.dimension c.args.vehicle c.args.route.now)
+    (never c.spans_go_on.ensures s c.args.dimension c.args.vehicle c.args.route.now 0 c.requires.some c.in_default.ensures.span)
+
+pub returns-in_default-extend-clause-bounds : goal.returns-in_default-extend-clause-bounds
+returns-in_default-extend-clause-bounds g c =
+    let s = setting c.args.setup.now in
+    let i = c.loop-place.invariant in
+    let none = next_at c.spans_go_on.ensures s c.args.dimension c.args.vehicle c.args.route.now c.loop-place.place _ _ _ _ _ _ _
+    c.registry.ensures.value c.dimensions.ensures.value c.requires.dimension c.index-dimensions-dimension.is i.span i.last c.in_default-extend.ensures.span c.loop-place-test.true refl in
+    no_answer (FitsIn s c.args.dimension c.args.vehicle c.args.route.now)
+    (never c.spans_go_on.ensures s c.args.dimension c.args.vehicle c.args.route.now (c.loop-place.place + 1) c.requires.some none)
+
+pub loop-place-preserved : goal.loop-place-preserved
+loop-place-preserved g c =
+    let s = setting c.args.setup.now in
+    let i = c.loop-place.invariant in
+    let begun = c.loop-place.auto.place in
+    let next = next_at c.spans_go_on.ensures s c.args.dimension c.args.vehicle c.args.route.now c.loop-place.place _ _ _ _ _ _ _
+    c.registry.ensures.value c.dimensions.ensures.value c.requires.dimension c.index-dimensions-dimension.is i.span i.last c.in-Some-extend.ensures.span c.loop-place-test.true refl in
+    record {
+      more = more_push s c.args.dimension c.args.vehicle c.args.route.now c.loop-place.place _ _ _ _ c.loop-place-test.true i.more c.in_ok-push.ensures.items next;
+      span = next;
+      last = c.spans_go_on.ensures.last c.args.route.now c.loop-place.place c.loop-place-test.true;
+      known = grind (arith, common_steps);
+      asks = asks_after _ _ _ _ _ _ i.asks c.extend.ensures.one (omega arith);
+    }
+
+pub returns-clause-bounds : goal.returns-clause-bounds
+returns-clause-bounds g c =
+    let s = setting c.args.setup.now in
+    let i = c.loop-place.invariant in
+    rw c.is_some.ensures
+    (return_at c.spans_go_on.ensures s c.args.dimension c.args.vehicle c.args.route.now c.loop-place.place _ _ _ _ _ _ _
+    c.registry-2.ensures.value c.dimensions.ensures.value c.requires.dimension c.index-dimensions-dimension.is i.span i.last c.extend-end.ensures.span c.loop-place-test.false c.requires.some refl)

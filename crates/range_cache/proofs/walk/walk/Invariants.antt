@@ -1,0 +1,18 @@
+use Rattle.std.proofs.Common.{◌≡◌, ◌≤◌, ◌-◌, List, ◌++◌, length, take}
+use Rattle.callback_store.specs.Meter.{AsksAtMost}
+use Rattle.dimension_core.specs.Cumuls.{last_of}
+use Rattle.dimension_core.specs.Setup.{setting}
+use Rattle.dimension_core.specs.Spans.{IsSpanOf}
+use Rattle.dimension_core.specs.declared.range.Range.{Range}
+use Rattle.range_cache.specs.Track.{IsTrack}
+use Rattle.range_cache.proofs.walk.walk.Given as goal
+
+-- the ranges of the customers so far stand behind the others, and the range is that of the last of them
+abbrev pub invariant-loop-place : goal.invariant-loop-place
+invariant-loop-place g l = record {
+  more : (more : List Range) × (l.ranges.items ≡ l.fn.ranges.items ++ more) × (length more ≡ l.place) × IsTrack (setting l.setup) l.dimension l.vehicle l.route more;
+  span : IsSpanOf (setting l.setup) l.dimension l.vehicle (take l.place l.route) l.range;
+  last : l.from ≡ last_of 0 (take l.place l.route);
+  known : l.from ≤ (setting l.setup).customers;
+  asks : AsksAtMost l.fn.meter l.meter (l.place - length l.kept);
+}

@@ -1,0 +1,6 @@
+pub mod Alone
+pub mod Asks
+pub mod Cache
+pub mod Pending
+pub mod Row
+pub mod Track

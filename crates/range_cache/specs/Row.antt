@@ -1,0 +1,11 @@
+-- Why a vehicle has no row for a new route.
+use Rattle.std.specs.Prelude.{◌≡◌, ℕ, List}
+use Rattle.dimension_core.specs.Feasible.{IsFirstOut}
+use Rattle.dimension_core.specs.Setting.{Setting}
+use Rattle.range_cache.specs.declared.fault.JudgeFault.{JudgeFault}
+use Rattle.range_cache.specs.declared.fault.JudgeFault.TheVariants.{Bound, NoMemory}
+
+-- the first dimension in which the route is out of bounds, or want of memory
+abbrev pub IsRowFault : Setting → ℕ → List ℕ → JudgeFault → Type 0
+IsRowFault s vehicle route (Bound v d) = (v ≡ vehicle) × IsFirstOut s vehicle route d
+IsRowFault s vehicle route NoMemory = Unit {0}

@@ -1,0 +1,178 @@
+ghost use Rattle.std.specs.Prelude.{◌≡◌, ℕ, ◌+◌, ◌*◌, ◌-◌, ◌<◌, ◌≤◌, List, [], length, take, replicate, All, IfOk, IfErr};
+ghost use Rattle.callback_store.specs.Meter.{AsksAtMost};
+ghost use Rattle.dimension_core.specs.Cumuls.{IsEarly, table_of};
+ghost use Rattle.dimension_core.specs.Feasible.{FitsAll, IsFeasible};
+ghost use Rattle.dimension_core.specs.NewRoutes.{Changes, AllFit, AllKnown};
+ghost use Rattle.dimension_core.specs.Setting.{Setting, dimension_at};
+ghost use Rattle.dimension_core.specs.Setup.{setting};
+ghost use Rattle.plan_core.specs.Cost.{route_asks, asks_of};
+ghost use Rattle.plan_core.specs.Plan.{route_at, changes_of, with_routes};
+ghost use Rattle.range_cache.specs.Asks.{judge_asks, walk_asks};
+ghost use Rattle.range_cache.specs.Cache.{IsRowOf, IsCacheOf, HasEarly};
+ghost use Rattle.range_cache.specs.Pending.{AreNewRows, IsJudgeFault, with_rows};
+ghost use Rattle.range_cache.specs.Row.{IsRowFault};
+
+use crate::fault::JudgeFault;
+use crate::pending::Pending;
+use crate::row::Row;
+use callback_store::Meter;
+use dimension_core::{Setup, spans_go_on};
+use plan_core::{Plan, Route};
+use std::alloc::{AllocError, Global};
+use std::marker::Model;
+use std::sync::Arc;
+
+/// For each vehicle, in each dimension, the range of the cumuls that it may have at each customer of its route.
+///
+/// A cache belongs to a setup and to the routes of a plan, and its callers owe that it is lent these. It keeps 16 bytes for each placed
+/// customer and dimension.
+#[derive(Drop)]
+pub struct Cache {
+    rows: Vec<Row>,
+}
+
+impl Model for Cache {
+    ghost use Rattle.range_cache.specs.Cache.{CacheState};
+
+    ghost Value = { CacheState };
+
+    ghost view = { λ a. record { rows = a.rows.items } };
+}
+
+impl Cache {
+    /// The cache of a plan of empty routes.
+    pub fn new(alloc: Global, setup: &Setup) -> Result<Cache, AllocError>
+        ensures { IfOk result (IsCacheOf (setting setup.now) (replicate (setting setup.now).vehicles [])) }
+    {
+        let mut rows = Vec::with_capacity(alloc, setup.vehicles() as usize)?;
+        for _ in 0..setup.vehicles() {
+            rows.push(Row::empty(alloc))?;
+        }
+        Ok(Cache { rows })
+    }
+
+    /// The cache of a plan that is in bounds.
+    ///
+    /// It asks the callback of a dimension at most once for each placed customer and once for each route that is not empty.
+    pub fn of(
+        alloc: Global,
+        setup: &Setup,
+        plan: &Plan,
+        meter: &mut Meter,
+    ) -> Result<Cache, AllocError>
+        requires customers { plan.now.customers ≡ (setting setup.now).customers }
+        requires vehicles { length plan.now.routes ≡ (setting setup.now).vehicles }
+        requires feasible { IsFeasible (setting setup.now) plan.now.routes }
+        ensures cache { IfOk result (IsCacheOf (setting setup.now) plan.now.routes) }
+        ensures asks { AsksAtMost meter.old meter.new (length (setting setup.now).dimensions * asks_of plan.now.routes) }
+    {
+        let mut rows = Vec::with_capacity(alloc, setup.vehicles() as usize)?;
+        for before in 0..setup.vehicles() {
+            rows.push(first_row(alloc, setup, plan, before + 1, meter)?)?;
+        }
+        Ok(Cache { rows })
+    }
+
+    /// Judges new routes of some vehicles of the plan whose cache this is, in their order: `Bound` names the first vehicle whose new route
+    /// is out of bounds, and the first dimension in which it is. What it answers is ready to be taken.
+    ///
+    /// Each dimension of a new route is walked from the end of the longest common front of the old and the new route on, and no other
+    /// vehicle's route is looked at: it asks the callback of a dimension at most once for each customer behind the common front and once
+    /// for the return.
+    pub fn judge(
+        &self,
+        setup: &Setup,
+        plan: &Plan,
+        changes: &[(u32, Arc<Route>)],
+        meter: &mut Meter,
+    ) -> Result<Pending, JudgeFault>
+        requires cache { IsCacheOf (setting setup.now) plan.now.routes self.now }
+        requires known { AllKnown (setting setup.now) (changes_of changes.now) }
+        requires short { All (λ c. length c.1.value ≤ 1000) changes.now }
+        ensures of { IfOk result (λ pending. pending.of ≡ self.now) }
+        ensures fits { IfOk result (λ pending. AllFit (setting setup.now) (changes_of changes.now)) }
+        ensures rows { IfOk result (λ pending. AreNewRows (setting setup.now) (changes_of changes.now) pending.rows) }
+        ensures fault { IfErr result (IsJudgeFault (setting setup.now) (changes_of changes.now)) }
+        ensures asks { AsksAtMost meter.old meter.new (judge_asks (length (setting setup.now).dimensions) plan.now.routes (changes_of changes.now)) }
+    {
+        let alloc = *self.rows.allocator();
+        let mut rows = Vec::with_capacity(alloc, changes.len())?;
+        for (vehicle, route) in changes {
+            let row = self.changed_row(setup, plan, *vehicle, route, meter)?;
+            rows.push((*vehicle, row))?;
+        }
+        Ok(Pending::new(self, rows))
+    }
+
+    /// The row of a vehicle's new route, by that of its route in the plan.
+    fn changed_row(
+        &self,
+        setup: &Setup,
+        plan: &Plan,
+        vehicle: u32,
+        route: &Route,
+        meter: &mut Meter,
+    ) -> Result<Row, JudgeFault>
+        requires cache { IsCacheOf (setting setup.now) plan.now.routes self.now }
+        requires low { 1 ≤ vehicle }
+        requires high { vehicle ≤ (setting setup.now).vehicles }
+        requires known { All (λ c. c ≤ (setting setup.now).customers) route.now }
+        requires short { length route.now ≤ 1000 }
+        ensures fits { IfOk result (λ _. FitsAll (setting setup.now) vehicle route.now) }
+        ensures row { IfOk result (IsRowOf (setting setup.now) vehicle route.now) }
+        ensures fault { IfErr result (IsRowFault (setting setup.now) vehicle route.now) }
+        ensures asks { AsksAtMost meter.old meter.new (length (setting setup.now).dimensions * walk_asks (route_at plan.now.routes vehicle) route.now) }
+    {
+        let alloc = *self.rows.allocator();
+        let old = plan.route(vehicle).customers();
+        let row = &self.rows[vehicle as usize - 1];
+        row.changed(alloc, setup, vehicle, old, route.customers(), meter)
+    }
+
+    /// Takes what was judged: this is then the cache of the plan with the new routes. It takes no memory. Nothing was taken since the
+    /// judgement.
+    pub fn take(&mut self, pending: Pending)
+        requires { pending.of ≡ self.old }
+        ensures rows { self.new ≡ record { rows = with_rows pending.rows self.old.rows } }
+        ensures cache { (s : Setting) (routes : List (List ℕ)) (changes : Changes) → IsCacheOf s routes self.old → AreNewRows s changes pending.rows → IsCacheOf s (with_routes changes routes) self.new }
+    {
+        for (vehicle, row) in pending.into_rows() {
+            self.rows[vehicle as usize - 1] = row;
+        }
+    }
+
+    /// The early value of the customer at a place of a vehicle's route in a dimension: the least cumul that it can have there. All three
+    /// count from 1.
+    pub fn early(&self, dimension: u32, vehicle: u32, place: u32) -> u64
+        requires { (s : Setting) × ((routes : List (List ℕ)) × HasEarly s routes self.now dimension vehicle place) }
+        ensures { (s : Setting) (routes : List (List ℕ)) → HasEarly s routes self.now dimension vehicle place → IsEarly (table_of s.tables (dimension_at s (dimension - 1))) (dimension_at s (dimension - 1)) vehicle (take place (route_at routes vehicle)) result }
+    {
+        spans_go_on();
+        self.rows[vehicle as usize - 1].early(dimension as usize - 1, place as usize - 1)
+    }
+}
+
+/// The row of a vehicle of a plan that is in bounds.
+fn first_row(
+    alloc: Global,
+    setup: &Setup,
+    plan: &Plan,
+    vehicle: u32,
+    meter: &mut Meter,
+) -> Result<Row, AllocError>
+    requires customers { plan.now.customers ≡ (setting setup.now).customers }
+    requires vehicles { length plan.now.routes ≡ (setting setup.now).vehicles }
+    requires feasible { IsFeasible (setting setup.now) plan.now.routes }
+    requires low { 1 ≤ vehicle }
+    requires high { vehicle ≤ (setting setup.now).vehicles }
+    ensures row { IfOk result (IsRowOf (setting setup.now) vehicle (route_at plan.now.routes vehicle)) }
+    ensures asks { AsksAtMost meter.old meter.new (length (setting setup.now).dimensions * route_asks (route_at plan.now.routes vehicle)) }
+{
+    let route = plan.route(vehicle).customers();
+    let none = Row::empty(alloc);
+    match none.changed(alloc, setup, vehicle, &[], route, meter) {
+        Ok(row) => Ok(row),
+        Err(JudgeFault::Bound(_, _)) => unreachable!(),
+        Err(JudgeFault::NoMemory) => Err(AllocError),
+    }
+}

@@ -1,0 +1,102 @@
+//! The ranges along the route of one vehicle.
+ghost use Rattle.std.specs.Prelude.{◌≡◌, ℕ, ◌+◌, ◌*◌, ◌<◌, ◌≤◌, [], length, take, drop, All, IfOk, IfErr};
+ghost use Rattle.callback_store.specs.Meter.{AsksAtMost};
+ghost use Rattle.dimension_core.specs.Feasible.{FitsAll, IsFirstOut};
+ghost use Rattle.dimension_core.specs.Setup.{setting};
+ghost use Rattle.range_cache.specs.Asks.{walk_asks};
+ghost use Rattle.range_cache.specs.Cache.{IsRowOf, range_at};
+ghost use Rattle.range_cache.specs.Row.{IsRowFault};
+
+use crate::fault::JudgeFault;
+use crate::walk::walk;
+use callback_store::Meter;
+use dimension_core::{Range, Setup};
+use plan_core::common_front;
+use std::alloc::Global;
+use std::marker::Model;
+
+/// For each dimension in order a range for each customer of a route in order.
+#[derive(Drop)]
+pub(crate) struct Row {
+    stops: u32,
+    ranges: Vec<Range>,
+}
+
+impl Model for Row {
+    ghost use Rattle.range_cache.specs.Cache.{RowState};
+
+    ghost Value = { RowState };
+
+    ghost view = { λ a. record { stops = a.stops; ranges = a.ranges.items } };
+}
+
+impl Row {
+    /// The row of an empty route. It takes no memory.
+    pub(crate) fn empty(alloc: Global) -> Row
+        ensures { result ≡ record { stops = 0; ranges = [] } }
+    {
+        Row {
+            stops: 0,
+            ranges: Vec::new(alloc),
+        }
+    }
+
+    /// The first ranges of a dimension, which counts from 0.
+    fn front(&self, dimension: usize, front: usize) -> &[Range]
+        requires { dimension * self.now.stops + front ≤ length self.now.ranges }
+        ensures { result.now ≡ take front (drop (dimension * self.now.stops) self.now.ranges) }
+    {
+        let begin = dimension * self.stops as usize;
+        &self.ranges[begin..begin + front]
+    }
+
+    /// The least cumul of a dimension at a place; both count from 0.
+    pub(crate) fn early(&self, dimension: usize, place: usize) -> u64
+        requires { dimension * self.now.stops + place < length self.now.ranges }
+        ensures { result ≡ (range_at self.now dimension place).lo }
+    {
+        self.ranges[dimension * self.stops as usize + place].lo
+    }
+
+    /// The row of the vehicle's new route, by this one of its old route: each dimension is walked from the end of the longest common front
+    /// on. It stops at the first dimension in which the new route is out of bounds.
+    ///
+    /// It asks the callback of a dimension at most once for each customer behind the common front and once for the return, and not at all
+    /// where the new route is empty.
+    pub(crate) fn changed(
+        &self,
+        alloc: Global,
+        setup: &Setup,
+        vehicle: u32,
+        old: &[u32],
+        new: &[u32],
+        meter: &mut Meter,
+    ) -> Result<Row, JudgeFault>
+        requires low { 1 ≤ vehicle }
+        requires high { vehicle ≤ (setting setup.now).vehicles }
+        requires known { All (λ c. c ≤ (setting setup.now).customers) new.now }
+        requires short { length new.now ≤ 1000 }
+        requires row { IsRowOf (setting setup.now) vehicle old.now self.now }
+        ensures fits { IfOk result (λ _. FitsAll (setting setup.now) vehicle new.now) }
+        ensures row { IfOk result (IsRowOf (setting setup.now) vehicle new.now) }
+        ensures fault { IfErr result (IsRowFault (setting setup.now) vehicle new.now) }
+        ensures asks { AsksAtMost meter.old meter.new (length (setting setup.now).dimensions * walk_asks old.now new.now) }
+    {
+        if new.is_empty() {
+            return Ok(Row::empty(alloc));
+        }
+        let front = common_front(old, new);
+        let count = setup.dimensions().len();
+        let mut ranges = Vec::with_capacity(alloc, count * new.len())?;
+        for dimension in 0..count {
+            let kept = self.front(dimension, front);
+            if !walk(setup, dimension, vehicle, new, kept, &mut ranges, meter)? {
+                return Err(JudgeFault::Bound(vehicle, dimension as u32 + 1));
+            }
+        }
+        Ok(Row {
+            stops: new.len() as u32,
+            ranges,
+        })
+    }
+}

@@ -1,0 +1,83 @@
+//! A walk along a route in one dimension, from a kept range on.
+ghost use Rattle.std.specs.Prelude.{◌≡◌, ◌+◌, ◌-◌, ◌<◌, ◌≤◌, ◌↔◌, ◌++◌, [], List, length, take, None, All, IfOk, IfSome, IsTrue, MatchOption};
+ghost use Rattle.callback_store.specs.Meter.{AsksAtMost};
+ghost use Rattle.dimension_core.specs.Cumuls.{last_of};
+ghost use Rattle.dimension_core.specs.Feasible.{FitsIn};
+ghost use Rattle.dimension_core.specs.Setup.{setting};
+ghost use Rattle.dimension_core.specs.Spans.{IsSpanOf};
+ghost use Rattle.dimension_core.specs.declared.range.Range.{Range};
+ghost use Rattle.range_cache.specs.Track.{IsSpanAt, IsTrack};
+
+use callback_store::Meter;
+use dimension_core::{Range, Setup, spans_go_on};
+use std::alloc::AllocError;
+
+/// The range from which a walk goes on, and its node: those of the last kept range, or those of the depot; none where no cumul is left
+/// there. Dimensions count from 0.
+fn begin(
+    setup: &Setup,
+    dimension: usize,
+    vehicle: u32,
+    route: &[u32],
+    kept: &[Range],
+) -> Option<(Range, u32)>
+    requires low { 1 ≤ vehicle }
+    requires high { vehicle ≤ (setting setup.now).vehicles }
+    requires dimension { dimension < length (setting setup.now).dimensions }
+    requires known { All (λ c. c ≤ (setting setup.now).customers) route.now }
+    requires kept { IsTrack (setting setup.now) dimension vehicle route.now kept.now }
+    ensures span { MatchOption result (IsSpanAt (setting setup.now) dimension vehicle [] None) (λ at. IsSpanOf (setting setup.now) dimension vehicle (take (length kept.now) route.now) at.0) }
+    ensures node { IfSome result (λ at. at.1 ≡ last_of 0 (take (length kept.now) route.now)) }
+    ensures known { IfSome result (λ at. at.1 ≤ (setting setup.now).customers) }
+{
+    spans_go_on();
+    if kept.is_empty() {
+        let start = setup.dimensions()[dimension].start(vehicle)?;
+        return Some((start, 0));
+    }
+    let last = kept.len() - 1;
+    Some((kept[last], route[last]))
+}
+
+/// Walks along a route that is not empty in one dimension, from the customer behind the kept ranges to the return. True where the route is
+/// in bounds; the range of each of its customers then stands behind the others. Dimensions count from 0.
+///
+/// It stops at the first stop at which there is no cumul, and asks the callback at most once for each customer behind the kept ranges and
+/// once for the return.
+pub(crate) fn walk(
+    setup: &Setup,
+    dimension: usize,
+    vehicle: u32,
+    route: &[u32],
+    kept: &[Range],
+    ranges: &mut Vec<Range>,
+    meter: &mut Meter,
+) -> Result<bool, AllocError>
+    requires low { 1 ≤ vehicle }
+    requires high { vehicle ≤ (setting setup.now).vehicles }
+    requires dimension { dimension < length (setting setup.now).dimensions }
+    requires some { 0 < length route.now }
+    requires known { All (λ c. c ≤ (setting setup.now).customers) route.now }
+    requires kept { IsTrack (setting setup.now) dimension vehicle route.now kept.now }
+    ensures bounds { IfOk result (λ is_in. IsTrue is_in ↔ FitsIn (setting setup.now) dimension vehicle route.now) }
+    ensures ranges { IfOk result (λ is_in. IsTrue is_in → (more : List Range) × (ranges.new.items ≡ ranges.old.items ++ more) × (length more ≡ length route.now) × IsTrack (setting setup.now) dimension vehicle route.now more) }
+    ensures asks { AsksAtMost meter.old meter.new (length route.now + 1 - length kept.now) }
+{
+    spans_go_on();
+    let Some((mut range, mut from)) = begin(setup, dimension, vehicle, route, kept) else {
+        return Ok(false);
+    };
+    ranges.extend_from_slice(kept)?;
+    let bounds = &setup.dimensions()[dimension];
+    for place in kept.len()..route.len() {
+        let node = route[place];
+        let Some(next) = bounds.extend(setup.registry(), range, from, node, vehicle, meter) else {
+            return Ok(false);
+        };
+        ranges.push(next)?;
+        range = next;
+        from = node;
+    }
+    let end = bounds.extend(setup.registry(), range, from, 0, vehicle, meter);
+    Ok(end.is_some())
+}
