@@ -10,8 +10,8 @@ use Rattle.pin_core.specs.View.{ViewState}
 use Rattle.move_core.specs.declared.moves.Move.{Move}
 use Rattle.move_core.specs.declared.moves.Move.TheVariants.{Shift, Swap, Reverse, Cross}
 use Rattle.move_core.specs.Moves.{is_possible, changes_by, effect, without, with_stretch, stretch, with_customer, customer_at, reversed_within, crossed}
-use Rattle.neighbourhood.specs.Ways.{hop, stops, stop_at}
-use Rattle.neighbourhood.specs.Savings.{shift_lost, shift_gained, swap_lost, swap_gained, next_lost, next_gained, cross_lost, cross_gained, reverse_lost, reverse_gained, turned, along}
+use Rattle.neighbourhood.specs.Ways.{hop, stops, stop_at, turned, along}
+use Rattle.neighbourhood.specs.Savings.{shift_lost, shift_gained, swap_lost, swap_gained, next_lost, next_gained, cross_lost, cross_gained, reverse_lost, reverse_gained}
 use Rattle.neighbourhood.specs.Search.{IsSaving}
 use Rattle.neighbourhood.specs.Laws.{Laws}
 use Rattle.neighbourhood.proofs.Ways.{AreNodes, route_by_hops, moved_ways, moved_within, without_stops, with_stops, stretch_stops, take_stops, drop_stops, stop_from, stop_is, replaced_way, set_stops, crossed_ways, crossed_stops, set_stop_same, set_stop_other, without_stop_before, without_stop_after}

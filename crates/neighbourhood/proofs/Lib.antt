@@ -10,3 +10,4 @@ pub mod Carried
 pub mod Allowing
 pub mod Between
 pub mod Inside
+pub mod Cells

@@ -3,7 +3,7 @@ use Rattle.std.proofs.lemmas.List.{drop_more, reverse-append}
 use Rattle.std.proofs.Math.Seq.{take-add}
 use Rattle.dimension_core.specs.Cumuls.{last_of}
 use Rattle.plan_core.specs.Cost.{way}
-use Rattle.neighbourhood.specs.Savings.{turned}
+use Rattle.neighbourhood.specs.Ways.{turned}
 use Rattle.neighbourhood.proofs.Ways.{way_append, last_take, three_parts, stretch_head, stretch_last}
 
 -- a stretch driven back costs what its ways driven back cost

@@ -1,8 +1,7 @@
 -- The hops that a move loses and those that it gains, by the stops of its routes: A and B are the depot, the customers of a route, the depot.
-use Rattle.std.specs.Prelude.{ℕ, ◌+◌, ◌-◌, List, slice_index, drop, take}
+use Rattle.std.specs.Prelude.{ℕ, ◌+◌, ◌-◌, List, slice_index}
 use Rattle.callback_store.specs.Tables.{Table}
-use Rattle.plan_core.specs.Cost.{way}
-use Rattle.neighbourhood.specs.Ways.{hop}
+use Rattle.neighbourhood.specs.Ways.{hop, along, turned}
 
 -- a shift of n customers from place p of A; what comes before and after them at the place `at` stands o places further in B
 abbrev pub shift_lost : Table → List ℕ → List ℕ → ℕ → ℕ → ℕ → ℕ → ℕ
@@ -43,14 +42,6 @@ cross_lost t A B k l = hop t (slice_index A k) (slice_index A (k + 1)) + hop t (
 
 abbrev pub cross_gained : Table → List ℕ → List ℕ → ℕ → ℕ → ℕ
 cross_gained t A B k l = hop t (slice_index A k) (slice_index B (l + 1)) + hop t (slice_index B l) (slice_index A (k + 1))
-
--- the ways between stops, driven back
-abbrev pub turned : (ℕ → ℕ → ℕ) → ℕ → ℕ → ℕ
-turned f i j = f j i
-
--- what the first k ways of a route's stops cost, the start among them
-abbrev pub along : (ℕ → ℕ → ℕ) → List ℕ → ℕ → ℕ
-along f A k = way f 0 (take k (drop 1 A))
 
 -- a reverse of the customers from place i to place j
 abbrev pub reverse_lost : Table → List ℕ → ℕ → ℕ → ℕ

@@ -1,6 +1,7 @@
-use Rattle.std.specs.Prelude.{◌≡◌, ◌≤◌, ◌<◌, ℕ, ◌+◌, ◌*◌, ◌==◌, if◌then◌else◌, List, [], ◌∷◌, ◌++◌, length, slice_index, All, Bool, reverse}
+use Rattle.std.specs.Prelude.{◌≡◌, ◌≤◌, ◌<◌, ℕ, ◌+◌, ◌*◌, ◌==◌, if◌then◌else◌, List, [], ◌∷◌, ◌++◌, length, slice_index, take, drop, All, Bool, reverse}
 use Rattle.plan_core.specs.Plan.{route_at}
 use Rattle.callback_store.specs.Tables.{Table, entry}
+use Rattle.plan_core.specs.Cost.{way}
 
 -- what the way from a stop to the next one costs; a vehicle that stays at the depot drives no way
 abbrev pub hop : Table → ℕ → ℕ → ℕ
@@ -23,11 +24,32 @@ pub record AreStops (customers : ℕ) (routes : List (List ℕ)) (v : ℕ) (all 
   pub short : length all ≤ 1002
   pub known : All (λ c. c ≤ customers) all
 
--- the first n numbers of a table: the hops from some stops to others, row by row
-pub record AreHops (t : Table) (from to : List ℕ) (n : ℕ) (cells : List ℕ) : Type 0 where
+-- the ways between stops, driven back
+abbrev pub turned : (ℕ → ℕ → ℕ) → ℕ → ℕ → ℕ
+turned f i j = f j i
+
+-- what the first k ways of a route's stops cost, the start among them
+abbrev pub along : (ℕ → ℕ → ℕ) → List ℕ → ℕ → ℕ
+along f A k = way f 0 (take k (drop 1 A))
+
+-- what a way costs, as it is driven or driven back
+abbrev pub hop_by : Bool → Table → ℕ → ℕ → ℕ
+hop_by turned t i j = if turned then hop t j i else hop t i j
+
+-- the first n numbers of a table: the ways from some stops to others, row by row, or back
+pub record AreHops (turned : Bool) (t : Table) (from to : List ℕ) (n : ℕ) (cells : List ℕ) : Type 0 where
   pub counted : length cells ≡ n
-  pub hops : (a b : ℕ) → b < length to → a * length to + b < n → slice_index cells (a * length to + b) ≡ hop t (slice_index from a) (slice_index to b)
-  pub small : (k : ℕ) → k < n → slice_index cells k ≤ 1000000000
+  pub hops : (a b : ℕ) → b < length to → a * length to + b < n → slice_index cells (a * length to + b) ≡ hop_by turned t (slice_index from a) (slice_index to b)
+
+-- the ways from each stop to the next
+pub record AreEdges (t : Table) (stops : List ℕ) (edges : List ℕ) : Type 0 where
+  pub counted : length edges + 1 ≡ length stops
+  pub hops : (k : ℕ) → k < length edges → slice_index edges k ≡ hop t (slice_index stops k) (slice_index stops (k + 1))
+
+-- the ways over the first k stops, or back, for each k
+pub record AreSums (turned : Bool) (t : Table) (stops : List ℕ) (n : ℕ) (cells : List ℕ) : Type 0 where
+  pub counted : length cells ≡ n
+  pub sums : (k : ℕ) → k < n → slice_index cells k ≡ along (hop_by turned t) stops k
 
 -- some customers as they stand, or driven back
 abbrev pub way_of : Bool → List ℕ → List ℕ

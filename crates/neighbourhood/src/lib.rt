@@ -2,6 +2,8 @@
 #![tactic(auto)]
 
 mod allowed;
+mod best;
 mod fits;
 mod hops;
 mod laws;
+mod table;

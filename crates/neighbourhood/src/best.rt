@@ -1,0 +1,58 @@
+//! The best move so far.
+ghost use Rattle.std.specs.Prelude.{◌≡◌, ◌-◌, true, ℕ, List, Option};
+ghost use Rattle.dimension_core.specs.Setup.{setting};
+ghost use Rattle.move_core.specs.Moves.{is_possible};
+ghost use Rattle.neighbourhood.specs.View.{IsViewOf};
+ghost use Rattle.neighbourhood.specs.Best.{IsNear, Counts, numbers_of};
+ghost use Rattle.neighbourhood.specs.Laws.{Laws};
+ghost use Rattle.neighbourhood.specs.Search.{gain_of, IsBestSoFar, IsNext, IsSaving};
+
+use crate::allowed::allows;
+use callback_store::Meter;
+use dimension_core::Setup;
+use move_core::Move;
+use pin_core::View;
+
+/// What the best move so far gains.
+#[inline(always)]
+fn gain_of(best: Option<(Move, u64)>) -> u64
+    ensures { result ≡ gain_of best }
+{
+    match best {
+        None => 0,
+        Some((_, gain)) => gain,
+    }
+}
+
+/// The better of the best so far and the next move, which loses ways of one cost and gains ways of another: whether it is allowed is
+/// judged only where it gains more.
+#[inline(always)]
+pub(crate) fn better(
+    view: &View,
+    setup: &Setup,
+    skip: &[Move],
+    v: u32,
+    w: u32,
+    mv: Move,
+    lost: u64,
+    gained: u64,
+    best: Option<(Move, u64)>,
+    meter: &mut Meter,
+) -> Option<(Move, u64)>
+    requires laws { Laws }
+    requires view { IsViewOf (setting setup.now) view.now }
+    requires possible { is_possible (setting setup.now).customers view.now.routes mv ≡ true }
+    requires near { IsNear v w mv }
+    requires saving { IsSaving (setting setup.now) view.now mv lost gained }
+    ensures { (bound : List ℕ) → IsNext (Counts (setting setup.now) view.now skip.now v w) mv bound
+        → IsBestSoFar (setting setup.now) view.now skip.now v w (numbers_of mv) best → IsBestSoFar (setting setup.now) view.now skip.now v w bound result }
+{
+    let gain = lost.saturating_sub(gained);
+    if gain <= gain_of(best) {
+        return best;
+    }
+    if !allows(view, setup, skip, v, w, mv, meter) {
+        return best;
+    }
+    Some((mv, gain))
+}
