@@ -70,6 +70,7 @@ feasible_all s (c ∷ cs) routes sized apart fits old =
 -- new routes of vehicles of the fleet and customers of the setting are known
 pub all_known : (s : Setting) (changes : Changes) → AreApart s.vehicles changes → ((k : ℕ) (c : ℕ × List ℕ) → slice_get changes k ≡ Some c → All (λ x. (1 ≤ x) × (x ≤ s.customers)) c.1) → AllKnown s changes
 all_known s [] apart known = tt
-all_known s (c ∷ cs) apart known =
-    ( (apart.0, apart.1, (λ k d below. (known zero c refl k d below).1))
-    , all_known s cs apart.3 (λ k d at. known (suc k) d at) )
+all_known s (c ∷ cs) apart known = (
+  (apart.0, apart.1, (λ k d below. (known zero c refl k d below).1)),
+  all_known s cs apart.3 (λ k d at. known (suc k) d at),
+)

@@ -41,7 +41,10 @@ use pin_core::{
     freezes_by_named, front_still_fits, fronts_within_routes, opening_holds, pin_holds,
     pins_after_commits, unpin_holds,
 };
-use plan_core::{among_is_tested, currency_by_stamps, customers_stand_by_route, routes_are_known, routes_replaced};
+use plan_core::{
+    among_is_tested, currency_by_stamps, customers_stand_by_route, routes_are_known,
+    routes_replaced,
+};
 
 /// The laws of plans, moves and pins, fetched once for all laws here.
 fn laws_below()
