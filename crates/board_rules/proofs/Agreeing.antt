@@ -1,11 +1,7 @@
 -- Facts that agree give one verdict.
-use Rattle.std.proofs.Common.{◌≡◌, ℕ, ◌≤◌, ◌<◌, true, List, Option, Some, None, refl, sym, ap, ◌∙◌, subst}
-use Rattle.std.specs.Prelude.{find}
+use Rattle.std.proofs.Common.{◌≡◌, ℕ, Option, Some, None, sym, ◌∙◌, subst}
 use Rattle.std.proofs.lemmas.Bool.{and_parts, leb-true}
-use Rattle.permission_core.specs.declared.objects.Operation.{Operation}
-use Rattle.permission_core.specs.declared.objects.Object.{Object}
 use Rattle.dimension_core.specs.Setting.{Setting}
-use Rattle.pin_core.specs.Pins.{PinState}
 use Rattle.move_core.specs.declared.moves.Move.{Move}
 use Rattle.move_core.specs.Moves.{named_by}
 use Rattle.board_rules.specs.declared.reply.Denial.{Denial}

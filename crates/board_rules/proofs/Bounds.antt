@@ -1,12 +1,12 @@
 -- Whether a route is in bounds is decided: the cumuls that are reached at a stop are an interval, or there are none.
-use Rattle.std.proofs.Common.{◌≡◌, ℕ, zero, suc, ◌+◌, ◌-◌, ◌<◌, ◌≤◌, ◌⊎◌, inl, inr, Bool, true, false, List, [], ◌∷◌, ◌++◌, length, Option, Some, None, refl, sym, ap, ◌∙◌, subst, arith}
-use Rattle.std.specs.Prelude.{◌↔◌, min, max, is_some, IsTrue}
+use Rattle.std.proofs.Common.{◌≡◌, ℕ, zero, suc, ◌+◌, ◌-◌, ◌<◌, ◌≤◌, ◌⊎◌, inl, inr, Bool, true, false, List, [], ◌∷◌, ◌++◌, length, Option, Some, None, refl, sym, subst, arith}
+use Rattle.std.specs.Prelude.{min, max}
 use Rattle.std.proofs.Math.Logic.{∥∥₁_elim}
-use Rattle.std.proofs.lemmas.Bool.{cases_lt, cases_Bool, both_ways}
+use Rattle.std.proofs.lemmas.Bool.{cases_lt, both_ways}
 use Rattle.std.proofs.lemmas.List.{append_assoc, append-nil}
 use Rattle.callback_store.specs.Tables.{Table, entry}
 use Rattle.dimension_core.specs.declared.range.Range.{Range}
-use Rattle.dimension_core.specs.Cumuls.{Bounds, IsCumul, IsStart, IsStep, IsWithin, IsSpan, Reaches, IsInBounds, last_of, range_of, cap_of, table_of}
+use Rattle.dimension_core.specs.Cumuls.{Bounds, IsStart, IsStep, IsWithin, IsSpan, Reaches, IsInBounds, last_of, range_of, cap_of, table_of}
 use Rattle.dimension_core.specs.Feasible.{FitsIn, FitsAll, IsFirstOut}
 use Rattle.dimension_core.specs.NewRoutes.{Changes, AllFit, IsOut}
 use Rattle.dimension_core.specs.Laws.{SpansGoOn}

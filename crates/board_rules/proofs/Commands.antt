@@ -1,25 +1,25 @@
 -- Separation of duty command by command.
-use Rattle.std.proofs.Common.{◌≡◌, ℕ, ◌+◌, ◌<◌, ◌≤◌, ◌⊎◌, inl, inr, Bool, true, false, List, [], ◌∷◌, length, map, filter, Option, Some, None, refl, sym, ap, ◌∙◌, subst, arith, length-set}
-use Rattle.std.specs.Prelude.{cond, unwrap_or, not, ◌&&◌, bytes_eq, nat_eq, nat_le, nat_lt, if◌then◌else◌, slice_index, slice_set, count_ones}
+use Rattle.std.proofs.Common.{◌≡◌, ℕ, inl, inr, Bool, true, false, List, [], ◌∷◌, length, map, Option, Some, None, refl, sym, ap, ◌∙◌, arith, length-set}
+use Rattle.std.specs.Prelude.{cond, unwrap_or, not, bytes_eq, nat_eq, nat_le, if◌then◌else◌, slice_index, slice_set, count_ones}
 use Rattle.std.specs.List.{list_all}
 use Rattle.std.specs.Map.{lookup, remove_entry}
-use Rattle.std.specs.Option.{option_map, option_map_or, option_or}
+use Rattle.std.specs.Option.{option_map_or, option_or}
 use Rattle.std.proofs.lemmas.Bool.{and_parts, and_from, cases_eq, cases_lt, leb-false, ltb-false, le-leb, both_ways}
 use Rattle.std.proofs.lemmas.List.{length-map, get_or-set_same, get_or-set_other, get_or-map}
 use Rattle.role_hierarchy.specs.Roles.{has, without, first_free}
 use Rattle.role_hierarchy.specs.RoleLaws.{has-empty}
 use Rattle.role_hierarchy.specs.Order.{Order, stands, without_pair, without_slot}
 use Rattle.role_hierarchy.specs.Below.{closed, juniors_of, IsOrder}
-use Rattle.separation_core.specs.Groups.{Groups, AreSets, first_breaking, first_broken, changed, limit_of, limits_of, limit_with, limit_without, limit_of_number, with_set, is_sound, new_refusal, number_refusal, is_named, add_refusal, drop_refusal, set_refusal}
-use Rattle.separation_core.specs.GroupLaws.{AreSets-none, AreSets-with_set, AreSets-without_set, is_sound-limit_with, breaking-without_member, breaking-without_set, breaking-none}
+use Rattle.separation_core.specs.Groups.{Groups, AreSets, first_breaking, first_broken, changed, limit_of, limits_of, limit_with, limit_without, limit_of_number, with_set, is_sound, new_refusal, number_refusal, drop_refusal, set_refusal}
+use Rattle.separation_core.specs.GroupLaws.{AreSets-with_set, AreSets-without_set, is_sound-limit_with, breaking-without_member, breaking-without_set}
 use Rattle.separation_core.specs.declared.sets.Limit.{Limit}
 use Rattle.separation_core.specs.declared.sets.SetFault.{SetFault}
 use Rattle.separation_core.specs.declared.sets.SetFault.TheVariants as fault
 use Rattle.policy_core.specs.declared.refusal.Refusal.{Refusal as PolicyRefusal}
 use Rattle.policy_core.specs.declared.refusal.Refusal.TheVariants.{NoUser, NoRole, Already, NotThere, NotAuthorized, Cycle, Full, Ssd, Dsd}
 use Rattle.policy_core.specs.declared.session.Session.{Session}
-use Rattle.policy_core.specs.State.{PolicyState, authorized, counted, counted_all, session_of, is_role, held_by, slot_of, broken_ssd, broken_dsd, with_roles}
-use Rattle.policy_core.specs.Commands.{role_at, role_added, kept_session, kept_authorized, as_refusal, slots_of, assign_refusal, inherit_refusal, ssd_create_refusal, ssd_add_refusal, ssd_drop_refusal, ssd_number_refusal, dsd_create_refusal, dsd_add_refusal, dsd_drop_refusal, dsd_number_refusal, open_refusal, activate_refusal, opened}
+use Rattle.policy_core.specs.State.{PolicyState, authorized, counted, counted_all, session_of, is_role, held_by, slot_of, with_roles}
+use Rattle.policy_core.specs.Commands.{role_at, kept_session, kept_authorized, as_refusal, slots_of, assign_refusal, inherit_refusal, ssd_create_refusal, ssd_add_refusal, ssd_drop_refusal, ssd_number_refusal, dsd_create_refusal, dsd_add_refusal, dsd_drop_refusal, dsd_number_refusal, open_refusal, activate_refusal, opened}
 use Rattle.rbac_core.specs.declared.command.Command.{Command}
 use Rattle.rbac_core.specs.declared.command.Command.TheVariants.{AddUser, DeleteUser, AddRole, DeleteRole, AssignUser, DeassignUser, GrantPermission, RevokePermission, AddInheritance, DeleteInheritance, CreateSsdSet, AddSsdRoleMember, DeleteSsdRoleMember, DeleteSsdSet, SetSsdSetCardinality, CreateDsdSet, AddDsdRoleMember, DeleteDsdRoleMember, DeleteDsdSet, SetDsdSetCardinality, CreateSession, DeleteSession, AddActiveRole, DropActiveRole, Migrate}
 use Rattle.rbac_core.specs.declared.command.Outcome.{Outcome}
@@ -28,8 +28,8 @@ use Rattle.board_rules.specs.Policies.{policy_after}
 use Rattle.board_rules.proofs.Breaking.{AreFewer, breaking_removed, breaking_filtered, broken_at, closed_none, none_breaks}
 use Rattle.separation_core.specs.GroupLaws.{first_broken-fewer}
 use Rattle.board_rules.proofs.Counted.{counted_fewer, counted_none}
-use Rattle.board_rules.proofs.Orders.{IsSettled, past_end}
-use Rattle.board_rules.proofs.Separation.{IsSeparate, Keeps, within, none_mapped, kept_within, kept_authorized_within, fewer_users, fewer_pairs, without_within, lessened, slotted, with_user, user_lessened, with_ssd, with_dsd, with_sessions, with_one, migrated_keeps}
+use Rattle.board_rules.proofs.Orders.{past_end}
+use Rattle.board_rules.proofs.Separation.{IsSeparate, within, none_mapped, kept_within, kept_authorized_within, fewer_users, fewer_pairs, without_within, lessened, slotted, with_user, user_lessened, with_ssd, with_dsd, with_sessions, with_one, migrated_keeps}
 
 -- ---- refusals that do not come
 

@@ -1,5 +1,5 @@
 -- A vehicle that is current at a base has the route that it had when the version was that base.
-use Rattle.std.proofs.Common.{◌≡◌, ℕ, zero, suc, ◌+◌, ◌-◌, ◌<◌, ◌≤◌, ◌⊎◌, inl, inr, sym, ap, subst, refl, arith, ◌∙◌, List, [], ◌∷◌, ◌++◌, length, take, Option, Some, None, length-append}
+use Rattle.std.proofs.Common.{◌≡◌, ℕ, zero, suc, ◌+◌, ◌-◌, ◌≤◌, inl, inr, sym, ap, subst, refl, arith, ◌∙◌, List, [], ◌∷◌, ◌++◌, length, take, Option, Some, length-append}
 use Rattle.std.specs.Prelude.{slice_index_or, Contains}
 use Rattle.std.proofs.Math.Logic.{∥∥₁_elim}
 use Rattle.std.proofs.Math.Seq.{get_or-append_seam}

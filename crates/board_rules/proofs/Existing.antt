@@ -1,23 +1,23 @@
 -- In a state that a legal history leaves each proposal has a right reply.
-use Rattle.std.proofs.Common.{◌≡◌, ℕ, zero, suc, ◌+◌, ◌<◌, ◌≤◌, ◌⊎◌, inl, inr, Bool, true, false, List, [], ◌∷◌, length, take, Option, Some, None, refl, sym, ap, ◌∙◌, subst, arith}
+use Rattle.std.proofs.Common.{◌≡◌, ℕ, zero, suc, ◌+◌, ◌<◌, ◌⊎◌, inl, inr, Bool, List, [], ◌∷◌, length, take, Option, Some, None, refl, sym, ap, ◌∙◌, subst, arith}
 use Rattle.std.specs.Prelude.{slice_get, cond}
 use Rattle.std.proofs.lemmas.Bool.{cases_Bool, cases_eq, cases_lt}
 use Rattle.dimension_core.specs.Setting.{Setting}
 use Rattle.dimension_core.specs.Feasible.{IsFeasible}
 use Rattle.dimension_core.specs.Laws.{SpansGoOn}
 use Rattle.plan_core.specs.declared.touch.Touch.{Touch}
-use Rattle.plan_core.specs.Plan.{Changes, IsPlan, AreApart, route_at, with_routes}
-use Rattle.pin_core.specs.Pins.{PinState, StandsOn, IsHeld, DoPinsHold, IsFrontKept, AreFreezesKept, pin_of, front_of}
+use Rattle.plan_core.specs.Plan.{Changes, IsPlan, AreApart, route_at}
+use Rattle.pin_core.specs.Pins.{StandsOn, IsHeld, DoPinsHold, IsFrontKept, pin_of, front_of}
 use Rattle.pin_core.specs.Allowed.{IsFirstFailing}
 use Rattle.move_core.specs.declared.moves.Move.{Move}
-use Rattle.move_core.specs.Moves.{named_by, changes_by, effect, is_possible}
+use Rattle.move_core.specs.Moves.{named_by, changes_by, is_possible}
 use Rattle.move_core.specs.Touched.{touched_by}
 use Rattle.board_rules.specs.declared.call.Call.{Call}
 use Rattle.board_rules.specs.declared.call.Call.TheVariants.{Propose, Pin, Unpin, Freeze, Thaw, Policy}
 use Rattle.board_rules.specs.declared.reply.Denial.{Denial}
 use Rattle.board_rules.specs.declared.reply.Denial.TheVariants.{NoSession, BadVehicle, AccessVehicle, Ahead, Stale, BadPlace, AccessCustomer, Frozen, Pinned, Bound}
 use Rattle.board_rules.specs.declared.reply.Reply.{Reply}
-use Rattle.board_rules.specs.declared.reply.Reply.TheVariants.{Done, Session, Committed, Denied, Refused}
+use Rattle.board_rules.specs.declared.reply.Reply.TheVariants.{Committed, Denied}
 use Rattle.board_rules.specs.Override.{IsAllowed, DoPinsAllow}
 use Rattle.board_rules.specs.Policies.{policy_reply}
 use Rattle.board_rules.specs.Pinning.{pin_refusal, unpin_refusal, freeze_refusal, thaw_refusal}
@@ -27,7 +27,6 @@ use Rattle.board_rules.specs.Step.{IsReply, refused_by}
 use Rattle.board_rules.specs.Good.{IsGood}
 use Rattle.board_rules.specs.Given.{Laws}
 use Rattle.board_rules.proofs.Bounds.{fit_or_out}
-use Rattle.board_rules.proofs.Finds.{all_by_place}
 use Rattle.board_rules.proofs.Outs.{feasible_all}
 use Rattle.board_rules.proofs.Standing.{stands_or_not}
 

@@ -1,23 +1,22 @@
 -- What the opening state has, and every right reply keeps.
-use Rattle.std.proofs.Common.{◌≡◌, ℕ, zero, suc, ◌+◌, ◌-◌, ◌<◌, ◌≤◌, ◌⊎◌, inl, inr, Bool, true, false, sym, ap, subst, refl, arith, ◌∙◌, List, [], ◌∷◌, length, replicate, Option, Some, None, length-set}
-use Rattle.std.specs.Prelude.{slice_get, slice_index_or, not, ◌&&◌, if◌then◌else◌, is_none, is_some, nat_le, nat_lt}
+use Rattle.std.proofs.Common.{◌≡◌, ℕ, zero, suc, ◌-◌, ◌<◌, ◌≤◌, inl, inr, Bool, true, false, sym, subst, refl, arith, ◌∙◌, List, [], length, replicate, Option, Some, None, length-set}
+use Rattle.std.specs.Prelude.{slice_get, slice_index_or, not, if◌then◌else◌, is_none}
 use Rattle.std.specs.Option.{option_or}
 use Rattle.std.proofs.Math.Logic.{∥∥₁_elim, ∥∥₁_map}
 use Rattle.std.proofs.Math.Nat.{ℕ_set}
 use Rattle.std.proofs.Props.{props}
-use Rattle.std.proofs.lemmas.Bool.{and_parts, leb-true, ltb-true, not-true, not-false}
+use Rattle.std.proofs.lemmas.Bool.{and_parts, leb-true, ltb-true, not-false}
 use Rattle.std.proofs.lemmas.List.{length-replicate}
 use Rattle.dimension_core.specs.Setting.{Setting}
 use Rattle.dimension_core.specs.Feasible.{IsFeasible}
-use Rattle.plan_core.specs.Plan.{StandsAt, IsPlan, route_at, with_routes}
-use Rattle.pin_core.specs.Pins.{PinState, StandsOn, DoPinsHold, DoFrontsFit, pin_of, front_of, with_pin, with_front}
+use Rattle.plan_core.specs.Plan.{StandsAt, IsPlan, route_at}
+use Rattle.pin_core.specs.Pins.{PinState, DoPinsHold, DoFrontsFit, front_of, with_pin, with_front}
 use Rattle.move_core.specs.declared.moves.Move.{Move}
 use Rattle.move_core.specs.Moves.{changes_by}
 use Rattle.board_rules.specs.declared.call.Call.{Call}
 use Rattle.board_rules.specs.declared.call.Call.TheVariants.{Propose, Pin, Unpin, Freeze, Thaw, Policy}
-use Rattle.board_rules.specs.declared.reply.Denial.{Denial}
 use Rattle.board_rules.specs.declared.reply.Refusal.{Refusal}
-use Rattle.board_rules.specs.declared.reply.Refusal.TheVariants.{NoSession, NoAccess, BadVehicle, BadCustomer, Already, NotThere, NotPlaced, Length}
+use Rattle.board_rules.specs.declared.reply.Refusal.TheVariants.{NoSession, BadVehicle, BadCustomer, NotPlaced, Length}
 use Rattle.board_rules.specs.declared.reply.Reply.{Reply}
 use Rattle.board_rules.specs.declared.reply.Reply.TheVariants.{Done, Session, Committed, Denied, Refused}
 use Rattle.board_rules.specs.State.{BoardState, opening_state}

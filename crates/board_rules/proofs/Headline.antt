@@ -1,6 +1,6 @@
 -- The rules as they compute, and in the words of the sources.
-use Rattle.std.proofs.Common.{◌≡◌, ℕ, ◌+◌, ◌≤◌, ◌<◌, ◌⊎◌, inl, inr, Bool, true, false, List, length, Option, Some, None, refl, sym, ap, ◌∙◌, subst, arith}
-use Rattle.std.specs.Prelude.{◌↔◌, All, find, not, slice_get}
+use Rattle.std.proofs.Common.{◌≡◌, ℕ, ◌≤◌, ◌⊎◌, inl, inr, Bool, true, false, List, Some, None, refl}
+use Rattle.std.specs.Prelude.{◌↔◌, All, find, not}
 use Rattle.std.proofs.lemmas.Bool.{cases_Bool, and_parts, and_from, both_ways, false_from_ne_true, leb-true, le-leb, not-false, not_from_true}
 use Rattle.policy_core.specs.Access.{has_access, CheckAccess}
 use Rattle.permission_core.specs.declared.objects.Operation.{Operation}
@@ -10,8 +10,6 @@ use Rattle.permission_core.specs.declared.objects.Object.TheVariants as objects
 use Rattle.dimension_core.specs.Setting.{Setting}
 use Rattle.plan_core.specs.declared.touch.Touch.{Touch}
 use Rattle.plan_core.specs.Commits.{IsCurrentAt}
-use Rattle.pin_core.specs.Pins.{PinState, IsHeld}
-use Rattle.pin_core.specs.Allowed.{IsFirstFailing}
 use Rattle.move_core.specs.declared.moves.Move.{Move}
 use Rattle.move_core.specs.Moves.{named_by}
 use Rattle.move_core.specs.Touched.{touched_by}
@@ -23,7 +21,7 @@ use Rattle.board_rules.specs.declared.reply.Reply.TheVariants.{Done, Session, Co
 use Rattle.board_rules.specs.Step.{IsReply}
 use Rattle.board_rules.specs.Override.{IsAllowed, DoPinsAllow}
 use Rattle.board_rules.specs.State.{BoardState}
-use Rattle.board_rules.specs.Rules.{Basis, IsVerdict, PassesSession, PassesFleet, PassesVehicles, PassesVersion, PassesBase, PassesEffect, PassesCustomers, PassesFronts, PassesPins, PassesAll, basis_of, are_in_fleet, is_one_of, is_changed_after, first_barred_vehicle, first_stale, first_barred_customer, may_override, routes_after}
+use Rattle.board_rules.specs.Rules.{Basis, IsVerdict, basis_of, are_in_fleet, is_one_of, is_changed_after, first_barred_vehicle, first_stale, first_barred_customer, may_override, routes_after}
 use Rattle.board_rules.specs.Proposals.{FailsFirst, SessionExists, AreInFleet, MayMove, MayMoveVehicles, AreCurrent, MayMoveCustomers, IsFree, PinsAllow, IsFirstFailed, MayCommit}
 use Rattle.board_rules.proofs.Finds.{none_passes, none_found, first_passes, first_found, failing_same, all_by_place, place_by_all, list_all_from, list_all_by}
 

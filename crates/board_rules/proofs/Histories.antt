@@ -1,5 +1,5 @@
 -- Legal histories, entry by entry.
-use Rattle.std.proofs.Common.{◌≡◌, ℕ, zero, suc, ◌+◌, ◌-◌, ◌<◌, ◌≤◌, ◌⊎◌, inl, inr, sym, ap, subst, refl, arith, ◌∙◌, List, [], ◌∷◌, ◌++◌, length, take, Option, Some, None, length-append}
+use Rattle.std.proofs.Common.{◌≡◌, ℕ, zero, suc, ◌+◌, ◌<◌, ◌≤◌, ◌⊎◌, inl, inr, sym, ap, subst, refl, arith, ◌∙◌, List, [], ◌∷◌, ◌++◌, length, take, Some, length-append}
 use Rattle.std.specs.Prelude.{slice_get, cond, ◌==◌}
 use Rattle.std.proofs.Math.Logic.{∥∥₁_elim}
 use Rattle.std.proofs.Props.{props}
@@ -14,7 +14,7 @@ use Rattle.board_rules.specs.declared.reply.Reply.{Reply}
 use Rattle.board_rules.specs.declared.reply.Reply.TheVariants.{Done, Session, Committed, Denied, Refused}
 use Rattle.board_rules.specs.State.{BoardState, opening_state}
 use Rattle.board_rules.specs.Step.{IsReply, after}
-use Rattle.board_rules.specs.History.{Opening, History, state_from, state_after, turns_of, IsNext, IsLegal}
+use Rattle.board_rules.specs.History.{Opening, state_from, state_after, turns_of, IsNext, IsLegal}
 use Rattle.board_rules.specs.Good.{IsGood}
 use Rattle.board_rules.specs.Given.{Laws}
 use Rattle.board_rules.proofs.Good.{good_after, good_opening, good_said}

@@ -1,15 +1,15 @@
 -- What the policy of every history keeps: its sizes, and an order whose rows are those of 256 slots.
-use Rattle.std.proofs.Common.{◌≡◌, ℕ, zero, suc, ◌+◌, ◌<◌, ◌≤◌, ◌⊎◌, inl, inr, Bool, true, false, List, [], ◌∷◌, length, map, replicate, Option, Some, None, refl, sym, ap, ◌∙◌, subst, arith, length-set}
-use Rattle.std.specs.Prelude.{slice_index, slice_set, slice_index_or, cond, unwrap_or, find, not, ◌&&◌, bytes_eq, Result, Ok, Err}
+use Rattle.std.proofs.Common.{◌≡◌, ℕ, zero, suc, ◌+◌, ◌<◌, ◌≤◌, inl, inr, Bool, true, false, List, [], ◌∷◌, length, map, replicate, Option, Some, None, refl, sym, ap, ◌∙◌, subst, arith, length-set}
+use Rattle.std.specs.Prelude.{slice_index, slice_set, cond, unwrap_or, find, not, bytes_eq}
 use Rattle.std.specs.List.{range_with_len}
 use Rattle.std.specs.Map.{lookup, remove_entry}
 use Rattle.std.specs.Option.{option_map_or, option_or}
 use Rattle.std.proofs.lemmas.Bool.{cases_eq, cases_lt, and_parts, both_ways}
 use Rattle.std.proofs.lemmas.List.{length-map, length-replicate, get_or-set_same, get_or-set_other, get_or-map}
 use Rattle.indexmap.specs.IndexMap.{insert_entry}
-use Rattle.role_hierarchy.specs.Roles.{has, with_role, without, first_free}
+use Rattle.role_hierarchy.specs.Roles.{has, without, first_free}
 use Rattle.role_hierarchy.specs.RoleLaws.{has-empty, has-without}
-use Rattle.role_hierarchy.specs.Order.{Order, stands, no_order, with_slot, with_pair, without_pair, without_slot}
+use Rattle.role_hierarchy.specs.Order.{Order}
 use Rattle.role_hierarchy.specs.Below.{IsOrder}
 use Rattle.role_hierarchy.specs.BelowLaws.{order-with_pair}
 use Rattle.policy_core.specs.declared.refusal.Refusal.{Refusal as PolicyRefusal}

@@ -1,12 +1,12 @@
 -- New routes that are out of bounds.
-use Rattle.std.proofs.Common.{◌≡◌, ℕ, ◌-◌, ◌<◌, ◌≤◌, inl, inr, List, [], ◌∷◌, length, refl, sym, ap, ◌∙◌, subst, arith, length-set}
-use Rattle.std.specs.Prelude.{slice_set}
+use Rattle.std.proofs.Common.{◌≡◌, ℕ, zero, suc, ◌-◌, ◌<◌, ◌≤◌, inl, inr, List, [], ◌∷◌, length, refl, sym, ap, ◌∙◌, subst, arith, length-set}
+use Rattle.std.specs.Prelude.{slice_set, slice_get, All, Some}
 use Rattle.std.proofs.lemmas.Bool.{cases_eq}
 use Rattle.std.proofs.lemmas.List.{get_or-set_same, get_or-set_other}
 use Rattle.plan_core.specs.Plan.{Changes, AreApart, IsNamed, route_at, with_routes}
 use Rattle.dimension_core.specs.Setting.{Setting}
 use Rattle.dimension_core.specs.Feasible.{FitsAll, IsFirstOut, IsFeasible}
-use Rattle.dimension_core.specs.NewRoutes.{AllFit, IsOut}
+use Rattle.dimension_core.specs.NewRoutes.{AllKnown, AllFit, IsOut}
 
 -- what is not refuted of two numbers' equality holds
 not_other : (m n : ℕ) → ((m ≡ n → ⊥) → ⊥) → m ≡ n
@@ -66,3 +66,11 @@ feasible_all s [] routes sized apart fits old = old
 feasible_all s (c ∷ cs) routes sized apart fits old =
     feasible_all s cs (slice_set routes (c.0 - 1) c.1) (length-set routes (c.0 - 1) c.1 ∙ sized) apart.3 fits.1
     (feasible_one s routes c.0 c.1 sized apart.0 apart.1 fits.0 old)
+
+-- new routes of vehicles of the fleet and customers of the setting are known
+pub all_known : (s : Setting) (changes : Changes) → AreApart s.vehicles changes → ((k : ℕ) (c : ℕ × List ℕ) → slice_get changes k ≡ Some c → All (λ x. (1 ≤ x) × (x ≤ s.customers)) c.1) → AllKnown s changes
+all_known s [] apart known = tt
+all_known s (c ∷ cs) apart known = (
+  (apart.0, apart.1, (λ k d below. (known zero c refl k d below).1)),
+  all_known s cs apart.3 (λ k d at. known (suc k) d at),
+)

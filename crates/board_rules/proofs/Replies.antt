@@ -1,13 +1,12 @@
 -- In a state that a legal history leaves a call has one right reply at most.
-use Rattle.std.proofs.Common.{◌≡◌, ℕ, zero, suc, ◌<◌, ◌≤◌, ◌⊎◌, inl, inr, Bool, true, false, List, [], ◌∷◌, length, Option, Some, None, refl, sym, ap, ◌∙◌, subst, arith}
+use Rattle.std.proofs.Common.{◌≡◌, ℕ, zero, suc, ◌<◌, ◌≤◌, inl, inr, true, List, length, Option, Some, None, refl, sym, ap, ◌∙◌, subst, arith}
 use Rattle.std.specs.Prelude.{slice_get}
 use Rattle.std.proofs.lemmas.Bool.{cases_eq, cases_order, both_ways}
 use Rattle.dimension_core.specs.Setting.{Setting}
 use Rattle.dimension_core.specs.Feasible.{IsFirstOut, IsFeasible}
 use Rattle.plan_core.specs.declared.touch.Touch.{Touch}
-use Rattle.plan_core.specs.Plan.{Changes, IsPlan, AreApart}
+use Rattle.plan_core.specs.Plan.{IsPlan, AreApart}
 use Rattle.pin_core.specs.Pins.{AreFreezesKept, IsFrontKept}
-use Rattle.pin_core.specs.Allowed.{IsFirstFailing}
 use Rattle.move_core.specs.declared.moves.Move.{Move}
 use Rattle.move_core.specs.Moves.{named_by, changes_by, effect}
 use Rattle.move_core.specs.Touched.{touched_by}

@@ -1,27 +1,24 @@
 -- Each command that is not refused keeps separation of duty.
-use Rattle.std.proofs.Common.{◌≡◌, ℕ, ◌+◌, ◌<◌, ◌≤◌, ◌⊎◌, inl, inr, Bool, true, false, List, [], ◌∷◌, length, map, filter, Option, Some, None, refl, sym, ap, ap₂, ◌∙◌, subst, arith}
-use Rattle.std.specs.Prelude.{cond, unwrap_or, not, ◌&&◌, ◌||◌, bit_and, bytes_eq, nat_eq, nat_le, is_some, if◌then◌else◌, count_ones}
-use Rattle.std.specs.List.{list_all, list_any}
-use Rattle.std.specs.Map.{lookup, remove_entry}
-use Rattle.std.specs.Option.{option_map, option_map_or, option_or}
-use Rattle.std.proofs.lemmas.Bool.{and_parts, cases_Bool, not-false, leb-false, both_ways}
+use Rattle.std.proofs.Common.{◌≡◌, ℕ, true, false, List, [], ◌∷◌, map, Option, Some, None, refl, sym, ap, ap₂, ◌∙◌, subst}
+use Rattle.std.specs.Prelude.{cond, unwrap_or, bit_and, bytes_eq, nat_eq, is_some}
+use Rattle.std.specs.Map.{lookup}
+use Rattle.std.specs.Option.{option_map}
+use Rattle.std.proofs.lemmas.Bool.{and_parts}
 use Rattle.indexmap.specs.IndexMap.{insert_entry}
-use Rattle.role_hierarchy.specs.Roles.{has, with_role, without, first_free}
-use Rattle.role_hierarchy.specs.RoleLaws.{has-bit_and, has-without, has-empty}
-use Rattle.role_hierarchy.specs.Order.{Order, stands, with_slot, with_pair, without_pair, without_slot}
+use Rattle.role_hierarchy.specs.Roles.{has, without}
+use Rattle.role_hierarchy.specs.RoleLaws.{has-bit_and, has-without}
+use Rattle.role_hierarchy.specs.Order.{Order, stands, with_slot}
 use Rattle.role_hierarchy.specs.Below.{closed, IsOrder}
 use Rattle.role_hierarchy.specs.BelowLaws.{closed_fewer, closed_fewer_pairs, closed-with_slot}
-use Rattle.separation_core.specs.Groups.{Groups, AreSets, first_breaking, first_broken, with_set, changed, limit_of, limit_with, limit_without, limit_of_number, with_member, without_member, with_number, without_set, is_sound, new_refusal, number_refusal, is_named, add_refusal, drop_refusal, set_refusal, delete_refusal}
-use Rattle.separation_core.specs.GroupLaws.{AreSets-none, AreSets-with_set, AreSets-without_set, breaking-without_member, breaking-without_set, breaking-none, first_broken-fewer}
-use Rattle.separation_core.specs.declared.sets.Limit.{Limit}
+use Rattle.separation_core.specs.Groups.{Groups, AreSets, first_breaking, first_broken}
+use Rattle.separation_core.specs.GroupLaws.{first_broken-fewer}
 use Rattle.policy_core.specs.declared.refusal.Refusal.{Refusal as PolicyRefusal}
-use Rattle.policy_core.specs.declared.refusal.Refusal.TheVariants.{Ssd, Dsd}
 use Rattle.policy_core.specs.declared.session.Session.{Session}
 use Rattle.policy_core.specs.declared.session.Counting.{Counting}
-use Rattle.policy_core.specs.declared.session.Counting.TheVariants.{Active, Inherited}
-use Rattle.policy_core.specs.State.{PolicyState, authorized, counted, counted_all, is_session, session_of, held_by, slot_of, broken_ssd, broken_dsd, broken, with_roles, with_session, no_policy}
-use Rattle.policy_core.specs.Commands.{kept_session, kept_authorized, narrowed, narrowed_all, migrated_session}
-use Rattle.board_rules.proofs.Breaking.{not_broken, breaking_inserted, broken_at, breaking_removed, breaking_filtered, AreFewer, breaking_fewer, closed_none, none_breaks, BreakNone, breaking_each}
+use Rattle.policy_core.specs.declared.session.Counting.TheVariants.{Inherited}
+use Rattle.policy_core.specs.State.{PolicyState, authorized, counted, counted_all, held_by, with_roles, with_session}
+use Rattle.policy_core.specs.Commands.{kept_session, kept_authorized, migrated_session}
+use Rattle.board_rules.proofs.Breaking.{breaking_inserted, broken_at, AreFewer, breaking_fewer, closed_none, none_breaks, BreakNone, breaking_each}
 use Rattle.board_rules.proofs.Counted.{counted_fewer, counted_fewer_pairs, counted-with_slot}
 
 -- No user is authorized for, and for no session are counted, as many roles of a set as its number, in sound sets.

@@ -1,7 +1,7 @@
 -- The policy after every history is settled, and keeps separation of duty.
 use Rattle.std.proofs.Common.{◌≡◌, ℕ, List, [], ◌∷◌, refl, sym, subst}
 use Rattle.separation_core.specs.GroupLaws.{AreSets-none, breaking-none}
-use Rattle.policy_core.specs.State.{PolicyState, authorized, counted_all}
+use Rattle.policy_core.specs.State.{authorized, counted_all}
 use Rattle.policy_core.specs.Opening.{opening}
 use Rattle.rbac_core.specs.declared.command.Command.{Command}
 use Rattle.dimension_core.specs.Setting.{Setting}

@@ -1,12 +1,11 @@
 -- Who stands on a vehicle, by the test and by its place.
-use Rattle.std.proofs.Common.{◌≡◌, ℕ, ◌+◌, ◌-◌, ◌<◌, ◌≤◌, ◌⊎◌, inl, inr, Bool, true, false, List, [], length, Option, Some, None, refl, sym, ap, ◌∙◌, subst, arith}
-use Rattle.std.specs.Prelude.{slice_index_or, slice_get, position, Contains, nat_le, ◌&&◌}
+use Rattle.std.proofs.Common.{◌≡◌, ℕ, ◌+◌, ◌-◌, ◌≤◌, ◌⊎◌, inl, inr, true, List, [], length, Option, Some, None, refl, ap, ◌∙◌, arith}
+use Rattle.std.specs.Prelude.{slice_index_or, position}
 use Rattle.std.specs.Option.{option_map}
-use Rattle.std.proofs.Math.Logic.{∥∥₁_elim}
 use Rattle.std.proofs.lemmas.Bool.{cases_Bool, cases_lt}
 use Rattle.std.proofs.lemmas.List.Quantifiers.{position-Some}
 use Rattle.plan_core.specs.Among.{is_among}
-use Rattle.plan_core.specs.Plan.{StandsAt, route_at}
+use Rattle.plan_core.specs.Plan.{route_at}
 use Rattle.plan_core.specs.Laws.{CustomersStandByRoute, AmongIsTested}
 use Rattle.pin_core.specs.Pins.{StandsOn}
 use Rattle.board_rules.specs.Pinning.{vehicle_of}

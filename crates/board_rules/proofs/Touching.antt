@@ -1,5 +1,5 @@
 -- Pins judged by the answers to the touches are judged by all.
-use Rattle.std.proofs.Common.{◌≡◌, ℕ, ◌≤◌, ◌<◌, ◌⊎◌, inl, inr, Bool, true, false, List, Option, Some, refl, sym, ap, ◌∙◌, subst}
+use Rattle.std.proofs.Common.{◌≡◌, ℕ, ◌≤◌, ◌⊎◌, inl, inr, Bool, true, List, Some, sym, ◌∙◌, subst}
 use Rattle.std.specs.Prelude.{slice_get}
 use Rattle.plan_core.specs.declared.touch.Touch.{Touch}
 use Rattle.pin_core.specs.Pins.{PinState, IsHeld}

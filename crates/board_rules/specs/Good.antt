@@ -1,5 +1,5 @@
 -- What every state of a legal history keeps.
-use Rattle.std.specs.Prelude.{ℕ, ◌≡◌, List, length, take}
+use Rattle.std.specs.Prelude.{ℕ, ◌≡◌, length, take}
 use Rattle.dimension_core.specs.Setting.{Setting}
 use Rattle.dimension_core.specs.Feasible.{IsFeasible}
 use Rattle.plan_core.specs.Plan.{IsPlan}

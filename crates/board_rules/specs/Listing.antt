@@ -11,7 +11,7 @@ use Rattle.plan_core.specs.declared.touch.Touch.{Touch}
 use Rattle.plan_core.specs.Plan.{route_at}
 use Rattle.move_core.specs.Moves.{is_placed}
 use Rattle.move_core.specs.Touched.{touches}
-use Rattle.board_rules.specs.Rules.{Basis, basis_of}
+use Rattle.board_rules.specs.Rules.{basis_of}
 use Rattle.board_rules.specs.State.{BoardState}
 
 -- a row as it is shown: vehicle and place are 0 for an unassigned customer, which has no early values

@@ -1,12 +1,12 @@
 -- Pins and freezes: why a call on them is refused, the first reason that holds, and what it changes.
-use Rattle.std.specs.Prelude.{ℕ, ◌+◌, Bool, not, ◌&&◌, nat_le, nat_lt, if◌then◌else◌, List, length, position, is_some, is_none, Option, Some, None}
+use Rattle.std.specs.Prelude.{ℕ, ◌+◌, not, ◌&&◌, nat_le, nat_lt, if◌then◌else◌, List, length, position, is_some, is_none, Option, Some, None}
 use Rattle.std.specs.Option.{option_map, option_or}
 use Rattle.permission_core.specs.declared.objects.Operation.TheVariants as operations
 use Rattle.permission_core.specs.declared.objects.Object.TheVariants as objects
 use Rattle.dimension_core.specs.Setting.{Setting}
 use Rattle.plan_core.specs.Plan.{route_at}
 use Rattle.plan_core.specs.Among.{is_among}
-use Rattle.pin_core.specs.Pins.{PinState, pin_of, front_of, with_pin, with_front}
+use Rattle.pin_core.specs.Pins.{PinState, pin_of, front_of, with_pin}
 use Rattle.board_rules.specs.declared.reply.Refusal.{Refusal}
 use Rattle.board_rules.specs.declared.reply.Refusal.TheVariants.{NoSession, NoAccess, BadVehicle, BadCustomer, Already, NotThere, NotPlaced, Length}
 use Rattle.board_rules.specs.Rules.{Basis, is_one_of}

@@ -6,7 +6,7 @@ ghost use Rattle.policy_core.specs.Access.{has_access, CheckAccess};
 ghost use Rattle.dimension_core.specs.Setting.{Setting};
 ghost use Rattle.dimension_core.specs.Feasible.{IsFeasible};
 ghost use Rattle.dimension_core.specs.Laws.{SpansGoOn};
-ghost use Rattle.dimension_core.specs.NewRoutes.{AllFit};
+ghost use Rattle.dimension_core.specs.NewRoutes.{AllFit, AllKnown};
 ghost use Rattle.plan_core.specs.declared.touch.Touch.{Touch};
 ghost use Rattle.plan_core.specs.Plan.{StandsAt, IsPlaced, IsPlan, route_at};
 ghost use Rattle.plan_core.specs.Commits.{IsCurrentAt, last_commit};
@@ -41,7 +41,10 @@ use pin_core::{
     freezes_by_named, front_still_fits, fronts_within_routes, opening_holds, pin_holds,
     pins_after_commits, unpin_holds,
 };
-use plan_core::{among_is_tested, currency_by_stamps, customers_stand_by_route, routes_replaced};
+use plan_core::{
+    among_is_tested, currency_by_stamps, customers_stand_by_route, routes_are_known,
+    routes_replaced,
+};
 
 /// The laws of plans, moves and pins, fetched once for all laws here.
 fn laws_below()
@@ -170,12 +173,16 @@ pub fn pins_by_touches()
         → IsFirstForbidden pins others touched answers t → IsFirstHeldBack pins free others touched t }
 {}
 
-/// Where the new routes of a move are in bounds, a feasible plan stays feasible.
-pub fn new_routes_stay_feasible()
-    ensures { (s : Setting) (routes : List (List ℕ)) (mv : Move) → length routes ≡ s.vehicles → IsFeasible s routes → effect s.customers routes mv ≡ Some (changes_by routes mv)
+/// The new routes of a move are of vehicles of the fleet and customers of the board, and where they are in bounds, a feasible plan stays
+/// feasible.
+pub fn plans_are_judged_by_new_routes()
+    ensures known { (s : Setting) (routes : List (List ℕ)) (mv : Move) → length routes ≡ s.vehicles → IsPlan s.customers routes → effect s.customers routes mv ≡ Some (changes_by routes mv)
+        → AllKnown s (changes_by routes mv) }
+    ensures feasible { (s : Setting) (routes : List (List ℕ)) (mv : Move) → length routes ≡ s.vehicles → IsFeasible s routes → effect s.customers routes mv ≡ Some (changes_by routes mv)
         → AllFit s (changes_by routes mv) → IsFeasible s (routes_after routes mv) }
 {
     laws_below();
+    routes_are_known();
 }
 
 /// In a plan a customer that stands at a place has that vehicle and that place, and one that stands nowhere has none.

@@ -1,8 +1,8 @@
 use crate::{
     AskFault, Delta, Fault, Refusal, Row, calls_keep_the_rest, changes_by_stamps,
     current_vehicles_keep_their_routes, customers_have_one_spot, histories_grow_by_entries,
-    histories_settle_policies, legal_histories_leave_good_states, new_routes_stay_feasible,
-    pins_by_touches, proposals_commit_exactly, replies_are_determined,
+    histories_settle_policies, legal_histories_leave_good_states, pins_by_touches,
+    plans_are_judged_by_new_routes, proposals_commit_exactly, replies_are_determined,
     right_replies_keep_good_states, separation_of_duty_holds, verdicts_by_agreeing_facts,
 };
 use rbac_core::Refusal as PolicyRefusal;
@@ -75,7 +75,7 @@ fn laws_are_called(rt: HostRuntime) -> Result<(), Fail> {
     verdicts_by_agreeing_facts();
     changes_by_stamps();
     pins_by_touches();
-    new_routes_stay_feasible();
+    plans_are_judged_by_new_routes();
     customers_have_one_spot();
     assert!(rt; true);
     Ok(())

@@ -1,4 +1,3 @@
-use Rattle.std.proofs.Common.{inl, inr, refl}
 use Rattle.board_rules.specs.Good.{state_of}
 use Rattle.board_rules.proofs.Accesses.{access_by_test}
 use Rattle.board_rules.proofs.Headline.{commits_exactly, denies_exactly, committed_or_denied}
