@@ -8,12 +8,12 @@ use Rattle.std.proofs.lemmas.Slice.Eq.{bytes_eq-Decides}
 use Rattle.std.proofs.lemmas.Bool.Decides.{nat_tests}
 use Rattle.text_words.specs.Words.{is_number, words}
 use Rattle.separation_core.specs.Names.{is_name}
-use Rattle.rbac_core.specs.declared.objects.Operation.{Operation}
-use Rattle.rbac_core.specs.declared.objects.Operation.TheVariants as operations
-use Rattle.rbac_core.specs.declared.objects.Object.{Object}
-use Rattle.rbac_core.specs.declared.objects.Object.TheVariants as objects
-use Rattle.rbac_core.specs.declared.objects.ObjectRange.{ObjectRange}
-use Rattle.rbac_core.specs.declared.objects.ObjectRange.TheVariants as ranges
+use Rattle.permission_core.specs.declared.objects.Operation.{Operation}
+use Rattle.permission_core.specs.declared.objects.Operation.TheVariants as operations
+use Rattle.permission_core.specs.declared.objects.Object.{Object}
+use Rattle.permission_core.specs.declared.objects.Object.TheVariants as objects
+use Rattle.permission_core.specs.declared.objects.ObjectRange.{ObjectRange}
+use Rattle.permission_core.specs.declared.objects.ObjectRange.TheVariants as ranges
 use Rattle.board_rules.specs.declared.review.Review.TheVariants as reviews
 use Rattle.board_lines.specs.declared.command.Command.{Command}
 use Rattle.board_lines.specs.declared.command.Command.TheVariants.{Skip, Submit, List as ListRows, Json, Audit, Check, Review}

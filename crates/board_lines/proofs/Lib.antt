@@ -8,3 +8,4 @@ mod Spelled
 mod Texts
 mod Commands
 mod Reread
+mod Floats

@@ -4,12 +4,12 @@ use Rattle.std.specs.List.{AllByRecursion, list_all}
 use Rattle.std.specs.Fmt.{decimal}
 use Rattle.text_words.specs.Words.{words}
 use Rattle.separation_core.specs.Names.{is_name}
-use Rattle.rbac_core.specs.declared.objects.Operation.{Operation}
-use Rattle.rbac_core.specs.declared.objects.Operation.TheVariants as operations
-use Rattle.rbac_core.specs.declared.objects.Object.{Object}
-use Rattle.rbac_core.specs.declared.objects.Object.TheVariants as objects
-use Rattle.rbac_core.specs.declared.objects.ObjectRange.{ObjectRange}
-use Rattle.rbac_core.specs.declared.objects.ObjectRange.TheVariants as ranges
+use Rattle.permission_core.specs.declared.objects.Operation.{Operation}
+use Rattle.permission_core.specs.declared.objects.Operation.TheVariants as operations
+use Rattle.permission_core.specs.declared.objects.Object.{Object}
+use Rattle.permission_core.specs.declared.objects.Object.TheVariants as objects
+use Rattle.permission_core.specs.declared.objects.ObjectRange.{ObjectRange}
+use Rattle.permission_core.specs.declared.objects.ObjectRange.TheVariants as ranges
 use Rattle.board_lines.specs.declared.command.Command.TheVariants.{Submit}
 use Rattle.board_lines.specs.Table.{row_of}
 use Rattle.board_lines.specs.Arguments.{Arguments, no_more, the_object, the_range, the_names, a_number, a_name, an_operation}

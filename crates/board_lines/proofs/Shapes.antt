@@ -2,8 +2,8 @@
 use Rattle.std.proofs.Common.{◌≡◌, ℕ, List, Some, refl}
 use Rattle.move_core.specs.declared.moves.Move.{Move}
 use Rattle.move_core.specs.declared.moves.Move.TheVariants as plan
-use Rattle.rbac_core.specs.declared.objects.Operation.{Operation}
-use Rattle.rbac_core.specs.declared.objects.Object.{Object}
+use Rattle.permission_core.specs.declared.objects.Operation.{Operation}
+use Rattle.permission_core.specs.declared.objects.Object.{Object}
 use Rattle.rbac_core.specs.declared.command.Command.{Command as PolicyCommand}
 use Rattle.rbac_core.specs.declared.command.Command.TheVariants as policy
 use Rattle.board_rules.specs.declared.call.Call.{Call}
@@ -111,27 +111,27 @@ policy_says s (policy.AddUser u) = record { kinds = refl; made = refl }
 policy_says s (policy.DeleteUser u) = record { kinds = refl; made = refl }
 policy_says s (policy.AddRole r) = record { kinds = refl; made = refl }
 policy_says s (policy.DeleteRole r) = record { kinds = refl; made = refl }
-policy_says s (policy.Assign u r) = record { kinds = refl; made = refl }
-policy_says s (policy.Deassign u r) = record { kinds = refl; made = refl }
-policy_says s (policy.Grant r op over) = record { kinds = refl; made = refl }
-policy_says s (policy.Revoke r op over) = record { kinds = refl; made = refl }
-policy_says s (policy.Inherit r j) = record { kinds = refl; made = refl }
-policy_says s (policy.Uninherit r j) = record { kinds = refl; made = refl }
+policy_says s (policy.AssignUser u r) = record { kinds = refl; made = refl }
+policy_says s (policy.DeassignUser u r) = record { kinds = refl; made = refl }
+policy_says s (policy.GrantPermission r op over) = record { kinds = refl; made = refl }
+policy_says s (policy.RevokePermission r op over) = record { kinds = refl; made = refl }
+policy_says s (policy.AddInheritance r j) = record { kinds = refl; made = refl }
+policy_says s (policy.DeleteInheritance r j) = record { kinds = refl; made = refl }
 policy_says s policy.Migrate = record { kinds = refl; made = refl }
-policy_says s (policy.SsdCreate x n rs) = record { kinds = refl; made = refl }
-policy_says s (policy.SsdAdd x r) = record { kinds = refl; made = refl }
-policy_says s (policy.SsdDrop x r) = record { kinds = refl; made = refl }
-policy_says s (policy.SsdDelete x) = record { kinds = refl; made = refl }
-policy_says s (policy.SsdNumber x n) = record { kinds = refl; made = refl }
-policy_says s (policy.DsdCreate x n rs) = record { kinds = refl; made = refl }
-policy_says s (policy.DsdAdd x r) = record { kinds = refl; made = refl }
-policy_says s (policy.DsdDrop x r) = record { kinds = refl; made = refl }
-policy_says s (policy.DsdDelete x) = record { kinds = refl; made = refl }
-policy_says s (policy.DsdNumber x n) = record { kinds = refl; made = refl }
-policy_says s (policy.Open u rs) = record { kinds = refl; made = refl }
-policy_says s (policy.Close n) = record { kinds = refl; made = refl }
-policy_says s (policy.Activate n r) = record { kinds = refl; made = refl }
-policy_says s (policy.Deactivate n r) = record { kinds = refl; made = refl }
+policy_says s (policy.CreateSsdSet x n rs) = record { kinds = refl; made = refl }
+policy_says s (policy.AddSsdRoleMember x r) = record { kinds = refl; made = refl }
+policy_says s (policy.DeleteSsdRoleMember x r) = record { kinds = refl; made = refl }
+policy_says s (policy.DeleteSsdSet x) = record { kinds = refl; made = refl }
+policy_says s (policy.SetSsdSetCardinality x n) = record { kinds = refl; made = refl }
+policy_says s (policy.CreateDsdSet x n rs) = record { kinds = refl; made = refl }
+policy_says s (policy.AddDsdRoleMember x r) = record { kinds = refl; made = refl }
+policy_says s (policy.DeleteDsdRoleMember x r) = record { kinds = refl; made = refl }
+policy_says s (policy.DeleteDsdSet x) = record { kinds = refl; made = refl }
+policy_says s (policy.SetDsdSetCardinality x n) = record { kinds = refl; made = refl }
+policy_says s (policy.CreateSession u rs) = record { kinds = refl; made = refl }
+policy_says s (policy.DeleteSession n) = record { kinds = refl; made = refl }
+policy_says s (policy.AddActiveRole n r) = record { kinds = refl; made = refl }
+policy_says s (policy.DropActiveRole n r) = record { kinds = refl; made = refl }
 
 pub call_says : (call : Call) → Says (call_said call) (Submit call)
 unfolding command_of

@@ -4,12 +4,12 @@ use Rattle.std.specs.List.{list_all}
 use Rattle.std.specs.Str.Parse.{digits_value}
 use Rattle.text_words.specs.Words.{is_number}
 use Rattle.separation_core.specs.Names.{is_name}
-use Rattle.rbac_core.specs.declared.objects.Operation.{Operation}
-use Rattle.rbac_core.specs.declared.objects.Operation.TheVariants as operations
-use Rattle.rbac_core.specs.declared.objects.Object.{Object}
-use Rattle.rbac_core.specs.declared.objects.Object.TheVariants as objects
-use Rattle.rbac_core.specs.declared.objects.ObjectRange.{ObjectRange}
-use Rattle.rbac_core.specs.declared.objects.ObjectRange.TheVariants as ranges
+use Rattle.permission_core.specs.declared.objects.Operation.{Operation}
+use Rattle.permission_core.specs.declared.objects.Operation.TheVariants as operations
+use Rattle.permission_core.specs.declared.objects.Object.{Object}
+use Rattle.permission_core.specs.declared.objects.Object.TheVariants as objects
+use Rattle.permission_core.specs.declared.objects.ObjectRange.{ObjectRange}
+use Rattle.permission_core.specs.declared.objects.ObjectRange.TheVariants as ranges
 use Rattle.board_lines.specs.declared.command.LineFault.{LineFault}
 use Rattle.board_lines.specs.declared.command.LineFault.TheVariants as faults
 use Rattle.board_lines.specs.Table.{Kinds, nothing, object, range, names, number, name, operation}

@@ -6,3 +6,4 @@ pub mod Replies
 pub mod Listings
 pub mod Grammar
 pub mod Checks
+pub mod Json

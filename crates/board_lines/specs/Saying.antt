@@ -5,12 +5,12 @@ use Rattle.std.specs.Fmt.{decimal}
 use Rattle.separation_core.specs.Names.{is_name}
 use Rattle.move_core.specs.declared.moves.Move.{Move}
 use Rattle.move_core.specs.declared.moves.Move.TheVariants as plan
-use Rattle.rbac_core.specs.declared.objects.Operation.{Operation}
-use Rattle.rbac_core.specs.declared.objects.Operation.TheVariants as operations
-use Rattle.rbac_core.specs.declared.objects.Object.{Object}
-use Rattle.rbac_core.specs.declared.objects.Object.TheVariants as objects
-use Rattle.rbac_core.specs.declared.objects.ObjectRange.{ObjectRange}
-use Rattle.rbac_core.specs.declared.objects.ObjectRange.TheVariants as ranges
+use Rattle.permission_core.specs.declared.objects.Operation.{Operation}
+use Rattle.permission_core.specs.declared.objects.Operation.TheVariants as operations
+use Rattle.permission_core.specs.declared.objects.Object.{Object}
+use Rattle.permission_core.specs.declared.objects.Object.TheVariants as objects
+use Rattle.permission_core.specs.declared.objects.ObjectRange.{ObjectRange}
+use Rattle.permission_core.specs.declared.objects.ObjectRange.TheVariants as ranges
 use Rattle.rbac_core.specs.declared.command.Command.{Command as PolicyCommand}
 use Rattle.rbac_core.specs.declared.command.Command.TheVariants as policy
 use Rattle.board_rules.specs.declared.call.Call.{Call}
@@ -51,27 +51,27 @@ policy_said s (policy.AddUser u) = say s (Manage manages.AddUser) (a_name u no_m
 policy_said s (policy.DeleteUser u) = say s (Manage manages.DeleteUser) (a_name u no_more)
 policy_said s (policy.AddRole r) = say s (Manage manages.AddRole) (a_name r no_more)
 policy_said s (policy.DeleteRole r) = say s (Manage manages.DeleteRole) (a_name r no_more)
-policy_said s (policy.Assign u r) = say s (Manage manages.Assign) (a_name u (a_name r no_more))
-policy_said s (policy.Deassign u r) = say s (Manage manages.Deassign) (a_name u (a_name r no_more))
-policy_said s (policy.Grant r op range) = say s (Manage manages.Grant) (a_name r (an_operation op (the_range range)))
-policy_said s (policy.Revoke r op range) = say s (Manage manages.Revoke) (a_name r (an_operation op (the_range range)))
-policy_said s (policy.Inherit r j) = say s (Manage manages.Inherit) (a_name r (a_name j no_more))
-policy_said s (policy.Uninherit r j) = say s (Manage manages.Uninherit) (a_name r (a_name j no_more))
+policy_said s (policy.AssignUser u r) = say s (Manage manages.Assign) (a_name u (a_name r no_more))
+policy_said s (policy.DeassignUser u r) = say s (Manage manages.Deassign) (a_name u (a_name r no_more))
+policy_said s (policy.GrantPermission r op range) = say s (Manage manages.Grant) (a_name r (an_operation op (the_range range)))
+policy_said s (policy.RevokePermission r op range) = say s (Manage manages.Revoke) (a_name r (an_operation op (the_range range)))
+policy_said s (policy.AddInheritance r j) = say s (Manage manages.Inherit) (a_name r (a_name j no_more))
+policy_said s (policy.DeleteInheritance r j) = say s (Manage manages.Uninherit) (a_name r (a_name j no_more))
 policy_said s policy.Migrate = say s (Manage manages.Migrate) no_more
-policy_said s (policy.SsdCreate x n rs) = say s (Separate Static sets.Create) (a_name x (a_number n (the_names rs)))
-policy_said s (policy.SsdAdd x r) = say s (Separate Static sets.Add) (a_name x (a_name r no_more))
-policy_said s (policy.SsdDrop x r) = say s (Separate Static sets.Drop) (a_name x (a_name r no_more))
-policy_said s (policy.SsdDelete x) = say s (Separate Static sets.Delete) (a_name x no_more)
-policy_said s (policy.SsdNumber x n) = say s (Separate Static sets.Number) (a_name x (a_number n no_more))
-policy_said s (policy.DsdCreate x n rs) = say s (Separate Dynamic sets.Create) (a_name x (a_number n (the_names rs)))
-policy_said s (policy.DsdAdd x r) = say s (Separate Dynamic sets.Add) (a_name x (a_name r no_more))
-policy_said s (policy.DsdDrop x r) = say s (Separate Dynamic sets.Drop) (a_name x (a_name r no_more))
-policy_said s (policy.DsdDelete x) = say s (Separate Dynamic sets.Delete) (a_name x no_more)
-policy_said s (policy.DsdNumber x n) = say s (Separate Dynamic sets.Number) (a_name x (a_number n no_more))
-policy_said s (policy.Open u rs) = say s (Session sessions.Open) (a_name u (the_names rs))
-policy_said s (policy.Close n) = say s (Session sessions.Close) (a_number n no_more)
-policy_said s (policy.Activate n r) = say s (Session sessions.Activate) (a_number n (a_name r no_more))
-policy_said s (policy.Deactivate n r) = say s (Session sessions.Deactivate) (a_number n (a_name r no_more))
+policy_said s (policy.CreateSsdSet x n rs) = say s (Separate Static sets.Create) (a_name x (a_number n (the_names rs)))
+policy_said s (policy.AddSsdRoleMember x r) = say s (Separate Static sets.Add) (a_name x (a_name r no_more))
+policy_said s (policy.DeleteSsdRoleMember x r) = say s (Separate Static sets.Drop) (a_name x (a_name r no_more))
+policy_said s (policy.DeleteSsdSet x) = say s (Separate Static sets.Delete) (a_name x no_more)
+policy_said s (policy.SetSsdSetCardinality x n) = say s (Separate Static sets.Number) (a_name x (a_number n no_more))
+policy_said s (policy.CreateDsdSet x n rs) = say s (Separate Dynamic sets.Create) (a_name x (a_number n (the_names rs)))
+policy_said s (policy.AddDsdRoleMember x r) = say s (Separate Dynamic sets.Add) (a_name x (a_name r no_more))
+policy_said s (policy.DeleteDsdRoleMember x r) = say s (Separate Dynamic sets.Drop) (a_name x (a_name r no_more))
+policy_said s (policy.DeleteDsdSet x) = say s (Separate Dynamic sets.Delete) (a_name x no_more)
+policy_said s (policy.SetDsdSetCardinality x n) = say s (Separate Dynamic sets.Number) (a_name x (a_number n no_more))
+policy_said s (policy.CreateSession u rs) = say s (Session sessions.Open) (a_name u (the_names rs))
+policy_said s (policy.DeleteSession n) = say s (Session sessions.Close) (a_number n no_more)
+policy_said s (policy.AddActiveRole n r) = say s (Session sessions.Activate) (a_number n (a_name r no_more))
+policy_said s (policy.DropActiveRole n r) = say s (Session sessions.Deactivate) (a_number n (a_name r no_more))
 
 abbrev pub call_said : Call → Said
 call_said (calls.Propose s b mv) = move_said s b mv

@@ -191,7 +191,7 @@ fn names_argument(alloc: Global, words: &[&[u8]]) -> Result<Names, ReadFault>
         };
         list.push(name)?;
     }
-    Ok(Names::new(list))
+    Ok(Names::of(list))
 }
 
 // ---- all arguments of a command

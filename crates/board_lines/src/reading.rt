@@ -18,7 +18,7 @@ use board_rules::{Call, Review};
 use move_core::Move;
 use rbac_core::Command as PolicyCommand;
 use std::alloc::Global;
-use text_words::words_of;
+use text_words::keep_all_words;
 
 // ---- each family of commands, by the words behind the command's
 
@@ -91,27 +91,27 @@ fn manage(session: u32, word: ManageWord, arguments: &[&[u8]]) -> Result<Command
         ManageWord::DeleteRole => PolicyCommand::DeleteRole { role: one_name(arguments)? },
         ManageWord::Assign => {
             let (user, role) = two_names(arguments)?;
-            PolicyCommand::Assign { user, role }
+            PolicyCommand::AssignUser { user, role }
         }
         ManageWord::Deassign => {
             let (user, role) = two_names(arguments)?;
-            PolicyCommand::Deassign { user, role }
+            PolicyCommand::DeassignUser { user, role }
         }
         ManageWord::Grant => {
             let (role, operation, range) = permission(arguments)?;
-            PolicyCommand::Grant { role, operation, range }
+            PolicyCommand::GrantPermission { role, operation, range }
         }
         ManageWord::Revoke => {
             let (role, operation, range) = permission(arguments)?;
-            PolicyCommand::Revoke { role, operation, range }
+            PolicyCommand::RevokePermission { role, operation, range }
         }
         ManageWord::Inherit => {
             let (senior, junior) = two_names(arguments)?;
-            PolicyCommand::Inherit { senior, junior }
+            PolicyCommand::AddInheritance { senior, junior }
         }
         ManageWord::Uninherit => {
             let (senior, junior) = two_names(arguments)?;
-            PolicyCommand::Uninherit { senior, junior }
+            PolicyCommand::DeleteInheritance { senior, junior }
         }
         ManageWord::Migrate => {
             no_arguments(arguments)?;
@@ -133,20 +133,20 @@ fn separate_static(
     let command = match word {
         SetWord::Create => {
             let (name, number, roles) = name_number_and_names(alloc, arguments)?;
-            PolicyCommand::SsdCreate { name, number, roles }
+            PolicyCommand::CreateSsdSet { name, number, roles }
         }
         SetWord::Add => {
             let (name, role) = two_names(arguments)?;
-            PolicyCommand::SsdAdd { name, role }
+            PolicyCommand::AddSsdRoleMember { name, role }
         }
         SetWord::Drop => {
             let (name, role) = two_names(arguments)?;
-            PolicyCommand::SsdDrop { name, role }
+            PolicyCommand::DeleteSsdRoleMember { name, role }
         }
-        SetWord::Delete => PolicyCommand::SsdDelete { name: one_name(arguments)? },
+        SetWord::Delete => PolicyCommand::DeleteSsdSet { name: one_name(arguments)? },
         SetWord::Number => {
             let (name, number) = name_and_number(arguments)?;
-            PolicyCommand::SsdNumber { name, number }
+            PolicyCommand::SetSsdSetCardinality { name, number }
         }
     };
     Ok(Command::Submit(Call::Policy { session, command }))
@@ -164,20 +164,20 @@ fn separate_dynamic(
     let command = match word {
         SetWord::Create => {
             let (name, number, roles) = name_number_and_names(alloc, arguments)?;
-            PolicyCommand::DsdCreate { name, number, roles }
+            PolicyCommand::CreateDsdSet { name, number, roles }
         }
         SetWord::Add => {
             let (name, role) = two_names(arguments)?;
-            PolicyCommand::DsdAdd { name, role }
+            PolicyCommand::AddDsdRoleMember { name, role }
         }
         SetWord::Drop => {
             let (name, role) = two_names(arguments)?;
-            PolicyCommand::DsdDrop { name, role }
+            PolicyCommand::DeleteDsdRoleMember { name, role }
         }
-        SetWord::Delete => PolicyCommand::DsdDelete { name: one_name(arguments)? },
+        SetWord::Delete => PolicyCommand::DeleteDsdSet { name: one_name(arguments)? },
         SetWord::Number => {
             let (name, number) = name_and_number(arguments)?;
-            PolicyCommand::DsdNumber { name, number }
+            PolicyCommand::SetDsdSetCardinality { name, number }
         }
     };
     Ok(Command::Submit(Call::Policy { session, command }))
@@ -195,16 +195,16 @@ fn change_session(
     let command = match word {
         SessionWord::Open => {
             let (user, roles) = name_and_names(alloc, arguments)?;
-            PolicyCommand::Open { user, roles }
+            PolicyCommand::CreateSession { user, roles }
         }
-        SessionWord::Close => PolicyCommand::Close { session: one_number(arguments)? },
+        SessionWord::Close => PolicyCommand::DeleteSession { session: one_number(arguments)? },
         SessionWord::Activate => {
             let (session, role) = number_and_name(arguments)?;
-            PolicyCommand::Activate { session, role }
+            PolicyCommand::AddActiveRole { session, role }
         }
         SessionWord::Deactivate => {
             let (session, role) = number_and_name(arguments)?;
-            PolicyCommand::Deactivate { session, role }
+            PolicyCommand::DropActiveRole { session, role }
         }
     };
     Ok(Command::Submit(Call::Policy { session, command }))
@@ -296,11 +296,23 @@ pub fn read_words(alloc: Global, words: &[&[u8]]) -> Result<Command, ReadFault>
     command(alloc, session, word, arguments)
 }
 
-/// What a line says, or its first fault. The line comes without its line end. Words are parted by spaces and tabs.
-/// There is no limit on the length of a line here.
+/// What a line says, or its first fault. The line comes without its line end. Words are parted by spaces and tabs, and stand
+/// in `kept`, which the caller keeps from line to line. There is no limit on the length of a line here.
+pub fn read_kept<'a>(
+    alloc: Global,
+    kept: &mut Vec<&'a [u8]>,
+    line: &'a [u8],
+) -> Result<Command, ReadFault>
+    ensures { Says result (read_of line.now) }
+{
+    keep_all_words(kept, line)?;
+    read_words(alloc, kept.as_slice())
+}
+
+/// What a line says, or its first fault, as `read_kept` has it.
 pub fn read_line(alloc: Global, line: &[u8]) -> Result<Command, ReadFault>
     ensures { Says result (read_of line.now) }
 {
-    let words = words_of(alloc, line)?;
-    read_words(alloc, &words)
+    let mut kept = Vec::new(alloc);
+    read_kept(alloc, &mut kept, line)
 }

@@ -176,48 +176,48 @@ fn push_policy(
         PolicyCommand::DeleteUser { user } => push_one_name(out, " delete-user", user),
         PolicyCommand::AddRole { role } => push_one_name(out, " add-role", role),
         PolicyCommand::DeleteRole { role } => push_one_name(out, " delete-role", role),
-        PolicyCommand::Assign { user, role } => push_two_names(out, " assign", user, role),
-        PolicyCommand::Deassign { user, role } => push_two_names(out, " deassign", user, role),
-        PolicyCommand::Grant { role, operation, range } => {
+        PolicyCommand::AssignUser { user, role } => push_two_names(out, " assign", user, role),
+        PolicyCommand::DeassignUser { user, role } => push_two_names(out, " deassign", user, role),
+        PolicyCommand::GrantPermission { role, operation, range } => {
             push_permission(out, " grant", role, *operation, *range)
         }
-        PolicyCommand::Revoke { role, operation, range } => {
+        PolicyCommand::RevokePermission { role, operation, range } => {
             push_permission(out, " revoke", role, *operation, *range)
         }
-        PolicyCommand::Inherit { senior, junior } => {
+        PolicyCommand::AddInheritance { senior, junior } => {
             push_two_names(out, " inherit", senior, junior)
         }
-        PolicyCommand::Uninherit { senior, junior } => {
+        PolicyCommand::DeleteInheritance { senior, junior } => {
             push_two_names(out, " uninherit", senior, junior)
         }
-        PolicyCommand::SsdCreate { name, number, roles } => {
+        PolicyCommand::CreateSsdSet { name, number, roles } => {
             push_set(out, " ssd-create", name, *number, roles.as_slice())
         }
-        PolicyCommand::SsdAdd { name, role } => push_two_names(out, " ssd-add", name, role),
-        PolicyCommand::SsdDrop { name, role } => push_two_names(out, " ssd-drop", name, role),
-        PolicyCommand::SsdDelete { name } => push_one_name(out, " ssd-delete", name),
-        PolicyCommand::SsdNumber { name, number } => {
+        PolicyCommand::AddSsdRoleMember { name, role } => push_two_names(out, " ssd-add", name, role),
+        PolicyCommand::DeleteSsdRoleMember { name, role } => push_two_names(out, " ssd-drop", name, role),
+        PolicyCommand::DeleteSsdSet { name } => push_one_name(out, " ssd-delete", name),
+        PolicyCommand::SetSsdSetCardinality { name, number } => {
             push_name_and_number(out, " ssd-number", name, *number)
         }
-        PolicyCommand::DsdCreate { name, number, roles } => {
+        PolicyCommand::CreateDsdSet { name, number, roles } => {
             push_set(out, " dsd-create", name, *number, roles.as_slice())
         }
-        PolicyCommand::DsdAdd { name, role } => push_two_names(out, " dsd-add", name, role),
-        PolicyCommand::DsdDrop { name, role } => push_two_names(out, " dsd-drop", name, role),
-        PolicyCommand::DsdDelete { name } => push_one_name(out, " dsd-delete", name),
-        PolicyCommand::DsdNumber { name, number } => {
+        PolicyCommand::AddDsdRoleMember { name, role } => push_two_names(out, " dsd-add", name, role),
+        PolicyCommand::DeleteDsdRoleMember { name, role } => push_two_names(out, " dsd-drop", name, role),
+        PolicyCommand::DeleteDsdSet { name } => push_one_name(out, " dsd-delete", name),
+        PolicyCommand::SetDsdSetCardinality { name, number } => {
             push_name_and_number(out, " dsd-number", name, *number)
         }
         PolicyCommand::Migrate => out.push_str(" migrate"),
-        PolicyCommand::Open { user, roles } => {
+        PolicyCommand::CreateSession { user, roles } => {
             push_one_name(out, " open", user)?;
             push_names(out, roles.as_slice())
         }
-        PolicyCommand::Close { session } => push_numbers(out, " close", &[*session]),
-        PolicyCommand::Activate { session, role } => {
+        PolicyCommand::DeleteSession { session } => push_numbers(out, " close", &[*session]),
+        PolicyCommand::AddActiveRole { session, role } => {
             push_number_and_name(out, " activate", *session, role)
         }
-        PolicyCommand::Deactivate { session, role } => {
+        PolicyCommand::DropActiveRole { session, role } => {
             push_number_and_name(out, " deactivate", *session, role)
         }
     }
