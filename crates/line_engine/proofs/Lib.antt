@@ -1,0 +1,6 @@
+pub mod Bytes
+pub mod CutLines
+pub mod Marked
+pub mod Runs
+pub mod Sending
+pub mod WholeRuns

@@ -1,0 +1,77 @@
+-- Answers of a front as outcomes of a line.
+use Rattle.std.proofs.Common.{◌≡◌, ℕ, List, Bool, true, ◌⊎◌, inl, inr, refl, sym, subst, ◌∙◌, Result, Ok, Err, IfOk, OnErr}
+use Rattle.board_lines.specs.declared.command.Command.{Command}
+use Rattle.board_lines.specs.declared.command.Command.TheVariants as commands
+use Rattle.board_lines.specs.declared.command.LineFault.{LineFault}
+use Rattle.board_lines.specs.declared.command.ReadFault.{ReadFault}
+use Rattle.board_lines.specs.declared.command.ReadFault.TheVariants.{Line, NoMemory}
+use Rattle.board_lines.specs.Reading.{Says}
+use Rattle.line_engine.specs.Answers.{Answer, Outcome, Said, Bad}
+use Rattle.line_engine.specs.Fronts.{Does, Gives, Fails, Drops, Loses, as_json}
+use Rattle.line_engine.specs.declared.answer.Mark.{Mark}
+use Rattle.line_engine.specs.Marks.{Marks, Obeys, Tells, TellsJson, IsUnread}
+
+-- a command whose outcome is what the front answers to it
+abbrev pub IsPlain : {S : Type 0} → (S → Command → Answer → S → Type 0) → S → Command → S → Type 0
+IsPlain step old command new = (answer : Answer) → step old command answer new → Does step old command (Said answer) new
+
+module _ {S E : Type 0} (step : S → Command → Answer → S → Type 0) (refuses : S → S → Type 0) (old new : S) (command : Command) where
+  pub obeyed : (asked : Command) → command ≡ asked → IsPlain step old asked new → (text : List ℕ) (r : Result Mark E)
+      → IfOk r (Tells step old asked new text) → IfOk r (Obeys step old command new text)
+  obeyed asked is plain text (Ok mark) t =
+      subst (λ (x : Command). Obeys step old x new text mark) (sym is)
+      (record { outcome = Said t.0; holds = plain t.0 t.1; told = t.2; replied = t.3; refused = t.4 })
+  obeyed asked is plain text (Err e) t = tt
+
+  pub failed : (asked : Command) → command ≡ asked → IsPlain step old asked new → (r : Result Mark E)
+      → OnErr r (Loses step refuses old asked new) → OnErr r (Fails step refuses old command new)
+  failed asked is plain (Ok mark) h = tt
+  failed asked is plain (Err e) h = elim h [
+    | inl r ↦ inl r
+    | inr t ↦ inr (Said t.0, subst (λ (x : Command). Does step old x (Said t.0) new) (sym is) (plain t.0 t.1))
+  ]
+
+  pub obeyed_json : (session : ℕ) → command ≡ commands.Json session → (text : List ℕ) (r : Result Mark E)
+      → IfOk r (TellsJson step old session new text) → IfOk r (Obeys step old command new text)
+  obeyed_json session is text (Ok mark) t =
+      subst (λ (x : Command). Obeys step old x new text mark) (sym is)
+      (record { outcome = Said (as_json t.0); holds = (t.0, refl, t.1); told = t.2; replied = t.3; refused = t.4 })
+  obeyed_json session is text (Err e) t = tt
+
+  pub failed_json : (session : ℕ) → command ≡ commands.Json session → (r : Result Mark E)
+      → OnErr r (Loses step refuses old (commands.List session) new) → OnErr r (Fails step refuses old command new)
+  failed_json session is (Ok mark) h = tt
+  failed_json session is (Err e) h = elim h [
+    | inl r ↦ inl r
+    | inr t ↦ inr (Said (as_json t.0), subst (λ (x : Command). Does step old x (Said (as_json t.0)) new) (sym is) (t.0, refl, t.1))
+  ]
+
+-- a line that was read
+pub dropped : {S E : Type 0} (step : S → Command → Answer → S → Type 0) (refuses : S → S → Type 0) (old new : S) (read : Result Command LineFault) (command : Command) → read ≡ Ok command
+    → (r : Result Mark E) → OnErr r (Fails step refuses old command new) → OnErr r (Drops step refuses old read new)
+dropped step refuses old new read command is (Ok mark) h = tt
+dropped step refuses old new read command is (Err e) h = elim h [
+  | inl r ↦ inr (inl r)
+  | inr o ↦ inr (inr (o.0, subst (λ (x : Result Command LineFault). Gives step old x o.0 new) (sym is) o.1))
+]
+
+-- a line that says nothing that is known
+pub untold : {S E : Type 0} (step : S → Command → Answer → S → Type 0) (old : S) (read : Result Command LineFault) (got : Result Command ReadFault) (fault : ReadFault) → got ≡ Err fault → Says got read
+    → (text : List ℕ) (r : Result Mark E) → IfOk r (IsUnread fault text) → IfOk r (Marks (λ outcome. Gives step old read outcome old) text)
+untold {E = E} step old read got fault is says text r h = of_fault fault (subst (λ (x : Result Command ReadFault). Says x read) is says) h
+  where
+    of_fault : (e : ReadFault) → Says (Err e) read → IfOk r (IsUnread e text) → IfOk r (Marks (λ outcome. Gives step old read outcome old) text)
+    of_fault (Line f) same k = made r k
+      where
+        made : (q : Result Mark E) → IfOk q (IsUnread (Line f) text) → IfOk q (Marks (λ outcome. Gives step old read outcome old) text)
+        made (Ok mark) p = record { outcome = Bad f; holds = subst (λ (x : Result Command LineFault). Gives step old x (Bad f) old) (sym same) (refl, refl); told = p.0; replied = p.1; refused = p.2 }
+        made (Err x) p = tt
+    of_fault NoMemory same k = made r k
+      where
+        made : (q : Result Mark E) → IfOk q (IsUnread NoMemory text) → IfOk q (Marks (λ outcome. Gives step old read outcome old) text)
+        made (Ok mark) p = absurd p
+        made (Err x) p = tt
+
+-- what was read, by what reading returned
+pub read_whole : (r : Result Command ReadFault) (read : Result Command LineFault) (command : Command) → r ≡ Ok command → Says r read → read ≡ Ok command
+read_whole r read command is h = subst (λ (x : Result Command ReadFault). Says x read) is h

@@ -1,0 +1,5 @@
+pub mod Answers
+pub mod Fronts
+pub mod Marks
+pub mod Running
+pub mod TextLines

@@ -1,0 +1,301 @@
+//! What a front answers to a command, as text.
+
+ghost use Rattle.std.specs.Prelude.{◌≡◌, ◌++◌, [], true, false, IfOk, OnOk, OnErr, string_bytes};
+ghost use Rattle.board_lines.specs.Replies.{ended, reply_text, fault_text, ask_fault_text, line_fault_text};
+ghost use Rattle.board_lines.specs.declared.command.Command.{Command};
+ghost use Rattle.line_engine.specs.Answers.{Outcome, outcome_text, is_reply_refusal, has_reply, is_refusal};
+ghost use Rattle.line_engine.specs.Fronts.{Fails, Loses};
+ghost use Rattle.line_engine.specs.Marks.{Obeys, Tells, TellsJson, IsUnread};
+ghost use Rattle.board_rules.specs.declared.reply.Fault.TheVariants as faults;
+ghost use Rattle.board_rules.specs.declared.reply.AskFault.TheVariants as asks;
+ghost use Rattle.std.specs.Prelude.{◌≢◌};
+
+use crate::front::Front;
+use board_lines::{
+    Command, LineFault, ReadFault, push_ask_fault, push_check, push_fault, push_json, push_line_fault,
+    push_list, push_reply, push_review,
+};
+use board_rules::{AskFault, Call, Fault, Reply, Review};
+use rbac_core::{Object, Operation};
+use std::alloc::{AllocError, Global};
+
+/// Memory ran out.
+#[derive(Clone, Copy, Drop)]
+pub(crate) struct OutOfMemory;
+
+impl From<AllocError> for OutOfMemory {
+    fn from(_e: AllocError) -> OutOfMemory {
+        OutOfMemory
+    }
+}
+
+/// How a line counts: whether something is written for it, and whether that is a denial, a refusal, a fault, a refused
+/// question or a bad line.
+#[derive(Clone, Copy, Drop)]
+pub(crate) struct Mark {
+    pub(crate) has_reply: bool,
+    pub(crate) is_refusal: bool,
+}
+
+impl Mark {
+    /// Something is written.
+    fn said(is_refusal: bool) -> Mark
+        ensures replied { result.has_reply ≡ true }
+        ensures refused { result.is_refusal ≡ is_refusal }
+    {
+        Mark {
+            has_reply: true,
+            is_refusal,
+        }
+    }
+
+    /// Nothing is written.
+    fn skipped() -> Mark
+        ensures replied { result.has_reply ≡ false }
+        ensures refused { result.is_refusal ≡ false }
+    {
+        Mark {
+            has_reply: false,
+            is_refusal: false,
+        }
+    }
+}
+
+fn is_reply_refusal(reply: &Reply) -> bool
+    ensures { result ≡ is_reply_refusal reply.now }
+{
+    match reply {
+        Reply::Done | Reply::Session(_) | Reply::Committed(_) => false,
+        Reply::Denied(_) | Reply::Refused(_) => true,
+    }
+}
+
+// ---- lines
+
+fn reply_line(text: &mut String, reply: Reply) -> Result<(), AllocError>
+    ensures { OnOk result (string_bytes text.new ≡ string_bytes text.old ++ ended (reply_text reply)) }
+{
+    push_reply(text, reply)?;
+    text.push_str("\n")
+}
+
+fn fault_line(text: &mut String, fault: Fault) -> Result<(), AllocError>
+    requires { fault ≢ faults.NoMemory }
+    ensures { OnOk result (string_bytes text.new ≡ string_bytes text.old ++ ended (fault_text fault)) }
+{
+    push_fault(text, fault)?;
+    text.push_str("\n")
+}
+
+fn refused_line(text: &mut String, fault: AskFault) -> Result<(), AllocError>
+    requires { fault ≢ asks.NoMemory }
+    ensures { OnOk result (string_bytes text.new ≡ string_bytes text.old ++ ended (ask_fault_text fault)) }
+{
+    push_ask_fault(text, fault)?;
+    text.push_str("\n")
+}
+
+fn bad_line(text: &mut String, fault: LineFault) -> Result<(), AllocError>
+    ensures { OnOk result (string_bytes text.new ≡ string_bytes text.old ++ ended (line_fault_text fault)) }
+{
+    push_line_fault(text, fault)?;
+    text.push_str("\n")
+}
+
+// ---- commands, each with an empty text before
+
+fn submit<R, F: Front<R>>(
+    rt: &R,
+    front: &mut F,
+    text: &mut String,
+    call: Call,
+) -> Result<Mark, OutOfMemory>
+    requires ready { F.ready front.old }
+    requires none { string_bytes text.old ≡ [] }
+    ensures ready { F.ready front.new }
+    ensures ok { IfOk result (Tells F.step front.old (Command.Submit call) front.new (string_bytes text.new)) }
+    ensures err { OnErr result (Loses F.step F.refuses front.old (Command.Submit call) front.new) }
+{
+    match front.submit(rt, call) {
+        Ok(reply) => {
+            let refused = is_reply_refusal(&reply);
+            reply_line(text, reply)?;
+            Ok(Mark::said(refused))
+        }
+        Err(Fault::NoMemory) => Err(OutOfMemory),
+        Err(Fault::OutOfTurn) => {
+            fault_line(text, Fault::OutOfTurn)?;
+            Ok(Mark::said(true))
+        }
+        Err(Fault::Full) => {
+            fault_line(text, Fault::Full)?;
+            Ok(Mark::said(true))
+        }
+    }
+}
+
+fn list<R, F: Front<R>>(
+    rt: &R,
+    front: &mut F,
+    text: &mut String,
+    session: u32,
+) -> Result<Mark, OutOfMemory>
+    requires ready { F.ready front.old }
+    requires none { string_bytes text.old ≡ [] }
+    ensures ready { F.ready front.new }
+    ensures ok { IfOk result (Tells F.step front.old (Command.List session) front.new (string_bytes text.new)) }
+    ensures err { OnErr result (Loses F.step F.refuses front.old (Command.List session) front.new) }
+{
+    match front.list(rt, session) {
+        Ok(rows) => {
+            push_list(text, rows.as_slice())?;
+            Ok(Mark::said(false))
+        }
+        Err(AskFault::NoMemory) => Err(OutOfMemory),
+        Err(fault) => {
+            refused_line(text, fault)?;
+            Ok(Mark::said(true))
+        }
+    }
+}
+
+fn audit<R, F: Front<R>>(
+    rt: &R,
+    front: &mut F,
+    text: &mut String,
+    session: u32,
+) -> Result<Mark, OutOfMemory>
+    requires ready { F.ready front.old }
+    requires none { string_bytes text.old ≡ [] }
+    ensures ready { F.ready front.new }
+    ensures ok { IfOk result (Tells F.step front.old (Command.Audit session) front.new (string_bytes text.new)) }
+    ensures err { OnErr result (Loses F.step F.refuses front.old (Command.Audit session) front.new) }
+{
+    match front.audit(rt, session, text) {
+        Ok(()) => Ok(Mark::said(false)),
+        Err(AskFault::NoMemory) => Err(OutOfMemory),
+        Err(fault) => {
+            text.clear();
+            refused_line(text, fault)?;
+            Ok(Mark::said(true))
+        }
+    }
+}
+
+fn review<R, F: Front<R>>(
+    rt: &R,
+    front: &mut F,
+    text: &mut String,
+    session: u32,
+    which: Review,
+) -> Result<Mark, OutOfMemory>
+    requires ready { F.ready front.old }
+    requires none { string_bytes text.old ≡ [] }
+    ensures ready { F.ready front.new }
+    ensures ok { IfOk result (Tells F.step front.old (Command.Review session which) front.new (string_bytes text.new)) }
+    ensures err { OnErr result (Loses F.step F.refuses front.old (Command.Review session which) front.new) }
+{
+    match front.review(rt, session, which) {
+        Ok(names) => {
+            push_review(text, names.as_slice())?;
+            Ok(Mark::said(false))
+        }
+        Err(AskFault::NoMemory) => Err(OutOfMemory),
+        Err(fault) => {
+            refused_line(text, fault)?;
+            Ok(Mark::said(true))
+        }
+    }
+}
+
+fn check<R, F: Front<R>>(
+    rt: &R,
+    front: &mut F,
+    text: &mut String,
+    session: u32,
+    operation: Operation,
+    object: Object,
+) -> Result<Mark, OutOfMemory>
+    requires ready { F.ready front.old }
+    requires none { string_bytes text.old ≡ [] }
+    ensures ready { F.ready front.new }
+    ensures ok { IfOk result (Tells F.step front.old (Command.Check session operation object) front.new (string_bytes text.new)) }
+    ensures err { OnErr result (Loses F.step F.refuses front.old (Command.Check session operation object) front.new) }
+{
+    let answer = front.check(rt, session, operation, object);
+    push_check(text, answer)?;
+    text.push_str("\n")?;
+    Ok(Mark::said(false))
+}
+
+fn json<R, F: Front<R>>(
+    rt: &R,
+    alloc: Global,
+    front: &mut F,
+    text: &mut String,
+    session: u32,
+) -> Result<Mark, OutOfMemory>
+    requires ready { F.ready front.old }
+    requires none { string_bytes text.old ≡ [] }
+    ensures ready { F.ready front.new }
+    ensures ok { IfOk result (TellsJson F.step front.old session front.new (string_bytes text.new)) }
+    ensures err { OnErr result (Loses F.step F.refuses front.old (Command.List session) front.new) }
+{
+    match front.list(rt, session) {
+        Ok(rows) => {
+            push_json(alloc, text, rows.as_slice())?;
+            text.push_str("\n")?;
+            Ok(Mark::said(false))
+        }
+        Err(AskFault::NoMemory) => Err(OutOfMemory),
+        Err(fault) => {
+            refused_line(text, fault)?;
+            Ok(Mark::said(true))
+        }
+    }
+}
+
+// ---- lines
+
+/// Has the front do what a line says, and puts the text of what it answers into the text, which is empty before.
+pub(crate) fn obey<R, F: Front<R>>(
+    rt: &R,
+    alloc: Global,
+    front: &mut F,
+    text: &mut String,
+    command: Command,
+) -> Result<Mark, OutOfMemory>
+    requires ready { F.ready front.old }
+    requires none { string_bytes text.old ≡ [] }
+    ensures ready { F.ready front.new }
+    ensures ok { IfOk result (Obeys F.step front.old command front.new (string_bytes text.new)) }
+    ensures err { OnErr result (Fails F.step F.refuses front.old command front.new) }
+{
+    match command {
+        Command::Skip => Ok(Mark::skipped()),
+        Command::Submit(call) => submit(rt, front, text, call),
+        Command::List { session } => list(rt, front, text, session),
+        Command::Json { session } => json(rt, alloc, front, text, session),
+        Command::Audit { session } => audit(rt, front, text, session),
+        Command::Check {
+            session,
+            operation,
+            object,
+        } => check(rt, front, text, session, operation, object),
+        Command::Review { session, which } => review(rt, front, text, session, which),
+    }
+}
+
+/// Puts the text of a line that says nothing that is known into the text, which is empty before.
+pub(crate) fn unread(text: &mut String, fault: ReadFault) -> Result<Mark, OutOfMemory>
+    requires { string_bytes text.old ≡ [] }
+    ensures { IfOk result (IsUnread fault (string_bytes text.new)) }
+{
+    match fault {
+        ReadFault::Line(fault) => {
+            bad_line(text, fault)?;
+            Ok(Mark::said(true))
+        }
+        ReadFault::NoMemory => Err(OutOfMemory),
+    }
+}

@@ -1,0 +1,15 @@
+//! The engine of lines: commands are read, answered by a front, and replied to.
+#![tactic(auto)]
+
+mod answer;
+mod engine;
+mod front;
+mod outbox;
+mod run_fault;
+mod tally;
+mod write;
+
+pub use engine::run_lines;
+pub use front::Front;
+pub use run_fault::{Counts, RunFault};
+pub use write::write_whole;
