@@ -74,7 +74,7 @@ module _ (t : Table) (d : Bounds) (vehicle : ℕ) where
     span_of nodes = go [] nodes start_span.0 (law.start t d vehicle start_span.0 start_span.1)
 
     in_bounds_or_not : (route : List ℕ) → IsInBounds t d vehicle route ⊎ (IsInBounds t d vehicle route → ⊥)
-    in_bounds_or_not [] = inl (inl refl)
+    in_bounds_or_not [] = inl ∣ inl refl ∣₁
     in_bounds_or_not (c ∷ cs) = by_span (span_of ((c ∷ cs) ++ 0 ∷ [])).0 (span_of ((c ∷ cs) ++ 0 ∷ [])).1
       where
         by_span : (o : Option Range) → IsSpan o (Reaches t d vehicle ((c ∷ cs) ++ 0 ∷ [])) → IsInBounds t d vehicle (c ∷ cs) ⊎ (IsInBounds t d vehicle (c ∷ cs) → ⊥)
@@ -83,10 +83,7 @@ module _ (t : Table) (d : Bounds) (vehicle : ℕ) where
 
 module _ (law : SpansGoOn) (s : Setting) where
   fits_or_not : (k vehicle : ℕ) (route : List ℕ) → FitsIn s k vehicle route ⊎ (FitsIn s k vehicle route → ⊥)
-  fits_or_not k vehicle route = elim (in_bounds_or_not (table_of s.tables (dimension_at s k)) (dimension_at s k) vehicle law route) [
-    | inl fits ↦ inl ∣ fits ∣₁
-    | inr out ↦ inr (λ said. ∥∥₁_elim said (λ x y. absurd x) out)
-  ]
+  fits_or_not k vehicle route = in_bounds_or_not (table_of s.tables (dimension_at s k)) (dimension_at s k) vehicle law route
 
   -- the route is in bounds in each of the first n dimensions, or there is a first one in which it is not
   fits_until : (vehicle : ℕ) (route : List ℕ) (n : ℕ) → n ≤ length s.dimensions

@@ -12,6 +12,7 @@ mod Headline
 mod Held
 mod Histories
 mod Keeping
+mod Moved
 mod Orders
 mod Outs
 mod Replies

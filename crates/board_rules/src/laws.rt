@@ -1,5 +1,5 @@
 //! Laws of the definitions, each the contract of a function that does nothing but cite the laws below it.
-ghost use Rattle.std.specs.Prelude.{◌≡◌, ℕ, ◌+◌, ◌≤◌, ◌↔◌, ◌⊎◌, ◌==◌, ◌++◌, ◌∷◌, [], Bool, List, Option, Some, None, true, false, length, nat_lt, if◌then◌else◌};
+ghost use Rattle.std.specs.Prelude.{◌≡◌, ◌≢◌, ℕ, ◌+◌, ◌≤◌, ◌↔◌, ◌⊎◌, ◌==◌, ◌++◌, ◌∷◌, [], Bool, List, Option, Some, None, true, false, length, nat_lt, if◌then◌else◌};
 ghost use Rattle.permission_core.specs.declared.objects.Operation.{Operation};
 ghost use Rattle.permission_core.specs.declared.objects.Object.{Object};
 ghost use Rattle.policy_core.specs.Access.{has_access, CheckAccess};
@@ -8,13 +8,14 @@ ghost use Rattle.dimension_core.specs.Feasible.{IsFeasible};
 ghost use Rattle.dimension_core.specs.Laws.{SpansGoOn};
 ghost use Rattle.dimension_core.specs.NewRoutes.{AllFit, AllKnown};
 ghost use Rattle.plan_core.specs.declared.touch.Touch.{Touch};
-ghost use Rattle.plan_core.specs.Plan.{StandsAt, IsPlaced, IsPlan, route_at};
+ghost use Rattle.plan_core.specs.Plan.{StandsAt, IsPlaced, IsPlan, IsNamed, route_at};
 ghost use Rattle.plan_core.specs.Commits.{IsCurrentAt, last_commit};
 ghost use Rattle.pin_core.specs.Pins.{PinState, IsHeld};
 ghost use Rattle.pin_core.specs.Allowed.{IsTouched};
 ghost use Rattle.pin_core.specs.Override.{DoPinsPass, IsFirstForbidden};
 ghost use Rattle.move_core.specs.declared.moves.Move.{Move};
 ghost use Rattle.move_core.specs.Moves.{effect, changes_by};
+ghost use Rattle.move_core.specs.Changed.{first_change};
 ghost use Rattle.board_rules.specs.declared.call.Call.{Call};
 ghost use Rattle.board_rules.specs.declared.call.Call.TheVariants.{Propose};
 ghost use Rattle.board_rules.specs.declared.call.Entry.{Entry};
@@ -36,7 +37,9 @@ ghost use Rattle.board_rules.specs.Separate.{IsSeparated};
 ghost use Rattle.board_rules.specs.Unchanged.{KeepsTheRest};
 
 use dimension_core::{first_out_is_alone, spans_go_on};
-use move_core::{moves_keep_plans, moves_keep_the_untouched, moves_name_vehicles};
+use move_core::{
+    fronts_by_first_change, moves_keep_plans, moves_keep_the_untouched, moves_name_vehicles,
+};
 use pin_core::{
     freezes_by_named, front_still_fits, fronts_within_routes, opening_holds, pin_holds,
     pins_after_commits, unpin_holds,
@@ -56,6 +59,7 @@ fn laws_below()
     moves_name_vehicles();
     moves_keep_plans();
     moves_keep_the_untouched();
+    fronts_by_first_change();
     opening_holds();
     pin_holds();
     unpin_holds();
@@ -185,10 +189,21 @@ pub fn plans_are_judged_by_new_routes()
     routes_are_known();
 }
 
-/// In a plan a customer that stands at a place has that vehicle and that place, and one that stands nowhere has none.
+/// After a move that has an effect, each customer whose spot differs stands, before the move or after it, on a named vehicle at the first
+/// place at which that vehicle's route differs, or behind it.
+pub fn spots_change_on_named_vehicles()
+    ensures { (n : ℕ) (routes : List (List ℕ)) (mv : Move) (c : ℕ) → IsPlan n routes → effect n routes mv ≡ Some (changes_by routes mv)
+        → spot_in (routes_after routes mv) c ≢ spot_in routes c
+        → (v : ℕ) × ((p : ℕ) × IsNamed (changes_by routes mv) v × (first_change mv v ≤ p) × (StandsAt routes c v p ⊎ StandsAt (routes_after routes mv) c v p)) }
+{
+    laws_below();
+}
+
+/// In a plan a customer that stands at a place has that vehicle and that place and no other, and one that stands nowhere has none.
 pub fn customers_have_one_spot()
     ensures vehicle { (n : ℕ) (routes : List (List ℕ)) (c v p : ℕ) → IsPlan n routes → StandsAt routes c v p → vehicle_of routes c ≡ Some v }
     ensures spot { (n : ℕ) (routes : List (List ℕ)) (c v p : ℕ) → IsPlan n routes → StandsAt routes c v p → spot_in routes c ≡ Some (v, p) }
+    ensures stands { (routes : List (List ℕ)) (c v p : ℕ) → spot_in routes c ≡ Some (v, p) → StandsAt routes c v p }
     ensures no_vehicle { (routes : List (List ℕ)) (c : ℕ) → ¬ IsPlaced routes c → vehicle_of routes c ≡ None }
     ensures no_spot { (routes : List (List ℕ)) (c : ℕ) → ¬ IsPlaced routes c → spot_in routes c ≡ None }
 {

@@ -3,7 +3,8 @@ use crate::{
     current_vehicles_keep_their_routes, customers_have_one_spot, histories_grow_by_entries,
     histories_settle_policies, legal_histories_leave_good_states, pins_by_touches,
     plans_are_judged_by_new_routes, proposals_commit_exactly, replies_are_determined,
-    right_replies_keep_good_states, separation_of_duty_holds, verdicts_by_agreeing_facts,
+    right_replies_keep_good_states, separation_of_duty_holds, spots_change_on_named_vehicles,
+    verdicts_by_agreeing_facts,
 };
 use rbac_core::Refusal as PolicyRefusal;
 use separation_core::Name;
@@ -68,6 +69,7 @@ fn laws_are_called(rt: HostRuntime) -> Result<(), Fail> {
     histories_grow_by_entries();
     histories_settle_policies();
     separation_of_duty_holds();
+    spots_change_on_named_vehicles();
     proposals_commit_exactly();
     replies_are_determined();
     current_vehicles_keep_their_routes();
