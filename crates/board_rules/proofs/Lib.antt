@@ -15,6 +15,7 @@ mod Keeping
 mod Moved
 mod Orders
 mod Outs
+mod Parts
 mod Replies
 mod Separation
 mod Settled

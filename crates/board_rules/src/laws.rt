@@ -2,6 +2,10 @@
 ghost use Rattle.std.specs.Prelude.{◌≡◌, ◌≢◌, ℕ, ◌+◌, ◌≤◌, ◌↔◌, ◌⊎◌, ◌==◌, ◌++◌, ◌∷◌, [], Bool, List, Option, Some, None, true, false, length, nat_lt, if◌then◌else◌};
 ghost use Rattle.permission_core.specs.declared.objects.Operation.{Operation};
 ghost use Rattle.permission_core.specs.declared.objects.Object.{Object};
+ghost use Rattle.policy_core.specs.declared.refusal.Refusal.{Refusal as PolicyRefusal};
+ghost use Rattle.policy_core.specs.State.{PolicyState};
+ghost use Rattle.rbac_core.specs.declared.command.Command.{Command};
+ghost use Rattle.rbac_core.specs.Step.{guard, refusal_of, outcome_of, after as carried_out};
 ghost use Rattle.policy_core.specs.Access.{has_access, CheckAccess};
 ghost use Rattle.dimension_core.specs.Setting.{Setting};
 ghost use Rattle.dimension_core.specs.Feasible.{IsFeasible};
@@ -24,6 +28,7 @@ ghost use Rattle.board_rules.specs.declared.reply.Refusal.{Refusal};
 ghost use Rattle.board_rules.specs.declared.reply.Reply.{Reply};
 ghost use Rattle.board_rules.specs.declared.reply.Reply.TheVariants.{Committed, Denied, Refused};
 ghost use Rattle.board_rules.specs.Override.{DoPinsAllow, IsFirstHeldBack, AreAnswers};
+ghost use Rattle.board_rules.specs.Policies.{board_refusal, outcome_reply, policy_reply, policy_after};
 ghost use Rattle.board_rules.specs.Pinning.{vehicle_of};
 ghost use Rattle.board_rules.specs.Delta.{spot_in};
 ghost use Rattle.board_rules.specs.State.{BoardState, opening_state};
@@ -175,6 +180,17 @@ pub fn pins_by_touches()
         → DoPinsPass pins others touched answers → ((c : ℕ) → 1 ≤ c → IsHeld pins others c ⊎ IsTouched touched c) → DoPinsAllow pins free others }
     ensures first { (pins : PinState) (free : ℕ → Bool) (others : List (List ℕ)) (touched : List Touch) (answers : List Bool) (t : Touch) → AreAnswers pins free others touched answers
         → IsFirstForbidden pins others touched answers t → IsFirstHeldBack pins free others touched t }
+{}
+
+/// The right reply to a command on the policy, and the policy after it, by the parts of its step: the guard, the command's own refusals, and
+/// the command itself.
+pub fn commands_by_parts()
+    ensures barred { (p : PolicyState) (session : ℕ) (command : Command) (e : PolicyRefusal) → guard p session command ≡ Some e
+        → (policy_reply p session command ≡ Refused (board_refusal e)) × (policy_after p session command ≡ p) }
+    ensures refused { (p : PolicyState) (session : ℕ) (command : Command) (e : PolicyRefusal) → guard p session command ≡ None → refusal_of p command ≡ Some e
+        → (policy_reply p session command ≡ Refused (board_refusal e)) × (policy_after p session command ≡ p) }
+    ensures done { (p : PolicyState) (session : ℕ) (command : Command) → guard p session command ≡ None → refusal_of p command ≡ None
+        → (policy_reply p session command ≡ outcome_reply (outcome_of p command)) × (policy_after p session command ≡ carried_out p command) }
 {}
 
 /// The new routes of a move are of vehicles of the fleet and customers of the board, and where they are in bounds, a feasible plan stays
