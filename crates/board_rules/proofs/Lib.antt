@@ -17,6 +17,7 @@ mod Orders
 mod Outs
 mod Parts
 mod Replies
+mod Rows
 mod Separation
 mod Settled
 mod Spots

@@ -1,5 +1,5 @@
 -- A command on the policy by the parts of its step.
-use Rattle.std.proofs.Common.{◌≡◌, ℕ, Option, Some, None, refl, ap, ◌∙◌}
+use Rattle.std.proofs.Common.{◌≡◌, ℕ, Option, Some, None, ap, ◌∙◌}
 use Rattle.std.specs.Prelude.{Result}
 use Rattle.std.specs.Option.{option_or}
 use Rattle.policy_core.specs.declared.refusal.Refusal.{Refusal as PolicyRefusal}

@@ -1,10 +1,8 @@
 -- Laws of plans, moves and pins that the laws of the board stand on, as the crates below state them.
-use Rattle.std.specs.Prelude.{◌≡◌, ℕ, ◌≤◌, ◌⊎◌, ◌↔◌, List, length, slice_get, replicate, All, Some, None}
-use Rattle.plan_core.specs.declared.touch.Touch.{Touch}
-use Rattle.plan_core.specs.Plan.{Changes, StandsAt, IsPlan, AreApart, AreChanges, route_at, with_routes}
-use Rattle.plan_core.specs.Commits.{named_vehicles}
+use Rattle.std.specs.Prelude.{◌≡◌, ℕ, ◌≤◌, List, length, replicate, Some, None}
+use Rattle.plan_core.specs.Plan.{route_at}
 use Rattle.plan_core.specs.Laws.{RoutesAreReplaced, CustomersStandByRoute, AmongIsTested}
-use Rattle.pin_core.specs.Pins.{PinState, StandsOn, DoPinsHold, IsFrontKept, AreFreezesKept, DoFrontsFit, front_of, with_pin, with_front}
+use Rattle.pin_core.specs.Pins.{PinState, StandsOn, DoPinsHold, AreFreezesKept, DoFrontsFit, front_of, with_pin, with_front}
 use Rattle.pin_core.specs.Override.{after_commit}
 use Rattle.pin_core.specs.Laws.{FreezesAreByNamed}
 use Rattle.move_core.specs.Laws.{MovesNameVehicles, MovesKeepPlans, MovesKeepTheUntouched, FrontsByFirstChange}

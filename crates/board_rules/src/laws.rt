@@ -36,6 +36,7 @@ ghost use Rattle.board_rules.specs.Rules.{Basis, Agree, IsVerdictBy, is_changed_
 ghost use Rattle.board_rules.specs.Step.{IsReply, after};
 ghost use Rattle.board_rules.specs.History.{Opening, History, state_after, turns_of, IsNext, IsLegal};
 ghost use Rattle.board_rules.specs.Good.{IsGood, state_of, state_at};
+ghost use Rattle.board_rules.specs.Listing.{RowShown, IsListing};
 ghost use Rattle.board_rules.specs.Given.{Laws};
 ghost use Rattle.board_rules.specs.Proposals.{MayCommit, IsFirstFailed};
 ghost use Rattle.board_rules.specs.Separate.{IsSeparated};
@@ -148,6 +149,11 @@ pub fn current_vehicles_keep_their_routes()
 {
     laws_below();
 }
+
+/// A session's listing in a state has one list of rows.
+pub fn listings_are_determined()
+    ensures { (s : Setting) (state : BoardState) (session : ℕ) (rows others : List RowShown) → IsListing s state session rows → IsListing s state session others → rows ≡ others }
+{}
 
 /// A call that is denied or refused changes nothing, and every other call leaves what it does not name.
 pub fn calls_keep_the_rest()
