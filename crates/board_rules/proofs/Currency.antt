@@ -51,7 +51,7 @@ module _ (law : Laws) (s : Setting) (v : ℕ) (low : 1 ≤ v) (final : BoardStat
   before_commit state session base n mv right later =
       let e = has_effect state session base n mv right in
       let changes : Changes = changes_by state.routes mv in
-      let named : named_vehicles changes ≡ named_by mv = law.moves.named s.customers state.routes mv changes e in
+      let named : named_vehicles changes ≡ named_by mv = law.names.named s.customers state.routes mv changes e in
       let rest : List (List ℕ) = named_by mv ∷ later.0.0 in
       let all : state.commits ++ rest ≡ final.commits = sym (append_assoc state.commits (named_by mv ∷ []) later.0.0) ∙ later.0.1 in (
         (rest, all),
@@ -69,7 +69,7 @@ module _ (law : Laws) (s : Setting) (v : ℕ) (low : 1 ≤ v) (final : BoardStat
             } in
             current (length state.commits + 1) (omega (arith, few)) change in
             let more : b ≤ length (state.commits ++ named_by mv ∷ []) = omega (arith, few, length-append state.commits (named_by mv ∷ [])) in
-            sym (law.routes.others changes state.routes v (law.moves.changes s.customers state.routes mv changes e).apart low not_named)
+            sym (law.routes.others changes state.routes v (law.names.changes s.customers state.routes mv changes e).apart low not_named)
             ∙ later.1 b more current),
       )
 

@@ -107,7 +107,7 @@ module _ (law : Laws) (spans : SpansGoOn) (s : Setting) (b : Basis) (base : ℕ)
       → DoPinsAllow b.pins (may_override b) (routes_after b.routes mv)
   all_allowed e touched c low lacks v at =
       let on = holding c low v at in
-      elim (law.moves.stay s.customers b.routes mv (changes_by b.routes mv) c v on.0 e.1 on.1) [
+      elim (law.stays.stay s.customers b.routes mv (changes_by b.routes mv) c v on.0 e.1 on.1) [
         | inl stays ↦ stays
         | inr moved ↦ subst (λ (x : ℕ). IsAllowed b.pins (may_override b) (routes_after b.routes mv) x) moved.1.2 (touched moved.0 moved.1.0 moved.1.1) lacks v at
       ]
@@ -115,7 +115,7 @@ module _ (law : Laws) (spans : SpansGoOn) (s : Setting) (b : Basis) (base : ℕ)
   at_bounds : PassesPins s b base mv → Found
   unfolding Found
   at_bounds h =
-      let apart = (law.moves.changes s.customers b.routes mv (changes_by b.routes mv) h.0.0.0.1).apart in
+      let apart = (law.names.changes s.customers b.routes mv (changes_by b.routes mv) h.0.0.0.1).apart in
       elim (fit_or_out spans s (changes_by b.routes mv)) [
         | inl fit ↦ (None, (h, feasible_all s (changes_by b.routes mv) b.routes sized (subst (λ (n : ℕ). AreApart n (changes_by b.routes mv)) sized apart) fit feasible))
         | inr out ↦ (Some (Bound out.0 out.1.0), (h, out.1.1))
@@ -137,9 +137,9 @@ module _ (law : Laws) (spans : SpansGoOn) (s : Setting) (b : Basis) (base : ℕ)
       (λ v. same_or_not (take (front_of b.pins v) (route_at (routes_after b.routes mv) v)) (take (front_of b.pins v) (route_at b.routes v))) (named_by mv)) [
         | inl all ↦ at_pins (
           h,
-          (law.pins.named b.pins changes b.routes (law.moves.changes s.customers b.routes mv changes e).apart).1
+          (law.pins.named b.pins changes b.routes (law.names.changes s.customers b.routes mv changes e).apart).1
               (subst (λ (vs : List ℕ). (j v : ℕ) → slice_get vs j ≡ Some v → IsFrontKept b.pins b.routes (routes_after b.routes mv) v)
-              (sym (law.moves.named s.customers b.routes mv changes e)) all),
+              (sym (law.names.named s.customers b.routes mv changes e)) all),
         )
         | inr v ↦ (Some (Frozen v.0), (h, v.1))
       ]

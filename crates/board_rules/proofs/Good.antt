@@ -90,7 +90,7 @@ module _ (law : Laws) (s : Setting) (state : BoardState) (good : IsGood s state)
       let count = law.routes.count (changes_by state.routes mv) state.routes in
       record {
         sized = count ∙ good.sized;
-        plan = law.moves.plan s.customers state.routes mv (changes_by state.routes mv) good.plan h.0.0.0.0.1;
+        plan = law.keeps.plan s.customers state.routes mv (changes_by state.routes mv) good.plan h.0.0.0.0.1;
         feasible = h.1;
         pinned = law.pins.rows state.pins (routes_after state.routes mv) ∙ good.pinned;
         frozen = good.frozen;

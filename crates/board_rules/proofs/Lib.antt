@@ -12,9 +12,12 @@ mod Headline
 mod Held
 mod Histories
 mod Keeping
+mod Moved
 mod Orders
 mod Outs
+mod Parts
 mod Replies
+mod Rows
 mod Separation
 mod Settled
 mod Spots

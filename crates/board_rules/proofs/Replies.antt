@@ -124,18 +124,18 @@ module _ (law : Laws) (alone : OneOut) (s : Setting) (b : Basis) (base : ℕ) (m
   before (Some (Bound v d)) h = pass9 h.0
 
   apart : PassesEffect s b base mv → AreApart (length b.routes) (changes_by b.routes mv)
-  apart h = (law.moves.changes s.customers b.routes mv (changes_by b.routes mv) h.1).apart
+  apart h = (law.names.changes s.customers b.routes mv (changes_by b.routes mv) h.1).apart
 
   fronts_by_named : PassesEffect s b base mv → AreFreezesKept b.pins b.routes (routes_after b.routes mv)
       → (k v : ℕ) → slice_get (named_by mv) k ≡ Some v → IsFrontKept b.pins b.routes (routes_after b.routes mv) v
   fronts_by_named h kept k v at =
       (law.pins.named b.pins (changes_by b.routes mv) b.routes (apart h)).0 kept k v
-      (subst (λ (vs : List ℕ). slice_get vs k ≡ Some v) (sym (law.moves.named s.customers b.routes mv (changes_by b.routes mv) h.1)) at)
+      (subst (λ (vs : List ℕ). slice_get vs k ≡ Some v) (sym (law.names.named s.customers b.routes mv (changes_by b.routes mv) h.1)) at)
 
   pins_by_touched : PassesEffect s b base mv → DoPinsAllow b.pins (may_override b) (routes_after b.routes mv)
       → (k : ℕ) (t : Touch) → slice_get (touched_by b.routes mv) k ≡ Some t → IsAllowed b.pins (may_override b) (routes_after b.routes mv) t.customer
   pins_by_touched h allow k t at =
-      allow t.customer (place_by_all (λ u. (1 ≤ u.customer) × (u.customer ≤ s.customers)) (touched_by b.routes mv) (law.moves.known s.customers b.routes mv (changes_by b.routes mv) plan h.1) k t at).0
+      allow t.customer (place_by_all (λ u. (1 ≤ u.customer) × (u.customer ≤ s.customers)) (touched_by b.routes mv) (law.keeps.known s.customers b.routes mv (changes_by b.routes mv) plan h.1) k t at).0
 
   -- and that one does not
   broken : (denial : Denial) → IsVerdictBy s b base mv (Some denial) → Holds (stage (Some denial)) → ⊥

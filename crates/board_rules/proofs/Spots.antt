@@ -1,9 +1,10 @@
 -- Where a customer stands in a plan, by its place and by the function that finds it.
-use Rattle.std.proofs.Common.{◌≡◌, ℕ, ◌+◌, ◌-◌, ◌<◌, Bool, true, false, List, [], length, Some, None, ap, ◌∙◌, arith}
+use Rattle.std.proofs.Common.{refl, ◌≡◌, ℕ, ◌+◌, ◌-◌, ◌<◌, Bool, true, false, List, [], length, Some, None, ap, ◌∙◌, arith, Option, subst}
 use Rattle.std.specs.Prelude.{slice_index_or, slice_get, position, cond, nat_lt, ◌==◌}
 use Rattle.std.specs.List.{position_or_len}
 use Rattle.std.specs.Option.{option_map}
 use Rattle.std.proofs.lemmas.Bool.{lt-ltb, le-ltb, eqb-true, eq-eqb, false_from_ne_true}
+use Rattle.std.proofs.lemmas.List.Quantifiers.{position-Some}
 use Rattle.std.proofs.lemmas.List.Sums.{position_or_len_is}
 use Rattle.std.proofs.lemmas.Option.{slice_get-get_or, get_or_from_slice_get, slice_get_within}
 use Rattle.plan_core.specs.Among.{is_among}
@@ -11,7 +12,10 @@ use Rattle.plan_core.specs.Plan.{StandsAt, IsPlaced, IsPlan, route_at}
 use Rattle.plan_core.specs.Laws.{CustomersStandByRoute, AmongIsTested}
 use Rattle.board_rules.specs.Pinning.{vehicle_of}
 use Rattle.board_rules.specs.Delta.{spot_on, spot_in}
-use Rattle.board_rules.proofs.Standing.{on_from_test}
+use Rattle.board_rules.proofs.Standing.{on_from_test, on_its_vehicle}
+
+pair_same : (a b : ℕ × ℕ) → Some a ≡ Some b → a ≡ b
+pair_same a b h = cc
 
 position_is : {X : Type 0} (p : X → Bool) (xs : List X) (i : ℕ) (d : X) → i < length xs → p (slice_index_or xs i d) ≡ true
     → ((k : ℕ) → k < i → p (slice_index_or xs k d) ≡ false) → position p xs ≡ Some i
@@ -65,3 +69,23 @@ module _ (stands : CustomersStandByRoute) (among : AmongIsTested) where
 
   pub spot_missing : (routes : List (List ℕ)) (c : ℕ) → ¬ IsPlaced routes c → spot_in routes c ≡ None
   spot_missing routes c nowhere = ap (spot_on routes c) (vehicle_missing routes c nowhere)
+
+  -- and a spot that is found is where the customer stands
+  spot_from : (routes : List (List ℕ)) (c : ℕ) (found : Option ℕ) → vehicle_of routes c ≡ found → (v p : ℕ) → spot_on routes c found ≡ Some (v, p) → StandsAt routes c v p
+  spot_from routes c None is v p h = absurd cc
+  spot_from routes c (Some w) is v p h = at_place (position (λ d. d == c) (route_at routes w)) refl h
+    where
+      at_place : (place : Option ℕ) → position (λ d. d == c) (route_at routes w) ≡ place → option_map {U = ℕ × ℕ} (λ k. (w, k + 1)) place ≡ Some (v, p) → StandsAt routes c v p
+      at_place None at e = absurd cc
+      at_place (Some k) at e =
+          let on = on_its_vehicle stands among routes c w is in
+          let is_at = position-Some (λ d. d == c) (route_at routes w) k 0 at in
+          let here : slice_get (route_at routes w) k ≡ Some c = slice_get-get_or (route_at routes w) k 0 is_at.0 ∙ ap Some (eqb-true _ c is_at.1) in
+          let same : (w, k + 1) ≡ (v, p) = pair_same (w, k + 1) (v, p) e in
+          let vehicles : w ≡ v = ap (λ (q : ℕ × ℕ). q.0) same in
+          let places : k + 1 ≡ p = ap (λ (q : ℕ × ℕ). q.1) same in
+          subst (λ (u : ℕ). StandsAt routes c u p) vehicles
+          (subst (λ (q : ℕ). StandsAt routes c w q) places ((stands.there routes c w k on.1.low on.1.high).0 here))
+
+  pub spot_stands : (routes : List (List ℕ)) (c v p : ℕ) → spot_in routes c ≡ Some (v, p) → StandsAt routes c v p
+  spot_stands routes c v p h = spot_from routes c (vehicle_of routes c) refl v p h

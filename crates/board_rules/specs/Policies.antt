@@ -13,28 +13,32 @@ use Rattle.board_rules.specs.declared.reply.Reply.{Reply}
 use Rattle.board_rules.specs.declared.reply.Reply.TheVariants.{Done, Session, Refused}
 
 -- a refusal of the policy as one of the board; want of memory is no answer of a step
-abbrev pub refusal_of : PolicyRefusal → Refusal
-refusal_of narrow.NoSession = refusals.NoSession
-refusal_of narrow.NoAccess = refusals.NoAccess
-refusal_of narrow.NoUser = refusals.NoUser
-refusal_of narrow.NoRole = refusals.NoRole
-refusal_of narrow.NoSet = refusals.NoSet
-refusal_of narrow.BadObject = refusals.BadObject
-refusal_of narrow.Cycle = refusals.Cycle
-refusal_of narrow.InSet = refusals.InSet
-refusal_of narrow.Number = refusals.Number
-refusal_of narrow.Already = refusals.Already
-refusal_of narrow.NotThere = refusals.NotThere
-refusal_of narrow.NotAuthorized = refusals.NotAuthorized
-refusal_of (narrow.Ssd set) = refusals.Ssd set
-refusal_of (narrow.Dsd set) = refusals.Dsd set
-refusal_of _ = refusals.Full
+abbrev pub board_refusal : PolicyRefusal → Refusal
+board_refusal narrow.NoSession = refusals.NoSession
+board_refusal narrow.NoAccess = refusals.NoAccess
+board_refusal narrow.NoUser = refusals.NoUser
+board_refusal narrow.NoRole = refusals.NoRole
+board_refusal narrow.NoSet = refusals.NoSet
+board_refusal narrow.BadObject = refusals.BadObject
+board_refusal narrow.Cycle = refusals.Cycle
+board_refusal narrow.InSet = refusals.InSet
+board_refusal narrow.Number = refusals.Number
+board_refusal narrow.Already = refusals.Already
+board_refusal narrow.NotThere = refusals.NotThere
+board_refusal narrow.NotAuthorized = refusals.NotAuthorized
+board_refusal (narrow.Ssd set) = refusals.Ssd set
+board_refusal (narrow.Dsd set) = refusals.Dsd set
+board_refusal _ = refusals.Full
+
+-- the reply to a command that was carried out
+abbrev pub outcome_reply : Outcome → Reply
+outcome_reply outcomes.Done = Done
+outcome_reply (outcomes.Session number) = Session number
 
 -- the reply to what the policy answers
 abbrev pub reply_of : Result Outcome PolicyRefusal → Reply
-reply_of (Ok outcomes.Done) = Done
-reply_of (Ok (outcomes.Session number)) = Session number
-reply_of (Err refusal) = Refused (refusal_of refusal)
+reply_of (Ok outcome) = outcome_reply outcome
+reply_of (Err refusal) = Refused (board_refusal refusal)
 
 -- the one right reply to a command of a session, and the policy after it
 unfoldable pub policy_reply : PolicyState → ℕ → Command → Reply

@@ -1,20 +1,25 @@
 //! Laws of the definitions, each the contract of a function that does nothing but cite the laws below it.
-ghost use Rattle.std.specs.Prelude.{◌≡◌, ℕ, ◌+◌, ◌≤◌, ◌↔◌, ◌⊎◌, ◌==◌, ◌++◌, ◌∷◌, [], Bool, List, Option, Some, None, true, false, length, nat_lt, if◌then◌else◌};
+ghost use Rattle.std.specs.Prelude.{◌≡◌, ◌≢◌, ℕ, ◌+◌, ◌≤◌, ◌↔◌, ◌⊎◌, ◌==◌, ◌++◌, ◌∷◌, [], Bool, List, Option, Some, None, true, false, length, nat_lt, if◌then◌else◌};
 ghost use Rattle.permission_core.specs.declared.objects.Operation.{Operation};
 ghost use Rattle.permission_core.specs.declared.objects.Object.{Object};
+ghost use Rattle.policy_core.specs.declared.refusal.Refusal.{Refusal as PolicyRefusal};
+ghost use Rattle.policy_core.specs.State.{PolicyState};
+ghost use Rattle.rbac_core.specs.declared.command.Command.{Command};
+ghost use Rattle.rbac_core.specs.Step.{guard, refusal_of, outcome_of, after as carried_out};
 ghost use Rattle.policy_core.specs.Access.{has_access, CheckAccess};
 ghost use Rattle.dimension_core.specs.Setting.{Setting};
 ghost use Rattle.dimension_core.specs.Feasible.{IsFeasible};
 ghost use Rattle.dimension_core.specs.Laws.{SpansGoOn};
 ghost use Rattle.dimension_core.specs.NewRoutes.{AllFit, AllKnown};
 ghost use Rattle.plan_core.specs.declared.touch.Touch.{Touch};
-ghost use Rattle.plan_core.specs.Plan.{StandsAt, IsPlaced, IsPlan, route_at};
+ghost use Rattle.plan_core.specs.Plan.{StandsAt, IsPlaced, IsPlan, IsNamed, route_at};
 ghost use Rattle.plan_core.specs.Commits.{IsCurrentAt, last_commit};
 ghost use Rattle.pin_core.specs.Pins.{PinState, IsHeld};
 ghost use Rattle.pin_core.specs.Allowed.{IsTouched};
 ghost use Rattle.pin_core.specs.Override.{DoPinsPass, IsFirstForbidden};
 ghost use Rattle.move_core.specs.declared.moves.Move.{Move};
 ghost use Rattle.move_core.specs.Moves.{effect, changes_by};
+ghost use Rattle.move_core.specs.Changed.{first_change};
 ghost use Rattle.board_rules.specs.declared.call.Call.{Call};
 ghost use Rattle.board_rules.specs.declared.call.Call.TheVariants.{Propose};
 ghost use Rattle.board_rules.specs.declared.call.Entry.{Entry};
@@ -23,6 +28,7 @@ ghost use Rattle.board_rules.specs.declared.reply.Refusal.{Refusal};
 ghost use Rattle.board_rules.specs.declared.reply.Reply.{Reply};
 ghost use Rattle.board_rules.specs.declared.reply.Reply.TheVariants.{Committed, Denied, Refused};
 ghost use Rattle.board_rules.specs.Override.{DoPinsAllow, IsFirstHeldBack, AreAnswers};
+ghost use Rattle.board_rules.specs.Policies.{board_refusal, outcome_reply, policy_reply, policy_after};
 ghost use Rattle.board_rules.specs.Pinning.{vehicle_of};
 ghost use Rattle.board_rules.specs.Delta.{spot_in};
 ghost use Rattle.board_rules.specs.State.{BoardState, opening_state};
@@ -30,13 +36,16 @@ ghost use Rattle.board_rules.specs.Rules.{Basis, Agree, IsVerdictBy, is_changed_
 ghost use Rattle.board_rules.specs.Step.{IsReply, after};
 ghost use Rattle.board_rules.specs.History.{Opening, History, state_after, turns_of, IsNext, IsLegal};
 ghost use Rattle.board_rules.specs.Good.{IsGood, state_of, state_at};
+ghost use Rattle.board_rules.specs.Listing.{RowShown, IsListing};
 ghost use Rattle.board_rules.specs.Given.{Laws};
 ghost use Rattle.board_rules.specs.Proposals.{MayCommit, IsFirstFailed};
 ghost use Rattle.board_rules.specs.Separate.{IsSeparated};
 ghost use Rattle.board_rules.specs.Unchanged.{KeepsTheRest};
 
 use dimension_core::{first_out_is_alone, spans_go_on};
-use move_core::{moves_keep_plans, moves_keep_the_untouched, moves_name_vehicles};
+use move_core::{
+    fronts_by_first_change, moves_keep_plans, moves_keep_the_untouched, moves_name_vehicles,
+};
 use pin_core::{
     freezes_by_named, front_still_fits, fronts_within_routes, opening_holds, pin_holds,
     pins_after_commits, unpin_holds,
@@ -56,6 +65,7 @@ fn laws_below()
     moves_name_vehicles();
     moves_keep_plans();
     moves_keep_the_untouched();
+    fronts_by_first_change();
     opening_holds();
     pin_holds();
     unpin_holds();
@@ -140,6 +150,11 @@ pub fn current_vehicles_keep_their_routes()
     laws_below();
 }
 
+/// A session's listing in a state has one list of rows.
+pub fn listings_are_determined()
+    ensures { (s : Setting) (state : BoardState) (session : ℕ) (rows others : List RowShown) → IsListing s state session rows → IsListing s state session others → rows ≡ others }
+{}
+
 /// A call that is denied or refused changes nothing, and every other call leaves what it does not name.
 pub fn calls_keep_the_rest()
     ensures denied { (state : BoardState) (call : Call) (denial : Denial) → after state call (Denied denial) ≡ state }
@@ -173,6 +188,17 @@ pub fn pins_by_touches()
         → IsFirstForbidden pins others touched answers t → IsFirstHeldBack pins free others touched t }
 {}
 
+/// The right reply to a command on the policy, and the policy after it, by the parts of its step: the guard, the command's own refusals, and
+/// the command itself.
+pub fn commands_by_parts()
+    ensures barred { (p : PolicyState) (session : ℕ) (command : Command) (e : PolicyRefusal) → guard p session command ≡ Some e
+        → (policy_reply p session command ≡ Refused (board_refusal e)) × (policy_after p session command ≡ p) }
+    ensures refused { (p : PolicyState) (session : ℕ) (command : Command) (e : PolicyRefusal) → guard p session command ≡ None → refusal_of p command ≡ Some e
+        → (policy_reply p session command ≡ Refused (board_refusal e)) × (policy_after p session command ≡ p) }
+    ensures done { (p : PolicyState) (session : ℕ) (command : Command) → guard p session command ≡ None → refusal_of p command ≡ None
+        → (policy_reply p session command ≡ outcome_reply (outcome_of p command)) × (policy_after p session command ≡ carried_out p command) }
+{}
+
 /// The new routes of a move are of vehicles of the fleet and customers of the board, and where they are in bounds, a feasible plan stays
 /// feasible.
 pub fn plans_are_judged_by_new_routes()
@@ -185,10 +211,21 @@ pub fn plans_are_judged_by_new_routes()
     routes_are_known();
 }
 
-/// In a plan a customer that stands at a place has that vehicle and that place, and one that stands nowhere has none.
+/// After a move that has an effect, each customer whose spot differs stands, before the move or after it, on a named vehicle at the first
+/// place at which that vehicle's route differs, or behind it.
+pub fn spots_change_on_named_vehicles()
+    ensures { (n : ℕ) (routes : List (List ℕ)) (mv : Move) (c : ℕ) → IsPlan n routes → effect n routes mv ≡ Some (changes_by routes mv)
+        → spot_in (routes_after routes mv) c ≢ spot_in routes c
+        → (v : ℕ) × ((p : ℕ) × IsNamed (changes_by routes mv) v × (first_change mv v ≤ p) × (StandsAt routes c v p ⊎ StandsAt (routes_after routes mv) c v p)) }
+{
+    laws_below();
+}
+
+/// In a plan a customer that stands at a place has that vehicle and that place and no other, and one that stands nowhere has none.
 pub fn customers_have_one_spot()
     ensures vehicle { (n : ℕ) (routes : List (List ℕ)) (c v p : ℕ) → IsPlan n routes → StandsAt routes c v p → vehicle_of routes c ≡ Some v }
     ensures spot { (n : ℕ) (routes : List (List ℕ)) (c v p : ℕ) → IsPlan n routes → StandsAt routes c v p → spot_in routes c ≡ Some (v, p) }
+    ensures stands { (routes : List (List ℕ)) (c v p : ℕ) → spot_in routes c ≡ Some (v, p) → StandsAt routes c v p }
     ensures no_vehicle { (routes : List (List ℕ)) (c : ℕ) → ¬ IsPlaced routes c → vehicle_of routes c ≡ None }
     ensures no_spot { (routes : List (List ℕ)) (c : ℕ) → ¬ IsPlaced routes c → spot_in routes c ≡ None }
 {

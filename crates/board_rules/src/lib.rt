@@ -14,11 +14,12 @@ mod row;
 pub use call::{Call, Entry, Event};
 pub use delta::Delta;
 pub use laws::{
-    calls_keep_the_rest, changes_by_stamps, current_vehicles_keep_their_routes,
+    calls_keep_the_rest, changes_by_stamps, commands_by_parts, current_vehicles_keep_their_routes,
     customers_have_one_spot, histories_grow_by_entries, histories_settle_policies,
-    legal_histories_leave_good_states, pins_by_touches, plans_are_judged_by_new_routes,
-    proposals_commit_exactly, replies_are_determined, right_replies_keep_good_states,
-    separation_of_duty_holds, verdicts_by_agreeing_facts,
+    legal_histories_leave_good_states, listings_are_determined, pins_by_touches,
+    plans_are_judged_by_new_routes, proposals_commit_exactly, replies_are_determined,
+    right_replies_keep_good_states, separation_of_duty_holds, spots_change_on_named_vehicles,
+    verdicts_by_agreeing_facts,
 };
 pub use reply::{AskFault, Denial, Fault, Refusal, Reply};
 pub use review::Review;

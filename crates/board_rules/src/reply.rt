@@ -76,11 +76,11 @@ pub enum Refusal {
 }
 
 impl Refusal {
-    ghost use Rattle.board_rules.specs.Policies.{refusal_of};
+    ghost use Rattle.board_rules.specs.Policies.{board_refusal};
 
     /// What the policy refuses, as the board says it. Want of memory is no refusal, and stays that.
     pub fn of_policy(refusal: PolicyRefusal) -> Result<Refusal, AllocError>
-        ensures ok { IfOk result (λ r. r ≡ refusal_of refusal) }
+        ensures ok { IfOk result (λ r. r ≡ board_refusal refusal) }
         ensures err { IsErr result ↔ (refusal ≡ NoMemory) }
     {
         match refusal {

@@ -1,9 +1,10 @@
 use crate::{
     AskFault, Delta, Fault, Refusal, Row, calls_keep_the_rest, changes_by_stamps,
-    current_vehicles_keep_their_routes, customers_have_one_spot, histories_grow_by_entries,
-    histories_settle_policies, legal_histories_leave_good_states, pins_by_touches,
-    plans_are_judged_by_new_routes, proposals_commit_exactly, replies_are_determined,
-    right_replies_keep_good_states, separation_of_duty_holds, verdicts_by_agreeing_facts,
+    commands_by_parts, current_vehicles_keep_their_routes, customers_have_one_spot,
+    histories_grow_by_entries, histories_settle_policies, legal_histories_leave_good_states,
+    listings_are_determined, pins_by_touches, plans_are_judged_by_new_routes,
+    proposals_commit_exactly, replies_are_determined, right_replies_keep_good_states,
+    separation_of_duty_holds, spots_change_on_named_vehicles, verdicts_by_agreeing_facts,
 };
 use rbac_core::Refusal as PolicyRefusal;
 use separation_core::Name;
@@ -65,15 +66,18 @@ fn texts_of_faults(rt: HostRuntime) -> Result<(), Fail> {
 fn laws_are_called(rt: HostRuntime) -> Result<(), Fail> {
     right_replies_keep_good_states();
     legal_histories_leave_good_states();
+    listings_are_determined();
     histories_grow_by_entries();
     histories_settle_policies();
     separation_of_duty_holds();
+    spots_change_on_named_vehicles();
     proposals_commit_exactly();
     replies_are_determined();
     current_vehicles_keep_their_routes();
     calls_keep_the_rest();
     verdicts_by_agreeing_facts();
     changes_by_stamps();
+    commands_by_parts();
     pins_by_touches();
     plans_are_judged_by_new_routes();
     customers_have_one_spot();

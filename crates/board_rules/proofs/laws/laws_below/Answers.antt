@@ -5,13 +5,10 @@ returns c = record {
   routes = c.routes_replaced.ensures;
   stands = c.customers_stand_by_route.ensures;
   among = c.among_is_tested.ensures;
-  moves = record {
-    named = c.moves_name_vehicles.ensures.named;
-    changes = c.moves_name_vehicles.ensures.changes;
-    plan = c.moves_keep_plans.ensures.plan;
-    known = c.moves_keep_plans.ensures.known;
-    stay = c.moves_keep_the_untouched.ensures.stay;
-  };
+  names = c.moves_name_vehicles.ensures;
+  keeps = c.moves_keep_plans.ensures;
+  stays = c.moves_keep_the_untouched.ensures;
+  fronts = c.fronts_by_first_change.ensures;
   pins = record {
     held_at_first = c.opening_holds.ensures.holding;
     fit_at_first = c.opening_holds.ensures.fitting;

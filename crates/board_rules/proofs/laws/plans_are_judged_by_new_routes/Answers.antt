@@ -6,14 +6,14 @@ use Rattle.board_rules.proofs.laws.plans_are_judged_by_new_routes.Goals as goal
 
 pub returns : goal.returns
 returns c =
-    let moves = c.laws_below.ensures.moves in
+    let law = c.laws_below.ensures in
     record {
       known = λ s routes mv sized plan possible.
-          let apart = (moves.changes s.customers routes mv (changes_by routes mv) possible).apart in
-          let next = moves.plan s.customers routes mv (changes_by routes mv) plan possible in
+          let apart = (law.names.changes s.customers routes mv (changes_by routes mv) possible).apart in
+          let next = law.keeps.plan s.customers routes mv (changes_by routes mv) plan possible in
           all_known s (changes_by routes mv) (subst (λ (n : ℕ). AreApart n (changes_by routes mv)) sized apart)
           (λ k d at. c.routes_are_known.ensures.new_known s.customers (changes_by routes mv) routes k d next apart at);
       feasible = λ s routes mv sized feasible possible fit.
-          let apart = (moves.changes s.customers routes mv (changes_by routes mv) possible).apart in
+          let apart = (law.names.changes s.customers routes mv (changes_by routes mv) possible).apart in
           feasible_all s (changes_by routes mv) routes sized (subst (λ (n : ℕ). AreApart n (changes_by routes mv)) sized apart) fit feasible;
     }
