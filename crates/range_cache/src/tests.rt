@@ -79,20 +79,17 @@ fn earlies(
     Ok(values)
 }
 
-/// Four customers and two vehicles: load of at most 10 with the start at 0, and time without bounds but the windows.
-fn standard_pair(
+/// For four customers and two vehicles: load of at most 10 with the start at 0, and time without bounds but the windows.
+fn load_and_time(
     rt: &impl Abort,
     alloc: Global,
-    registry: Registry,
+    registry: &Registry,
     load: TransitId,
     time: TransitId,
-) -> Result<Setup, AllocError>
-    ensures customers { IfOk result (λ setup. (setting setup).customers ≡ 4) }
-    ensures vehicles { IfOk result (λ setup. (setting setup).vehicles ≡ 2) }
-{
+) -> Result<Vec<Dimension>, AllocError> {
     let caps = vec![in alloc; 10u64, 10]?;
     let ranges = vec![in alloc; Range { lo: 0, hi: 10 }; 5]?;
-    let loads = Dimension::new(&registry, load, 0, caps, true, ranges).expect(rt, "bounds");
+    let loads = Dimension::new(registry, load, 0, caps, true, ranges).expect(rt, "bounds");
     let caps = vec![in alloc; 1000u64, 1000]?;
     let ranges = vec![in alloc;
         Range { lo: 0, hi: 1000 },
@@ -101,11 +98,11 @@ fn standard_pair(
         Range { lo: 0, hi: 140 },
         Range { lo: 0, hi: 500 },
     ]?;
-    let times = Dimension::new(&registry, time, 1000, caps, false, ranges).expect(rt, "bounds");
+    let times = Dimension::new(registry, time, 1000, caps, false, ranges).expect(rt, "bounds");
     let mut dimensions = Vec::new(alloc);
     dimensions.push(loads)?;
     dimensions.push(times)?;
-    Ok(Setup::new(4, 2, registry, dimensions, time, 10).expect(rt, "setup"))
+    Ok(dimensions)
 }
 
 /// The cache of a plan that was found in bounds, made anew.
@@ -268,7 +265,8 @@ fn four_customers(rt: HostRuntime) -> Result<(), Fail> {
     let mut registry = Registry::new(alloc);
     let load = registry.register_unary(demand).expect(&rt, "room");
     let time = registry.register(travel).expect(&rt, "room");
-    let setup = standard_pair(&rt, alloc, registry, load, time)?;
+    let dimensions = load_and_time(&rt, alloc, &registry, load, time)?;
+    let setup = Setup::new(4, 2, registry, dimensions, time, 10).expect(&rt, "setup");
     let mut meter = Meter::new();
     inserts(&rt, alloc, &setup, &mut meter)?;
     of_a_plan(&rt, alloc, &setup, &mut meter)?;
