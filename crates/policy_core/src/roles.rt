@@ -222,7 +222,9 @@ fn narrow_all(
     ensures { sessions.new.entries ≡ map (λ e. (e.0, kept_authorized users.now.entries order.now e.1)) sessions.old.entries }
 {
     sessions.retain(|_, session| {
-        session.active = session.active.common(authorized(users, order, session.user));
+        session.active = session
+            .active
+            .common(authorized(users, order, session.user));
         true
     });
 }
