@@ -3,6 +3,7 @@ mod BreakLaws
 mod CommandLaws
 mod CountLaws
 mod FewerLaws
+mod HoldLaws
 mod NumberLaws
 mod OpeningLaws
 mod ReviewLaws

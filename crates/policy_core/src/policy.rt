@@ -2,8 +2,12 @@
 ghost use Rattle.std.specs.Prelude.{◌≡◌, ℕ, ◌<◌, ◌≤◌, [], ◌∷◌, List, None, Some, OnOk, OnErr, IfErr, IfOk, IfNone, IfSome, ◌↔◌, ◌+◌, ◌-◌, true, false, bytes_eq, nat_eq, is_some, is_none, map, unwrap_or, length, filter, not};
 ghost use Rattle.std.specs.Map.{lookup};
 ghost use Rattle.role_hierarchy.specs.Below.{IsOrder};
-ghost use Rattle.separation_core.specs.Groups.{AreSets};
-ghost use Rattle.policy_core.specs.State.{IsPolicy, no_policy, user_of};
+ghost use Rattle.separation_core.specs.Groups.{AreSets, HoldsFor};
+ghost use Rattle.std.specs.Prelude.{Contains};
+ghost use Rattle.std.specs.List.{IsDistinct};
+ghost use Rattle.role_hierarchy.specs.Below.{closed};
+ghost use Rattle.policy_core.specs.declared.session.Session.{Session as ASession};
+ghost use Rattle.policy_core.specs.State.{IsPolicy, counted, no_policy, user_of};
 ghost use Rattle.policy_core.specs.Opening.{opening, set_up};
 
 use crate::refusal::Refusal;
@@ -138,6 +142,27 @@ impl Policy {
         self.order.is_order();
         self.ssd.are_sets();
         self.dsd.are_sets();
+    }
+
+    /// A law, for callers' proofs: no two users and no two roles have one name.
+    pub fn names_are_distinct(&self)
+        ensures users { IsDistinct bytes_eq (map (λ u. u.0) self.now.users) }
+        ensures roles { IsDistinct bytes_eq (map (λ r. r.0) self.now.roles) }
+    {
+        let _users = self.users.len();
+        let _roles = self.roles.len();
+    }
+
+    /// A law, for callers' proofs: of each SSD set fewer roles than its number are among those for
+    /// which a user is authorized (6.3), and of each DSD set fewer than its number among those that
+    /// are counted for a session (6.4).
+    pub fn separation_holds(&self)
+        ensures ssd { (user : List ℕ × ℕ) → Contains self.now.users user →
+            HoldsFor (closed self.now.order user.1) self.now.ssd }
+        ensures dsd { (session : ℕ × ASession) → Contains self.now.sessions session →
+            HoldsFor (counted self.now.counting self.now.order session.1.active) self.now.dsd }
+    {
+        self.is_policy();
     }
 
     /// How many customers there are, at most 1,000.
