@@ -56,9 +56,9 @@ module _ (ws : List ℕ) (small : AllByRecursion IsWord ws) (place low high : �
   sides q e = elim (cases_lt (q % 64) low) [
     | inl under ↦ inr (inl (omega arith), inl under)
     | inr from ↦ elim (cases_lt (q % 64) high) [
-        | inl to ↦ inl (omega arith, omega arith, from, to)
-        | inr past ↦ inr (inr (omega arith), inr past)
-      ]
+      | inl to ↦ inl (omega arith, omega arith, from, to)
+      | inr past ↦ inr (inr (omega arith), inr past)
+    ]
   ]
 
   far : (q : ℕ) → (q / 64 ≡ place → ⊥) → (64 * place + low ≤ q) × (q < 64 * place + low + (high - low)) → ⊥
@@ -68,9 +68,9 @@ module _ (ws : List ℕ) (small : AllByRecursion IsWord ws) (place low high : �
   far_out q ne = elim (cases_lt q (64 * place + low)) [
     | inl under ↦ inl under
     | inr from ↦ elim (cases_lt q (64 * place + low + (high - low))) [
-        | inl to ↦ absurd (far q ne (from, to))
-        | inr past ↦ inr past
-      ]
+      | inl to ↦ absurd (far q ne (from, to))
+      | inr past ↦ inr past
+    ]
   ]
 
   abbrev filled : ℕ
@@ -91,14 +91,14 @@ module _ (ws : List ℕ) (small : AllByRecursion IsWord ws) (place low high : �
       by : (q : ℕ) → (q / 64 ≡ place) ⊎ (q / 64 ≡ place → ⊥) → has (joined (set ws place filled)) q ≡ has (with_range (joined ws) (64 * place + low) (high - low)) q
       by q c = elim c [
         | inl e ↦ elim (sides q e) [
-            | inl inside ↦
-                (let one : bit_at filled (q % 64) ≡ 1 = bit_at_or word mask (q % 64) ∙ max_one _ _ (inside_one q e inside.2 inside.3) (bit_at-lt word (q % 64)) in
-                new q ∙ ap (λ n. eqb n 1) (at_place filled q e ∙ one)
-                ∙ sym ((has-with_range (joined ws) (64 * place + low) (high - low) q).1 (inr (inside.0, inside.1))))
-            | inr outside ↦
-                (let same : bit_at filled (q % 64) ≡ bit_at word (q % 64) = bit_at_or word mask (q % 64) ∙ max_none _ _ (outside_none q outside.1) in
-                new q ∙ ap (λ n. eqb n 1) (at_place filled q e ∙ same ∙ sym (old_at q e)) ∙ sym (member_at ws small q) ∙ kept q outside.0)
-          ]
+          | inl inside ↦
+              (let one : bit_at filled (q % 64) ≡ 1 = bit_at_or word mask (q % 64) ∙ max_one _ _ (inside_one q e inside.2 inside.3) (bit_at-lt word (q % 64)) in
+              new q ∙ ap (λ n. eqb n 1) (at_place filled q e ∙ one)
+              ∙ sym ((has-with_range (joined ws) (64 * place + low) (high - low) q).1 (inr (inside.0, inside.1))))
+          | inr outside ↦
+              (let same : bit_at filled (q % 64) ≡ bit_at word (q % 64) = bit_at_or word mask (q % 64) ∙ max_none _ _ (outside_none q outside.1) in
+              new q ∙ ap (λ n. eqb n 1) (at_place filled q e ∙ same ∙ sym (old_at q e)) ∙ sym (member_at ws small q) ∙ kept q outside.0)
+        ]
         | inr ne ↦ new q ∙ ap (λ n. eqb n 1) (off_place filled q ne) ∙ sym (member_at ws small q) ∙ kept q (far_out q ne)
       ]
         where
@@ -131,13 +131,13 @@ module _ (ws : List ℕ) (small : AllByRecursion IsWord ws) (place low high : �
       by : (q : ℕ) → (q / 64 ≡ place) ⊎ (q / 64 ≡ place → ⊥) → has (joined (set ws place emptied)) q ≡ has (without_range (joined ws) (64 * place + low) (high - low)) q
       by q c = elim c [
         | inl e ↦ elim (sides q e) [
-            | inl inside ↦
-                (let none : bit_at emptied (q % 64) ≡ 0 = digit q ∙ min_none _ _ (inside_one q e inside.2 inside.3) in
-                new q ∙ ap (λ n. eqb n 1) (at_place emptied q e ∙ none) ∙ sym (gone q (inside.0, inside.1)))
-            | inr outside ↦
-                (let same : bit_at emptied (q % 64) ≡ bit_at word (q % 64) = digit q ∙ min_same _ _ (outside_none q outside.1) (bit_at-lt word (q % 64)) in
-                new q ∙ ap (λ n. eqb n 1) (at_place emptied q e ∙ same ∙ sym (old_at q e)) ∙ sym (member_at ws small q) ∙ kept q outside.0)
-          ]
+          | inl inside ↦
+              (let none : bit_at emptied (q % 64) ≡ 0 = digit q ∙ min_none _ _ (inside_one q e inside.2 inside.3) in
+              new q ∙ ap (λ n. eqb n 1) (at_place emptied q e ∙ none) ∙ sym (gone q (inside.0, inside.1)))
+          | inr outside ↦
+              (let same : bit_at emptied (q % 64) ≡ bit_at word (q % 64) = digit q ∙ min_same _ _ (outside_none q outside.1) (bit_at-lt word (q % 64)) in
+              new q ∙ ap (λ n. eqb n 1) (at_place emptied q e ∙ same ∙ sym (old_at q e)) ∙ sym (member_at ws small q) ∙ kept q outside.0)
+        ]
         | inr ne ↦ new q ∙ ap (λ n. eqb n 1) (off_place emptied q ne) ∙ sym (member_at ws small q) ∙ kept q (far_out q ne)
       ]
         where

@@ -45,18 +45,19 @@ unfolding with_range
 has-with_range set first zero o = ((λ h. inl h), (λ c. elim c [ inl h ↦ h | inr r ↦ absurd (omega (arith, r.0, r.1)) ]))
 has-with_range set first (suc n) o =
     let before = has-with_range set first n o in
-    let is = has-with_role (with_range set first n) (first + n) o in
-    ( (λ h. elim (or_cases _ _ (sym is ∙ h)) [
+    let is = has-with_role (with_range set first n) (first + n) o in (
+      (λ h. elim (or_cases _ _ (sym is ∙ h)) [
         | inl old ↦ elim (before.0 old) [ inl h ↦ inl h | inr r ↦ inr (r.0, omega (arith, r.1)) ]
         | inr new ↦ inr (in_one set first n o new)
-      ])
-    , (λ c. is ∙ elim c [
+      ]),
+      (λ c. is ∙ elim c [
         | inl h ↦ or_left _ _ (before.1 (inl h))
         | inr r ↦ elim (cases_eq o (first + n)) [
-            | inl e ↦ or_right _ _ (eq-eqb o (first + n) e)
-            | inr ne ↦ or_left _ _ (before.1 (inr (r.0, omega (arith, r.1))))
-          ]
-      ]) )
+          | inl e ↦ or_right _ _ (eq-eqb o (first + n) e)
+          | inr ne ↦ or_left _ _ (before.1 (inr (r.0, omega (arith, r.1))))
+        ]
+      ]),
+    )
 
 -- after REVOKE over a range a set has what it had but for the objects of the range
 pub has-without_range : (set first n o : ℕ) → (has (without_range set first n) o ≡ true) ↔ ((has set o ≡ true) × ((o < first) ⊎ (first + n ≤ o)))
@@ -64,18 +65,21 @@ unfolding without_range
 has-without_range set first zero o = ((λ h. (h, elim (cases_lt o first) [ inl low ↦ inl low | inr high ↦ inr (omega arith) ])), (λ c. c.0))
 has-without_range set first (suc n) o =
     let before = has-without_range set first n o in
-    let is = has-without (without_range set first n) (first + n) o in
-    ( (λ h.
-        let parts = and_parts _ _ (sym is ∙ h) in
-        let old = before.0 parts.1 in
-        (old.0, elim old.1 [
-          | inl low ↦ inl low
-          | inr high ↦ elim (cases_eq o (first + n)) [
-              | inl e ↦ absurd (false≢true (sym (ap not (eq-eqb o (first + n) e)) ∙ parts.0))
-              | inr ne ↦ inr (omega arith)
-            ]
-        ]))
-    , (λ c. is ∙ elim c.1 [
+    let is = has-without (without_range set first n) (first + n) o in (
+      (λ h.
+          let parts = and_parts _ _ (sym is ∙ h) in
+          let old = before.0 parts.1 in (
+            old.0,
+            elim old.1 [
+              | inl low ↦ inl low
+              | inr high ↦ elim (cases_eq o (first + n)) [
+                | inl e ↦ absurd (false≢true (sym (ap not (eq-eqb o (first + n) e)) ∙ parts.0))
+                | inr ne ↦ inr (omega arith)
+              ]
+            ],
+          )),
+      (λ c. is ∙ elim c.1 [
         | inl low ↦ and_from _ _ (ap not (ne_eqb o (first + n) (λ e. absurd (omega arith)))) (before.1 (c.0, inl low))
         | inr high ↦ and_from _ _ (ap not (ne_eqb o (first + n) (λ e. absurd (omega arith)))) (before.1 (c.0, inr (omega arith)))
-      ]) )
+      ]),
+    )

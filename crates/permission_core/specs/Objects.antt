@@ -8,7 +8,6 @@ use Rattle.permission_core.specs.declared.objects.Operation.{Operation}
 use Rattle.permission_core.specs.declared.objects.Operation.TheVariants.{View, Move, Pin, Freeze, Admin, Audit, Override}
 use Rattle.permission_core.specs.declared.objects.Object.{Object}
 use Rattle.permission_core.specs.declared.objects.Object.TheVariants.{Board, Vehicle, Customer}
-
 use Rattle.permission_core.specs.declared.objects.ObjectRange.{ObjectRange}
 use Rattle.permission_core.specs.declared.objects.ObjectRange.TheVariants as range
 

@@ -7,3 +7,6 @@ mod permissions;
 
 pub use objects::{Object, ObjectRange, ObjectSet, Operation};
 pub use permissions::Permissions;
+
+#[cfg(test)]
+mod tests;

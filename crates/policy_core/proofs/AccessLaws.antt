@@ -66,24 +66,25 @@ module _ (p : PolicyState) (is : IsOrder p.order) (session : ℕ) (operation : O
   abbrev AtSession : Option Session → Type 0
   AtSession found = ((is_some found && (is_here p object && reaches p (unwrap_or found (record { user = []; active = 0 })).active operation (number_of object))) ≡ true)
       ↔ ((s : Session) × (found ≡ Some s) × (is_here p object ≡ true)
-        × ((a : ℕ) × (a < 256) × (has s.active a ≡ true) × ((b : ℕ) × IsSenior (stands p.order) a b × (has (row_of p b operation) (number_of object) ≡ true))))
+      × ((a : ℕ) × (a < 256) × (has s.active a ≡ true) × ((b : ℕ) × IsSenior (stands p.order) a b × (has (row_of p b operation) (number_of object) ≡ true))))
 
   at_session : (found : Option Session) → AtSession found
   unfolding reaches
   at_session None = (λ h. cc, λ c. cc)
-  at_session (Some s) =
-      ( (λ h.
-          let parts = and_parts _ _ h in
-          let k = some_below-found (is_reached p (closed p.order s.active) operation (number_of object)) 256 parts.1 in
-          let reached = and_parts _ _ k.2 in
-          let from = (has-closed p.order is s.active k.0).0 reached.0 in
-          (s, refl, parts.0, (from.0, from.1, from.2, (k.0, from.3, reached.1))))
-      , (λ c.
-          let same : c.0.active ≡ s.active = cc in
-          let b = c.3.3.0 in
-          let active : has s.active c.3.0 ≡ true = ap (λ set. has set c.3.0) (sym same) ∙ c.3.2 in
-          let below : has (closed p.order s.active) b ≡ true = (has-closed p.order is s.active b).1 (c.3.0, c.3.1, active, c.3.3.1) in
-          and_from _ _ c.2 (some_below-at (is_reached p (closed p.order s.active) operation (number_of object)) b 256 (chain_small p.order is c.3.0 c.3.3.1.0 b c.3.1 c.3.3.1.1) (and_from _ _ below c.3.3.2))) )
+  at_session (Some s) = (
+    (λ h.
+        let parts = and_parts _ _ h in
+        let k = some_below-found (is_reached p (closed p.order s.active) operation (number_of object)) 256 parts.1 in
+        let reached = and_parts _ _ k.2 in
+        let from = (has-closed p.order is s.active k.0).0 reached.0 in
+        (s, refl, parts.0, (from.0, from.1, from.2, (k.0, from.3, reached.1)))),
+    (λ c.
+        let same : c.0.active ≡ s.active = cc in
+        let b = c.3.3.0 in
+        let active : has s.active c.3.0 ≡ true = ap (λ set. has set c.3.0) (sym same) ∙ c.3.2 in
+        let below : has (closed p.order s.active) b ≡ true = (has-closed p.order is s.active b).1 (c.3.0, c.3.1, active, c.3.3.1) in
+        and_from _ _ c.2 (some_below-at (is_reached p (closed p.order s.active) operation (number_of object)) b 256 (chain_small p.order is c.3.0 c.3.3.1.0 b c.3.1 c.3.3.1.1) (and_from _ _ below c.3.3.2))),
+  )
 
   pub access_by_test : (has_access p session operation object ≡ true) ↔ CheckAccess p session operation object
   unfolding has_access

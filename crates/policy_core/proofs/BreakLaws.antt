@@ -78,9 +78,9 @@ module _ {K X : Type 0} (g : X → ℕ) where
 pub broken_fewer : (limit : Limit) (few many : ℕ) → ((q : ℕ) → has few q ≡ true → has many q ≡ true) → is_broken many limit ≡ false → is_broken few limit ≡ false
 broken_fewer limit few many within whole =
     let less : ones (bit_and limit.roles few) ≤ ones (bit_and limit.roles many) =
-        count_fewer _ _ _ (below_power (bit_and limit.roles few)) (λ q h.
-          let parts = and_parts _ _ (sym (has-bit_and limit.roles few q) ∙ h) in
-          has-bit_and limit.roles many q ∙ and_from _ _ parts.0 (within q parts.1)) in
+    count_fewer _ _ _ (below_power (bit_and limit.roles few)) (λ q h.
+    let parts = and_parts _ _ (sym (has-bit_and limit.roles few q) ∙ h) in
+    has-bit_and limit.roles many q ∙ and_from _ _ parts.0 (within q parts.1)) in
     lt-leb _ _ (omega (arith, less, leb-false _ _ whole))
 
 -- each set of the first list lies within that at its place in the second

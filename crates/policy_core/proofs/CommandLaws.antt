@@ -51,7 +51,7 @@ module _ (p now : PolicyState) (same : p ≡ now) (is : IsPolicy p) where
   pub fewer_whole : IsOrder p.order → (user : List ℕ) (held left : ℕ) → Some held ≡ lookup (bytes_eq user) p.users → ((q : ℕ) → has left q ≡ true → has held q ≡ true) → broken_ssd (with_roles now user left) ≡ None
   fewer_whole order user held left there within =
       sym (roles_judged user left None (sym (first_broken-fewer (closed p.order left) (closed p.order held) p.ssd (closed_fewer p.order order left held within)
-        (broken_at (closed p.order) (bytes_eq user) held p.users p.ssd is.ssd there))))
+      (broken_at (closed p.order) (bytes_eq user) held p.users p.ssd is.ssd there))))
 
   -- the one session whose roles change is judged for all
   pub session_judged : (number : ℕ) (session : Session) (found : Option (List ℕ)) → found ≡ first_broken (counted_of p session) p.dsd → option_map Dsd found ≡ broken_dsd (with_session now number session)
@@ -63,7 +63,7 @@ module _ (p now : PolicyState) (same : p ≡ now) (is : IsPolicy p) where
   pub fewer_active : IsOrder p.order → (number : ℕ) (session next : Session) → Some session ≡ lookup (nat_eq number) p.sessions → ((q : ℕ) → has next.active q ≡ true → has session.active q ≡ true) → broken_dsd (with_session now number next) ≡ None
   fewer_active order number session next there within =
       sym (session_judged number next None (sym (first_broken-fewer (counted_of p next) (counted_of p session) p.dsd (counted_fewer p.counting p.order order next.active session.active within)
-        (broken_at (counted_of p) (nat_eq number) session p.sessions p.dsd is.dsd there))))
+      (broken_at (counted_of p) (nat_eq number) session p.sessions p.dsd is.dsd there))))
 
   -- a session less
   pub shut_whole : (number : ℕ) (sessions : List (ℕ × Session)) → sessions ≡ remove_entry (nat_eq number) p.sessions → IsPolicy (record p { sessions = sessions })
@@ -127,7 +127,10 @@ role_whole p is roles order slot is_order slots =
     record {
       ssd = ap (λ all. first_breaking all p.ssd) (same_authorized order p.order same p.users) ∙ is.ssd;
       dsd = ap (λ all. first_breaking all p.dsd) (same_counted p.counting order p.order as_before p.sessions) ∙ is.dsd;
-      slots = slots; numbers = is.numbers; few_customers = is.few_customers; few_vehicles = is.few_vehicles;
+      slots = slots;
+      numbers = is.numbers;
+      few_customers = is.few_customers;
+      few_vehicles = is.few_vehicles;
     }
 
 both_none : {X : Type 0} (a b : Option X) → option_or a b ≡ None → (a ≡ None) × (b ≡ None)
@@ -151,7 +154,10 @@ gone_whole p is user users sessions is_removed is_filtered =
     let whole : P (remove_entry (bytes_eq user) p.users) (filter kept p.sessions) = record {
       ssd = breaking_removed (closed p.order) (bytes_eq user) p.users p.ssd is.ssd;
       dsd = breaking_filtered given kept p.sessions p.dsd is.dsd;
-      slots = is.slots; numbers = rise-filter 0 p.last kept p.sessions is.numbers; few_customers = is.few_customers; few_vehicles = is.few_vehicles;
+      slots = is.slots;
+      numbers = rise-filter 0 p.last kept p.sessions is.numbers;
+      few_customers = is.few_customers;
+      few_vehicles = is.few_vehicles;
     } in
     let Q : List (List ℕ × ℕ) → Type 0 = λ us. P us sessions in
     subst Q (sym is_removed) (subst (P (remove_entry (bytes_eq user) p.users)) (sym is_filtered) whole)

@@ -37,16 +37,17 @@ kept_authorized_within users order s q h = (and_parts _ _ (sym (has-bit_and s.ac
 fewer_counted : (counting : Counting) (few many : Order) → IsOrder few → IsOrder many → ((a b : ℕ) → stands few a b ≡ true → stands many a b ≡ true) → (k : Session → Session) → Keeps k → (es : List (ℕ × Session)) →
     AreFewer (map (λ (e : ℕ × Session). counted counting few e.1.active) (map (λ e. (e.0, k e.1)) es)) (map (λ e. counted counting many e.1.active) es)
 fewer_counted counting few many is_few is_many within k keeps [] = tt
-fewer_counted counting few many is_few is_many within k keeps (e ∷ es) =
-    ( (λ q h. counted_fewer counting many is_many (k e.1).active e.1.active (keeps e.1) q (counted_fewer_pairs counting few many is_few is_many within (k e.1).active q h))
-    , fewer_counted counting few many is_few is_many within k keeps es )
+fewer_counted counting few many is_few is_many within k keeps (e ∷ es) = (
+  (λ q h. counted_fewer counting many is_many (k e.1).active e.1.active (keeps e.1) q (counted_fewer_pairs counting few many is_few is_many within (k e.1).active q h)),
+  fewer_counted counting few many is_few is_many within k keeps es,
+)
 
 -- sessions that keep some of their active roles break no set that held before
 pub narrowed_sessions : (p : PolicyState) → IsPolicy p → IsOrder p.order → (k : Session → Session) → Keeps k → (sessions : List (ℕ × Session)) → sessions ≡ map (λ e. (e.0, k e.1)) p.sessions → IsPolicy (record p { sessions = sessions })
 narrowed_sessions p is order k keeps sessions kept = record {
   ssd = is.ssd;
   dsd = ap (λ (xs : List (ℕ × Session)). first_breaking (map (λ e. counted p.counting p.order e.1.active) xs) p.dsd) kept
-    ∙ breaking_fewer _ (counted_all p) p.dsd (fewer_counted p.counting p.order p.order order order (λ a b h. h) k keeps p.sessions) is.dsd;
+      ∙ breaking_fewer _ (counted_all p) p.dsd (fewer_counted p.counting p.order p.order order order (λ a b h. h) k keeps p.sessions) is.dsd;
   slots = is.slots;
   numbers = ap (λ xs. rise 0 p.last (numbers_of xs)) kept ∙ ap (rise 0 p.last) (numbers-mapped k p.sessions) ∙ is.numbers;
   few_customers = is.few_customers;
@@ -60,7 +61,7 @@ pub narrowed_whole : (p : PolicyState) → IsPolicy p → IsOrder p.order → (u
 narrowed_whole p is was users roles order grants sessions is_order within fewer slots kept = record {
   ssd = breaking_fewer (map (λ u. closed order u.1) users) (authorized p) p.ssd fewer is.ssd;
   dsd = ap (λ (xs : List (ℕ × Session)). first_breaking (map (λ e. counted p.counting order e.1.active) xs) p.dsd) kept
-    ∙ breaking_fewer _ (counted_all p) p.dsd (fewer_counted p.counting order p.order is_order was within (kept_authorized users order) (kept_authorized_within users order) p.sessions) is.dsd;
+      ∙ breaking_fewer _ (counted_all p) p.dsd (fewer_counted p.counting order p.order is_order was within (kept_authorized users order) (kept_authorized_within users order) p.sessions) is.dsd;
   slots = slots;
   numbers = ap (λ xs. rise 0 p.last (numbers_of xs)) kept ∙ ap (rise 0 p.last) (numbers-mapped (kept_authorized users order) p.sessions) ∙ is.numbers;
   few_customers = is.few_customers;

@@ -27,7 +27,7 @@ module _ (p now : PolicyState) (same : p ≡ now) (is : IsPolicy p) (name : List
   ssd_created h =
       let P : PolicyState → Type 0 = λ s. option_map Ssd (cond found (Some name) None) ≡ broken_ssd (record s { ssd = with_set s.ssd name limit }) in
       subst P same (ap (λ t. option_map Ssd (cond t (Some name) None)) (h ∙ any_closed p.order limit p.users)
-        ∙ ap (option_map Ssd) (sym (breaking-with_set (authorized p) p.ssd name limit is.ssd)))
+      ∙ ap (option_map Ssd) (sym (breaking-with_set (authorized p) p.ssd name limit is.ssd)))
 
   -- so is one with other roles or another number
   pub ssd_changed : found ≡ list_any (λ roles. is_broken (closed p.order roles) limit) (map (λ u. u.1) p.users) →
@@ -35,7 +35,7 @@ module _ (p now : PolicyState) (same : p ≡ now) (is : IsPolicy p) (name : List
   ssd_changed h f old there becomes =
       let P : PolicyState → Type 0 = λ s. limit_of s.ssd name ≡ Some old → option_map Ssd (cond found (Some name) None) ≡ broken_ssd (record s { ssd = changed s.ssd name f }) in
       subst P same (λ here. ap (λ t. option_map Ssd (cond t (Some name) None)) (h ∙ any_closed p.order limit p.users ∙ ap (λ l. list_any (λ given. is_broken given l) (authorized p)) (sym becomes))
-        ∙ ap (option_map Ssd) (sym (breaking-changed (authorized p) p.ssd name f old here is.ssd))) there
+      ∙ ap (option_map Ssd) (sym (breaking-changed (authorized p) p.ssd name f old here is.ssd))) there
 
   -- and so with DSD sets
   pub dsd_created : found ≡ list_any (λ (s : Session). is_broken (counted p.counting p.order s.active) limit) (map (λ e. e.1) p.sessions) →
@@ -43,14 +43,14 @@ module _ (p now : PolicyState) (same : p ≡ now) (is : IsPolicy p) (name : List
   dsd_created h =
       let P : PolicyState → Type 0 = λ s. option_map Dsd (cond found (Some name) None) ≡ broken_dsd (record s { dsd = with_set s.dsd name limit }) in
       subst P same (ap (λ t. option_map Dsd (cond t (Some name) None)) (h ∙ any_counted p.counting p.order limit p.sessions)
-        ∙ ap (option_map Dsd) (sym (breaking-with_set (counted_all p) p.dsd name limit is.dsd)))
+      ∙ ap (option_map Dsd) (sym (breaking-with_set (counted_all p) p.dsd name limit is.dsd)))
 
   pub dsd_changed : found ≡ list_any (λ (s : Session). is_broken (counted p.counting p.order s.active) limit) (map (λ e. e.1) p.sessions) →
       (f : Limit → Limit) (old : Limit) → limit_of now.dsd name ≡ Some old → f old ≡ limit → option_map Dsd (cond found (Some name) None) ≡ broken_dsd (record now { dsd = changed now.dsd name f })
   dsd_changed h f old there becomes =
       let P : PolicyState → Type 0 = λ s. limit_of s.dsd name ≡ Some old → option_map Dsd (cond found (Some name) None) ≡ broken_dsd (record s { dsd = changed s.dsd name f }) in
       subst P same (λ here. ap (λ t. option_map Dsd (cond t (Some name) None)) (h ∙ any_counted p.counting p.order limit p.sessions ∙ ap (λ l. list_any (λ given. is_broken given l) (counted_all p)) (sym becomes))
-        ∙ ap (option_map Dsd) (sym (breaking-changed (counted_all p) p.dsd name f old here is.dsd))) there
+      ∙ ap (option_map Dsd) (sym (breaking-changed (counted_all p) p.dsd name f old here is.dsd))) there
 
 -- other sets, that are not broken either
 pub ssd_whole : (p : PolicyState) → IsPolicy p → (groups : Groups) → first_breaking (authorized p) groups ≡ None → IsPolicy (record p { ssd = groups })

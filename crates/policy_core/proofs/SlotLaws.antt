@@ -16,7 +16,6 @@ with_kept used slot q h = has-with_role used slot q ∙ or_left _ _ h
 
 module _ (old new : List (List ℕ × ℕ)) (used : ℕ) (slots : HasSlots old used) (role : List ℕ) (slot : ℕ)
     (is : (q : List ℕ) → lookup (bytes_eq q) new ≡ cond (bytes_eq role q) (Some slot) (lookup (bytes_eq q) old)) (fresh : has used slot ≡ false) where
-
   same_name : (q : List ℕ) → bytes_eq role q ≡ true → role ≡ q
   same_name q h = (bytes_eq-Decides role q).0 h
 
@@ -46,7 +45,6 @@ module _ (old new : List (List ℕ × ℕ)) (used : ℕ) (slots : HasSlots old u
 
 module _ (old new : List (List ℕ × ℕ)) (used : ℕ) (slots : HasSlots old used) (role : List ℕ) (slot : ℕ) (here : lookup (bytes_eq role) old ≡ Some slot)
     (is : (q : List ℕ) → lookup (bytes_eq q) new ≡ cond (bytes_eq role q) None (lookup (bytes_eq q) old)) where
-
   found_old : (q : List ℕ) (s : ℕ) (t : Bool) → bytes_eq role q ≡ t → cond t None (lookup (bytes_eq q) old) ≡ Some s → (t ≡ false) × (lookup (bytes_eq q) old ≡ Some s)
   found_old q s true e h = cc
   found_old q s false e h = (refl, h)

@@ -1,13 +1,14 @@
 -- One more pair: who was authorized for no role senior to its senior is authorized for no more than before.
-use Rattle.std.proofs.Common.{◌≡◌, ℕ, ◌+◌, ◌<◌, Bool, true, false, cond, ◌||◌, List, [], ◌∷◌, ◌++◌, Option, Some, None, map, take, sym, refl, ap, ap₂, ◌∙◌, subst}
-use Rattle.std.specs.Prelude.{bit_or, slice_get}
+use Rattle.std.proofs.Common.{◌≡◌, ℕ, ◌+◌, ◌<◌, Bool, true, false, cond, not, eqb, ◌||◌, List, [], ◌∷◌, ◌++◌, Option, Some, None, map, take, sym, refl, ap, ap₂, ◌∙◌, subst}
+use Rattle.std.specs.Prelude.{bit_or, bit_and, slice_get}
 use Rattle.std.specs.List.{list_any}
-use Rattle.std.proofs.lemmas.Bool.{or_parts, true≢false, false≢true, and_from}
+use Rattle.std.proofs.lemmas.Bool.{or_parts, true≢false, false≢true, and_from, and_parts, eq-eqb, ne_eqb}
 use Rattle.std.proofs.lemmas.List.{append_assoc, append-nil}
 use Rattle.role_hierarchy.specs.Roles.{has}
 use Rattle.role_hierarchy.specs.Order.{Order, stands, is_there, IsRefusal, with_pair}
 use Rattle.role_hierarchy.specs.Below.{closed, juniors_of, IsOrder}
-use Rattle.role_hierarchy.specs.BelowLaws.{closed-with_pair, has-juniors_of}
+use Rattle.role_hierarchy.specs.BelowLaws.{closed-with_pair, has-juniors_of, has-closed}
+use Rattle.role_hierarchy.specs.RoleLaws.{has-bit_and, has-empty, same_roles}
 use Rattle.role_hierarchy.specs.declared.hierarchy.HierarchyFault.{HierarchyFault}
 use Rattle.role_hierarchy.specs.declared.hierarchy.HierarchyFault.TheVariants.{Full, NotThere, Already, Cycle}
 use Rattle.separation_core.specs.Groups.{Groups, first_breaking, is_broken}
@@ -17,7 +18,7 @@ use Rattle.policy_core.specs.declared.refusal.Refusal.TheVariants.{Ssd, Dsd}
 use Rattle.policy_core.specs.declared.session.Counting.{Counting}
 use Rattle.policy_core.specs.declared.session.Counting.TheVariants.{Active, Inherited}
 use Rattle.policy_core.specs.State.{PolicyState, IsPolicy, counted, broken_ssd, broken_dsd}
-use Rattle.policy_core.specs.Wider.{wider, all_wider, held_in, active_in}
+use Rattle.policy_core.specs.Wider.{AreSeniors, wider, all_wider, held_in, active_in}
 use Rattle.policy_core.proofs.BreakLaws.{not_broken}
 
 module _ {E : Type 0} (order : Order) (is : IsOrder order) (s j : ℕ) (in_s : s < 256) (in_j : j < 256) (g : E → ℕ) where
@@ -57,6 +58,24 @@ module _ {E : Type 0} (order : Order) (is : IsOrder order) (s j : ℕ) (in_s : s
       let parts = not_broken (list_any (λ given. is_broken given l.1) (map (λ e. closed order (g e)) es)) l.0 (first_breaking (map (λ e. closed order (g e)) es) groups) none in
       ap₂ (λ t rest. cond t (Some l.0) rest) (any_wider (λ given. is_broken given l.1) es parts.0) (breaking_wider es groups parts.1)
 
+-- a role of the set is senior to the senior exactly where the senior stands below the set
+pub meets_below : (order : Order) → IsOrder order → (s seniors roles : ℕ) → AreSeniors order s seniors → not (eqb (bit_and roles seniors) 0) ≡ has (closed order roles) s
+meets_below order is s seniors roles are = by (has (closed order roles) s) refl
+  where
+    by : (t : Bool) → has (closed order roles) s ≡ t → not (eqb (bit_and roles seniors) 0) ≡ t
+    by true h =
+        let a = (has-closed order is roles s).0 h in
+        let both : has (bit_and roles seniors) a.0 ≡ true = has-bit_and roles seniors a.0 ∙ and_from _ _ a.2 ((are a.0).1 (a.1, a.3)) in
+        ap not (ne_eqb (bit_and roles seniors) 0 (λ none. absurd (false≢true (sym (ap (λ n. has n a.0) none ∙ has-empty a.0) ∙ both))))
+    by false h = ap not (eq-eqb (bit_and roles seniors) 0 (same_roles _ _ (λ q. no_member q (has (bit_and roles seniors) q) refl ∙ sym (has-empty q))))
+      where
+        no_member : (q : ℕ) (t : Bool) → has (bit_and roles seniors) q ≡ t → has (bit_and roles seniors) q ≡ false
+        no_member q false e = e
+        no_member q true e =
+            let parts = and_parts _ _ (sym (has-bit_and roles seniors q) ∙ e) in
+            let a = (are q).0 parts.1 in
+            absurd (false≢true (sym h ∙ (has-closed order is roles s).1 (q, a.0, parts.0, a.1)))
+
 all_wider-append : {E : Type 0} (order : Order) (s j : ℕ) (g : E → ℕ) (xs ys : List E) → all_wider order s j g (xs ++ ys) ≡ all_wider order s j g xs ++ all_wider order s j g ys
 all_wider-append order s j g [] ys = refl
 all_wider-append order s j g (x ∷ xs) ys = ap (λ rest. wider order s j (g x) ++ rest) (all_wider-append order s j g xs ys) ∙ sym (append_assoc (wider order s j (g x)) (all_wider order s j g xs) (all_wider order s j g ys))
@@ -92,3 +111,13 @@ module _ (p now : PolicyState) (same : p ≡ now) (is : IsPolicy p) (order : IsO
           first_breaking (map (λ e. counted counting (with_pair p.order s j) (active_in e)) p.sessions) p.dsd ≡ first_breaking (all_wider p.order s j active_in p.sessions) p.dsd
       by Active e none = absurd (inherits e)
       by Inherited e none = breaking_wider p.order order s j in_s in_j active_in p.sessions p.dsd none
+
+-- what is pushed where the roles meet the seniors, and that nothing is where they do not
+module _ (order : Order) (is : IsOrder order) (s j seniors juniors roles : ℕ) (are : AreSeniors order s seniors) (below : juniors ≡ juniors_of order j) where
+  pub wider_met : not (eqb (bit_and roles seniors) 0) ≡ true → bit_or (closed order roles) juniors ∷ [] ≡ wider order s j roles
+  wider_met met =
+      ap (λ row. bit_or (closed order roles) row ∷ []) below
+      ∙ sym (ap (λ t. cond t (bit_or (closed order roles) (juniors_of order j) ∷ []) []) (sym (meets_below order is s seniors roles are) ∙ met))
+
+  pub wider_apart : not (eqb (bit_and roles seniors) 0) ≡ false → wider order s j roles ≡ []
+  wider_apart apart = ap (λ t. cond t (bit_or (closed order roles) (juniors_of order j) ∷ []) []) (sym (meets_below order is s seniors roles are) ∙ apart)

@@ -175,7 +175,7 @@ unfoldable pub ssd_create_refusal : PolicyState → List ℕ → ℕ → List (L
 ssd_create_refusal p name number roles =
     if not (list_all (is_role p) roles) then Some NoRole
     else option_or (as_refusal NotThere (new_refusal p.ssd name (slots_of p roles) number))
-      (option_or (broken_ssd (ssd_created p name number roles)) (if nat_le 64 (length p.ssd) then Some Full else None))
+    (option_or (broken_ssd (ssd_created p name number roles)) (if nat_le 64 (length p.ssd) then Some Full else None))
 
 -- AddSsdRoleMember (6.3)
 abbrev pub ssd_joined : PolicyState → List ℕ → List ℕ → PolicyState
@@ -218,7 +218,7 @@ unfoldable pub dsd_create_refusal : PolicyState → List ℕ → ℕ → List (L
 dsd_create_refusal p name number roles =
     if not (list_all (is_role p) roles) then Some NoRole
     else option_or (as_refusal NotThere (new_refusal p.dsd name (slots_of p roles) number))
-      (option_or (broken_dsd (dsd_created p name number roles)) (if nat_le 64 (length p.dsd) then Some Full else None))
+    (option_or (broken_dsd (dsd_created p name number roles)) (if nat_le 64 (length p.dsd) then Some Full else None))
 
 -- AddDsdRoleMember (6.4)
 abbrev pub dsd_joined : PolicyState → List ℕ → List ℕ → PolicyState
@@ -267,7 +267,7 @@ open_refusal p user roles =
     else if not (list_all (is_role p) roles) then Some NoRole
     else if not (is_within (slots_of p roles) (authorized_for p user)) then Some NotAuthorized
     else option_or (broken_dsd (opened p user roles))
-      (if nat_le 1024 (length p.sessions) || nat_le 4294967295 p.last then Some Full else None)
+    (if nat_le 1024 (length p.sessions) || nat_le 4294967295 p.last then Some Full else None)
 
 -- DeleteSession (6.1)
 abbrev pub shut : PolicyState → ℕ → PolicyState

@@ -1,9 +1,13 @@
 -- What one more pair in the order gives to users and sessions.
-use Rattle.std.specs.Prelude.{ℕ, if◌then◌else◌, List, [], ◌∷◌, ◌++◌, bit_or}
+use Rattle.std.specs.Prelude.{◌≡◌, ◌<◌, ◌↔◌, true, ℕ, if◌then◌else◌, List, [], ◌∷◌, ◌++◌, bit_or}
 use Rattle.role_hierarchy.specs.Roles.{has}
-use Rattle.role_hierarchy.specs.Order.{Order}
+use Rattle.role_hierarchy.specs.Order.{Order, IsSenior, stands}
 use Rattle.role_hierarchy.specs.Below.{closed, juniors_of}
 use Rattle.policy_core.specs.declared.session.Session.{Session}
+
+-- the set holds the roles that are senior to the role
+abbrev pub AreSeniors : Order → ℕ → ℕ → Type 0
+AreSeniors order s seniors = (a : ℕ) → (has seniors a ≡ true) ↔ ((a < 256) × IsSenior (stands order) a s)
 
 -- what stands below the roles with one more pair, where the senior stands below them; else nothing new does
 abbrev pub wider : Order → ℕ → ℕ → ℕ → List ℕ

@@ -73,7 +73,12 @@ impl Policy {
         ensures changed { (f : Limit → Limit) (limit : Limit) → limit_of self.now.dsd name ≡ Some limit → f limit ≡ record { roles = roles; number = number } →
             result ≡ broken_dsd (record self.now { dsd = changed self.now.dsd name f }) }
     {
-        if breaks_active(&self.sessions, self.counting, &self.order, Limit { roles, number }) {
+        if breaks_active(
+            &self.sessions,
+            self.counting,
+            &self.order,
+            Limit { roles, number },
+        ) {
             return Some(Refusal::Dsd(name));
         }
         None
@@ -187,7 +192,5 @@ fn breaks_active(
 ) -> bool
     ensures { result ≡ list_any (λ session. is_broken (counted counting order.now session.active) limit) (map (λ e. e.1) sessions.now.entries) }
 {
-    sessions
-        .values()
-        .any(|session| limit.is_broken_by(count(counting, order, session.active)))
+    sessions.values().any(|session| limit.is_broken_by(count(counting, order, session.active)))
 }

@@ -8,7 +8,7 @@ ghost use Rattle.role_hierarchy.specs.Order.{is_there, stands, with_pair};
 ghost use Rattle.role_hierarchy.specs.Roles.{has, without};
 ghost use Rattle.std.specs.Prelude.{◌++◌};
 ghost use Rattle.policy_core.specs.State.{slot_of, broken, broken_ssd, broken_dsd};
-ghost use Rattle.policy_core.specs.Wider.{wider, all_wider, held_in, active_in};
+ghost use Rattle.policy_core.specs.Wider.{AreSeniors, wider, all_wider, held_in, active_in};
 ghost use Rattle.policy_core.specs.Commands.{Says, add_role_refusal, role_added, role_gone, delete_role_refusal, inherited, inherit_refusal, uninherited, uninherit_refusal, kept_authorized};
 
 use crate::policy::Policy;
@@ -222,7 +222,9 @@ fn narrow_all(
     ensures { sessions.new.entries ≡ map (λ e. (e.0, kept_authorized users.now.entries order.now e.1)) sessions.old.entries }
 {
     sessions.retain(|_, session| {
-        session.active = session.active.common(authorized(users, order, session.user));
+        session.active = session
+            .active
+            .common(authorized(users, order, session.user));
         true
     });
 }
@@ -237,19 +239,21 @@ fn drop_from_all(users: &mut IndexMap<Name, RoleSet>, slot: u8)
     });
 }
 
-/// Adds to the list what stands below the roles with one more pair, where that is more than before.
+/// Adds to the list what stands below the roles once their seniors and juniors stand in a pair,
+/// where that is more than before: where a role is among those that are senior to the new senior.
 fn push_wider(
     all: &mut Vec<RoleSet>,
     order: &Hierarchy,
-    above: u8,
-    below: u8,
+    seniors: RoleSet,
+    juniors: RoleSet,
     roles: RoleSet,
 ) -> Result<(), AllocError>
-    ensures { OnOk result (all.new.items ≡ all.old.items ++ wider order.now above below roles) }
+    ensures { (s j : ℕ) → AreSeniors order.now s seniors → juniors ≡ juniors_of order.now j →
+        OnOk result (all.new.items ≡ all.old.items ++ wider order.now s j roles) }
 {
-    let given = order.closure(roles);
-    if given.contains(above) {
-        all.push(given.union(order.juniors(below)))?;
+    order.is_order();
+    if roles.meets(seniors) {
+        all.push(order.closure(roles).union(juniors))?;
     }
     Ok(())
 }
@@ -263,10 +267,11 @@ fn wider_users(
 ) -> Result<Vec<RoleSet>, AllocError>
     ensures { IfOk result (λ all. all.items ≡ all_wider order.now above below held_in users.now.entries) }
 {
+    let (seniors, juniors) = (order.seniors(above), order.juniors(below));
     let mut all = Vec::new(*users.allocator());
     for place in 0..users.len() {
         if let Some((_, roles)) = users.get_index(place) {
-            push_wider(&mut all, order, above, below, *roles)?;
+            push_wider(&mut all, order, seniors, juniors, *roles)?;
         }
     }
     Ok(all)
@@ -281,10 +286,11 @@ fn wider_sessions(
 ) -> Result<Vec<RoleSet>, AllocError>
     ensures { IfOk result (λ all. all.items ≡ all_wider order.now above below active_in sessions.now.entries) }
 {
+    let (seniors, juniors) = (order.seniors(above), order.juniors(below));
     let mut all = Vec::new(*sessions.allocator());
     for place in 0..sessions.len() {
         if let Some((_, session)) = sessions.get_index(place) {
-            push_wider(&mut all, order, above, below, session.active)?;
+            push_wider(&mut all, order, seniors, juniors, session.active)?;
         }
     }
     Ok(all)

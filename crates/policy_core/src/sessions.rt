@@ -221,7 +221,10 @@ impl Policy {
     fn refusal_of_active(&self, active: RoleSet) -> Option<Refusal>
         ensures { (number : ℕ) (user : List ℕ) → result ≡ broken_dsd (with_session self.now number (record { user = user; active = active })) }
     {
-        match self.dsd.broken_by(count(self.counting, &self.order, active)) {
+        match self
+            .dsd
+            .broken_by(count(self.counting, &self.order, active))
+        {
             Some(set) => Some(Refusal::Dsd(set)),
             None => None,
         }

@@ -180,5 +180,7 @@ impl Policy {
 fn breaks_some(users: &IndexMap<Name, RoleSet>, order: &Hierarchy, limit: Limit) -> bool
     ensures { result ≡ list_any (λ roles. is_broken (closed order.now roles) limit) (map (λ u. u.1) users.now.entries) }
 {
-    users.values().any(|roles| limit.is_broken_by(order.closure(*roles)))
+    users
+        .values()
+        .any(|roles| limit.is_broken_by(order.closure(*roles)))
 }

@@ -46,7 +46,7 @@ pub with_slot_access : (p : PolicyState) (roles : List (List ℕ × ℕ)) (slot 
 unfolding reaches
 with_slot_access p roles slot operation object found =
     ap (λ below. is_some found && (is_here p object && some_below (λ b. has below b && has (row_at p.grants b operation) (number_of object)) 256))
-      (closed-with_slot p.order slot (unwrap_or found (record { user = []; active = 0 })).active)
+    (closed-with_slot p.order slot (unwrap_or found (record { user = []; active = 0 })).active)
 
 -- numbers that are not among those of the sessions
 pub absent : (session : ℕ) (es : List (ℕ × Session)) → list_any (nat_eq session) (numbers_of es) ≡ false → lookup (nat_eq session) es ≡ None

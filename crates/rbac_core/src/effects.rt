@@ -90,5 +90,4 @@ pub fn access_stays(old: &Policy, command: &Command, new: &Policy)
     ensures { (session : ℕ) → list_any (nat_eq session) (affected_sessions old.now command.now new.now) ≡ false →
         (operation : AnOperation) (object : AnObject) →
         has_access new.now session operation object ≡ has_access old.now session operation object }
-{
-}
+{}

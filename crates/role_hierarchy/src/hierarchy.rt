@@ -276,6 +276,19 @@ impl Hierarchy {
         self.reach[role as usize]
     }
 
+    /// The roles that are senior to the role, itself among them. It looks at each of the 256 slots.
+    pub fn seniors(&self, role: u8) -> RoleSet
+        ensures { (a : ℕ) → (has result a ≡ true) ↔ ((a < 256) × IsSenior (stands self.now) a role) }
+    {
+        let mut above = RoleSet::new();
+        for senior in 0..256u32 {
+            if self.is_senior(senior as u8, role) {
+                above.insert(senior as u8);
+            }
+        }
+        above
+    }
+
     /// The roles to which some role of the set is senior, the set's own among them.
     pub fn closure(&self, roles: RoleSet) -> RoleSet
         ensures value { result ≡ closed self.now roles }

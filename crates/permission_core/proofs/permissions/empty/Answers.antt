@@ -8,6 +8,7 @@ loop-operation-init c = (c.requires, cleared_rows-none c.args.rows.now.items c.a
 
 pub loop-operation-preserved : goal.loop-operation-preserved
 loop-operation-preserved c =
-    let place = 7 * c.args.slot + c.loop-operation.operation in
-    ( length-set c.loop-operation.rows.items place c.new.result ∙ c.loop-operation.invariant.0
-    , cleared_rows-next c.args.rows.now.items c.loop-operation.rows.items c.args.slot c.loop-operation.operation c.new.result c.loop-operation.invariant.1 c.new.ensures )
+    let place = 7 * c.args.slot + c.loop-operation.operation in (
+      length-set c.loop-operation.rows.items place c.new.result ∙ c.loop-operation.invariant.0,
+      cleared_rows-next c.args.rows.now.items c.loop-operation.rows.items c.args.slot c.loop-operation.operation c.new.result c.loop-operation.invariant.1 c.new.ensures,
+    )

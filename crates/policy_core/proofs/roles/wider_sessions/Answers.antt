@@ -12,7 +12,7 @@ loop-place-preserved c = elim c.match-get_index.branch [
   | in-Some+in_ok-push_wider w ↦
       (let order = c.args.order.now in
       let entry : ℕ × Session = (w.in-Some.field-0-0.now, w.in-Some.session.now) in
-      ap (λ v. v.items) w.all-is ∙ w.in_ok-push_wider.ensures ∙ ap (λ xs. xs ++ wider order c.args.above c.args.below (active_in entry)) c.loop-place.invariant
+      ap (λ v. v.items) w.all-is ∙ w.in_ok-push_wider.ensures c.args.above c.args.below c.seniors-seniors.ensures c.juniors-juniors.ensures.value ∙ ap (λ xs. xs ++ wider order c.args.above c.args.below (active_in entry)) c.loop-place.invariant
       ∙ all_wider-next order c.args.above c.args.below active_in c.args.sessions.now.entries c.loop-place.place entry (sym w.in-Some.ensures.entry))
   | in_default w ↦ absurd (false≢true (w.in_default.ensures.found.1 (omega (arith, c.len-place-end.ensures.len))))
 ]

@@ -15,8 +15,9 @@ loop-from-preserved c =
     let n = high - from % 64 in
     let to = 64 * place + high in
     let most : high ≤ c.args.end - 64 * place = omega (arith, c.min-high.ensures) in
-    let more : from % 64 ≤ high = omega (arith, c.min-high.ensures, c.loop-from-test.true) in
-    ( omega (arith, more, c.loop-from.invariant.0)
-    , omega (arith, most, c.loop-from-test.true)
-    , c.insert_in.ensures ∙ ap (λ s. with_range s (64 * place + from % 64) n) c.loop-from.invariant.2
-      ∙ with_range-on c.args.self.now c.args.first from (64 * place + from % 64) n to c.loop-from.invariant.0 (omega arith) (omega (arith, more)) )
+    let more : from % 64 ≤ high = omega (arith, c.min-high.ensures, c.loop-from-test.true) in (
+      omega (arith, more, c.loop-from.invariant.0),
+      omega (arith, most, c.loop-from-test.true),
+      c.insert_in.ensures ∙ ap (λ s. with_range s (64 * place + from % 64) n) c.loop-from.invariant.2
+          ∙ with_range-on c.args.self.now c.args.first from (64 * place + from % 64) n to c.loop-from.invariant.0 (omega arith) (omega (arith, more)),
+    )

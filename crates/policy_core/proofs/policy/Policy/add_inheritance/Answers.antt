@@ -14,8 +14,8 @@ unreachable-requires c =
     let j = c.in_ok-above.below in
     let same : p ≡ c.args.self.now = c.self.view_is in
     no_refusal p.order c.is_order.ensures s j (omega arith)
-      (ap (λ (q : PolicyState). is_there q.order s) same ∙ c.in_ok-above.ensures.senior)
-      (ap (λ (q : PolicyState). is_there q.order j) same ∙ c.in_ok-above.ensures.junior)
-      (ap (λ (q : PolicyState). stands q.order s j) same ∙ c.in_ok-above.ensures.new)
-      (ap (λ (q : PolicyState). has (juniors_of q.order j) s) same ∙ c.in_ok-above.ensures.apart)
-      c.in_default.field-0 c.in_default.ensures.refusal
+    (ap (λ (q : PolicyState). is_there q.order s) same ∙ c.in_ok-above.ensures.senior)
+    (ap (λ (q : PolicyState). is_there q.order j) same ∙ c.in_ok-above.ensures.junior)
+    (ap (λ (q : PolicyState). stands q.order s j) same ∙ c.in_ok-above.ensures.new)
+    (ap (λ (q : PolicyState). has (juniors_of q.order j) s) same ∙ c.in_ok-above.ensures.apart)
+    c.in_default.field-0 c.in_default.ensures.refusal

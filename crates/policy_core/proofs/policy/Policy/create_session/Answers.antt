@@ -10,4 +10,4 @@ pub invariant_of-self-2 : goal.invariant_of-self-2
 invariant_of-self-2 c =
     let p = state_of c.self.inside in
     opened_whole p c.args.self.now c.self.view_is c.self.invariant (record { user = c.args.user; active = slots_of c.args.self.now c.args.roles.now }) c.in_ok-session.ensures.whole c.insert.new.self.entries
-      (c.in-Ok.ensures.entries ∙ ap (insert_entry nat_eq p.sessions (p.last + 1)) c.in_ok-session.ensures.session)
+    (c.in-Ok.ensures.entries ∙ ap (insert_entry nat_eq p.sessions (p.last + 1)) c.in_ok-session.ensures.session)

@@ -14,4 +14,4 @@ invariant_of-self c =
     let slots : HasSlots p.roles order.roles = subst P (sym (ap (λ o. o.roles) c.in-Ok.ensures.ok)) c.self.invariant.slots in
     let within : (a b : ℕ) → stands order a b ≡ true → stands p.order a b ≡ true = λ a b h. (and_parts _ _ (sym (c.in-Ok.ensures.pairs a b) ∙ h)).0 in
     narrowed_whole p c.self.invariant c.is_order.ensures p.users p.roles order p.grants c.narrow_all.new.sessions.entries c.is_order-2.ensures within
-      (fewer_pairs order p.order c.is_order-2.ensures c.is_order.ensures within p.users) slots c.narrow_all.ensures
+    (fewer_pairs order p.order c.is_order-2.ensures c.is_order.ensures within p.users) slots c.narrow_all.ensures

@@ -40,5 +40,5 @@ invariant_of-self c =
     let within : (a b : ℕ) → stands order a b ≡ true → stands p.order a b ≡ true = λ a b h. (and_parts _ _ (sym (c.in-Ok.ensures.pairs a b) ∙ h)).0 in
     let Q : List (List ℕ × ℕ) → Type 0 = λ us. AreFewer (map (λ u. closed order u.1) us) (authorized p) in
     narrowed_whole p c.self.invariant c.is_order.ensures users roles order c.clear.new.self c.narrow_all.new.sessions.entries c.is_order-2.ensures within
-      (subst Q (sym c.drop_from_all.ensures) (fewer_roles order p.order c.is_order-2.ensures c.is_order.ensures within (λ r. without r slot) (λ r q h. without_within r slot q h) p.users))
-      slots c.narrow_all.ensures
+    (subst Q (sym c.drop_from_all.ensures) (fewer_roles order p.order c.is_order-2.ensures c.is_order.ensures within (λ r. without r slot) (λ r q h. without_within r slot q h) p.users))
+    slots c.narrow_all.ensures

@@ -11,7 +11,7 @@ pub invariant_of-self : goal.invariant_of-self
 invariant_of-self c =
     let k : Session → Session = kept_session c.args.user c.args.allowed in
     narrowed_sessions (state_of c.self.inside) c.self.invariant c.is_order.ensures k (kept_within c.args.user c.args.allowed) c.retain.new.self.entries
-      (map_same_pairs _ k _ (λ key v b w f' t. search rules) _ _ c.retain.ensures.filtered)
+    (map_same_pairs _ k _ (λ key v b w f' t. search rules) _ _ c.retain.ensures.filtered)
 
 pub returns : goal.returns
 returns c =

@@ -18,8 +18,8 @@ loop-slot-preserved c =
     let test : ℕ → Bool = is_reached p below c.args.operation c.args.number in
     let here : some_below test slot ≡ false = some_below-past test c.loop-slot.from slot (λ q low high. and_left _ _ (c.in-Some.ensures.least q low high)) c.loop-slot.invariant.1 in
     let none : test slot ≡ false =
-        ap (λ t. t && has (row_of p slot c.args.operation) c.args.number) c.in-Some.ensures.member
-        ∙ ap (λ row. has row c.args.number) (sym c.permissions.ensures) ∙ sym c.contains.ensures ∙ c.if-contains.false in
+    ap (λ t. t && has (row_of p slot c.args.operation) c.args.number) c.in-Some.ensures.member
+    ∙ ap (λ row. has row c.args.number) (sym c.permissions.ensures) ∙ sym c.contains.ensures ∙ c.if-contains.false in
     (omega arith, some_below-next test slot here none)
 
 pub returns-then-contains : goal.returns-then-contains

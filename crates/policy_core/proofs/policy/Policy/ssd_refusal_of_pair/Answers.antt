@@ -8,10 +8,10 @@ pub returns-in-Some : goal.returns-in-Some
 returns-in-Some c =
     let p = state_of c.self.inside in
     ssd_of_pair p c.args.self.now c.self.view_is c.self.invariant c.is_order.ensures c.args.above c.args.below (omega arith) (omega arith) (Some c.in-Some.set)
-      (c.in-Some.ensures ∙ ap (λ all. first_breaking all p.ssd) (c.deref.ensures.value ∙ c.in_ok-wider.ensures))
+    (c.in-Some.ensures ∙ ap (λ all. first_breaking all p.ssd) (c.deref.ensures.value ∙ c.in_ok-wider.ensures))
 
 pub returns : goal.returns
 returns c =
     let p = state_of c.self.inside in
     ssd_of_pair p c.args.self.now c.self.view_is c.self.invariant c.is_order.ensures c.args.above c.args.below (omega arith) (omega arith) None
-      (c.in-None.ensures ∙ ap (λ all. first_breaking all p.ssd) (c.deref.ensures.value ∙ c.in_ok-wider.ensures))
+    (c.in-None.ensures ∙ ap (λ all. first_breaking all p.ssd) (c.deref.ensures.value ∙ c.in_ok-wider.ensures))
