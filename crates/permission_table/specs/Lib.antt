@@ -3,4 +3,3 @@ pub mod Compiled
 pub mod Seen
 pub mod Tables
 pub mod Unions
-pub mod Words

@@ -21,13 +21,13 @@ pub struct Row {
 impl Model for Row {
     ghost use Rattle.std.specs.Prelude.{ℕ};
     ghost use Rattle.role_hierarchy.specs.Words.{joined};
-    ghost use Rattle.permission_table.specs.Words.{IsRow};
+    ghost use Rattle.permission_core.specs.Objects.{AreWords};
 
     ghost Value = { ℕ };
 
     ghost view = { λ a. joined a.words };
 
-    ghost invariant = { λ a. IsRow a.words };
+    ghost invariant = { λ a. AreWords a.words };
 }
 
 impl Row {

@@ -60,7 +60,7 @@ impl Model for Rows {
 }
 
 impl Tables {
-    /// Tables over these customers and vehicles, with rows for no session.
+    /// Tables over these customers and vehicles, with rows for no session and room for the first.
     pub fn new(alloc: Global, customers: u32, vehicles: u32) -> Result<Tables, AllocError>
         requires customers { customers ≤ 1000 }
         requires vehicles { vehicles ≤ 1000 }
