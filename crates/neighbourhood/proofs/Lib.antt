@@ -11,3 +11,4 @@ pub mod Allowing
 pub mod Between
 pub mod Inside
 pub mod Cells
+pub mod Tabled

@@ -6,4 +6,5 @@ mod best;
 mod fits;
 mod hops;
 mod laws;
+mod shift;
 mod table;
