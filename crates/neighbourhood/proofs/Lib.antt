@@ -12,3 +12,4 @@ pub mod Between
 pub mod Inside
 pub mod Cells
 pub mod Tabled
+pub mod Rows

@@ -1,4 +1,4 @@
-use Rattle.std.proofs.Common.{◌≡◌, ◌≢◌, ◌∙◌, ℕ, ◌+◌, ◌-◌, ◌*◌, ◌<◌, ◌≤◌, refl, sym, ap, subst, arith, List, [], ◌∷◌, length, slice_index, true, false, Bool}
+use Rattle.std.proofs.Common.{◌≡◌, ◌≢◌, ◌∙◌, ℕ, ◌+◌, ◌-◌, ◌*◌, ◌<◌, ◌≤◌, ap, arith, List, length, slice_index, true, false, Bool}
 use Rattle.callback_store.specs.Tables.{Table, table_at}
 use Rattle.dimension_core.specs.Setting.{Setting}
 use Rattle.plan_core.specs.Plan.{IsPlan, route_at}
@@ -6,7 +6,7 @@ use Rattle.pin_core.specs.View.{ViewState}
 use Rattle.move_core.specs.declared.moves.Move.{Move}
 use Rattle.move_core.specs.declared.moves.Move.TheVariants.{Shift, Swap, Reverse, Cross}
 use Rattle.move_core.specs.Moves.{is_possible}
-use Rattle.neighbourhood.specs.Ways.{hop, hop_by, turned, along, stops, AreStops, AreHops, AreEdges, AreSums}
+use Rattle.neighbourhood.specs.Ways.{hop, hop_by, turned, stops, AreStops, AreHops, AreEdges, AreSums}
 use Rattle.neighbourhood.specs.Savings.{shift_lost, shift_gained, swap_lost, swap_gained, next_lost, next_gained, cross_lost, cross_gained, reverse_lost, reverse_gained}
 use Rattle.neighbourhood.specs.Search.{IsSaving}
 use Rattle.neighbourhood.specs.Laws.{Laws}
@@ -28,6 +28,14 @@ row_fits : (a n w : ℕ) → a < n → a * w + w ≤ n * w
 row_fits a n w h =
     let parts : n ≡ a + 1 + (n - a - 1) = omega arith in
     let all : n * w ≡ (a + 1 + (n - a - 1)) * w = ap (λ (k : ℕ). k * w) parts in
+    omega arith
+
+-- a row lies inside its table
+pub row_room : (turned : Bool) (t : Table) (from to cells : List ℕ) (a : ℕ) → AreHops turned t from to (length from * length to) cells → a < length from
+    → a * length to + length to ≤ length cells
+row_room turned t from to cells a all h =
+    let fits = row_fits a (length from) (length to) h in
+    let c = all.counted in
     omega arith
 
 pub row_of : (turned : Bool) (t : Table) (from to cells row : List ℕ) (a : ℕ) → AreHops turned t from to (length from * length to) cells → a < length from

@@ -1,4 +1,4 @@
-use Rattle.std.proofs.Common.{◌≡◌, ℕ, ◌+◌, ◌-◌, arith, subst, refl, inl, inr, [], ◌∷◌, length}
+use Rattle.std.proofs.Common.{◌≡◌, ℕ, ◌+◌, arith, subst, refl, inl, inr, [], ◌∷◌, length}
 use Rattle.dimension_core.specs.Setup.{setting}
 use Rattle.plan_core.specs.Plan.{route_at}
 use Rattle.neighbourhood.specs.Search.{IsBestSoFar}
