@@ -4,15 +4,15 @@
 mod allowed;
 mod best;
 mod cross;
-mod draw;
 mod fits;
 mod hops;
 mod laws;
 mod reverse;
+mod round;
 mod search;
 mod shift;
 mod swap;
 mod table;
 
-pub use draw::draw;
+pub use round::draw;
 pub use search::best_move;
