@@ -256,7 +256,7 @@ pub(crate) fn best_shift_inside(
 {
     let mut best = best;
     for place in 1..from.len() as u32 - 1 {
-        for count in 1..4u32 {
+        for count in 1..4 {
             if place as usize + (count as usize) < from.len() {
                 best = shift_within(
                     view, setup, skip, v, place, count, from, edges, out, into, best, meter,
