@@ -1,4 +1,4 @@
-use Rattle.std.proofs.Common.{◌≡◌, ◌≢◌, ◌∙◌, ℕ, zero, suc, ◌+◌, ◌-◌, ◌<◌, ◌≤◌, ◌⊎◌, ◌↔◌, inl, inr, refl, sym, ap, subst, arith, List, [], ◌∷◌, ◌++◌, length, take, drop, slice_get, slice_index_or, Option, Some, None, true, Contains, All}
+use Rattle.std.proofs.Common.{◌≡◌, ◌≢◌, ◌∙◌, ℕ, zero, ◌+◌, ◌-◌, ◌<◌, ◌≤◌, ◌⊎◌, ◌↔◌, inl, inr, refl, sym, ap, subst, arith, List, [], ◌∷◌, ◌++◌, length, take, drop, slice_get, slice_index_or, Some, None, true, Contains, All}
 use Rattle.std.proofs.lemmas.Bool.{ne_eqb, eq-eqb}
 use Rattle.std.proofs.lemmas.List.Elements.{Contains-get_or}
 use Rattle.std.proofs.lemmas.Option.{slice_get_within, get_or_from_slice_get}
@@ -18,7 +18,7 @@ use Rattle.neighbourhood.specs.Best.{IsAllowed}
 use Rattle.neighbourhood.specs.Search.{AreLoose}
 use Rattle.neighbourhood.specs.Between.{IsBetween}
 use Rattle.neighbourhood.specs.Laws.{Laws}
-use Rattle.neighbourhood.proofs.Ways.{three_parts, stretch_head, set_parts}
+use Rattle.neighbourhood.proofs.Ways.{stretch_head, set_parts}
 use Rattle.neighbourhood.proofs.Costs.{has_effect}
 use Rattle.neighbourhood.proofs.Allowing.{freezes_two, loose_from_held, held_from_loose, touched_in, touched_two, touched_among, touched_left, touched_right, IsTouchedBy, AreKnown}
 

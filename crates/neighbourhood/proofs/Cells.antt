@@ -1,11 +1,11 @@
-use Rattle.std.proofs.Common.{add-zero, ◌≡◌, ℕ, ◌+◌, ◌-◌, ◌*◌, ◌<◌, ◌≤◌, ◌∙◌, sym, ap, subst, arith, inl, inr, List, [], ◌∷◌, ◌++◌, length, slice_index, length-append, Bool, take, drop, refl, zero, suc}
+use Rattle.std.proofs.Common.{add-zero, ◌≡◌, ℕ, ◌+◌, ◌-◌, ◌*◌, ◌<◌, ◌≤◌, ◌∙◌, sym, ap, subst, arith, inl, inr, List, [], ◌∷◌, ◌++◌, length, slice_index, length-append, Bool, take, suc}
 use Rattle.std.proofs.lemmas.Bool.{cases_lt}
 use Rattle.std.proofs.lemmas.List.{get_or_push, get_or_append_left, take_more}
 use Rattle.std.proofs.lemmas.Nat.{same_from_place}
 use Rattle.callback_store.specs.Tables.{Table}
 use Rattle.plan_core.specs.Cost.{way}
 use Rattle.neighbourhood.proofs.Ways.{way_append, last_take}
-use Rattle.neighbourhood.specs.Ways.{hop, hop_by, along, AreHops, AreEdges, AreSums}
+use Rattle.neighbourhood.specs.Ways.{hop, hop_by, along, AreHops, AreSums}
 
 pushed_before : (cells : List ℕ) (x k : ℕ) → k < length cells → slice_index (cells ++ x ∷ []) k ≡ slice_index cells k
 pushed_before cells x k h = get_or_append_left cells (x ∷ []) 0 k h

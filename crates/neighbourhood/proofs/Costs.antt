@@ -1,11 +1,11 @@
-use Rattle.std.proofs.Common.{◌≡◌, ◌≢◌, ◌∙◌, ℕ, zero, suc, ◌+◌, ◌-◌, ◌<◌, ◌≤◌, refl, sym, ap, subst, arith, List, [], ◌∷◌, ◌++◌, length, take, drop, reverse, slice_index, slice_get, slice_set, Some, true, append_assoc}
+use Rattle.std.proofs.Common.{◌≡◌, ◌≢◌, ◌∙◌, ℕ, suc, ◌+◌, ◌-◌, ◌<◌, ◌≤◌, refl, sym, ap, subst, arith, List, [], ◌∷◌, ◌++◌, length, take, drop, reverse, slice_index, slice_get, slice_set, Some, true, append_assoc}
 use Rattle.std.proofs.lemmas.Bool.{ne_eqb, eq-eqb}
 use Rattle.std.proofs.lemmas.List.{length-set, length-append, length-take-le, length-drop}
 use Rattle.std.proofs.lemmas.Option.{slice_get-get_or}
 use Rattle.callback_store.specs.Tables.{Table, table_at}
 use Rattle.dimension_core.specs.Setting.{Setting}
 use Rattle.plan_core.specs.Plan.{Changes, IsPlan, AreApart, route_at, with_routes}
-use Rattle.plan_core.specs.Cost.{way, cost_of, route_cost}
+use Rattle.plan_core.specs.Cost.{way, cost_of}
 use Rattle.pin_core.specs.View.{ViewState}
 use Rattle.move_core.specs.declared.moves.Move.{Move}
 use Rattle.move_core.specs.declared.moves.Move.TheVariants.{Shift, Swap, Reverse, Cross}

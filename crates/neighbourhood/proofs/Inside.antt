@@ -1,4 +1,4 @@
-use Rattle.std.proofs.Common.{◌≡◌, ◌≢◌, ◌∙◌, ℕ, zero, suc, ◌+◌, ◌-◌, ◌<◌, ◌≤◌, ◌⊎◌, ◌↔◌, inl, inr, refl, sym, ap, subst, arith, min, List, [], ◌∷◌, ◌++◌, length, take, drop, reverse, slice_get, slice_set, slice_index, Some, true, Contains, append_assoc}
+use Rattle.std.proofs.Common.{◌≡◌, ◌∙◌, ℕ, zero, ◌+◌, ◌-◌, ◌<◌, ◌≤◌, ◌⊎◌, ◌↔◌, inl, inr, refl, sym, ap, subst, arith, min, List, [], ◌∷◌, ◌++◌, length, take, drop, reverse, slice_set, Some, true, Contains, append_assoc}
 use Rattle.std.proofs.lemmas.Bool.{cases_eq, eq-eqb}
 use Rattle.std.proofs.lemmas.List.{take-append-drop, take_at, drop-set-lt, length-set, length-append, length-take-le, length-drop}
 use Rattle.plan_core.specs.Plan.{Changes, IsPlan, IsNamed, AreApart, route_at, with_routes}
@@ -9,7 +9,7 @@ use Rattle.dimension_core.specs.Feasible.{FitsAll}
 use Rattle.dimension_core.specs.NewRoutes.{AllFit}
 use Rattle.move_core.specs.declared.moves.Move.{Move}
 use Rattle.move_core.specs.declared.moves.Move.TheVariants.{Shift, Swap, Reverse}
-use Rattle.move_core.specs.Moves.{is_possible, changes_by, effect, stretch, without, with_stretch, with_customer, customer_at, reversed_within}
+use Rattle.move_core.specs.Moves.{is_possible, changes_by, effect, stretch, with_customer, customer_at}
 use Rattle.neighbourhood.specs.View.{IsViewOf}
 use Rattle.neighbourhood.specs.Best.{IsAllowed}
 use Rattle.neighbourhood.specs.Between.{IsInside}

@@ -11,3 +11,5 @@ pub mod Allowing
 pub mod Between
 pub mod Inside
 pub mod Cells
+pub mod Tabled
+pub mod Rows

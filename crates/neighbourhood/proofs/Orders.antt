@@ -1,4 +1,4 @@
-use Rattle.std.proofs.Common.{◌≡◌, ◌≢◌, ℕ, ◌+◌, ◌<◌, ◌≤◌, ◌⊎◌, inl, inr, refl, sym, subst, arith, List, [], ◌∷◌, length, Option, Some, None, MatchOption, true, ◌==◌, if◌then◌else◌}
+use Rattle.std.proofs.Common.{◌≡◌, ◌≢◌, ℕ, ◌+◌, ◌<◌, ◌≤◌, ◌⊎◌, inl, inr, refl, subst, arith, List, [], ◌∷◌, length, Option, Some, None, MatchOption, true, ◌==◌, if◌then◌else◌}
 use Rattle.std.proofs.lemmas.Bool.{ne_eqb, eq-eqb, cases_eq}
 use Rattle.dimension_core.specs.Setting.{Setting}
 use Rattle.plan_core.specs.Plan.{route_at}
@@ -7,7 +7,7 @@ use Rattle.move_core.specs.declared.moves.Move.{Move}
 use Rattle.move_core.specs.declared.moves.Move.TheVariants.{Insert, Remove, Shift, Swap, Reverse, Cross}
 use Rattle.move_core.specs.Moves.{is_possible}
 use Rattle.neighbourhood.specs.Best.{Counts, IsBest, IsIdle, cost_after, cost_before, numbers_of, IsLower}
-use Rattle.neighbourhood.specs.Search.{IsBestBelow, IsBestSoFar}
+use Rattle.neighbourhood.specs.Search.{IsBestSoFar}
 use Rattle.neighbourhood.specs.Laws.{Laws}
 use Rattle.neighbourhood.proofs.Firsts.{best_on, best_kept}
 use Rattle.neighbourhood.proofs.Pairs.{IsKind, IsPair, pair_next}

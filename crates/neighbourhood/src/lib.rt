@@ -3,7 +3,16 @@
 
 mod allowed;
 mod best;
+mod cross;
 mod fits;
 mod hops;
 mod laws;
+mod reverse;
+mod round;
+mod search;
+mod shift;
+mod swap;
 mod table;
+
+pub use round::draw;
+pub use search::best_move;

@@ -1,6 +1,5 @@
-use Rattle.std.proofs.Common.{◌≡◌, ◌≢◌, ◌<◌, ◌+◌, ◌-◌, arith, refl, sym, length}
+use Rattle.std.proofs.Common.{◌≡◌, ◌+◌, ◌-◌, arith, refl}
 use Rattle.dimension_core.specs.Setup.{setting}
-use Rattle.plan_core.specs.Plan.{route_at}
 use Rattle.neighbourhood.proofs.Between.{between_same, swap_between}
 use Rattle.neighbourhood.proofs.allowed.allows_swap.Goals as goal
 

@@ -1,6 +1,5 @@
-use Rattle.std.proofs.Common.{◌≡◌, ◌≢◌, ◌<◌, ◌+◌, ◌-◌, arith, refl, sym, length}
+use Rattle.std.proofs.Common.{◌≡◌, ◌+◌, ◌-◌, arith, refl}
 use Rattle.dimension_core.specs.Setup.{setting}
-use Rattle.plan_core.specs.Plan.{route_at}
 use Rattle.neighbourhood.proofs.Inside.{inside_same, swap_inside}
 use Rattle.neighbourhood.proofs.allowed.allows_swap_inside.Goals as goal
 

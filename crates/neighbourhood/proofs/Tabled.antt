@@ -1,0 +1,169 @@
+use Rattle.std.proofs.Common.{◌≡◌, ◌≢◌, ◌∙◌, ℕ, ◌+◌, ◌-◌, ◌*◌, ◌<◌, ◌≤◌, ap, arith, List, length, slice_index, true, false, Bool}
+use Rattle.callback_store.specs.Tables.{Table, table_at}
+use Rattle.dimension_core.specs.Setting.{Setting}
+use Rattle.plan_core.specs.Plan.{IsPlan, route_at}
+use Rattle.pin_core.specs.View.{ViewState}
+use Rattle.move_core.specs.declared.moves.Move.{Move}
+use Rattle.move_core.specs.declared.moves.Move.TheVariants.{Shift, Swap, Reverse, Cross}
+use Rattle.move_core.specs.Moves.{is_possible}
+use Rattle.neighbourhood.specs.Ways.{hop, hop_by, turned, stops, AreStops, AreHops, AreEdges, AreSums}
+use Rattle.neighbourhood.specs.Savings.{shift_lost, shift_gained, swap_lost, swap_gained, next_lost, next_gained, cross_lost, cross_gained, reverse_lost, reverse_gained}
+use Rattle.neighbourhood.specs.Search.{IsSaving}
+use Rattle.neighbourhood.specs.Laws.{Laws}
+use Rattle.neighbourhood.proofs.Costs.{AreAround, shift_saves, shift_inside_saves, swap_saves, swap_inside_saves, swap_next_saves, cross_saves, reverse_saves}
+
+-- the way to a stop from the one before it
+edge_at : (t : Table) (stops edges : List ℕ) (k : ℕ) → AreEdges t stops edges → 1 ≤ k → k < length stops
+    → slice_index edges (k - 1) ≡ hop t (slice_index stops (k - 1)) (slice_index stops k)
+edge_at t stops edges k e low high =
+    let c = e.counted in
+    let back : k - 1 + 1 ≡ k = omega arith in
+    e.hops (k - 1) (omega arith) ∙ ap (λ (n : ℕ). hop t (slice_index stops (k - 1)) (slice_index stops n)) back
+
+-- a row of a table: the ways from one stop to others, or back to it
+abbrev pub IsRow : Bool → Table → List ℕ → List ℕ → ℕ → List ℕ → Type 0
+IsRow turned t from to a cells = (k : ℕ) → k < length to → slice_index cells k ≡ hop_by turned t (slice_index from a) (slice_index to k)
+
+row_fits : (a n w : ℕ) → a < n → a * w + w ≤ n * w
+row_fits a n w h =
+    let parts : n ≡ a + 1 + (n - a - 1) = omega arith in
+    let all : n * w ≡ (a + 1 + (n - a - 1)) * w = ap (λ (k : ℕ). k * w) parts in
+    omega arith
+
+-- a row lies inside its table
+pub row_room : (turned : Bool) (t : Table) (from to cells : List ℕ) (a : ℕ) → AreHops turned t from to (length from * length to) cells → a < length from
+    → a * length to + length to ≤ length cells
+row_room turned t from to cells a all h =
+    let fits = row_fits a (length from) (length to) h in
+    let c = all.counted in
+    omega arith
+
+pub row_of : (turned : Bool) (t : Table) (from to cells row : List ℕ) (a : ℕ) → AreHops turned t from to (length from * length to) cells → a < length from
+    → ((k : ℕ) → k < length to → slice_index row k ≡ slice_index cells (a * length to + k)) → IsRow turned t from to a row
+row_of turned t from to cells row a all h is k b =
+    let fits = row_fits a (length from) (length to) h in
+    is k b ∙ all.hops a k b (omega arith)
+
+-- what a row knows of its costs, by numbers
+pub shift_tabled : (s : Setting) (view : ViewState) (mv : Move) (t : Table) (from to from_edges to_edges into out : List ℕ) (p m o at gained : ℕ)
+    → IsSaving s view mv (shift_lost t from to p m o at) (shift_gained t from to p m o at)
+    → 1 ≤ p → 1 ≤ m → p + m < length from → 1 ≤ at → at + o < length to
+    → AreEdges t from from_edges → AreEdges t to to_edges → IsRow true t from to p into → IsRow false t from to (p + m - 1) out
+    → gained ≡ hop t (slice_index from (p - 1)) (slice_index from (p + m))
+    → IsSaving s view mv (slice_index from_edges (p - 1) + slice_index from_edges (p + m - 1) + slice_index to_edges (at + o - 1))
+    (gained + slice_index into (at + o - 1) + slice_index out (at + o))
+shift_tabled s view mv t from to from_edges to_edges into out p m o at gained saving lp lm hp la ha fe te i u e =
+    let z : at - 1 + o ≡ at + o - 1 = omega arith in
+    let x1 = edge_at t from from_edges p fe lp (omega arith) in
+    let x2 = edge_at t from from_edges (p + m) fe (omega arith) hp in
+    let x3 = edge_at t to to_edges (at + o) te (omega arith) ha in
+    let x4 = i (at + o - 1) (omega arith) in
+    let x5 = u (at + o) ha in
+    let y3 : hop t (slice_index to (at - 1 + o)) (slice_index to (at + o)) ≡ hop t (slice_index to (at + o - 1)) (slice_index to (at + o)) = ap (λ (n : ℕ). hop t (slice_index to n) (slice_index to (at + o))) z in
+    let y4 : hop t (slice_index to (at - 1 + o)) (slice_index from p) ≡ hop t (slice_index to (at + o - 1)) (slice_index from p) = ap (λ (n : ℕ). hop t (slice_index to n) (slice_index from p)) z in
+    omega arith
+
+pub swap_tabled : (s : Setting) (view : ViewState) (mv : Move) (t : Table) (from to from_edges to_edges before here next back : List ℕ) (p q : ℕ)
+    → IsSaving s view mv (swap_lost t from to p q) (swap_gained t from to p q)
+    → 1 ≤ p → p + 1 < length from → 1 ≤ q → q + 1 < length to
+    → AreEdges t from from_edges → AreEdges t to to_edges → IsRow false t from to (p - 1) before → IsRow false t from to p here
+    → IsRow true t from to (p + 1) next → IsRow true t from to p back
+    → IsSaving s view mv (slice_index from_edges (p - 1) + slice_index from_edges p + slice_index to_edges (q - 1) + slice_index to_edges q)
+    (slice_index before q + slice_index next q + slice_index back (q - 1) + slice_index here (q + 1))
+swap_tabled s view mv t from to from_edges to_edges before here next back p q saving lp hp lq hq fe te b h n k =
+    let fc = fe.counted in
+    let tc = te.counted in
+    let x1 = edge_at t from from_edges p fe lp (omega arith) in
+    let x2 = fe.hops p (omega arith) in
+    let x3 = edge_at t to to_edges q te lq (omega arith) in
+    let x4 = te.hops q (omega arith) in
+    let x5 = b q (omega arith) in
+    let x6 = n q (omega arith) in
+    let x7 = k (q - 1) (omega arith) in
+    let x8 = h (q + 1) hq in
+    omega arith
+
+pub next_tabled : (s : Setting) (view : ViewState) (mv : Move) (t : Table) (from edges before here back : List ℕ) (p : ℕ)
+    → IsSaving s view mv (next_lost t from p) (next_gained t from p) → 1 ≤ p → p + 2 < length from
+    → AreEdges t from edges → IsRow false t from from (p - 1) before → IsRow false t from from p here → IsRow true t from from p back
+    → IsSaving s view mv (slice_index edges (p - 1) + slice_index edges p + slice_index edges (p + 1))
+    (slice_index before (p + 1) + slice_index back (p + 1) + slice_index here (p + 2))
+next_tabled s view mv t from edges before here back p saving lp hp fe b h k =
+    let fc = fe.counted in
+    let z : p + 1 + 1 ≡ p + 2 = omega arith in
+    let x1 = edge_at t from edges p fe lp (omega arith) in
+    let x2 = fe.hops p (omega arith) in
+    let x3 : slice_index edges (p + 1) ≡ hop t (slice_index from (p + 1)) (slice_index from (p + 2)) =
+    fe.hops (p + 1) (omega arith) ∙ ap (λ (n : ℕ). hop t (slice_index from (p + 1)) (slice_index from n)) z in
+    let x4 = b (p + 1) (omega arith) in
+    let x5 = k (p + 1) (omega arith) in
+    let x6 = h (p + 2) hp in
+    omega arith
+
+pub cross_tabled : (s : Setting) (view : ViewState) (mv : Move) (t : Table) (from to from_edges to_edges here next : List ℕ) (k l : ℕ)
+    → IsSaving s view mv (cross_lost t from to k l) (cross_gained t from to k l) → k + 1 < length from → l + 1 < length to
+    → AreEdges t from from_edges → AreEdges t to to_edges → IsRow false t from to k here → IsRow true t from to (k + 1) next
+    → IsSaving s view mv (slice_index from_edges k + slice_index to_edges l) (slice_index here (l + 1) + slice_index next l)
+cross_tabled s view mv t from to from_edges to_edges here next k l saving hk hl fe te h n =
+    let fc = fe.counted in
+    let tc = te.counted in
+    let x1 = fe.hops k (omega arith) in
+    let x2 = te.hops l (omega arith) in
+    let x3 = h (l + 1) hl in
+    let x4 = n l (omega arith) in
+    omega arith
+
+pub reverse_tabled : (s : Setting) (view : ViewState) (mv : Move) (t : Table) (from edges sums back_sums before here : List ℕ) (i j : ℕ)
+    → IsSaving s view mv (reverse_lost t from i j) (reverse_gained t from i j) → 1 ≤ i → i < j → j + 1 < length from
+    → AreEdges t from edges → AreSums false t from (length from) sums → AreSums true t from (length from) back_sums
+    → IsRow false t from from (i - 1) before → IsRow false t from from i here
+    → IsSaving s view mv (slice_index edges (i - 1) + slice_index back_sums i + slice_index sums j + slice_index edges j)
+    (slice_index sums i + slice_index before j + slice_index back_sums j + slice_index here (j + 1))
+reverse_tabled s view mv t from edges sums back_sums before here i j saving li order hj fe f g b h =
+    let fc = fe.counted in
+    let x1 = edge_at t from edges i fe li (omega arith) in
+    let x2 = fe.hops j (omega arith) in
+    let x3 = f.sums i (omega arith) in
+    let x4 = f.sums j (omega arith) in
+    let x5 = g.sums i (omega arith) in
+    let x6 = g.sums j (omega arith) in
+    let x7 = b j (omega arith) in
+    let x8 = h (j + 1) hj in
+    omega arith
+
+module _ (law : Laws) (s : Setting) (view : ViewState) where
+  -- what each kind of move saves, by lists of stops
+  pub shift_by : (v p m w at : ℕ) (from to : List ℕ) → IsPlan s.customers view.routes → v ≢ w → AreStops s.customers view.routes v from → AreStops s.customers view.routes w to
+      → is_possible s.customers view.routes (Shift v p m w at) ≡ true
+      → IsSaving s view (Shift v p m w at) (shift_lost (table_at s.tables s.cost) from to p m 0 at) (shift_gained (table_at s.tables s.cost) from to p m 0 at)
+  shift_by v p m w at from to plan o a b can = rw (a.is, b.is) (shift_saves law s view v p m w at plan can o)
+
+  pub shift_inside_by : (v p m o at : ℕ) (from : List ℕ) → IsPlan s.customers view.routes → AreStops s.customers view.routes v from
+      → is_possible s.customers view.routes (Shift v p m v at) ≡ true → AreAround (route_at view.routes v) p m o at
+      → IsSaving s view (Shift v p m v at) (shift_lost (table_at s.tables s.cost) from from p m o at) (shift_gained (table_at s.tables s.cost) from from p m o at)
+  shift_inside_by v p m o at from plan a can around = rw a.is (shift_inside_saves law s view v p m o at plan can around)
+
+  pub swap_by : (v p w q : ℕ) (from to : List ℕ) → IsPlan s.customers view.routes → v ≢ w → AreStops s.customers view.routes v from → AreStops s.customers view.routes w to
+      → is_possible s.customers view.routes (Swap v p w q) ≡ true
+      → IsSaving s view (Swap v p w q) (swap_lost (table_at s.tables s.cost) from to p q) (swap_gained (table_at s.tables s.cost) from to p q)
+  swap_by v p w q from to plan o a b can = rw (a.is, b.is) (swap_saves law s view v p w q plan can o)
+
+  pub swap_inside_by : (v p q : ℕ) (from : List ℕ) → IsPlan s.customers view.routes → AreStops s.customers view.routes v from
+      → is_possible s.customers view.routes (Swap v p v q) ≡ true → p + 1 < q
+      → IsSaving s view (Swap v p v q) (swap_lost (table_at s.tables s.cost) from from p q) (swap_gained (table_at s.tables s.cost) from from p q)
+  swap_inside_by v p q from plan a can order = rw a.is (swap_inside_saves law s view v p q plan can order)
+
+  pub swap_next_by : (v p : ℕ) (from : List ℕ) → IsPlan s.customers view.routes → AreStops s.customers view.routes v from
+      → is_possible s.customers view.routes (Swap v p v (p + 1)) ≡ true
+      → IsSaving s view (Swap v p v (p + 1)) (next_lost (table_at s.tables s.cost) from p) (next_gained (table_at s.tables s.cost) from p)
+  swap_next_by v p from plan a can = rw a.is (swap_next_saves law s view v p plan can)
+
+  pub cross_by : (v k w l : ℕ) (from to : List ℕ) → IsPlan s.customers view.routes → AreStops s.customers view.routes v from → AreStops s.customers view.routes w to
+      → is_possible s.customers view.routes (Cross v k w l) ≡ true
+      → IsSaving s view (Cross v k w l) (cross_lost (table_at s.tables s.cost) from to k l) (cross_gained (table_at s.tables s.cost) from to k l)
+  cross_by v k w l from to plan a b can = rw (a.is, b.is) (cross_saves law s view v k w l plan can)
+
+  pub reverse_by : (v i j : ℕ) (from : List ℕ) → IsPlan s.customers view.routes → AreStops s.customers view.routes v from
+      → is_possible s.customers view.routes (Reverse v i j) ≡ true
+      → IsSaving s view (Reverse v i j) (reverse_lost (table_at s.tables s.cost) from i j) (reverse_gained (table_at s.tables s.cost) from i j)
+  reverse_by v i j from plan a can = rw a.is (reverse_saves law s view v i j plan can)

@@ -1,0 +1,41 @@
+use Rattle.std.proofs.Common.{◌≡◌, ℕ, ◌+◌, ◌-◌, arith, subst, [], ◌∷◌, length, true, false}
+use Rattle.callback_store.specs.Tables.{table_at}
+use Rattle.dimension_core.specs.Setup.{setting}
+use Rattle.move_core.specs.declared.moves.Move.TheVariants.{Swap}
+use Rattle.neighbourhood.specs.Search.{IsBestSoFar}
+use Rattle.neighbourhood.proofs.Tabled.{row_of, row_room, swap_inside_by, swap_tabled}
+use Rattle.neighbourhood.proofs.swap.swap_within.Goals as goal
+
+pub row-next-requires : goal.row-next-requires
+row-next-requires g c = record { high = row_room true (table_at (setting c.args.setup.now).tables (setting c.args.setup.now).cost) c.args.from.now c.args.from.now c.args.into.now (c.args.place + 1) c.requires.into (let p = c.requires.place.1 in omega arith) }
+
+pub returns-then-index-from : goal.returns-then-index-from
+returns-then-index-from g c =
+    let t = c.if-index-from.true in
+    let fit = c.requires.place.1 in
+    let e : c.args.place + 1 ≡ length c.args.from.now - 1 = omega arith in
+    subst (λ (k : ℕ). IsBestSoFar (setting c.args.setup.now) c.args.view.now c.args.skip.now c.args.v c.args.v (2 ∷ c.args.v ∷ c.args.place ∷ c.args.v ∷ k ∷ []) c.args.best) e c.requires.best
+
+pub swap_row-requires-clause-saving : goal.swap_row-requires-clause-saving
+swap_row-requires-clause-saving g c =
+    let r = c.requires in
+    let s = setting c.args.setup.now in
+    let t = table_at (setting c.args.setup.now).tables (setting c.args.setup.now).cost in
+    let sized = r.from.sized in
+    let low = r.place.0 in
+    let fit = r.place.1 in
+    let f = c.from.ensures in
+    let f2 = c.from-2.ensures in
+    λ at l h.
+      let can = (r.laws.possible.swap s.customers c.args.view.now.routes c.args.v c.args.place c.args.v at).1 (record {
+        vehicle = record { low = r.from.low; high = r.from.high }; other = record { low = r.from.low; high = r.from.high }; place = record { low = low; high = omega arith }; at = record { low = omega arith; high = omega arith };
+        apart = λ e k. omega arith;
+      }) in
+      let saving = swap_inside_by r.laws s c.args.view.now c.args.v c.args.place at c.args.from.now r.view.plan r.from can (omega arith) in
+      rw (f, f2) (swap_tabled s c.args.view.now (Swap c.args.v c.args.place c.args.v at) t c.args.from.now c.args.from.now c.args.edges.now c.args.edges.now
+      c.row-before.result.now c.row-here.result.now c.row-next.result.now c.row-back.result.now
+      c.args.place at saving low fit (omega arith) (omega arith) r.edges r.edges
+      (row_of false t c.args.from.now c.args.from.now c.args.out.now c.row-before.result.now (c.args.place - 1) r.out (omega arith) c.row-before.ensures.cells)
+      (row_of false t c.args.from.now c.args.from.now c.args.out.now c.row-here.result.now c.args.place r.out (omega arith) c.row-here.ensures.cells)
+      (row_of true t c.args.from.now c.args.from.now c.args.into.now c.row-next.result.now (c.args.place + 1) r.into (omega arith) c.row-next.ensures.cells)
+      (row_of true t c.args.from.now c.args.from.now c.args.into.now c.row-back.result.now c.args.place r.into (omega arith) c.row-back.ensures.cells))

@@ -1,0 +1,143 @@
+//! Crosses of two vehicles.
+ghost use Rattle.std.specs.Prelude.{◌≡◌, ◌≢◌, ℕ, ◌+◌, ◌-◌, ◌*◌, ◌^◌, ◌<◌, ◌≤◌, true, false, List, [], ◌∷◌, length, slice_index, Option};
+ghost use Rattle.callback_store.specs.Tables.{table_at};
+ghost use Rattle.dimension_core.specs.Setup.{setting};
+ghost use Rattle.move_core.specs.declared.moves.Move.TheVariants.{Cross};
+ghost use Rattle.move_core.specs.Moves.{is_possible};
+ghost use Rattle.neighbourhood.specs.View.{IsViewOf};
+ghost use Rattle.neighbourhood.specs.Laws.{Laws};
+ghost use Rattle.neighbourhood.specs.Search.{IsBestSoFar, IsSaving};
+ghost use Rattle.neighbourhood.specs.Ways.{AreStops, AreEdges, AreHops};
+
+use crate::best::better;
+use crate::table::row;
+use callback_store::Meter;
+use dimension_core::Setup;
+use move_core::Move;
+use pin_core::View;
+
+/// The better of the best so far and the crosses that keep so many customers of one vehicle and fewer than `end` of the other. `here` is
+/// the ways from the last one kept, `next` those to the one after it.
+fn cross_row(
+    view: &View,
+    setup: &Setup,
+    skip: &[Move],
+    v: u32,
+    w: u32,
+    keep: u32,
+    lost: u64,
+    edges: &[u32],
+    here: &[u32],
+    next: &[u32],
+    end: u32,
+    best: Option<(Move, u64)>,
+    meter: &mut Meter,
+) -> Option<(Move, u64)>
+    requires laws { Laws }
+    requires view { IsViewOf (setting setup.now) view.now }
+    requires apart { v ≢ w }
+    requires edges { end ≤ length edges.now }
+    requires here { end < length here.now }
+    requires next { end ≤ length next.now }
+    requires short { length here.now ≤ 1002 }
+    requires fixed { lost < 2 ^ 34 }
+    requires possible { (l : ℕ) → l < end → is_possible (setting setup.now).customers view.now.routes (Cross v keep w l) ≡ true }
+    requires saving { (l : ℕ) → l < end → IsSaving (setting setup.now) view.now (Cross v keep w l) (lost + slice_index edges.now l) (slice_index here.now (l + 1) + slice_index next.now l) }
+    requires best { IsBestSoFar (setting setup.now) view.now skip.now v w (4 ∷ v ∷ keep ∷ w ∷ 0 ∷ []) best }
+    ensures { IsBestSoFar (setting setup.now) view.now skip.now v w (4 ∷ v ∷ keep ∷ w ∷ end ∷ []) result }
+{
+    let mut best = best;
+    for keep_other in 0..end {
+        let index = keep_other as usize;
+        let all_lost = lost + u64::from(edges[index]);
+        let all_gained = u64::from(here[index + 1]) + u64::from(next[index]);
+        let mv = Move::Cross {
+            vehicle: v,
+            keep,
+            other: w,
+            keep_other,
+        };
+        best = better(
+            view, setup, skip, v, w, mv, all_lost, all_gained, best, meter,
+        );
+    }
+    best
+}
+
+/// The better of the best so far and the crosses that keep so many customers of one vehicle.
+fn cross_over(
+    view: &View,
+    setup: &Setup,
+    skip: &[Move],
+    v: u32,
+    w: u32,
+    keep: u32,
+    from: &[u32],
+    to: &[u32],
+    from_edges: &[u32],
+    to_edges: &[u32],
+    out: &[u32],
+    into: &[u32],
+    best: Option<(Move, u64)>,
+    meter: &mut Meter,
+) -> Option<(Move, u64)>
+    requires laws { Laws }
+    requires view { IsViewOf (setting setup.now) view.now }
+    requires apart { v ≢ w }
+    requires keep { keep + 1 < length from.now }
+    requires from { AreStops (setting setup.now).customers view.now.routes v from.now }
+    requires to { AreStops (setting setup.now).customers view.now.routes w to.now }
+    requires from_edges { AreEdges (table_at (setting setup.now).tables (setting setup.now).cost) from.now from_edges.now }
+    requires to_edges { AreEdges (table_at (setting setup.now).tables (setting setup.now).cost) to.now to_edges.now }
+    requires out { AreHops false (table_at (setting setup.now).tables (setting setup.now).cost) from.now to.now (length from.now * length to.now) out.now }
+    requires into { AreHops true (table_at (setting setup.now).tables (setting setup.now).cost) from.now to.now (length from.now * length to.now) into.now }
+    requires best { IsBestSoFar (setting setup.now) view.now skip.now v w (4 ∷ v ∷ keep ∷ w ∷ 0 ∷ []) best }
+    ensures { IsBestSoFar (setting setup.now) view.now skip.now v w (4 ∷ v ∷ keep ∷ w ∷ (length to.now - 1) ∷ []) result }
+{
+    let index = keep as usize;
+    let last = index + 2 == from.len();
+    let end = if last { to.len() - 2 } else { to.len() - 1 };
+    let lost = u64::from(from_edges[index]);
+    let here = row(out, to.len(), index);
+    let next = row(into, to.len(), index + 1);
+    cross_row(
+        view, setup, skip, v, w, keep, lost, to_edges, here, next, end as u32, best, meter,
+    )
+}
+
+/// The better of the best so far and all crosses of two vehicles.
+pub(crate) fn best_cross(
+    view: &View,
+    setup: &Setup,
+    skip: &[Move],
+    v: u32,
+    w: u32,
+    from: &[u32],
+    to: &[u32],
+    from_edges: &[u32],
+    to_edges: &[u32],
+    out: &[u32],
+    into: &[u32],
+    best: Option<(Move, u64)>,
+    meter: &mut Meter,
+) -> Option<(Move, u64)>
+    requires laws { Laws }
+    requires view { IsViewOf (setting setup.now) view.now }
+    requires apart { v ≢ w }
+    requires from { AreStops (setting setup.now).customers view.now.routes v from.now }
+    requires to { AreStops (setting setup.now).customers view.now.routes w to.now }
+    requires from_edges { AreEdges (table_at (setting setup.now).tables (setting setup.now).cost) from.now from_edges.now }
+    requires to_edges { AreEdges (table_at (setting setup.now).tables (setting setup.now).cost) to.now to_edges.now }
+    requires out { AreHops false (table_at (setting setup.now).tables (setting setup.now).cost) from.now to.now (length from.now * length to.now) out.now }
+    requires into { AreHops true (table_at (setting setup.now).tables (setting setup.now).cost) from.now to.now (length from.now * length to.now) into.now }
+    requires best { IsBestSoFar (setting setup.now) view.now skip.now v w (4 ∷ []) best }
+    ensures { IsBestSoFar (setting setup.now) view.now skip.now v w (5 ∷ []) result }
+{
+    let mut best = best;
+    for keep in 0..from.len() as u32 - 1 {
+        best = cross_over(
+            view, setup, skip, v, w, keep, from, to, from_edges, to_edges, out, into, best, meter,
+        );
+    }
+    best
+}

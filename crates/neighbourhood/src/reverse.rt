@@ -1,0 +1,155 @@
+//! Reverses of a stretch of customers.
+ghost use Rattle.std.specs.Prelude.{◌≡◌, ◌≢◌, ℕ, ◌+◌, ◌-◌, ◌*◌, ◌^◌, ◌<◌, ◌≤◌, true, false, List, [], ◌∷◌, length, slice_index, Option, All};
+ghost use Rattle.callback_store.specs.Tables.{table_at};
+ghost use Rattle.dimension_core.specs.Setup.{setting};
+ghost use Rattle.move_core.specs.declared.moves.Move.TheVariants.{Reverse};
+ghost use Rattle.move_core.specs.Moves.{is_possible};
+ghost use Rattle.neighbourhood.specs.View.{IsViewOf};
+ghost use Rattle.neighbourhood.specs.Laws.{Laws};
+ghost use Rattle.neighbourhood.specs.Search.{IsBestSoFar, IsSaving};
+ghost use Rattle.neighbourhood.specs.Ways.{AreStops, AreEdges, AreHops, AreSums};
+
+use crate::best::better;
+use crate::table::row;
+use callback_store::Meter;
+use dimension_core::Setup;
+use move_core::Move;
+use pin_core::View;
+
+/// The better of the best so far and the reverses from one place to those before `end`. `before` and `here` are the ways from the stop
+/// before the place and from it.
+fn reverse_row(
+    view: &View,
+    setup: &Setup,
+    skip: &[Move],
+    v: u32,
+    first: u32,
+    lost: u64,
+    gained: u64,
+    edges: &[u32],
+    sums: &[u64],
+    back_sums: &[u64],
+    before: &[u32],
+    here: &[u32],
+    end: u32,
+    best: Option<(Move, u64)>,
+    meter: &mut Meter,
+) -> Option<(Move, u64)>
+    requires laws { Laws }
+    requires view { IsViewOf (setting setup.now) view.now }
+    requires order { first < end }
+    requires edges { end ≤ length edges.now }
+    requires sums { end ≤ length sums.now }
+    requires back_sums { end ≤ length back_sums.now }
+    requires before { end ≤ length before.now }
+    requires here { end < length here.now }
+    requires short { length here.now ≤ 1002 }
+    requires small { All (λ x. x ≤ 1002000000000) sums.now × All (λ x. x ≤ 1002000000000) back_sums.now }
+    requires fixed { (lost < 2 ^ 50) × (gained < 2 ^ 50) }
+    requires possible { (last : ℕ) → first < last → last < end → is_possible (setting setup.now).customers view.now.routes (Reverse v first last) ≡ true }
+    requires saving { (last : ℕ) → first < last → last < end → IsSaving (setting setup.now) view.now (Reverse v first last) (lost + slice_index sums.now last + slice_index edges.now last) (gained + slice_index before.now last + slice_index back_sums.now last + slice_index here.now (last + 1)) }
+    requires best { IsBestSoFar (setting setup.now) view.now skip.now v v (3 ∷ v ∷ first ∷ (first + 1) ∷ []) best }
+    ensures { IsBestSoFar (setting setup.now) view.now skip.now v v (3 ∷ v ∷ first ∷ end ∷ []) result }
+{
+    let mut best = best;
+    for last in first + 1..end {
+        let index = last as usize;
+        let all_lost = lost + sums[index] + u64::from(edges[index]);
+        let all_gained =
+            gained + u64::from(before[index]) + back_sums[index] + u64::from(here[index + 1]);
+        let mv = Move::Reverse {
+            vehicle: v,
+            first,
+            last,
+        };
+        best = better(
+            view, setup, skip, v, v, mv, all_lost, all_gained, best, meter,
+        );
+    }
+    best
+}
+
+/// The better of the best so far and the reverses from one place on.
+fn reverse_from(
+    view: &View,
+    setup: &Setup,
+    skip: &[Move],
+    v: u32,
+    first: u32,
+    from: &[u32],
+    edges: &[u32],
+    sums: &[u64],
+    back_sums: &[u64],
+    out: &[u32],
+    best: Option<(Move, u64)>,
+    meter: &mut Meter,
+) -> Option<(Move, u64)>
+    requires laws { Laws }
+    requires view { IsViewOf (setting setup.now) view.now }
+    requires first { (1 ≤ first) × (first + 1 < length from.now) }
+    requires from { AreStops (setting setup.now).customers view.now.routes v from.now }
+    requires edges { AreEdges (table_at (setting setup.now).tables (setting setup.now).cost) from.now edges.now }
+    requires sums { AreSums false (table_at (setting setup.now).tables (setting setup.now).cost) from.now (length from.now) sums.now }
+    requires back_sums { AreSums true (table_at (setting setup.now).tables (setting setup.now).cost) from.now (length from.now) back_sums.now }
+    requires small { All (λ x. x ≤ 1002000000000) sums.now × All (λ x. x ≤ 1002000000000) back_sums.now }
+    requires out { AreHops false (table_at (setting setup.now).tables (setting setup.now).cost) from.now from.now (length from.now * length from.now) out.now }
+    requires best { IsBestSoFar (setting setup.now) view.now skip.now v v (3 ∷ v ∷ first ∷ (first + 1) ∷ []) best }
+    ensures { IsBestSoFar (setting setup.now) view.now skip.now v v (3 ∷ v ∷ first ∷ (length from.now - 1) ∷ []) result }
+{
+    let index = first as usize;
+    let lost = u64::from(edges[index - 1]) + back_sums[index];
+    let gained = sums[index];
+    let before = row(out, from.len(), index - 1);
+    let here = row(out, from.len(), index);
+    reverse_row(
+        view,
+        setup,
+        skip,
+        v,
+        first,
+        lost,
+        gained,
+        edges,
+        sums,
+        back_sums,
+        before,
+        here,
+        from.len() as u32 - 1,
+        best,
+        meter,
+    )
+}
+
+/// The better of the best so far and all reverses inside a vehicle.
+pub(crate) fn best_reverse(
+    view: &View,
+    setup: &Setup,
+    skip: &[Move],
+    v: u32,
+    from: &[u32],
+    edges: &[u32],
+    sums: &[u64],
+    back_sums: &[u64],
+    out: &[u32],
+    best: Option<(Move, u64)>,
+    meter: &mut Meter,
+) -> Option<(Move, u64)>
+    requires laws { Laws }
+    requires view { IsViewOf (setting setup.now) view.now }
+    requires from { AreStops (setting setup.now).customers view.now.routes v from.now }
+    requires edges { AreEdges (table_at (setting setup.now).tables (setting setup.now).cost) from.now edges.now }
+    requires sums { AreSums false (table_at (setting setup.now).tables (setting setup.now).cost) from.now (length from.now) sums.now }
+    requires back_sums { AreSums true (table_at (setting setup.now).tables (setting setup.now).cost) from.now (length from.now) back_sums.now }
+    requires small { All (λ x. x ≤ 1002000000000) sums.now × All (λ x. x ≤ 1002000000000) back_sums.now }
+    requires out { AreHops false (table_at (setting setup.now).tables (setting setup.now).cost) from.now from.now (length from.now * length from.now) out.now }
+    requires best { IsBestSoFar (setting setup.now) view.now skip.now v v (3 ∷ []) best }
+    ensures { IsBestSoFar (setting setup.now) view.now skip.now v v (4 ∷ []) result }
+{
+    let mut best = best;
+    for first in 1..from.len() as u32 - 1 {
+        best = reverse_from(
+            view, setup, skip, v, first, from, edges, sums, back_sums, out, best, meter,
+        );
+    }
+    best
+}

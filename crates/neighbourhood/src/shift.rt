@@ -1,0 +1,268 @@
+//! Shifts of one to three customers.
+ghost use Rattle.std.specs.Prelude.{◌≡◌, ◌≢◌, ℕ, ◌+◌, ◌-◌, ◌*◌, ◌^◌, ◌<◌, ◌≤◌, true, false, List, [], ◌∷◌, length, slice_index, Option};
+ghost use Rattle.callback_store.specs.Tables.{table_at};
+ghost use Rattle.dimension_core.specs.Setup.{setting};
+ghost use Rattle.plan_core.specs.Plan.{route_at};
+ghost use Rattle.move_core.specs.declared.moves.Move.TheVariants.{Shift};
+ghost use Rattle.move_core.specs.Moves.{is_possible};
+ghost use Rattle.neighbourhood.specs.View.{IsViewOf};
+ghost use Rattle.neighbourhood.specs.Laws.{Laws};
+ghost use Rattle.neighbourhood.specs.Search.{IsBestSoFar, IsSaving};
+ghost use Rattle.neighbourhood.specs.Ways.{AreStops, AreEdges, AreHops};
+
+use crate::best::better;
+use crate::hops::hop;
+use crate::table::row;
+use callback_store::Meter;
+use dimension_core::Setup;
+use move_core::Move;
+use pin_core::View;
+
+/// The better of the best so far and the shifts of some customers to the places from one to before another. What comes before and after
+/// them there stands `offset` places further among the stops. `into` and `out` are the ways from those stops to the first customer, and
+/// from the last one to them.
+fn shift_row(
+    view: &View,
+    setup: &Setup,
+    skip: &[Move],
+    v: u32,
+    w: u32,
+    place: u32,
+    count: u32,
+    lost: u64,
+    gained: u64,
+    edges: &[u32],
+    into: &[u32],
+    out: &[u32],
+    offset: u32,
+    first: u32,
+    end: u32,
+    best: Option<(Move, u64)>,
+    meter: &mut Meter,
+) -> Option<(Move, u64)>
+    requires laws { Laws }
+    requires view { IsViewOf (setting setup.now) view.now }
+    requires few { count ≤ 3 }
+    requires low { 1 ≤ first }
+    requires order { first ≤ end }
+    requires edges { end + offset ≤ length edges.now + 1 }
+    requires into { end + offset ≤ length into.now }
+    requires out { end + offset ≤ length out.now }
+    requires short { length out.now ≤ 1002 }
+    requires fixed { (lost < 2 ^ 34) × (gained < 2 ^ 34) }
+    requires possible { (at : ℕ) → first ≤ at → at < end → is_possible (setting setup.now).customers view.now.routes (Shift v place count w at) ≡ true }
+    requires saving { (at : ℕ) → first ≤ at → at < end → IsSaving (setting setup.now) view.now (Shift v place count w at) (lost + slice_index edges.now (at + offset - 1)) (gained + slice_index into.now (at + offset - 1) + slice_index out.now (at + offset)) }
+    requires best { IsBestSoFar (setting setup.now) view.now skip.now v w (1 ∷ v ∷ place ∷ count ∷ w ∷ first ∷ []) best }
+    ensures { IsBestSoFar (setting setup.now) view.now skip.now v w (1 ∷ v ∷ place ∷ count ∷ w ∷ end ∷ []) result }
+{
+    let mut best = best;
+    for at in first..end {
+        let index = (at + offset) as usize;
+        let all_lost = lost + u64::from(edges[index - 1]);
+        let all_gained = gained + u64::from(into[index - 1]) + u64::from(out[index]);
+        let mv = Move::Shift {
+            vehicle: v,
+            place,
+            length: count,
+            to: w,
+            at,
+        };
+        best = better(
+            view, setup, skip, v, w, mv, all_lost, all_gained, best, meter,
+        );
+    }
+    best
+}
+
+/// The better of the best so far and the shifts of so many customers from a place on to another vehicle.
+fn shift_over(
+    view: &View,
+    setup: &Setup,
+    skip: &[Move],
+    v: u32,
+    w: u32,
+    place: u32,
+    count: u32,
+    from: &[u32],
+    to: &[u32],
+    from_edges: &[u32],
+    to_edges: &[u32],
+    out: &[u32],
+    into: &[u32],
+    best: Option<(Move, u64)>,
+    meter: &mut Meter,
+) -> Option<(Move, u64)>
+    requires laws { Laws }
+    requires view { IsViewOf (setting setup.now) view.now }
+    requires apart { v ≢ w }
+    requires count { (1 ≤ count) × (count ≤ 3) }
+    requires place { (1 ≤ place) × (place + count < length from.now) }
+    requires from { AreStops (setting setup.now).customers view.now.routes v from.now }
+    requires to { AreStops (setting setup.now).customers view.now.routes w to.now }
+    requires from_edges { AreEdges (table_at (setting setup.now).tables (setting setup.now).cost) from.now from_edges.now }
+    requires to_edges { AreEdges (table_at (setting setup.now).tables (setting setup.now).cost) to.now to_edges.now }
+    requires out { AreHops false (table_at (setting setup.now).tables (setting setup.now).cost) from.now to.now (length from.now * length to.now) out.now }
+    requires into { AreHops true (table_at (setting setup.now).tables (setting setup.now).cost) from.now to.now (length from.now * length to.now) into.now }
+    requires best { IsBestSoFar (setting setup.now) view.now skip.now v w (1 ∷ v ∷ place ∷ count ∷ w ∷ 1 ∷ []) best }
+    ensures { IsBestSoFar (setting setup.now) view.now skip.now v w (1 ∷ v ∷ place ∷ count ∷ w ∷ (length to.now) ∷ []) result }
+{
+    let first = place as usize;
+    let after = first + count as usize;
+    let lost = u64::from(from_edges[first - 1]) + u64::from(from_edges[after - 1]);
+    let gained = hop(setup, from[first - 1], from[after], meter);
+    let comes = row(into, to.len(), first);
+    let goes = row(out, to.len(), after - 1);
+    shift_row(
+        view,
+        setup,
+        skip,
+        v,
+        w,
+        place,
+        count,
+        lost,
+        gained,
+        to_edges,
+        comes,
+        goes,
+        0,
+        1,
+        to.len() as u32,
+        best,
+        meter,
+    )
+}
+
+/// The better of the best so far and all shifts of 1 to 3 customers from one vehicle to another.
+pub(crate) fn best_shift(
+    view: &View,
+    setup: &Setup,
+    skip: &[Move],
+    v: u32,
+    w: u32,
+    from: &[u32],
+    to: &[u32],
+    from_edges: &[u32],
+    to_edges: &[u32],
+    out: &[u32],
+    into: &[u32],
+    best: Option<(Move, u64)>,
+    meter: &mut Meter,
+) -> Option<(Move, u64)>
+    requires laws { Laws }
+    requires view { IsViewOf (setting setup.now) view.now }
+    requires apart { v ≢ w }
+    requires from { AreStops (setting setup.now).customers view.now.routes v from.now }
+    requires to { AreStops (setting setup.now).customers view.now.routes w to.now }
+    requires from_edges { AreEdges (table_at (setting setup.now).tables (setting setup.now).cost) from.now from_edges.now }
+    requires to_edges { AreEdges (table_at (setting setup.now).tables (setting setup.now).cost) to.now to_edges.now }
+    requires out { AreHops false (table_at (setting setup.now).tables (setting setup.now).cost) from.now to.now (length from.now * length to.now) out.now }
+    requires into { AreHops true (table_at (setting setup.now).tables (setting setup.now).cost) from.now to.now (length from.now * length to.now) into.now }
+    requires best { IsBestSoFar (setting setup.now) view.now skip.now v w (1 ∷ []) best }
+    ensures { IsBestSoFar (setting setup.now) view.now skip.now v w (2 ∷ []) result }
+{
+    let mut best = best;
+    for place in 1..from.len() as u32 - 1 {
+        for count in 1..4u32 {
+            if place as usize + (count as usize) < from.len() {
+                best = shift_over(
+                    view, setup, skip, v, w, place, count, from, to, from_edges, to_edges, out,
+                    into, best, meter,
+                );
+            }
+        }
+    }
+    best
+}
+
+/// The better of the best so far and the shifts of so many customers from a place on inside their vehicle.
+fn shift_within(
+    view: &View,
+    setup: &Setup,
+    skip: &[Move],
+    v: u32,
+    place: u32,
+    count: u32,
+    from: &[u32],
+    edges: &[u32],
+    out: &[u32],
+    into: &[u32],
+    best: Option<(Move, u64)>,
+    meter: &mut Meter,
+) -> Option<(Move, u64)>
+    requires laws { Laws }
+    requires view { IsViewOf (setting setup.now) view.now }
+    requires count { (1 ≤ count) × (count ≤ 3) }
+    requires place { (1 ≤ place) × (place + count < length from.now) }
+    requires from { AreStops (setting setup.now).customers view.now.routes v from.now }
+    requires edges { AreEdges (table_at (setting setup.now).tables (setting setup.now).cost) from.now edges.now }
+    requires out { AreHops false (table_at (setting setup.now).tables (setting setup.now).cost) from.now from.now (length from.now * length from.now) out.now }
+    requires into { AreHops true (table_at (setting setup.now).tables (setting setup.now).cost) from.now from.now (length from.now * length from.now) into.now }
+    requires best { IsBestSoFar (setting setup.now) view.now skip.now v v (1 ∷ v ∷ place ∷ count ∷ v ∷ 1 ∷ []) best }
+    ensures { IsBestSoFar (setting setup.now) view.now skip.now v v (1 ∷ v ∷ place ∷ count ∷ v ∷ (length from.now - count) ∷ []) result }
+{
+    let first = place as usize;
+    let after = first + count as usize;
+    let lost = u64::from(edges[first - 1]) + u64::from(edges[after - 1]);
+    let gained = hop(setup, from[first - 1], from[after], meter);
+    let comes = row(into, from.len(), first);
+    let goes = row(out, from.len(), after - 1);
+    let forwards = shift_row(
+        view, setup, skip, v, v, place, count, lost, gained, edges, comes, goes, 0, 1, place, best,
+        meter,
+    );
+    shift_row(
+        view,
+        setup,
+        skip,
+        v,
+        v,
+        place,
+        count,
+        lost,
+        gained,
+        edges,
+        comes,
+        goes,
+        count,
+        place + 1,
+        from.len() as u32 - count,
+        forwards,
+        meter,
+    )
+}
+
+/// The better of the best so far and all shifts of 1 to 3 customers inside a vehicle.
+pub(crate) fn best_shift_inside(
+    view: &View,
+    setup: &Setup,
+    skip: &[Move],
+    v: u32,
+    from: &[u32],
+    edges: &[u32],
+    out: &[u32],
+    into: &[u32],
+    best: Option<(Move, u64)>,
+    meter: &mut Meter,
+) -> Option<(Move, u64)>
+    requires laws { Laws }
+    requires view { IsViewOf (setting setup.now) view.now }
+    requires from { AreStops (setting setup.now).customers view.now.routes v from.now }
+    requires edges { AreEdges (table_at (setting setup.now).tables (setting setup.now).cost) from.now edges.now }
+    requires out { AreHops false (table_at (setting setup.now).tables (setting setup.now).cost) from.now from.now (length from.now * length from.now) out.now }
+    requires into { AreHops true (table_at (setting setup.now).tables (setting setup.now).cost) from.now from.now (length from.now * length from.now) into.now }
+    requires best { IsBestSoFar (setting setup.now) view.now skip.now v v (1 ∷ []) best }
+    ensures { IsBestSoFar (setting setup.now) view.now skip.now v v (2 ∷ []) result }
+{
+    let mut best = best;
+    for place in 1..from.len() as u32 - 1 {
+        for count in 1..4 {
+            if place as usize + (count as usize) < from.len() {
+                best = shift_within(
+                    view, setup, skip, v, place, count, from, edges, out, into, best, meter,
+                );
+            }
+        }
+    }
+    best
+}

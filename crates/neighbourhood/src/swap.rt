@@ -1,0 +1,296 @@
+//! Swaps of two customers.
+ghost use Rattle.std.specs.Prelude.{◌≡◌, ◌≢◌, ℕ, ◌+◌, ◌-◌, ◌*◌, ◌^◌, ◌<◌, ◌≤◌, true, false, List, [], ◌∷◌, length, slice_index, Option};
+ghost use Rattle.callback_store.specs.Tables.{table_at};
+ghost use Rattle.dimension_core.specs.Setup.{setting};
+ghost use Rattle.move_core.specs.declared.moves.Move.TheVariants.{Swap};
+ghost use Rattle.move_core.specs.Moves.{is_possible};
+ghost use Rattle.neighbourhood.specs.View.{IsViewOf};
+ghost use Rattle.neighbourhood.specs.Laws.{Laws};
+ghost use Rattle.neighbourhood.specs.Search.{IsBestSoFar, IsSaving};
+ghost use Rattle.neighbourhood.specs.Ways.{AreStops, AreEdges, AreHops};
+
+use crate::best::better;
+use crate::table::row;
+use callback_store::Meter;
+use dimension_core::Setup;
+use move_core::Move;
+use pin_core::View;
+
+/// The better of the best so far and the swaps of a customer with those at the places from one to before another. `before` and `here`
+/// are the ways from the stop before the customer and from it, `next` and `back` those to the stop after it and to it.
+fn swap_row(
+    view: &View,
+    setup: &Setup,
+    skip: &[Move],
+    v: u32,
+    w: u32,
+    place: u32,
+    lost: u64,
+    edges: &[u32],
+    before: &[u32],
+    here: &[u32],
+    next: &[u32],
+    back: &[u32],
+    first: u32,
+    end: u32,
+    best: Option<(Move, u64)>,
+    meter: &mut Meter,
+) -> Option<(Move, u64)>
+    requires laws { Laws }
+    requires view { IsViewOf (setting setup.now) view.now }
+    requires low { 1 ≤ first }
+    requires order { first ≤ end }
+    requires near { v ≡ w → place < first }
+    requires edges { end ≤ length edges.now }
+    requires before { end ≤ length before.now }
+    requires here { end < length here.now }
+    requires next { end ≤ length next.now }
+    requires back { end ≤ length back.now }
+    requires short { length here.now ≤ 1002 }
+    requires fixed { lost < 2 ^ 34 }
+    requires possible { (at : ℕ) → first ≤ at → at < end → is_possible (setting setup.now).customers view.now.routes (Swap v place w at) ≡ true }
+    requires saving { (at : ℕ) → first ≤ at → at < end → IsSaving (setting setup.now) view.now (Swap v place w at) (lost + slice_index edges.now (at - 1) + slice_index edges.now at) (slice_index before.now at + slice_index next.now at + slice_index back.now (at - 1) + slice_index here.now (at + 1)) }
+    requires best { IsBestSoFar (setting setup.now) view.now skip.now v w (2 ∷ v ∷ place ∷ w ∷ first ∷ []) best }
+    ensures { IsBestSoFar (setting setup.now) view.now skip.now v w (2 ∷ v ∷ place ∷ w ∷ end ∷ []) result }
+{
+    let mut best = best;
+    for at in first..end {
+        let index = at as usize;
+        let all_lost = lost + u64::from(edges[index - 1]) + u64::from(edges[index]);
+        let all_gained = u64::from(before[index])
+            + u64::from(next[index])
+            + u64::from(back[index - 1])
+            + u64::from(here[index + 1]);
+        let mv = Move::Swap {
+            vehicle: v,
+            place,
+            other: w,
+            at,
+        };
+        best = better(
+            view, setup, skip, v, w, mv, all_lost, all_gained, best, meter,
+        );
+    }
+    best
+}
+
+/// The better of the best so far and the swaps of the customer at a place with those of another vehicle.
+fn swap_over(
+    view: &View,
+    setup: &Setup,
+    skip: &[Move],
+    v: u32,
+    w: u32,
+    place: u32,
+    from: &[u32],
+    to: &[u32],
+    from_edges: &[u32],
+    to_edges: &[u32],
+    out: &[u32],
+    into: &[u32],
+    best: Option<(Move, u64)>,
+    meter: &mut Meter,
+) -> Option<(Move, u64)>
+    requires laws { Laws }
+    requires view { IsViewOf (setting setup.now) view.now }
+    requires apart { v ≢ w }
+    requires place { (1 ≤ place) × (place + 1 < length from.now) }
+    requires from { AreStops (setting setup.now).customers view.now.routes v from.now }
+    requires to { AreStops (setting setup.now).customers view.now.routes w to.now }
+    requires from_edges { AreEdges (table_at (setting setup.now).tables (setting setup.now).cost) from.now from_edges.now }
+    requires to_edges { AreEdges (table_at (setting setup.now).tables (setting setup.now).cost) to.now to_edges.now }
+    requires out { AreHops false (table_at (setting setup.now).tables (setting setup.now).cost) from.now to.now (length from.now * length to.now) out.now }
+    requires into { AreHops true (table_at (setting setup.now).tables (setting setup.now).cost) from.now to.now (length from.now * length to.now) into.now }
+    requires best { IsBestSoFar (setting setup.now) view.now skip.now v w (2 ∷ v ∷ place ∷ w ∷ 1 ∷ []) best }
+    ensures { IsBestSoFar (setting setup.now) view.now skip.now v w (2 ∷ v ∷ place ∷ w ∷ (length to.now - 1) ∷ []) result }
+{
+    let index = place as usize;
+    let lost = u64::from(from_edges[index - 1]) + u64::from(from_edges[index]);
+    let before = row(out, to.len(), index - 1);
+    let here = row(out, to.len(), index);
+    let next = row(into, to.len(), index + 1);
+    let back = row(into, to.len(), index);
+    swap_row(
+        view,
+        setup,
+        skip,
+        v,
+        w,
+        place,
+        lost,
+        to_edges,
+        before,
+        here,
+        next,
+        back,
+        1,
+        to.len() as u32 - 1,
+        best,
+        meter,
+    )
+}
+
+/// The better of the best so far and all swaps of two vehicles.
+pub(crate) fn best_swap(
+    view: &View,
+    setup: &Setup,
+    skip: &[Move],
+    v: u32,
+    w: u32,
+    from: &[u32],
+    to: &[u32],
+    from_edges: &[u32],
+    to_edges: &[u32],
+    out: &[u32],
+    into: &[u32],
+    best: Option<(Move, u64)>,
+    meter: &mut Meter,
+) -> Option<(Move, u64)>
+    requires laws { Laws }
+    requires view { IsViewOf (setting setup.now) view.now }
+    requires apart { v ≢ w }
+    requires from { AreStops (setting setup.now).customers view.now.routes v from.now }
+    requires to { AreStops (setting setup.now).customers view.now.routes w to.now }
+    requires from_edges { AreEdges (table_at (setting setup.now).tables (setting setup.now).cost) from.now from_edges.now }
+    requires to_edges { AreEdges (table_at (setting setup.now).tables (setting setup.now).cost) to.now to_edges.now }
+    requires out { AreHops false (table_at (setting setup.now).tables (setting setup.now).cost) from.now to.now (length from.now * length to.now) out.now }
+    requires into { AreHops true (table_at (setting setup.now).tables (setting setup.now).cost) from.now to.now (length from.now * length to.now) into.now }
+    requires best { IsBestSoFar (setting setup.now) view.now skip.now v w (2 ∷ []) best }
+    ensures { IsBestSoFar (setting setup.now) view.now skip.now v w (3 ∷ []) result }
+{
+    let mut best = best;
+    for place in 1..from.len() as u32 - 1 {
+        best = swap_over(
+            view, setup, skip, v, w, place, from, to, from_edges, to_edges, out, into, best, meter,
+        );
+    }
+    best
+}
+
+/// The better of the best so far and the swap of the customer at a place with the next one.
+fn swap_next(
+    view: &View,
+    setup: &Setup,
+    skip: &[Move],
+    v: u32,
+    place: u32,
+    from: &[u32],
+    edges: &[u32],
+    out: &[u32],
+    into: &[u32],
+    best: Option<(Move, u64)>,
+    meter: &mut Meter,
+) -> Option<(Move, u64)>
+    requires laws { Laws }
+    requires view { IsViewOf (setting setup.now) view.now }
+    requires place { (1 ≤ place) × (place + 2 < length from.now) }
+    requires from { AreStops (setting setup.now).customers view.now.routes v from.now }
+    requires edges { AreEdges (table_at (setting setup.now).tables (setting setup.now).cost) from.now edges.now }
+    requires out { AreHops false (table_at (setting setup.now).tables (setting setup.now).cost) from.now from.now (length from.now * length from.now) out.now }
+    requires into { AreHops true (table_at (setting setup.now).tables (setting setup.now).cost) from.now from.now (length from.now * length from.now) into.now }
+    requires best { IsBestSoFar (setting setup.now) view.now skip.now v v (2 ∷ v ∷ place ∷ v ∷ (place + 1) ∷ []) best }
+    ensures { IsBestSoFar (setting setup.now) view.now skip.now v v (2 ∷ v ∷ place ∷ v ∷ (place + 2) ∷ []) result }
+{
+    let index = place as usize;
+    let before = row(out, from.len(), index - 1);
+    let here = row(out, from.len(), index);
+    let back = row(into, from.len(), index);
+    let lost =
+        u64::from(edges[index - 1]) + u64::from(edges[index]) + u64::from(edges[index + 1]);
+    let gained =
+        u64::from(before[index + 1]) + u64::from(back[index + 1]) + u64::from(here[index + 2]);
+    let mv = Move::Swap {
+        vehicle: v,
+        place,
+        other: v,
+        at: place + 1,
+    };
+    better(view, setup, skip, v, v, mv, lost, gained, best, meter)
+}
+
+/// The better of the best so far and the swaps of the customer at a place with those behind it.
+fn swap_within(
+    view: &View,
+    setup: &Setup,
+    skip: &[Move],
+    v: u32,
+    place: u32,
+    from: &[u32],
+    edges: &[u32],
+    out: &[u32],
+    into: &[u32],
+    best: Option<(Move, u64)>,
+    meter: &mut Meter,
+) -> Option<(Move, u64)>
+    requires laws { Laws }
+    requires view { IsViewOf (setting setup.now) view.now }
+    requires place { (1 ≤ place) × (place + 1 < length from.now) }
+    requires from { AreStops (setting setup.now).customers view.now.routes v from.now }
+    requires edges { AreEdges (table_at (setting setup.now).tables (setting setup.now).cost) from.now edges.now }
+    requires out { AreHops false (table_at (setting setup.now).tables (setting setup.now).cost) from.now from.now (length from.now * length from.now) out.now }
+    requires into { AreHops true (table_at (setting setup.now).tables (setting setup.now).cost) from.now from.now (length from.now * length from.now) into.now }
+    requires best { IsBestSoFar (setting setup.now) view.now skip.now v v (2 ∷ v ∷ place ∷ v ∷ (place + 1) ∷ []) best }
+    ensures { IsBestSoFar (setting setup.now) view.now skip.now v v (2 ∷ v ∷ place ∷ v ∷ (length from.now - 1) ∷ []) result }
+{
+    let index = place as usize;
+    if index + 2 >= from.len() {
+        return best;
+    }
+    let near = swap_next(
+        view, setup, skip, v, place, from, edges, out, into, best, meter,
+    );
+    let lost = u64::from(edges[index - 1]) + u64::from(edges[index]);
+    let before = row(out, from.len(), index - 1);
+    let here = row(out, from.len(), index);
+    let next = row(into, from.len(), index + 1);
+    let back = row(into, from.len(), index);
+    swap_row(
+        view,
+        setup,
+        skip,
+        v,
+        v,
+        place,
+        lost,
+        edges,
+        before,
+        here,
+        next,
+        back,
+        place + 2,
+        from.len() as u32 - 1,
+        near,
+        meter,
+    )
+}
+
+/// The better of the best so far and all swaps inside a vehicle.
+pub(crate) fn best_swap_inside(
+    view: &View,
+    setup: &Setup,
+    skip: &[Move],
+    v: u32,
+    from: &[u32],
+    edges: &[u32],
+    out: &[u32],
+    into: &[u32],
+    best: Option<(Move, u64)>,
+    meter: &mut Meter,
+) -> Option<(Move, u64)>
+    requires laws { Laws }
+    requires view { IsViewOf (setting setup.now) view.now }
+    requires from { AreStops (setting setup.now).customers view.now.routes v from.now }
+    requires edges { AreEdges (table_at (setting setup.now).tables (setting setup.now).cost) from.now edges.now }
+    requires out { AreHops false (table_at (setting setup.now).tables (setting setup.now).cost) from.now from.now (length from.now * length from.now) out.now }
+    requires into { AreHops true (table_at (setting setup.now).tables (setting setup.now).cost) from.now from.now (length from.now * length from.now) into.now }
+    requires best { IsBestSoFar (setting setup.now) view.now skip.now v v (2 ∷ []) best }
+    ensures { IsBestSoFar (setting setup.now) view.now skip.now v v (3 ∷ []) result }
+{
+    let mut best = best;
+    for place in 1..from.len() as u32 - 1 {
+        best = swap_within(
+            view, setup, skip, v, place, from, edges, out, into, best, meter,
+        );
+    }
+    best
+}
