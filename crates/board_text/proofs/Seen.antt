@@ -65,8 +65,8 @@ stands_near : {F : Type 0} (see : F → DeskState) (refuses : F → F → Type 0
 stands_near see refuses same mid new left h = elim h [
   | inl e ↦ inl (ap see e)
   | inr k ↦ elim k [
-      | inl r ↦ inl (same mid new r)
-      | inr l ↦ inr (l.0, l.1, gives_seen IsBoardStep see mid new (read_of (body l.0)) l.1 l.3)
+    | inl r ↦ inl (same mid new r)
+    | inr l ↦ inr (l.0, l.1, gives_seen IsBoardStep see mid new (read_of (body l.0)) l.1 l.3)
   ]
 ]
 
@@ -115,7 +115,7 @@ stopped_seen see refuses same fault old new left_old left_new was now h = elim h
       let p = k.6 in
       lines_stopped see fault old new new left_old left_new was now h.0 h.1 h.2 k.2 p.lines p.outcomes h.3 p.cut.whole (full_lines p.lines p.cut.each) p.run (inl refl) p.text h.4
   | inr r ↦ elim r [
-      | inl u ↦ unwritten_stopped see fault old new left_old left_new was now h.0 h.1 h.2 h.3 h.4 u
-      | inr b ↦ lines_stopped see fault old b.mid new left_old left_new was now h.0 h.1 h.2 b.left b.lines b.outcomes h.3 b.whole (full_lines b.lines b.each) b.run (ends_near see refuses same fault b.mid new (0 + length b.lines) b.left b.end) b.text h.4
+    | inl u ↦ unwritten_stopped see fault old new left_old left_new was now h.0 h.1 h.2 h.3 h.4 u
+    | inr b ↦ lines_stopped see fault old b.mid new left_old left_new was now h.0 h.1 h.2 b.left b.lines b.outcomes h.3 b.whole (full_lines b.lines b.each) b.run (ends_near see refuses same fault b.mid new (0 + length b.lines) b.left b.end) b.text h.4
   ]
 ]

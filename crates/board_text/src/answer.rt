@@ -1,7 +1,7 @@
 //! Answers of a front, and what comes of a line.
 
 ghost use Rattle.std.specs.Prelude.{◌≡◌, ◌++◌, OnOk, string_bytes};
-ghost use Rattle.board_text.specs.Answers.{is_reply_refusal, is_answer_refusal, has_reply, is_refusal, answer_text, outcome_text};
+ghost use Rattle.board_text.specs.Answers.{IsTold, IsToldOutcome, is_reply_refusal, is_answer_refusal, has_reply, is_refusal, answer_text, outcome_text};
 
 use crate::command::LineFault;
 use crate::listing::push_list;
@@ -108,6 +108,7 @@ pub fn is_refusal(outcome: &Outcome) -> bool
 }
 
 fn push_answer(out: &mut String, answer: &Answer) -> Result<(), AllocError>
+    requires { IsTold answer.now }
     ensures { OnOk result (string_bytes out.new ≡ string_bytes out.old ++ answer_text answer.now) }
 {
     match answer {
@@ -129,6 +130,7 @@ fn push_answer(out: &mut String, answer: &Answer) -> Result<(), AllocError>
 
 /// Puts what is written for an outcome at the end, with its line ends.
 pub fn push_outcome(out: &mut String, outcome: &Outcome) -> Result<(), AllocError>
+    requires { IsToldOutcome outcome.now }
     ensures { OnOk result (string_bytes out.new ≡ string_bytes out.old ++ outcome_text outcome.now) }
 {
     match outcome {

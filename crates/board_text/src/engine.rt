@@ -2,6 +2,7 @@
 
 ghost use Rattle.std.specs.Prelude.{◌≡◌, ◌<◌, ◌⊎◌, ◌∷◌, [], ◌++◌, List, ℕ, Some, IfSome, MatchOption, length, OnOk, OnErr, IfOk, IfErr};
 ghost use Rattle.std.specs.Io.KnownBytes.{Appends};
+ghost use Rattle.board_text.specs.Answers.{IsTold, IsToldOutcome};
 ghost use Rattle.board_text.specs.Reading.{read_of};
 ghost use Rattle.board_text.specs.Fronts.{Gives};
 ghost use Rattle.board_text.specs.Running.{body, Grows, Served, ServeBroken, Progress, Broken, IsLine, HasNoEnd, BrokenWithin, Finished, Reaches, Answered, Stopped};
@@ -32,6 +33,7 @@ fn submit<R, F: Front<R>>(rt: &R, front: &mut F, call: Call) -> Result<Answer, O
     requires { F.ready front.old }
     ensures ready { F.ready front.new }
     ensures ok { IfOk result (λ answer. F.step front.old (Command.Submit call) answer front.new) }
+    ensures told { IfOk result IsTold }
     ensures err { OnErr result (F.refuses front.old front.new) }
 {
     match front.submit(rt, call) {
@@ -45,6 +47,7 @@ fn list<R, F: Front<R>>(rt: &R, front: &mut F, session: u32) -> Result<Answer, O
     requires { F.ready front.old }
     ensures ready { F.ready front.new }
     ensures ok { IfOk result (λ answer. F.step front.old (Command.List session) answer front.new) }
+    ensures told { IfOk result IsTold }
     ensures err { OnErr result (F.refuses front.old front.new) }
 {
     match front.list(rt, session) {
@@ -67,6 +70,7 @@ fn answer<'a, R, F: Front<R>>(
     requires { F.ready front.old }
     ensures ready { F.ready front.new }
     ensures ok { IfOk result (λ outcome. Gives F.step front.old (read_of (body line.now)) outcome front.new) }
+    ensures told { IfOk result IsToldOutcome }
     ensures err { OnErr result ((front.new ≡ front.old) ⊎ F.refuses front.old front.new) }
 {
     let text = line.strip_suffix(b"\r".as_slice()).unwrap_or(line);
@@ -163,13 +167,7 @@ fn take_line<'a, R, F: Front<R>>(
         return Ok(());
     }
     keep(partial, more)?;
-    serve(
-        rt,
-        front,
-        outbox,
-        &mut Vec::new(alloc),
-        partial.as_slice(),
-    )?;
+    serve(rt, front, outbox, &mut Vec::new(alloc), partial.as_slice())?;
     partial.clear();
     Ok(())
 }

@@ -2,7 +2,7 @@
 
 ghost use Rattle.std.specs.Prelude.{◌≡◌, ◌+◌, ◌<◌, ◌++◌, [], if◌then◌else◌, nat_le, length, OnOk, OnErr, IfOk, IfErr};
 ghost use Rattle.std.specs.Io.KnownBytes.{Appends};
-ghost use Rattle.board_text.specs.Answers.{outcome_text, has_reply, is_refusal};
+ghost use Rattle.board_text.specs.Answers.{IsToldOutcome, outcome_text, has_reply, is_refusal};
 ghost use Rattle.board_text.specs.Running.{AppendsFront, Reaches, MayBeWrite};
 
 use crate::answer::{Outcome, has_reply, is_refusal, push_outcome};
@@ -50,7 +50,8 @@ impl Outbox {
 
     /// Puts the text of an outcome behind the replies that are held, and counts it. Want of memory changes neither.
     pub(crate) fn put(&mut self, outcome: &Outcome) -> Result<(), AllocError>
-        requires { self.old.tally.seen < 4294967296 }
+        requires seen { self.old.tally.seen < 4294967296 }
+        requires told { IsToldOutcome outcome.now }
         ensures text { OnOk result (self.new.held.items ≡ self.old.held.items ++ outcome_text outcome.now) }
         ensures seen { OnOk result (self.new.tally.seen ≡ self.old.tally.seen + 1) }
         ensures lines { OnOk result (self.new.tally.lines ≡ self.old.tally.lines + (if has_reply outcome.now then 1 else 0)) }

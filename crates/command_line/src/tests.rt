@@ -56,6 +56,13 @@ fn words_that_ask_for_nothing(rt: HostRuntime) -> Result<(), Fail> {
             0,
             "A dispatch board: one fleet, one plan, and who may change it\n\nUsage: dispatch [COMMAND]\n",
         ),
+        (["dispatch", "--version"].as_slice(), 0, "dispatch 0.1.0\n"),
+        (["dispatch", "-V"].as_slice(), 0, "dispatch 0.1.0\n"),
+        (
+            ["dispatch", "check", "--version"].as_slice(),
+            2,
+            "error: unexpected argument '--version' found\n",
+        ),
         (["dispatch", "-h"].as_slice(), 0, "A dispatch board"),
         (["dispatch", "help"].as_slice(), 0, "A dispatch board"),
         (

@@ -1,16 +1,18 @@
 //! The joined form: an instance, a line `%%` and a script in one input.
 
-ghost use Rattle.std.specs.Prelude.{◌≡◌, ◌⊎◌, ◌<◌, length};
+ghost use Rattle.std.specs.Prelude.{◌≡◌, ◌⊎◌, ◌<◌, length, IfOk, IfErr, IfSome};
 ghost use Rattle.solomon_reader.specs.Instances.{view, IsSound};
 ghost use Rattle.travel_table.specs.Travel.{travel_at};
 ghost use Rattle.dispatch.specs.Network.{demand_at, time_between};
+ghost use Rattle.dispatch.specs.Head.{halves};
+ghost use Rattle.dispatch.specs.Joined.{IsRun, IsUnfinished, IsEnd, IsJoined};
 
 use crate::head::{Parts, read_parts};
 use crate::network::Network;
 use crate::pair::standard_pair;
 use crate::stop::{Stop, stopped};
 use board_core::Board;
-use board_text::{BoardFront, Counts, run_lines};
+use board_text::{BoardFront, Counts, run_board_lines};
 use callback_store::{Registry, Transit, Unary};
 use dimension_core::Setup;
 use solomon_reader::{Instance, read};
@@ -32,6 +34,10 @@ fn run_board<R, I: Read, W: Write>(
     writer: &mut W,
 ) -> Result<Counts, Stop>
     requires { IsSound (view instance) }
+    ensures ok { IfOk result (λ counts. IsRun (view instance) (I.remaining script.old) (I.remaining script.new)
+        (W.contents writer.old) (W.contents writer.new) counts) }
+    ensures err { IfErr result (λ stop. IsUnfinished (view instance) (I.remaining script.old) (I.remaining script.new)
+        (W.contents writer.old) (W.contents writer.new) stop) }
 {
     let network = Arc::new(alloc, Network::new(alloc, instance)?)?;
     let size = network.size();
@@ -80,7 +86,7 @@ fn run_board<R, I: Read, W: Write>(
         desk: 1,
         turn: 1,
     };
-    Ok(run_lines(rt, alloc, &mut front, script, writer)?)
+    Ok(run_board_lines(rt, alloc, &mut front, script, writer)?)
 }
 
 /// Reads the instance, opens its board, and answers the script behind it.
@@ -89,7 +95,9 @@ fn run_joined<R, I: Read, W: Write>(
     alloc: Global,
     reader: &mut I,
     writer: &mut W,
-) -> Result<Counts, Stop> {
+) -> Result<Counts, Stop>
+    ensures { IfSome (I.remaining reader.old) (λ bytes. IsEnd (halves bytes) (W.contents writer.old) (W.contents writer.new) result) }
+{
     let Parts {
         instance,
         behind,
@@ -120,7 +128,8 @@ pub(crate) fn joined<R, I: Read, W: Write, F: Write>(
     writer: &mut W,
     faults: &mut F,
 ) -> u8
-    ensures { (result ≡ 0) ⊎ (result ≡ 1) ⊎ (result ≡ 3) }
+    ensures status { (result ≡ 0) ⊎ (result ≡ 1) ⊎ (result ≡ 3) }
+    ensures joined { IfSome (I.remaining reader.old) (λ bytes. IsJoined bytes (W.contents writer.old) (W.contents writer.new) result) }
 {
     match run_joined(rt, alloc, reader, writer) {
         Ok(counts) => u8::from(counts.refused > 0),
