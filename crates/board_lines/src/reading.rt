@@ -46,7 +46,15 @@ fn proposal(session: u32, word: MoveWord, arguments: &[&[u8]]) -> Result<Command
     match word {
         MoveWord::Insert => {
             let (customer, vehicle, place, base) = four_numbers(arguments)?;
-            Ok(proposed(session, base, Move::Insert { customer, vehicle, place }))
+            Ok(proposed(
+                session,
+                base,
+                Move::Insert {
+                    customer,
+                    vehicle,
+                    place,
+                },
+            ))
         }
         MoveWord::Remove => {
             let (vehicle, place, base) = three_numbers(arguments)?;
@@ -54,19 +62,55 @@ fn proposal(session: u32, word: MoveWord, arguments: &[&[u8]]) -> Result<Command
         }
         MoveWord::Shift => {
             let (vehicle, place, length, to, at, base) = six_numbers(arguments)?;
-            Ok(proposed(session, base, Move::Shift { vehicle, place, length, to, at }))
+            Ok(proposed(
+                session,
+                base,
+                Move::Shift {
+                    vehicle,
+                    place,
+                    length,
+                    to,
+                    at,
+                },
+            ))
         }
         MoveWord::Swap => {
             let (vehicle, place, other, at, base) = five_numbers(arguments)?;
-            Ok(proposed(session, base, Move::Swap { vehicle, place, other, at }))
+            Ok(proposed(
+                session,
+                base,
+                Move::Swap {
+                    vehicle,
+                    place,
+                    other,
+                    at,
+                },
+            ))
         }
         MoveWord::Reverse => {
             let (vehicle, first, last, base) = four_numbers(arguments)?;
-            Ok(proposed(session, base, Move::Reverse { vehicle, first, last }))
+            Ok(proposed(
+                session,
+                base,
+                Move::Reverse {
+                    vehicle,
+                    first,
+                    last,
+                },
+            ))
         }
         MoveWord::Cross => {
             let (vehicle, keep, other, keep_other, base) = five_numbers(arguments)?;
-            Ok(proposed(session, base, Move::Cross { vehicle, keep, other, keep_other }))
+            Ok(proposed(
+                session,
+                base,
+                Move::Cross {
+                    vehicle,
+                    keep,
+                    other,
+                    keep_other,
+                },
+            ))
         }
     }
 }
@@ -87,11 +131,19 @@ fn hold(session: u32, word: HoldWord, arguments: &[&[u8]]) -> Result<Command, Re
         }
         HoldWord::Freeze => {
             let (vehicle, length) = two_numbers(arguments)?;
-            Ok(Command::Submit(Call::Freeze { session, vehicle, length }))
+            Ok(Command::Submit(Call::Freeze {
+                session,
+                vehicle,
+                length,
+            }))
         }
         HoldWord::Thaw => {
             let (vehicle, length) = two_numbers(arguments)?;
-            Ok(Command::Submit(Call::Thaw { session, vehicle, length }))
+            Ok(Command::Submit(Call::Thaw {
+                session,
+                vehicle,
+                length,
+            }))
         }
     }
 }
@@ -128,11 +180,25 @@ fn manage(session: u32, word: ManageWord, arguments: &[&[u8]]) -> Result<Command
         }
         ManageWord::Grant => {
             let (role, operation, range) = permission(arguments)?;
-            Ok(by_policy(session, PolicyCommand::GrantPermission { role, operation, range }))
+            Ok(by_policy(
+                session,
+                PolicyCommand::GrantPermission {
+                    role,
+                    operation,
+                    range,
+                },
+            ))
         }
         ManageWord::Revoke => {
             let (role, operation, range) = permission(arguments)?;
-            Ok(by_policy(session, PolicyCommand::RevokePermission { role, operation, range }))
+            Ok(by_policy(
+                session,
+                PolicyCommand::RevokePermission {
+                    role,
+                    operation,
+                    range,
+                },
+            ))
         }
         ManageWord::Inherit => {
             let (senior, junior) = two_names(arguments)?;
@@ -162,7 +228,14 @@ fn separate_static(
     match word {
         SetWord::Create => {
             let (name, number, roles) = name_number_and_names(alloc, arguments)?;
-            Ok(by_policy(session, PolicyCommand::CreateSsdSet { name, number, roles }))
+            Ok(by_policy(
+                session,
+                PolicyCommand::CreateSsdSet {
+                    name,
+                    number,
+                    roles,
+                },
+            ))
         }
         SetWord::Add => {
             let (name, role) = two_names(arguments)?;
@@ -178,7 +251,10 @@ fn separate_static(
         }
         SetWord::Number => {
             let (name, number) = name_and_number(arguments)?;
-            Ok(by_policy(session, PolicyCommand::SetSsdSetCardinality { name, number }))
+            Ok(by_policy(
+                session,
+                PolicyCommand::SetSsdSetCardinality { name, number },
+            ))
         }
     }
 }
@@ -196,7 +272,14 @@ fn separate_dynamic(
     match word {
         SetWord::Create => {
             let (name, number, roles) = name_number_and_names(alloc, arguments)?;
-            Ok(by_policy(session, PolicyCommand::CreateDsdSet { name, number, roles }))
+            Ok(by_policy(
+                session,
+                PolicyCommand::CreateDsdSet {
+                    name,
+                    number,
+                    roles,
+                },
+            ))
         }
         SetWord::Add => {
             let (name, role) = two_names(arguments)?;
@@ -212,7 +295,10 @@ fn separate_dynamic(
         }
         SetWord::Number => {
             let (name, number) = name_and_number(arguments)?;
-            Ok(by_policy(session, PolicyCommand::SetDsdSetCardinality { name, number }))
+            Ok(by_policy(
+                session,
+                PolicyCommand::SetDsdSetCardinality { name, number },
+            ))
         }
     }
 }
@@ -238,11 +324,23 @@ fn change_session(
         }
         SessionWord::Activate => {
             let (number, role) = number_and_name(arguments)?;
-            Ok(by_policy(session, PolicyCommand::AddActiveRole { session: number, role }))
+            Ok(by_policy(
+                session,
+                PolicyCommand::AddActiveRole {
+                    session: number,
+                    role,
+                },
+            ))
         }
         SessionWord::Deactivate => {
             let (number, role) = number_and_name(arguments)?;
-            Ok(by_policy(session, PolicyCommand::DropActiveRole { session: number, role }))
+            Ok(by_policy(
+                session,
+                PolicyCommand::DropActiveRole {
+                    session: number,
+                    role,
+                },
+            ))
         }
     }
 }
@@ -267,19 +365,32 @@ fn question(session: u32, word: AskWord, arguments: &[&[u8]]) -> Result<Command,
         }
         AskWord::Check => {
             let (operation, object) = access(arguments)?;
-            Ok(Command::Check { session, operation, object })
+            Ok(Command::Check {
+                session,
+                operation,
+                object,
+            })
         }
         AskWord::Users => {
             let role = one_name(arguments)?;
-            Ok(Command::Review { session, which: Review::Users(role) })
+            Ok(Command::Review {
+                session,
+                which: Review::Users(role),
+            })
         }
         AskWord::Roles => {
             let user = one_name(arguments)?;
-            Ok(Command::Review { session, which: Review::Roles(user) })
+            Ok(Command::Review {
+                session,
+                which: Review::Roles(user),
+            })
         }
         AskWord::Active => {
             let number = one_number(arguments)?;
-            Ok(Command::Review { session, which: Review::Active(number) })
+            Ok(Command::Review {
+                session,
+                which: Review::Active(number),
+            })
         }
     }
 }
