@@ -241,6 +241,7 @@ text_is w (e ∷ t) word all h = by_word (bytes_eq w e.0) refl h (λ g. text_is 
   where
     some_same : (x y : Word) → ◌≡◌ {A = Option Word} (Some x) (Some y) → x ≡ y
     some_same x y s = cc
+
     by_word : (b : Bool) → bytes_eq w e.0 ≡ b → cond b (Some e.1) (lookup (bytes_eq w) t) ≡ Some word → (lookup (bytes_eq w) t ≡ Some word → w ≡ (row_of word).text) → w ≡ (row_of word).text
     by_word true f g again = same_bytes w e.0 f ∙ same_bytes e.0 (row_of e.1).text (and_first _ _ all) ∙ ap (λ (x : Word). (row_of x).text) (some_same e.1 word g)
     by_word false f g again = again g

@@ -96,12 +96,12 @@ operation_fails : (w : List ℕ) → verdict (operation_arg w) ≡ cond (is_oper
 operation_fails w =
     let is = λ (t : List ℕ). bytes_eq w t in
     or_fails (is (codes "view")) _ operations.View _ faults.Op
-      (or_fails (is (codes "move")) _ operations.Move _ faults.Op
-        (or_fails (is (codes "pin")) _ operations.Pin _ faults.Op
-          (or_fails (is (codes "freeze")) _ operations.Freeze _ faults.Op
-            (or_fails (is (codes "admin")) _ operations.Admin _ faults.Op
-              (or_fails (is (codes "audit")) _ operations.Audit _ faults.Op
-                (if_fails (is (codes "override")) operations.Override faults.Op))))))
+    (or_fails (is (codes "move")) _ operations.Move _ faults.Op
+    (or_fails (is (codes "pin")) _ operations.Pin _ faults.Op
+    (or_fails (is (codes "freeze")) _ operations.Freeze _ faults.Op
+    (or_fails (is (codes "admin")) _ operations.Admin _ faults.Op
+    (or_fails (is (codes "audit")) _ operations.Audit _ faults.Op
+    (if_fails (is (codes "override")) operations.Override faults.Op))))))
 
 -- a word that fails, or what follows it
 word_fails : {A B C : Type 0} (r : Result A LineFault) (m : Result B LineFault) (g : A → B → C) (b : Bool) (e : LineFault) (cs : List Check) → verdict r ≡ cond b None (Some e) → verdict m ≡ first_fault cs → verdict (r >>= λ x. (m >>= λ y. Ok (g x y))) ≡ first_fault (check e b ∷ cs)
@@ -135,8 +135,8 @@ twice (Ok x) f h = refl
 twice (Err e) f h = refl
 
 by_kind : {A B C : Type 0} (each : ℕ) (ws : List (List ℕ)) (board : A) (r : Result B LineFault) (f g : B → A) (h : A → C) (b v c : Bool)
-  → cond b (length ws == 0) (cond (v || c) (length ws == each) true) ≡ true → ((length ws == each) ≡ true → verdict r ≡ first_fault (map number_check ws))
-  → verdict (cond b (Ok board) (cond v (r >>= λ x. Ok (f x)) (cond c (r >>= λ x. Ok (g x)) (Err faults.Object))) >>= λ x. Ok (h x)) ≡ first_fault (check faults.Object (b || (v || c)) ∷ map number_check ws)
+    → cond b (length ws == 0) (cond (v || c) (length ws == each) true) ≡ true → ((length ws == each) ≡ true → verdict r ≡ first_fault (map number_check ws))
+    → verdict (cond b (Ok board) (cond v (r >>= λ x. Ok (f x)) (cond c (r >>= λ x. Ok (g x)) (Err faults.Object))) >>= λ x. Ok (h x)) ≡ first_fault (check faults.Object (b || (v || c)) ∷ map number_check ws)
 by_kind each ws board r f g h true v c e fails = rw (none ws e) refl
 by_kind each ws board r f g h false true c e fails = twice r f h ∙ fails e
 by_kind each ws board r f g h false false true e fails = twice r g h ∙ fails e
@@ -144,8 +144,8 @@ by_kind each ws board r f g h false false false e fails = refl
 
 -- the words of an object or a range fail as their checks do, by whether the kind is board, vehicle or customer
 object_fails : {A B C : Type 0} (each : ℕ) (kind : List ℕ) (ws : List (List ℕ)) (board : A) (r : Result B LineFault) (f g : B → A) (h : A → C)
-  → is_counted each kind ws ≡ true → ((length ws == each) ≡ true → verdict r ≡ first_fault (map number_check ws))
-  → verdict (cond (bytes_eq kind (codes "board")) (Ok board) (cond (bytes_eq kind (codes "vehicle")) (r >>= λ x. Ok (f x)) (cond (bytes_eq kind (codes "customer")) (r >>= λ x. Ok (g x)) (Err faults.Object))) >>= λ x. Ok (h x)) ≡ first_fault (object_checks kind ws)
+    → is_counted each kind ws ≡ true → ((length ws == each) ≡ true → verdict r ≡ first_fault (map number_check ws))
+    → verdict (cond (bytes_eq kind (codes "board")) (Ok board) (cond (bytes_eq kind (codes "vehicle")) (r >>= λ x. Ok (f x)) (cond (bytes_eq kind (codes "customer")) (r >>= λ x. Ok (g x)) (Err faults.Object))) >>= λ x. Ok (h x)) ≡ first_fault (object_checks kind ws)
 object_fails each kind ws board r f g h counted fails = by_kind each ws board r f g h (bytes_eq kind (codes "board")) (bytes_eq kind (codes "vehicle")) (bytes_eq kind (codes "customer")) counted fails
 
 names_fail : (ws : List (List ℕ)) → cond (list_all is_name ws) None (Some faults.Name) ≡ first_fault (map name_check ws)
@@ -206,6 +206,7 @@ err_from (Ok x) f e = none_bad f e
 err_from (Err g) f e = ap Err (some_same g f e)
 
 pub faults_are_first : FaultsAreFirst
-faults_are_first line f =
-    (λ p. err_from (words_read (words line)) f (line_fails (words line) ∙ is_first (line_checks (words line)) f p),
-     λ e. first_is (line_checks (words line)) f (sym (line_fails (words line)) ∙ ap verdict e))
+faults_are_first line f = (
+  λ p. err_from (words_read (words line)) f (line_fails (words line) ∙ is_first (line_checks (words line)) f p),
+  λ e. first_is (line_checks (words line)) f (sym (line_fails (words line)) ∙ ap verdict e),
+)

@@ -59,11 +59,7 @@ fn numbers_of_two(first: &[u8], second: &[u8]) -> Result<(u32, u32), LineFault>
 }
 
 #[tactic(auto, unfolding(crate::specs::Arguments::number_then))]
-fn numbers_of_three(
-    first: &[u8],
-    second: &[u8],
-    third: &[u8],
-) -> Result<(u32, u32, u32), LineFault>
+fn numbers_of_three(first: &[u8], second: &[u8], third: &[u8]) -> Result<(u32, u32, u32), LineFault>
     ensures { read_as (λ a. a_number a.0 (a_number a.1 (a_number a.2 no_more))) result ≡ number_then first.now (number_then second.now (number_then third.now (Ok no_more))) }
 {
     let first = number_argument(first)?;
@@ -112,7 +108,9 @@ fn numbers_of_six(
     ensures { read_as (λ a. a_number a.0 (a_number a.1 (a_number a.2 (a_number a.3 (a_number a.4 (a_number a.5 no_more)))))) result ≡ number_then first.now (number_then second.now (number_then third.now (number_then fourth.now (number_then fifth.now (number_then sixth.now (Ok no_more)))))) }
 {
     let first = number_argument(first)?;
-    let (second, third, fourth, fifth, sixth) = numbers_of_five(second, third, fourth, fifth, sixth)?;
+    let (second, third, fourth, fifth, sixth) = numbers_of_five(
+        second, third, fourth, fifth, sixth,
+    )?;
     Ok((first, second, third, fourth, fifth, sixth))
 }
 
@@ -354,10 +352,7 @@ pub(crate) fn access(arguments: &[&[u8]]) -> Result<(Operation, Object), LineFau
 
 /// A user and roles.
 #[tactic(auto, unfolding(crate::specs::Arguments::arguments_of))]
-pub(crate) fn name_and_names(
-    alloc: Global,
-    arguments: &[&[u8]],
-) -> Result<(Name, Names), ReadFault>
+pub(crate) fn name_and_names(alloc: Global, arguments: &[&[u8]]) -> Result<(Name, Names), ReadFault>
     ensures { SaysAs (λ a. a_name a.0 (the_names a.1)) result (arguments_of (name names) (map (λ w. w.now) arguments.now)) }
 {
     let [first, rest @ ..] = arguments else {

@@ -16,11 +16,17 @@ pub enum Command {
     /// A call, which the board journals.
     Submit(Call),
     /// The question for the rows that the session may view. No question is journaled.
-    List { session: u32 },
+    List {
+        session: u32,
+    },
     /// The same rows as JSON.
-    Json { session: u32 },
+    Json {
+        session: u32,
+    },
     /// The question for the journal.
-    Audit { session: u32 },
+    Audit {
+        session: u32,
+    },
     /// The question whether the session may do the operation to the object.
     Check {
         session: u32,
@@ -28,7 +34,10 @@ pub enum Command {
         object: Object,
     },
     /// The question for a part of the policy.
-    Review { session: u32, which: Review },
+    Review {
+        session: u32,
+        which: Review,
+    },
 }
 
 /// Why a line says nothing that is known: the first that holds.

@@ -1,9 +1,11 @@
 //! The grammar of lines.
 
 ghost use Rattle.std.specs.Prelude.{◌≡◌, map};
+ghost use Rattle.board_rules.specs.declared.call.Call.TheVariants as calls;
+ghost use Rattle.board_lines.specs.declared.command.Command.TheVariants.{Submit};
 ghost use Rattle.board_lines.specs.declared.word.Word.TheVariants.{Propose, Hold, Manage, Separate, Session, Ask};
 ghost use Rattle.board_lines.specs.declared.word.Separation.TheVariants.{Static, Dynamic};
-ghost use Rattle.board_lines.specs.Reading.{Says, after_word, words_read, read_of};
+ghost use Rattle.board_lines.specs.Reading.{Says, by_policy, after_word, words_read, read_of};
 
 use crate::arguments::{
     access, five_numbers, four_numbers, name_and_names, name_and_number, name_number_and_names,
@@ -20,108 +22,201 @@ use rbac_core::Command as PolicyCommand;
 use std::alloc::Global;
 use text_words::keep_all_words;
 
-// ---- each family of commands, by the words behind the command's
+// ---- each family of commands, by the words behind the command's; apart from one another, since each fills a large result
+
+#[inline(always)]
+fn proposed(session: u32, base: u32, mv: Move) -> Command
+    ensures { result ≡ Submit (calls.Propose session base mv) }
+{
+    Command::Submit(Call::Propose { session, base, mv })
+}
+
+#[inline(always)]
+fn by_policy(session: u32, command: PolicyCommand) -> Command
+    ensures { result ≡ by_policy session command }
+{
+    Command::Submit(Call::Policy { session, command })
+}
 
 #[tactic(auto, unfolding(crate::specs::Reading::command_of))]
-fn proposal(session: u32, word: MoveWord, arguments: &[&[u8]]) -> Result<Command, LineFault>
-    ensures { result ≡ after_word session (Propose word) (map (λ w. w.now) arguments.now) }
+#[inline(never)]
+fn proposal(session: u32, word: MoveWord, arguments: &[&[u8]]) -> Result<Command, ReadFault>
+    ensures { Says result (after_word session (Propose word) (map (λ w. w.now) arguments.now)) }
 {
-    let (base, mv) = match word {
+    match word {
         MoveWord::Insert => {
             let (customer, vehicle, place, base) = four_numbers(arguments)?;
-            (base, Move::Insert { customer, vehicle, place })
+            Ok(proposed(
+                session,
+                base,
+                Move::Insert {
+                    customer,
+                    vehicle,
+                    place,
+                },
+            ))
         }
         MoveWord::Remove => {
             let (vehicle, place, base) = three_numbers(arguments)?;
-            (base, Move::Remove { vehicle, place })
+            Ok(proposed(session, base, Move::Remove { vehicle, place }))
         }
         MoveWord::Shift => {
             let (vehicle, place, length, to, at, base) = six_numbers(arguments)?;
-            (base, Move::Shift { vehicle, place, length, to, at })
+            Ok(proposed(
+                session,
+                base,
+                Move::Shift {
+                    vehicle,
+                    place,
+                    length,
+                    to,
+                    at,
+                },
+            ))
         }
         MoveWord::Swap => {
             let (vehicle, place, other, at, base) = five_numbers(arguments)?;
-            (base, Move::Swap { vehicle, place, other, at })
+            Ok(proposed(
+                session,
+                base,
+                Move::Swap {
+                    vehicle,
+                    place,
+                    other,
+                    at,
+                },
+            ))
         }
         MoveWord::Reverse => {
             let (vehicle, first, last, base) = four_numbers(arguments)?;
-            (base, Move::Reverse { vehicle, first, last })
+            Ok(proposed(
+                session,
+                base,
+                Move::Reverse {
+                    vehicle,
+                    first,
+                    last,
+                },
+            ))
         }
         MoveWord::Cross => {
             let (vehicle, keep, other, keep_other, base) = five_numbers(arguments)?;
-            (base, Move::Cross { vehicle, keep, other, keep_other })
+            Ok(proposed(
+                session,
+                base,
+                Move::Cross {
+                    vehicle,
+                    keep,
+                    other,
+                    keep_other,
+                },
+            ))
         }
-    };
-    Ok(Command::Submit(Call::Propose { session, base, mv }))
+    }
 }
 
 #[tactic(auto, unfolding(crate::specs::Reading::command_of))]
-fn hold(session: u32, word: HoldWord, arguments: &[&[u8]]) -> Result<Command, LineFault>
-    ensures { result ≡ after_word session (Hold word) (map (λ w. w.now) arguments.now) }
+#[inline(never)]
+fn hold(session: u32, word: HoldWord, arguments: &[&[u8]]) -> Result<Command, ReadFault>
+    ensures { Says result (after_word session (Hold word) (map (λ w. w.now) arguments.now)) }
 {
-    let call = match word {
+    match word {
         HoldWord::Pin => {
             let customer = one_number(arguments)?;
-            Call::Pin { session, customer }
+            Ok(Command::Submit(Call::Pin { session, customer }))
         }
         HoldWord::Unpin => {
             let customer = one_number(arguments)?;
-            Call::Unpin { session, customer }
+            Ok(Command::Submit(Call::Unpin { session, customer }))
         }
         HoldWord::Freeze => {
             let (vehicle, length) = two_numbers(arguments)?;
-            Call::Freeze { session, vehicle, length }
+            Ok(Command::Submit(Call::Freeze {
+                session,
+                vehicle,
+                length,
+            }))
         }
         HoldWord::Thaw => {
             let (vehicle, length) = two_numbers(arguments)?;
-            Call::Thaw { session, vehicle, length }
+            Ok(Command::Submit(Call::Thaw {
+                session,
+                vehicle,
+                length,
+            }))
         }
-    };
-    Ok(Command::Submit(call))
+    }
 }
 
 #[tactic(auto, unfolding(crate::specs::Reading::command_of))]
-fn manage(session: u32, word: ManageWord, arguments: &[&[u8]]) -> Result<Command, LineFault>
-    ensures { result ≡ after_word session (Manage word) (map (λ w. w.now) arguments.now) }
+#[inline(never)]
+fn manage(session: u32, word: ManageWord, arguments: &[&[u8]]) -> Result<Command, ReadFault>
+    ensures { Says result (after_word session (Manage word) (map (λ w. w.now) arguments.now)) }
 {
-    let command = match word {
-        ManageWord::AddUser => PolicyCommand::AddUser { user: one_name(arguments)? },
-        ManageWord::DeleteUser => PolicyCommand::DeleteUser { user: one_name(arguments)? },
-        ManageWord::AddRole => PolicyCommand::AddRole { role: one_name(arguments)? },
-        ManageWord::DeleteRole => PolicyCommand::DeleteRole { role: one_name(arguments)? },
+    match word {
+        ManageWord::AddUser => {
+            let user = one_name(arguments)?;
+            Ok(by_policy(session, PolicyCommand::AddUser { user }))
+        }
+        ManageWord::DeleteUser => {
+            let user = one_name(arguments)?;
+            Ok(by_policy(session, PolicyCommand::DeleteUser { user }))
+        }
+        ManageWord::AddRole => {
+            let role = one_name(arguments)?;
+            Ok(by_policy(session, PolicyCommand::AddRole { role }))
+        }
+        ManageWord::DeleteRole => {
+            let role = one_name(arguments)?;
+            Ok(by_policy(session, PolicyCommand::DeleteRole { role }))
+        }
         ManageWord::Assign => {
             let (user, role) = two_names(arguments)?;
-            PolicyCommand::AssignUser { user, role }
+            Ok(by_policy(session, PolicyCommand::AssignUser { user, role }))
         }
         ManageWord::Deassign => {
             let (user, role) = two_names(arguments)?;
-            PolicyCommand::DeassignUser { user, role }
+            Ok(by_policy(session, PolicyCommand::DeassignUser { user, role }))
         }
         ManageWord::Grant => {
             let (role, operation, range) = permission(arguments)?;
-            PolicyCommand::GrantPermission { role, operation, range }
+            Ok(by_policy(
+                session,
+                PolicyCommand::GrantPermission {
+                    role,
+                    operation,
+                    range,
+                },
+            ))
         }
         ManageWord::Revoke => {
             let (role, operation, range) = permission(arguments)?;
-            PolicyCommand::RevokePermission { role, operation, range }
+            Ok(by_policy(
+                session,
+                PolicyCommand::RevokePermission {
+                    role,
+                    operation,
+                    range,
+                },
+            ))
         }
         ManageWord::Inherit => {
             let (senior, junior) = two_names(arguments)?;
-            PolicyCommand::AddInheritance { senior, junior }
+            Ok(by_policy(session, PolicyCommand::AddInheritance { senior, junior }))
         }
         ManageWord::Uninherit => {
             let (senior, junior) = two_names(arguments)?;
-            PolicyCommand::DeleteInheritance { senior, junior }
+            Ok(by_policy(session, PolicyCommand::DeleteInheritance { senior, junior }))
         }
         ManageWord::Migrate => {
             no_arguments(arguments)?;
-            PolicyCommand::Migrate
+            Ok(by_policy(session, PolicyCommand::Migrate))
         }
-    };
-    Ok(Command::Submit(Call::Policy { session, command }))
+    }
 }
 
 #[tactic(auto, unfolding(crate::specs::Reading::command_of))]
+#[inline(never)]
 fn separate_static(
     alloc: Global,
     session: u32,
@@ -130,29 +225,42 @@ fn separate_static(
 ) -> Result<Command, ReadFault>
     ensures { Says result (after_word session (Separate Static word) (map (λ w. w.now) arguments.now)) }
 {
-    let command = match word {
+    match word {
         SetWord::Create => {
             let (name, number, roles) = name_number_and_names(alloc, arguments)?;
-            PolicyCommand::CreateSsdSet { name, number, roles }
+            Ok(by_policy(
+                session,
+                PolicyCommand::CreateSsdSet {
+                    name,
+                    number,
+                    roles,
+                },
+            ))
         }
         SetWord::Add => {
             let (name, role) = two_names(arguments)?;
-            PolicyCommand::AddSsdRoleMember { name, role }
+            Ok(by_policy(session, PolicyCommand::AddSsdRoleMember { name, role }))
         }
         SetWord::Drop => {
             let (name, role) = two_names(arguments)?;
-            PolicyCommand::DeleteSsdRoleMember { name, role }
+            Ok(by_policy(session, PolicyCommand::DeleteSsdRoleMember { name, role }))
         }
-        SetWord::Delete => PolicyCommand::DeleteSsdSet { name: one_name(arguments)? },
+        SetWord::Delete => {
+            let name = one_name(arguments)?;
+            Ok(by_policy(session, PolicyCommand::DeleteSsdSet { name }))
+        }
         SetWord::Number => {
             let (name, number) = name_and_number(arguments)?;
-            PolicyCommand::SetSsdSetCardinality { name, number }
+            Ok(by_policy(
+                session,
+                PolicyCommand::SetSsdSetCardinality { name, number },
+            ))
         }
-    };
-    Ok(Command::Submit(Call::Policy { session, command }))
+    }
 }
 
 #[tactic(auto, unfolding(crate::specs::Reading::command_of))]
+#[inline(never)]
 fn separate_dynamic(
     alloc: Global,
     session: u32,
@@ -161,29 +269,42 @@ fn separate_dynamic(
 ) -> Result<Command, ReadFault>
     ensures { Says result (after_word session (Separate Dynamic word) (map (λ w. w.now) arguments.now)) }
 {
-    let command = match word {
+    match word {
         SetWord::Create => {
             let (name, number, roles) = name_number_and_names(alloc, arguments)?;
-            PolicyCommand::CreateDsdSet { name, number, roles }
+            Ok(by_policy(
+                session,
+                PolicyCommand::CreateDsdSet {
+                    name,
+                    number,
+                    roles,
+                },
+            ))
         }
         SetWord::Add => {
             let (name, role) = two_names(arguments)?;
-            PolicyCommand::AddDsdRoleMember { name, role }
+            Ok(by_policy(session, PolicyCommand::AddDsdRoleMember { name, role }))
         }
         SetWord::Drop => {
             let (name, role) = two_names(arguments)?;
-            PolicyCommand::DeleteDsdRoleMember { name, role }
+            Ok(by_policy(session, PolicyCommand::DeleteDsdRoleMember { name, role }))
         }
-        SetWord::Delete => PolicyCommand::DeleteDsdSet { name: one_name(arguments)? },
+        SetWord::Delete => {
+            let name = one_name(arguments)?;
+            Ok(by_policy(session, PolicyCommand::DeleteDsdSet { name }))
+        }
         SetWord::Number => {
             let (name, number) = name_and_number(arguments)?;
-            PolicyCommand::SetDsdSetCardinality { name, number }
+            Ok(by_policy(
+                session,
+                PolicyCommand::SetDsdSetCardinality { name, number },
+            ))
         }
-    };
-    Ok(Command::Submit(Call::Policy { session, command }))
+    }
 }
 
 #[tactic(auto, unfolding(crate::specs::Reading::command_of))]
+#[inline(never)]
 fn change_session(
     alloc: Global,
     session: u32,
@@ -192,27 +313,42 @@ fn change_session(
 ) -> Result<Command, ReadFault>
     ensures { Says result (after_word session (Session word) (map (λ w. w.now) arguments.now)) }
 {
-    let command = match word {
+    match word {
         SessionWord::Open => {
             let (user, roles) = name_and_names(alloc, arguments)?;
-            PolicyCommand::CreateSession { user, roles }
+            Ok(by_policy(session, PolicyCommand::CreateSession { user, roles }))
         }
-        SessionWord::Close => PolicyCommand::DeleteSession { session: one_number(arguments)? },
+        SessionWord::Close => {
+            let number = one_number(arguments)?;
+            Ok(by_policy(session, PolicyCommand::DeleteSession { session: number }))
+        }
         SessionWord::Activate => {
-            let (session, role) = number_and_name(arguments)?;
-            PolicyCommand::AddActiveRole { session, role }
+            let (number, role) = number_and_name(arguments)?;
+            Ok(by_policy(
+                session,
+                PolicyCommand::AddActiveRole {
+                    session: number,
+                    role,
+                },
+            ))
         }
         SessionWord::Deactivate => {
-            let (session, role) = number_and_name(arguments)?;
-            PolicyCommand::DropActiveRole { session, role }
+            let (number, role) = number_and_name(arguments)?;
+            Ok(by_policy(
+                session,
+                PolicyCommand::DropActiveRole {
+                    session: number,
+                    role,
+                },
+            ))
         }
-    };
-    Ok(Command::Submit(Call::Policy { session, command }))
+    }
 }
 
 #[tactic(auto, unfolding(crate::specs::Reading::command_of))]
-fn question(session: u32, word: AskWord, arguments: &[&[u8]]) -> Result<Command, LineFault>
-    ensures { result ≡ after_word session (Ask word) (map (λ w. w.now) arguments.now) }
+#[inline(never)]
+fn question(session: u32, word: AskWord, arguments: &[&[u8]]) -> Result<Command, ReadFault>
+    ensures { Says result (after_word session (Ask word) (map (λ w. w.now) arguments.now)) }
 {
     match word {
         AskWord::List => {
@@ -229,19 +365,32 @@ fn question(session: u32, word: AskWord, arguments: &[&[u8]]) -> Result<Command,
         }
         AskWord::Check => {
             let (operation, object) = access(arguments)?;
-            Ok(Command::Check { session, operation, object })
+            Ok(Command::Check {
+                session,
+                operation,
+                object,
+            })
         }
         AskWord::Users => {
             let role = one_name(arguments)?;
-            Ok(Command::Review { session, which: Review::Users(role) })
+            Ok(Command::Review {
+                session,
+                which: Review::Users(role),
+            })
         }
         AskWord::Roles => {
             let user = one_name(arguments)?;
-            Ok(Command::Review { session, which: Review::Roles(user) })
+            Ok(Command::Review {
+                session,
+                which: Review::Roles(user),
+            })
         }
         AskWord::Active => {
             let number = one_number(arguments)?;
-            Ok(Command::Review { session, which: Review::Active(number) })
+            Ok(Command::Review {
+                session,
+                which: Review::Active(number),
+            })
         }
     }
 }
@@ -257,9 +406,9 @@ fn command(
     ensures { Says result (after_word session word (map (λ w. w.now) arguments.now)) }
 {
     match word {
-        Word::Propose(word) => Ok(proposal(session, word, arguments)?),
-        Word::Hold(word) => Ok(hold(session, word, arguments)?),
-        Word::Manage(word) => Ok(manage(session, word, arguments)?),
+        Word::Propose(word) => proposal(session, word, arguments),
+        Word::Hold(word) => hold(session, word, arguments),
+        Word::Manage(word) => manage(session, word, arguments),
         Word::Separate(Separation::Static, word) => {
             separate_static(alloc, session, word, arguments)
         }
@@ -267,7 +416,7 @@ fn command(
             separate_dynamic(alloc, session, word, arguments)
         }
         Word::Session(word) => change_session(alloc, session, word, arguments),
-        Word::Ask(word) => Ok(question(session, word, arguments)?),
+        Word::Ask(word) => question(session, word, arguments),
     }
 }
 

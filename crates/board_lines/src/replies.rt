@@ -17,12 +17,7 @@ fn push_with(out: &mut String, text: &str, number: u32) -> Result<(), AllocError
     push_spaced(out, u64::from(number))
 }
 
-fn push_with_two(
-    out: &mut String,
-    text: &str,
-    first: u32,
-    second: u32,
-) -> Result<(), AllocError>
+fn push_with_two(out: &mut String, text: &str, first: u32, second: u32) -> Result<(), AllocError>
     ensures { OnOk result (string_bytes out.new ≡ string_bytes out.old ++ (text.now ++ (spaced first ++ spaced second))) }
 {
     push_with(out, text, first)?;

@@ -145,30 +145,40 @@ fn push_move(out: &mut String, session: u32, base: u32, mv: Move) -> Result<(), 
     ensures { OnOk result (string_bytes out.new ≡ string_bytes out.old ++ after_number (move_said session base mv)) }
 {
     match mv {
-        Move::Insert { customer, vehicle, place } => {
-            push_numbers(out, " insert", &[customer, vehicle, place, base])
-        }
+        Move::Insert {
+            customer,
+            vehicle,
+            place,
+        } => { push_numbers(out, " insert", &[customer, vehicle, place, base]) }
         Move::Remove { vehicle, place } => push_numbers(out, " remove", &[vehicle, place, base]),
-        Move::Shift { vehicle, place, length, to, at } => {
-            push_numbers(out, " shift", &[vehicle, place, length, to, at, base])
-        }
-        Move::Swap { vehicle, place, other, at } => {
-            push_numbers(out, " swap", &[vehicle, place, other, at, base])
-        }
-        Move::Reverse { vehicle, first, last } => {
-            push_numbers(out, " reverse", &[vehicle, first, last, base])
-        }
-        Move::Cross { vehicle, keep, other, keep_other } => {
-            push_numbers(out, " cross", &[vehicle, keep, other, keep_other, base])
-        }
+        Move::Shift {
+            vehicle,
+            place,
+            length,
+            to,
+            at,
+        } => { push_numbers(out, " shift", &[vehicle, place, length, to, at, base]) }
+        Move::Swap {
+            vehicle,
+            place,
+            other,
+            at,
+        } => { push_numbers(out, " swap", &[vehicle, place, other, at, base]) }
+        Move::Reverse {
+            vehicle,
+            first,
+            last,
+        } => { push_numbers(out, " reverse", &[vehicle, first, last, base]) }
+        Move::Cross {
+            vehicle,
+            keep,
+            other,
+            keep_other,
+        } => { push_numbers(out, " cross", &[vehicle, keep, other, keep_other, base]) }
     }
 }
 
-fn push_policy(
-    out: &mut String,
-    session: u32,
-    command: &PolicyCommand,
-) -> Result<(), AllocError>
+fn push_policy(out: &mut String, session: u32, command: &PolicyCommand) -> Result<(), AllocError>
     ensures { OnOk result (string_bytes out.new ≡ string_bytes out.old ++ after_number (policy_said session command.now)) }
 {
     match command {
@@ -178,32 +188,54 @@ fn push_policy(
         PolicyCommand::DeleteRole { role } => push_one_name(out, " delete-role", role),
         PolicyCommand::AssignUser { user, role } => push_two_names(out, " assign", user, role),
         PolicyCommand::DeassignUser { user, role } => push_two_names(out, " deassign", user, role),
-        PolicyCommand::GrantPermission { role, operation, range } => {
-            push_permission(out, " grant", role, *operation, *range)
-        }
-        PolicyCommand::RevokePermission { role, operation, range } => {
-            push_permission(out, " revoke", role, *operation, *range)
-        }
+        PolicyCommand::GrantPermission {
+            role,
+            operation,
+            range,
+        } => { push_permission(out, " grant", role, *operation, *range) }
+        PolicyCommand::RevokePermission {
+            role,
+            operation,
+            range,
+        } => { push_permission(out, " revoke", role, *operation, *range) }
         PolicyCommand::AddInheritance { senior, junior } => {
             push_two_names(out, " inherit", senior, junior)
         }
         PolicyCommand::DeleteInheritance { senior, junior } => {
             push_two_names(out, " uninherit", senior, junior)
         }
-        PolicyCommand::CreateSsdSet { name, number, roles } => {
-            push_set(out, " ssd-create", name, *number, roles.as_slice())
-        }
-        PolicyCommand::AddSsdRoleMember { name, role } => push_two_names(out, " ssd-add", name, role),
-        PolicyCommand::DeleteSsdRoleMember { name, role } => push_two_names(out, " ssd-drop", name, role),
+        PolicyCommand::CreateSsdSet {
+            name,
+            number,
+            roles,
+        } => { push_set(out, " ssd-create", name, *number, roles.as_slice()) }
+        PolicyCommand::AddSsdRoleMember { name, role } => push_two_names(
+            out, " ssd-add", name, role,
+        ),
+        PolicyCommand::DeleteSsdRoleMember { name, role } => push_two_names(
+            out,
+            " ssd-drop",
+            name,
+            role,
+        ),
         PolicyCommand::DeleteSsdSet { name } => push_one_name(out, " ssd-delete", name),
         PolicyCommand::SetSsdSetCardinality { name, number } => {
             push_name_and_number(out, " ssd-number", name, *number)
         }
-        PolicyCommand::CreateDsdSet { name, number, roles } => {
-            push_set(out, " dsd-create", name, *number, roles.as_slice())
-        }
-        PolicyCommand::AddDsdRoleMember { name, role } => push_two_names(out, " dsd-add", name, role),
-        PolicyCommand::DeleteDsdRoleMember { name, role } => push_two_names(out, " dsd-drop", name, role),
+        PolicyCommand::CreateDsdSet {
+            name,
+            number,
+            roles,
+        } => { push_set(out, " dsd-create", name, *number, roles.as_slice()) }
+        PolicyCommand::AddDsdRoleMember { name, role } => push_two_names(
+            out, " dsd-add", name, role,
+        ),
+        PolicyCommand::DeleteDsdRoleMember { name, role } => push_two_names(
+            out,
+            " dsd-drop",
+            name,
+            role,
+        ),
         PolicyCommand::DeleteDsdSet { name } => push_one_name(out, " dsd-delete", name),
         PolicyCommand::SetDsdSetCardinality { name, number } => {
             push_name_and_number(out, " dsd-number", name, *number)
@@ -240,11 +272,19 @@ pub fn push_event(out: &mut String, call: &Call) -> Result<(), AllocError>
             push_number(out, u64::from(*session))?;
             push_numbers(out, " unpin", &[*customer])
         }
-        Call::Freeze { session, vehicle, length } => {
+        Call::Freeze {
+            session,
+            vehicle,
+            length,
+        } => {
             push_number(out, u64::from(*session))?;
             push_numbers(out, " freeze", &[*vehicle, *length])
         }
-        Call::Thaw { session, vehicle, length } => {
+        Call::Thaw {
+            session,
+            vehicle,
+            length,
+        } => {
             push_number(out, u64::from(*session))?;
             push_numbers(out, " thaw", &[*vehicle, *length])
         }
