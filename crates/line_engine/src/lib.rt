@@ -4,6 +4,7 @@
 mod answer;
 mod engine;
 mod front;
+mod laws;
 mod outbox;
 mod run_fault;
 mod tally;
@@ -11,5 +12,9 @@ mod write;
 
 pub use engine::run_lines;
 pub use front::Front;
+pub use laws::texts_have_their_lines;
 pub use run_fault::{Counts, RunFault};
 pub use write::write_whole;
+
+#[cfg(test)]
+mod tests;
