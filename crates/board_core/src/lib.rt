@@ -14,8 +14,8 @@ pub use board::Board;
 pub use body::Core;
 pub use call::{Call, Entry, Event, Move};
 pub use laws::{plans_are_feasible, replies_are_determined};
-pub use root_policy::{Object, ObjectRange, Operation, PolicyCommand, Refusal};
 pub use reply::{AskFault, Denial, Fault, Reply};
+pub use root_policy::{Object, ObjectRange, Operation, PolicyCommand, Refusal};
 pub use row::Row;
 
 #[cfg(test)]
