@@ -1,4 +1,4 @@
-use Rattle.std.proofs.Common.{rules, ℕ, ◌≡◌, ◌<◌, ◌≤◌, ◌+◌, ◌*◌, [], ◌∷◌, List, slice_index, refl, arith}
+use Rattle.std.proofs.Common.{rules, ℕ, ◌≡◌, ◌<◌, ◌+◌, ◌*◌, [], ◌∷◌, slice_index, refl, arith}
 use borrow.Pointer.Called.{post_made}
 use Rattle.std.proofs.lemmas.Grind.{common_steps}
 use Rattle.callback_store.specs.Boxed.{post_of_closure}
