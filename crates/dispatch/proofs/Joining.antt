@@ -20,6 +20,7 @@ use Rattle.dispatch.specs.Joined.{IsRun, IsCutOff, IsUnfinished, IsDone, IsBroke
 use Rattle.dispatch.specs.Standard.{opened}
 use Rattle.dispatch.specs.declared.stop.Stop.{Stop}
 use Rattle.dispatch.specs.declared.stop.Stop.TheVariants as stops
+
 -- ---- readers and writers
 
 keeps : (was : Option (List ℕ)) → Keeps was was
