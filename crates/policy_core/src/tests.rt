@@ -9,6 +9,14 @@ fn name(rt: &impl Abort, text: &str) -> Name {
     Name::new(text.as_bytes()).expect(rt, "the bytes of a name")
 }
 
+fn ssd(rt: &impl Abort, set: &str) -> Refusal {
+    Refusal::Ssd(name(rt, set))
+}
+
+fn dsd(rt: &impl Abort, set: &str) -> Refusal {
+    Refusal::Dsd(name(rt, set))
+}
+
 fn numbered(rt: &impl Abort, kind: u8, number: u32) -> Name {
     let text = [
         kind,
@@ -44,23 +52,18 @@ fn delete_role(rt: &impl Abort, policy: &mut Policy, rows: &[(&str, Result<(), R
     }
 }
 
-fn assign_user(
-    rt: &impl Abort,
-    policy: &mut Policy,
-    rows: &[(&str, &str, Result<(), Refusal>)],
-) {
+fn assign_user(rt: &impl Abort, policy: &mut Policy, rows: &[(&str, &str, Result<(), Refusal>)]) {
     for (one, other, answer) in rows {
         assert_eq!(rt; policy.assign_user(name(rt, one), name(rt, other)), *answer);
     }
 }
 
-fn deassign_user(
-    rt: &impl Abort,
-    policy: &mut Policy,
-    rows: &[(&str, &str, Result<(), Refusal>)],
-) {
+fn deassign_user(rt: &impl Abort, policy: &mut Policy, rows: &[(&str, &str, Result<(), Refusal>)]) {
     for (one, other, answer) in rows {
-        assert_eq!(rt; policy.deassign_user(name(rt, one), name(rt, other)), *answer);
+        assert_eq!(rt;
+            policy.deassign_user(name(rt, one), name(rt, other)),
+            *answer
+        );
     }
 }
 
@@ -70,7 +73,10 @@ fn add_inheritance(
     rows: &[(&str, &str, Result<(), Refusal>)],
 ) {
     for (one, other, answer) in rows {
-        assert_eq!(rt; policy.add_inheritance(name(rt, one), name(rt, other)), *answer);
+        assert_eq!(rt;
+            policy.add_inheritance(name(rt, one), name(rt, other)),
+            *answer
+        );
     }
 }
 
@@ -80,7 +86,10 @@ fn delete_inheritance(
     rows: &[(&str, &str, Result<(), Refusal>)],
 ) {
     for (one, other, answer) in rows {
-        assert_eq!(rt; policy.delete_inheritance(name(rt, one), name(rt, other)), *answer);
+        assert_eq!(rt;
+            policy.delete_inheritance(name(rt, one), name(rt, other)),
+            *answer
+        );
     }
 }
 
@@ -90,7 +99,10 @@ fn add_ssd_role_member(
     rows: &[(&str, &str, Result<(), Refusal>)],
 ) {
     for (one, other, answer) in rows {
-        assert_eq!(rt; policy.add_ssd_role_member(name(rt, one), name(rt, other)), *answer);
+        assert_eq!(rt;
+            policy.add_ssd_role_member(name(rt, one), name(rt, other)),
+            *answer
+        );
     }
 }
 
@@ -100,7 +112,10 @@ fn delete_ssd_role_member(
     rows: &[(&str, &str, Result<(), Refusal>)],
 ) {
     for (one, other, answer) in rows {
-        assert_eq!(rt; policy.delete_ssd_role_member(name(rt, one), name(rt, other)), *answer);
+        assert_eq!(rt;
+            policy.delete_ssd_role_member(name(rt, one), name(rt, other)),
+            *answer
+        );
     }
 }
 
@@ -116,7 +131,10 @@ fn add_dsd_role_member(
     rows: &[(&str, &str, Result<(), Refusal>)],
 ) {
     for (one, other, answer) in rows {
-        assert_eq!(rt; policy.add_dsd_role_member(name(rt, one), name(rt, other)), *answer);
+        assert_eq!(rt;
+            policy.add_dsd_role_member(name(rt, one), name(rt, other)),
+            *answer
+        );
     }
 }
 
@@ -126,7 +144,10 @@ fn delete_dsd_role_member(
     rows: &[(&str, &str, Result<(), Refusal>)],
 ) {
     for (one, other, answer) in rows {
-        assert_eq!(rt; policy.delete_dsd_role_member(name(rt, one), name(rt, other)), *answer);
+        assert_eq!(rt;
+            policy.delete_dsd_role_member(name(rt, one), name(rt, other)),
+            *answer
+        );
     }
 }
 
@@ -143,17 +164,19 @@ fn create_ssd_set(
 ) {
     for (set, number, one, other, answer) in rows {
         let roles = [name(rt, one), name(rt, other)];
-        assert_eq!(rt; policy.create_ssd_set(name(rt, set), *number, &roles), *answer);
+        assert_eq!(rt;
+            policy.create_ssd_set(name(rt, set), *number, &roles),
+            *answer
+        );
     }
 }
 
-fn set_ssd_number(
-    rt: &impl Abort,
-    policy: &mut Policy,
-    rows: &[(&str, u32, Result<(), Refusal>)],
-) {
+fn set_ssd_number(rt: &impl Abort, policy: &mut Policy, rows: &[(&str, u32, Result<(), Refusal>)]) {
     for (set, number, answer) in rows {
-        assert_eq!(rt; policy.set_ssd_set_cardinality(name(rt, set), *number), *answer);
+        assert_eq!(rt;
+            policy.set_ssd_set_cardinality(name(rt, set), *number),
+            *answer
+        );
     }
 }
 
@@ -164,17 +187,19 @@ fn create_dsd_set(
 ) {
     for (set, number, one, other, answer) in rows {
         let roles = [name(rt, one), name(rt, other)];
-        assert_eq!(rt; policy.create_dsd_set(name(rt, set), *number, &roles), *answer);
+        assert_eq!(rt;
+            policy.create_dsd_set(name(rt, set), *number, &roles),
+            *answer
+        );
     }
 }
 
-fn set_dsd_number(
-    rt: &impl Abort,
-    policy: &mut Policy,
-    rows: &[(&str, u32, Result<(), Refusal>)],
-) {
+fn set_dsd_number(rt: &impl Abort, policy: &mut Policy, rows: &[(&str, u32, Result<(), Refusal>)]) {
     for (set, number, answer) in rows {
-        assert_eq!(rt; policy.set_dsd_set_cardinality(name(rt, set), *number), *answer);
+        assert_eq!(rt;
+            policy.set_dsd_set_cardinality(name(rt, set), *number),
+            *answer
+        );
     }
 }
 
@@ -190,11 +215,7 @@ fn deactivate(rt: &impl Abort, policy: &mut Policy, rows: &[(u32, &str, Result<(
     }
 }
 
-fn open(
-    rt: &impl Abort,
-    policy: &mut Policy,
-    rows: &[(&str, &str, &str, Result<u32, Refusal>)],
-) {
+fn open(rt: &impl Abort, policy: &mut Policy, rows: &[(&str, &str, &str, Result<u32, Refusal>)]) {
     for (user, one, other, answer) in rows {
         let roles = [name(rt, one), name(rt, other)];
         assert_eq!(rt; policy.create_session(name(rt, user), &roles), *answer);
@@ -211,7 +232,11 @@ fn close(rt: &impl Abort, policy: &mut Policy, rows: &[(u32, Result<(), Refusal>
 fn small(rt: &impl Abort, alloc: Global) -> Policy {
     let mut policy = Policy::new(alloc, 4, 2).expect(rt, "memory");
     add_user(rt, &mut policy, &[("u", Ok(())), ("v", Ok(()))]);
-    add_role(rt, &mut policy, &[("a", Ok(())), ("b", Ok(())), ("c", Ok(()))]);
+    add_role(
+        rt,
+        &mut policy,
+        &[("a", Ok(())), ("b", Ok(())), ("c", Ok(()))],
+    );
     add_inheritance(rt, &mut policy, &[("a", "b", Ok(()))]);
     assign_user(rt, &mut policy, &[("u", "a", Ok(())), ("v", "c", Ok(()))]);
     open(rt, &mut policy, &[("u", "b", "b", Ok(1))]);
@@ -225,27 +250,43 @@ fn refusals_on_users_and_roles(rt: HostRuntime) {
     delete_user(&rt, policy, &[("z", Err(Refusal::NoUser))]);
     add_role(&rt, policy, &[("a", Err(Refusal::Already))]);
     delete_role(&rt, policy, &[("z", Err(Refusal::NoRole))]);
-    assign_user(&rt, policy, &[
-        ("z", "z", Err(Refusal::NoUser)),
-        ("u", "z", Err(Refusal::NoRole)),
-        ("u", "a", Err(Refusal::Already)),
-    ]);
-    deassign_user(&rt, policy, &[
-        ("z", "z", Err(Refusal::NoUser)),
-        ("u", "z", Err(Refusal::NoRole)),
-        ("u", "b", Err(Refusal::NotThere)),
-    ]);
-    add_inheritance(&rt, policy, &[
-        ("z", "a", Err(Refusal::NoRole)),
-        ("a", "z", Err(Refusal::NoRole)),
-        ("a", "b", Err(Refusal::Already)),
-        ("b", "a", Err(Refusal::Cycle)),
-    ]);
-    delete_inheritance(&rt, policy, &[
-        ("z", "b", Err(Refusal::NoRole)),
-        ("b", "z", Err(Refusal::NoRole)),
-        ("b", "a", Err(Refusal::NotThere)),
-    ]);
+    assign_user(
+        &rt,
+        policy,
+        &[
+            ("z", "z", Err(Refusal::NoUser)),
+            ("u", "z", Err(Refusal::NoRole)),
+            ("u", "a", Err(Refusal::Already)),
+        ],
+    );
+    deassign_user(
+        &rt,
+        policy,
+        &[
+            ("z", "z", Err(Refusal::NoUser)),
+            ("u", "z", Err(Refusal::NoRole)),
+            ("u", "b", Err(Refusal::NotThere)),
+        ],
+    );
+    add_inheritance(
+        &rt,
+        policy,
+        &[
+            ("z", "a", Err(Refusal::NoRole)),
+            ("a", "z", Err(Refusal::NoRole)),
+            ("a", "b", Err(Refusal::Already)),
+            ("b", "a", Err(Refusal::Cycle)),
+        ],
+    );
+    delete_inheritance(
+        &rt,
+        policy,
+        &[
+            ("z", "b", Err(Refusal::NoRole)),
+            ("b", "z", Err(Refusal::NoRole)),
+            ("b", "a", Err(Refusal::NotThere)),
+        ],
+    );
     delete_user(&rt, policy, &[("v", Ok(())), ("v", Err(Refusal::NoUser))]);
 }
 
@@ -258,27 +299,58 @@ fn grant_and_revoke(
 ) {
     let role = name(rt, role);
     for (range, answer) in rows {
-        assert_eq!(rt; policy.grant_permission(role, Operation::View, *range), *answer);
-        assert_eq!(rt; policy.grant_permission(role, Operation::View, *range), *answer);
-        assert_eq!(rt; policy.revoke_permission(role, Operation::View, *range), *answer);
-        assert_eq!(rt; policy.revoke_permission(role, Operation::View, *range), *answer);
+        assert_eq!(rt;
+            policy.grant_permission(role, Operation::View, *range),
+            *answer
+        );
+        assert_eq!(rt;
+            policy.grant_permission(role, Operation::View, *range),
+            *answer
+        );
+        assert_eq!(rt;
+            policy.revoke_permission(role, Operation::View, *range),
+            *answer
+        );
+        assert_eq!(rt;
+            policy.revoke_permission(role, Operation::View, *range),
+            *answer
+        );
     }
 }
 
 #[test]
 fn refusals_on_permissions(rt: HostRuntime) {
     let policy = &mut small(&rt, rt.alloc());
-    let bad = Err(Refusal::BadObject);
-    grant_and_revoke(&rt, policy, "a", &[
-        (ObjectRange::Board, Ok(())),
-        (ObjectRange::Vehicles { first: 1, last: 2 }, Ok(())),
-        (ObjectRange::Vehicles { first: 0, last: 1 }, bad),
-        (ObjectRange::Vehicles { first: 2, last: 1 }, bad),
-        (ObjectRange::Vehicles { first: 1, last: 3 }, bad),
-        (ObjectRange::Customers { first: 1, last: 4 }, Ok(())),
-        (ObjectRange::Customers { first: 1, last: 5 }, bad),
-        (ObjectRange::Customers { first: 0, last: 4 }, bad),
-    ]);
+    grant_and_revoke(
+        &rt,
+        policy,
+        "a",
+        &[
+            (ObjectRange::Board, Ok(())),
+            (ObjectRange::Vehicles { first: 1, last: 2 }, Ok(())),
+            (
+                ObjectRange::Vehicles { first: 0, last: 1 },
+                Err(Refusal::BadObject),
+            ),
+            (
+                ObjectRange::Vehicles { first: 2, last: 1 },
+                Err(Refusal::BadObject),
+            ),
+            (
+                ObjectRange::Vehicles { first: 1, last: 3 },
+                Err(Refusal::BadObject),
+            ),
+            (ObjectRange::Customers { first: 1, last: 4 }, Ok(())),
+            (
+                ObjectRange::Customers { first: 1, last: 5 },
+                Err(Refusal::BadObject),
+            ),
+            (
+                ObjectRange::Customers { first: 0, last: 4 },
+                Err(Refusal::BadObject),
+            ),
+        ],
+    );
     let range = ObjectRange::Vehicles { first: 0, last: 1 };
     grant_and_revoke(&rt, policy, "z", &[(range, Err(Refusal::NoRole))]);
 }
@@ -286,28 +358,39 @@ fn refusals_on_permissions(rt: HostRuntime) {
 #[test]
 fn refusals_on_sessions(rt: HostRuntime) {
     let policy = &mut small(&rt, rt.alloc());
-    let broken = Refusal::Dsd(name(&rt, "z"));
     create_dsd_set(&rt, policy, &[("z", 2, "a", "b", Ok(()))]);
-    open(&rt, policy, &[
-        ("z", "z", "z", Err(Refusal::NoUser)),
-        ("u", "a", "z", Err(Refusal::NoRole)),
-        ("u", "a", "c", Err(Refusal::NotAuthorized)),
-        ("u", "a", "b", Err(broken)),
-    ]);
+    open(
+        &rt,
+        policy,
+        &[
+            ("z", "z", "z", Err(Refusal::NoUser)),
+            ("u", "a", "z", Err(Refusal::NoRole)),
+            ("u", "a", "c", Err(Refusal::NotAuthorized)),
+            ("u", "a", "b", Err(dsd(&rt, "z"))),
+        ],
+    );
     close(&rt, policy, &[(2, Err(Refusal::NotThere))]);
-    activate(&rt, policy, &[
-        (1, "z", Err(Refusal::NoRole)),
-        (1, "b", Err(Refusal::Already)),
-        (2, "b", Err(Refusal::NotThere)),
-        (1, "c", Err(Refusal::NotAuthorized)),
-        (1, "a", Err(broken)),
-    ]);
-    deactivate(&rt, policy, &[
-        (1, "z", Err(Refusal::NoRole)),
-        (2, "a", Err(Refusal::NotThere)),
-        (1, "a", Err(Refusal::NotThere)),
-        (1, "b", Ok(())),
-    ]);
+    activate(
+        &rt,
+        policy,
+        &[
+            (1, "z", Err(Refusal::NoRole)),
+            (1, "b", Err(Refusal::Already)),
+            (2, "b", Err(Refusal::NotThere)),
+            (1, "c", Err(Refusal::NotAuthorized)),
+            (1, "a", Err(dsd(&rt, "z"))),
+        ],
+    );
+    deactivate(
+        &rt,
+        policy,
+        &[
+            (1, "z", Err(Refusal::NoRole)),
+            (2, "a", Err(Refusal::NotThere)),
+            (1, "a", Err(Refusal::NotThere)),
+            (1, "b", Ok(())),
+        ],
+    );
     close(&rt, policy, &[(1, Ok(()))]);
     open(&rt, policy, &[("u", "a", "a", Ok(2))]);
     assert_eq!(rt; policy.user_of(2), Some(name(&rt, "u")));
@@ -317,35 +400,50 @@ fn refusals_on_sessions(rt: HostRuntime) {
 #[test]
 fn refusals_on_ssd_sets(rt: HostRuntime) {
     let policy = &mut small(&rt, rt.alloc());
-    let broken = Refusal::Ssd(name(&rt, "z"));
-    create_ssd_set(&rt, policy, &[
-        ("z", 2, "z", "z", Err(Refusal::NoRole)),
-        ("z", 1, "a", "c", Err(Refusal::Number)),
-        ("z", 3, "a", "c", Err(Refusal::Number)),
-        ("z", 2, "a", "a", Err(Refusal::Number)),
-        ("z", 2, "a", "b", Err(broken)),
-        ("z", 2, "a", "c", Ok(())),
-        ("z", 1, "a", "c", Err(Refusal::Already)),
-    ]);
-    assign_user(&rt, policy, &[("u", "c", Err(broken))]);
-    add_ssd_role_member(&rt, policy, &[
-        ("a", "z", Err(Refusal::NoRole)),
-        ("a", "a", Err(Refusal::NoSet)),
-        ("z", "a", Err(Refusal::Already)),
-        ("z", "b", Err(broken)),
-    ]);
-    delete_ssd_role_member(&rt, policy, &[
-        ("z", "z", Err(Refusal::NoRole)),
-        ("a", "a", Err(Refusal::NoSet)),
-        ("z", "b", Err(Refusal::NotThere)),
-        ("z", "a", Err(Refusal::Number)),
-    ]);
-    set_ssd_number(&rt, policy, &[
-        ("a", 2, Err(Refusal::NoSet)),
-        ("z", 1, Err(Refusal::Number)),
-        ("z", 3, Err(Refusal::Number)),
-        ("z", 2, Ok(())),
-    ]);
+    create_ssd_set(
+        &rt,
+        policy,
+        &[
+            ("z", 2, "z", "z", Err(Refusal::NoRole)),
+            ("z", 1, "a", "c", Err(Refusal::Number)),
+            ("z", 3, "a", "c", Err(Refusal::Number)),
+            ("z", 2, "a", "a", Err(Refusal::Number)),
+            ("z", 2, "a", "b", Err(ssd(&rt, "z"))),
+            ("z", 2, "a", "c", Ok(())),
+            ("z", 1, "a", "c", Err(Refusal::Already)),
+        ],
+    );
+    assign_user(&rt, policy, &[("u", "c", Err(ssd(&rt, "z")))]);
+    add_ssd_role_member(
+        &rt,
+        policy,
+        &[
+            ("a", "z", Err(Refusal::NoRole)),
+            ("a", "a", Err(Refusal::NoSet)),
+            ("z", "a", Err(Refusal::Already)),
+            ("z", "b", Err(ssd(&rt, "z"))),
+        ],
+    );
+    delete_ssd_role_member(
+        &rt,
+        policy,
+        &[
+            ("z", "z", Err(Refusal::NoRole)),
+            ("a", "a", Err(Refusal::NoSet)),
+            ("z", "b", Err(Refusal::NotThere)),
+            ("z", "a", Err(Refusal::Number)),
+        ],
+    );
+    set_ssd_number(
+        &rt,
+        policy,
+        &[
+            ("a", 2, Err(Refusal::NoSet)),
+            ("z", 1, Err(Refusal::Number)),
+            ("z", 3, Err(Refusal::Number)),
+            ("z", 2, Ok(())),
+        ],
+    );
     delete_role(&rt, policy, &[("a", Err(Refusal::InSet))]);
     delete_ssd_set(&rt, policy, &[("a", Err(Refusal::NoSet)), ("z", Ok(()))]);
     delete_role(&rt, policy, &[("a", Ok(()))]);
@@ -354,32 +452,47 @@ fn refusals_on_ssd_sets(rt: HostRuntime) {
 #[test]
 fn refusals_on_dsd_sets(rt: HostRuntime) {
     let policy = &mut small(&rt, rt.alloc());
-    let broken = Refusal::Dsd(name(&rt, "z"));
     activate(&rt, policy, &[(1, "a", Ok(()))]);
-    create_dsd_set(&rt, policy, &[
-        ("z", 2, "z", "z", Err(Refusal::NoRole)),
-        ("z", 1, "a", "c", Err(Refusal::Number)),
-        ("z", 2, "a", "b", Err(broken)),
-        ("z", 2, "a", "c", Ok(())),
-        ("z", 1, "a", "c", Err(Refusal::Already)),
-    ]);
-    add_dsd_role_member(&rt, policy, &[
-        ("a", "z", Err(Refusal::NoRole)),
-        ("a", "a", Err(Refusal::NoSet)),
-        ("z", "a", Err(Refusal::Already)),
-        ("z", "b", Err(broken)),
-    ]);
-    set_dsd_number(&rt, policy, &[
-        ("a", 2, Err(Refusal::NoSet)),
-        ("z", 3, Err(Refusal::Number)),
-        ("z", 2, Ok(())),
-    ]);
-    delete_dsd_role_member(&rt, policy, &[
-        ("z", "z", Err(Refusal::NoRole)),
-        ("a", "a", Err(Refusal::NoSet)),
-        ("z", "b", Err(Refusal::NotThere)),
-        ("z", "a", Err(Refusal::Number)),
-    ]);
+    create_dsd_set(
+        &rt,
+        policy,
+        &[
+            ("z", 2, "z", "z", Err(Refusal::NoRole)),
+            ("z", 1, "a", "c", Err(Refusal::Number)),
+            ("z", 2, "a", "b", Err(dsd(&rt, "z"))),
+            ("z", 2, "a", "c", Ok(())),
+            ("z", 1, "a", "c", Err(Refusal::Already)),
+        ],
+    );
+    add_dsd_role_member(
+        &rt,
+        policy,
+        &[
+            ("a", "z", Err(Refusal::NoRole)),
+            ("a", "a", Err(Refusal::NoSet)),
+            ("z", "a", Err(Refusal::Already)),
+            ("z", "b", Err(dsd(&rt, "z"))),
+        ],
+    );
+    set_dsd_number(
+        &rt,
+        policy,
+        &[
+            ("a", 2, Err(Refusal::NoSet)),
+            ("z", 3, Err(Refusal::Number)),
+            ("z", 2, Ok(())),
+        ],
+    );
+    delete_dsd_role_member(
+        &rt,
+        policy,
+        &[
+            ("z", "z", Err(Refusal::NoRole)),
+            ("a", "a", Err(Refusal::NoSet)),
+            ("z", "b", Err(Refusal::NotThere)),
+            ("z", "a", Err(Refusal::Number)),
+        ],
+    );
     delete_role(&rt, policy, &[("a", Err(Refusal::InSet))]);
     delete_dsd_set(&rt, policy, &[("a", Err(Refusal::NoSet)), ("z", Ok(()))]);
 }
@@ -388,12 +501,11 @@ fn refusals_on_dsd_sets(rt: HostRuntime) {
 #[test]
 fn another_number_of_a_dsd_set(rt: HostRuntime) {
     let policy = &mut small(&rt, rt.alloc());
-    let broken = Refusal::Dsd(name(&rt, "z"));
     create_dsd_set(&rt, policy, &[("z", 2, "a", "c", Ok(()))]);
     add_dsd_role_member(&rt, policy, &[("z", "b", Ok(()))]);
     set_dsd_number(&rt, policy, &[("z", 3, Ok(()))]);
     activate(&rt, policy, &[(1, "a", Ok(()))]);
-    set_dsd_number(&rt, policy, &[("z", 2, Err(broken))]);
+    set_dsd_number(&rt, policy, &[("z", 2, Err(dsd(&rt, "z")))]);
     deactivate(&rt, policy, &[(1, "a", Ok(()))]);
     set_dsd_number(&rt, policy, &[("z", 2, Ok(()))]);
     delete_dsd_role_member(&rt, policy, &[("z", "b", Ok(()))]);
@@ -414,8 +526,14 @@ fn add_all_roles(rt: &impl Abort, policy: &mut Policy) {
 fn add_all_sets(rt: &impl Abort, policy: &mut Policy) {
     let roles = [numbered(rt, b'r', 0), numbered(rt, b'r', 255)];
     for set in 0..64u32 {
-        assert_eq!(rt; policy.create_ssd_set(numbered(rt, b's', set), 2, &roles), Ok(()));
-        assert_eq!(rt; policy.create_dsd_set(numbered(rt, b's', set), 2, &roles), Ok(()));
+        assert_eq!(rt;
+            policy.create_ssd_set(numbered(rt, b's', set), 2, &roles),
+            Ok(())
+        );
+        assert_eq!(rt;
+            policy.create_dsd_set(numbered(rt, b's', set), 2, &roles),
+            Ok(())
+        );
     }
 }
 
@@ -437,11 +555,23 @@ fn limits_at_their_last(rt: HostRuntime) -> Result<(), Fail> {
     add_all_roles(&rt, policy);
     add_role(&rt, policy, &[("s", Err(Refusal::Full))]);
     add_all_sets(&rt, policy);
-    create_ssd_set(&rt, policy, &[("t", 2, "r0000", "r0255", Err(Refusal::Full))]);
-    create_dsd_set(&rt, policy, &[("t", 2, "r0000", "r0255", Err(Refusal::Full))]);
+    create_ssd_set(
+        &rt,
+        policy,
+        &[("t", 2, "r0000", "r0255", Err(Refusal::Full))],
+    );
+    create_dsd_set(
+        &rt,
+        policy,
+        &[("t", 2, "r0000", "r0255", Err(Refusal::Full))],
+    );
     assign_user(&rt, policy, &[("u0007", "r0000", Ok(()))]);
     add_all_sessions(&rt, policy);
-    open(&rt, policy, &[("u0007", "r0000", "r0000", Err(Refusal::Full))]);
+    open(
+        &rt,
+        policy,
+        &[("u0007", "r0000", "r0000", Err(Refusal::Full))],
+    );
     close(&rt, policy, &[(1024, Ok(()))]);
     open(&rt, policy, &[("u0007", "r0000", "r0000", Ok(1025))]);
     Ok(())

@@ -20,6 +20,10 @@ fn names(rt: &impl Abort, alloc: Global, all: &[&str]) -> Names {
     Names::of(list)
 }
 
+fn dsd(rt: &impl Abort, set: &str) -> Refusal {
+    Refusal::Dsd(name(rt, set))
+}
+
 /// The opening policy of a board of 4 customers and 2 vehicles.
 fn opening(rt: &impl Abort, alloc: Global) -> Policy {
     Policy::opening(alloc, 4, 2).expect(rt, "memory")
@@ -232,13 +236,7 @@ fn ann_loses_her_role_and_meets_a_dsd_set(rt: HostRuntime) {
             activate(&rt, 2, "d"),
         ],
     );
-    refused(
-        &rt,
-        &mut policy,
-        2,
-        &activate(&rt, 2, "e"),
-        Refusal::Dsd(name(&rt, "x")),
-    );
+    refused(&rt, &mut policy, 2, &activate(&rt, 2, "e"), dsd(&rt, "x"));
     refused(&rt, &mut policy, 2, &add_user(&rt, "z"), Refusal::NoAccess);
 }
 
@@ -393,7 +391,6 @@ fn with_ann(rt: &impl Abort, alloc: Global) -> Policy {
 #[test]
 fn dsd_counts_what_is_inherited(rt: HostRuntime) {
     let mut policy = with_ann(&rt, rt.alloc());
-    let x = Refusal::Dsd(name(&rt, "x"));
     let opened = step(&mut policy, 1, &open(&rt, rt.alloc(), "ann", &["top"]));
     assert_eq!(rt; opened, Ok(Outcome::Session(2)));
     done(&rt, &mut policy, 2, &[activate(&rt, 2, "e")]);
@@ -402,13 +399,13 @@ fn dsd_counts_what_is_inherited(rt: HostRuntime) {
     assert_eq!(rt; policy.active_roles(1).count(), 1);
     refused(&rt, &mut policy, 1, &Command::Migrate, Refusal::Already);
     done(&rt, &mut policy, 2, &[activate(&rt, 2, "top")]);
-    refused(&rt, &mut policy, 2, &activate(&rt, 2, "e"), x);
+    refused(&rt, &mut policy, 2, &activate(&rt, 2, "e"), dsd(&rt, "x"));
     refused(
         &rt,
         &mut policy,
         1,
         &open(&rt, rt.alloc(), "ann", &["top", "e"]),
-        x,
+        dsd(&rt, "x"),
     );
     done(
         &rt,
@@ -417,14 +414,14 @@ fn dsd_counts_what_is_inherited(rt: HostRuntime) {
         &[add_role(&rt, "f"), assign(&rt, "ann", "f")],
     );
     done(&rt, &mut policy, 2, &[activate(&rt, 2, "f")]);
-    refused(&rt, &mut policy, 1, &inherit(&rt, "f", "e"), x);
+    refused(&rt, &mut policy, 1, &inherit(&rt, "f", "e"), dsd(&rt, "x"));
     let roles = names(&rt, rt.alloc(), &["top", "d"]);
     let create = Command::CreateDsdSet {
         name: name(&rt, "y"),
         number: 2,
         roles,
     };
-    refused(&rt, &mut policy, 1, &create, Refusal::Dsd(name(&rt, "y")));
+    refused(&rt, &mut policy, 1, &create, dsd(&rt, "y"));
     refused(&rt, &mut policy, 2, &Command::Migrate, Refusal::NoAccess);
     assert_eq!(rt; policy.counting(), Counting::Inherited);
 }
