@@ -16,3 +16,6 @@ mod table;
 
 pub use round::draw;
 pub use search::best_move;
+
+#[cfg(test)]
+mod tests;
