@@ -9,3 +9,4 @@ mod Texts
 mod Commands
 mod Reread
 mod Floats
+mod Pieces

@@ -1,5 +1,7 @@
 -- A listing as JSON.
 use Rattle.std.specs.Prelude.{ℕ, List, [], ◌∷◌, ◌++◌, codes, map}
+use Rattle.std.specs.List.{flat_map}
+use Rattle.std.specs.Fmt.{decimal}
 use Rattle.serde_json.specs.Data.{Data, number, unsigned, array, object, member, no_members}
 use Rattle.serde_json.specs.View.{items_of}
 use Rattle.serde_json.specs.Written.{compact_text}
@@ -21,3 +23,22 @@ rows_data rows = array (items_of (map row_data rows))
 -- one object with the one key rows, compact
 abbrev pub json_text : List RowShown → List ℕ
 json_text rows = compact_text (object (member (codes "rows") (rows_data rows) no_members))
+
+-- ---- the same text in pieces
+
+abbrev pub comma_number : ℕ → List ℕ
+comma_number n = 44 ∷ decimal n
+
+abbrev pub row_json : RowShown → List ℕ
+row_json row = 91 ∷ (decimal row.vehicle ++ (comma_number row.place ++ (comma_number row.customer ++ (flat_map comma_number row.early ++ 93 ∷ []))))
+
+abbrev pub comma_row : RowShown → List ℕ
+comma_row row = 44 ∷ row_json row
+
+-- rows, parted by commas
+abbrev pub rows_json : List RowShown → List ℕ
+rows_json [] = []
+rows_json (row ∷ rows) = row_json row ++ flat_map comma_row rows
+
+abbrev pub in_pieces : List RowShown → List ℕ
+in_pieces rows = codes "{\"rows\":[" ++ (rows_json rows ++ codes "]}")

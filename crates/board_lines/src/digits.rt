@@ -1,6 +1,6 @@
 //! Numbers at the end of a text.
 
-ghost use Rattle.std.specs.Prelude.{◌≡◌, ◌++◌, ◌∷◌, OnOk, string_bytes};
+ghost use Rattle.std.specs.Prelude.{◌≡◌, ◌<◌, ◌++◌, ◌∷◌, OnOk, string_bytes};
 ghost use Rattle.std.specs.List.{flat_map};
 ghost use Rattle.std.specs.Fmt.{decimal};
 ghost use Rattle.board_lines.specs.Replies.{spaced};
@@ -8,10 +8,22 @@ ghost use Rattle.board_lines.specs.Replies.{spaced};
 use itoa::Buffer;
 use std::alloc::AllocError;
 
+/// Puts a number below ten at the end.
+#[inline(always)]
+fn push_digit(out: &mut String, n: u64) -> Result<(), AllocError>
+    requires { n < 10 }
+    ensures { OnOk result (string_bytes out.new ≡ string_bytes out.old ++ decimal n) }
+{
+    out.push(char::from(b'0' + n as u8))
+}
+
 /// Puts a number at the end, without leading zeros.
 pub(crate) fn push_number(out: &mut String, n: u64) -> Result<(), AllocError>
     ensures { OnOk result (string_bytes out.new ≡ string_bytes out.old ++ decimal n) }
 {
+    if n < 10 {
+        return push_digit(out, n);
+    }
     let mut digits = Buffer::new();
     out.push_str(digits.format(n))
 }

@@ -1,9 +1,11 @@
 //! A listing as JSON.
 
 ghost use Rattle.std.specs.Prelude.{◌≡◌, ◌++◌, IfOk, OnOk, string_bytes};
+ghost use Rattle.std.specs.List.{flat_map};
 ghost use Rattle.serde_json.specs.View.{view};
-ghost use Rattle.board_lines.specs.Json.{row_data, rows_data, json_text};
+ghost use Rattle.board_lines.specs.Json.{row_data, rows_data, json_text, comma_number, row_json, comma_row, rows_json, in_pieces};
 
+use crate::digits::push_number;
 use board_rules::Row;
 use serde_json::{Value, json};
 use std::alloc::{AllocError, Global};
@@ -41,10 +43,66 @@ pub fn list_json(alloc: Global, rows: &[Row]) -> Result<String, AllocError>
     whole.to_string(alloc)
 }
 
-/// Puts the text of a listing as JSON at the end, as `list_json` has it.
-pub fn push_json(alloc: Global, out: &mut String, rows: &[Row]) -> Result<(), AllocError>
+// ---- the same text, put at the end piece by piece
+
+fn push_comma(out: &mut String, n: u64) -> Result<(), AllocError>
+    ensures { OnOk result (string_bytes out.new ≡ string_bytes out.old ++ comma_number n) }
+{
+    out.push_str(",")?;
+    push_number(out, n)
+}
+
+fn push_commas(out: &mut String, numbers: &[u64]) -> Result<(), AllocError>
+    ensures { OnOk result (string_bytes out.new ≡ string_bytes out.old ++ flat_map comma_number numbers.now) }
+{
+    for n in numbers {
+        push_comma(out, *n)?;
+    }
+    Ok(())
+}
+
+fn push_cells(out: &mut String, row: &Row) -> Result<(), AllocError>
+    ensures { OnOk result (string_bytes out.new ≡ string_bytes out.old ++ row_json row.now) }
+{
+    out.push_str("[")?;
+    push_number(out, u64::from(row.vehicle()))?;
+    push_comma(out, u64::from(row.place()))?;
+    push_comma(out, u64::from(row.customer()))?;
+    push_commas(out, row.early())?;
+    out.push_str("]")
+}
+
+fn push_more(out: &mut String, rows: &[Row]) -> Result<(), AllocError>
+    ensures { OnOk result (string_bytes out.new ≡ string_bytes out.old ++ flat_map comma_row rows.now) }
+{
+    for row in rows {
+        out.push_str(",")?;
+        push_cells(out, row)?;
+    }
+    Ok(())
+}
+
+fn push_rows(out: &mut String, rows: &[Row]) -> Result<(), AllocError>
+    ensures { OnOk result (string_bytes out.new ≡ string_bytes out.old ++ rows_json rows.now) }
+{
+    let [first, more @ ..] = rows else {
+        return Ok(());
+    };
+    push_cells(out, first)?;
+    push_more(out, more)
+}
+
+fn push_pieces(out: &mut String, rows: &[Row]) -> Result<(), AllocError>
+    ensures { OnOk result (string_bytes out.new ≡ string_bytes out.old ++ in_pieces rows.now) }
+{
+    out.push_str("{\"rows\":[")?;
+    push_rows(out, rows)?;
+    out.push_str("]}")
+}
+
+/// Puts the text of a listing as JSON at the end, as `list_json` has it, without a value in between.
+pub fn push_json(out: &mut String, rows: &[Row]) -> Result<(), AllocError>
     ensures { OnOk result (string_bytes out.new ≡ string_bytes out.old ++ json_text rows.now) }
 {
-    let text = list_json(alloc, rows)?;
-    out.push_str(text.as_str())
+    push_pieces(out, rows)
 }

@@ -255,7 +255,7 @@ fn listings_have_their_texts(rt: HostRuntime) -> Result<(), Fail> {
     let json = "{\"rows\":[[1,1,1,0,28],[1,3,3,7,140],[0,0,4]]}";
     assert_eq!(rt; list_json(alloc, rows.as_slice())?.as_str(), json);
     let mut out = String::from_str(alloc, "> ")?;
-    push_json(alloc, &mut out, &rows.as_slice()[..1])?;
+    push_json(&mut out, &rows.as_slice()[..1])?;
     assert_eq!(rt; out.as_str(), "> {\"rows\":[[1,1,1,0,28]]}");
     Ok(())
 }
@@ -302,4 +302,29 @@ fn reviews_and_checks_have_their_texts(rt: HostRuntime) -> Result<(), Fail> {
     };
     assert_eq!(rt; event_text(rt.alloc(), &call)?.as_str(), "1 pin 2");
     Ok(())
+}
+
+#[test]
+fn lines_of_listings_stand_alone(rt: HostRuntime) -> Result<(), Fail> {
+    let alloc = rt.alloc();
+    let mut text = String::new(alloc);
+    push_row(&mut text, &row(alloc, 2, 1, 7, &[12345])?)?;
+    push_entry(
+        &mut text,
+        10,
+        &entry(alloc, 3, 4, b"2 thaw 1 0", Reply::Done)?,
+    )?;
+    push_end(&mut text)?;
+    let wanted = "row 2 1 7 12345\n\
+        event 10 3 4 | 2 thaw 1 0 | done\n\
+        end\n";
+    assert_eq!(rt; text.as_str(), wanted);
+    Ok(())
+}
+
+#[test]
+fn laws_are_called(_rt: HostRuntime) {
+    lines_are_commands();
+    faults_are_first();
+    text_is_read();
 }

@@ -1,0 +1,42 @@
+-- A listing as JSON is the text of its rows, in brackets and parted by commas.
+use Rattle.std.proofs.Common.{◌≡◌, ℕ, List, [], ◌∷◌, ◌++◌, map, true, false, codes, refl, sym, ap, ◌∙◌}
+use Rattle.std.specs.List.{flat_map}
+use Rattle.std.specs.Fmt.{decimal}
+use Rattle.std.proofs.lemmas.List.{append_assoc}
+use Rattle.serde_json.specs.View.{items_of}
+use Rattle.serde_json.specs.Written.{items_text, compact_text}
+use Rattle.serde_json.specs.Data.{string}
+use Rattle.serde_json.proofs.OnLiterals.{serde_json_on_literals}
+use Rattle.board_rules.specs.Listing.{RowShown}
+use Rattle.board_lines.specs.Json.{number_data, row_data, json_text, comma_number, row_json, comma_row, rows_json, in_pieces}
+
+numbers_text : (ns : List ℕ) → items_text true (items_of (map number_data ns)) ≡ flat_map comma_number ns ++ 93 ∷ []
+numbers_text [] = refl
+numbers_text (n ∷ ns) = ap (λ (l : List ℕ). 44 ∷ (decimal n ++ l)) (numbers_text ns) ∙ sym (append_assoc (comma_number n) (flat_map comma_number ns) (93 ∷ []))
+
+row_is : (row : RowShown) → compact_text (row_data row) ≡ row_json row
+row_is row = ap (λ (l : List ℕ). 91 ∷ (decimal row.vehicle ++ (comma_number row.place ++ (comma_number row.customer ++ l)))) (numbers_text row.early)
+
+more_text : (rows : List RowShown) → items_text true (items_of (map row_data rows)) ≡ flat_map comma_row rows ++ 93 ∷ []
+more_text [] = refl
+more_text (row ∷ rows) =
+    ap (λ (l : List ℕ). 44 ∷ (compact_text (row_data row) ++ l)) (more_text rows)
+    ∙ ap (λ (l : List ℕ). 44 ∷ (l ++ (flat_map comma_row rows ++ 93 ∷ []))) (row_is row)
+    ∙ sym (append_assoc (comma_row row) (flat_map comma_row rows) (93 ∷ []))
+
+rows_text : (rows : List RowShown) → items_text false (items_of (map row_data rows)) ≡ rows_json rows ++ 93 ∷ []
+rows_text [] = refl
+rows_text (row ∷ rows) =
+    ap (λ (l : List ℕ). compact_text (row_data row) ++ l) (more_text rows)
+    ∙ ap (λ (l : List ℕ). l ++ (flat_map comma_row rows ++ 93 ∷ [])) (row_is row)
+    ∙ sym (append_assoc (row_json row) (flat_map comma_row rows) (93 ∷ []))
+
+key_text : compact_text (string (codes "rows")) ≡ codes "\"rows\""
+unfolding serde_json_on_literals
+key_text = refl
+
+pub json_is : (rows : List RowShown) → json_text rows ≡ in_pieces rows
+json_is rows =
+    ap (λ (k : List ℕ). 123 ∷ (k ++ 58 ∷ ((91 ∷ items_text false (items_of (map row_data rows))) ++ 125 ∷ []))) key_text
+    ∙ ap (λ (l : List ℕ). codes "{\"rows\":[" ++ (l ++ 125 ∷ [])) (rows_text rows)
+    ∙ ap (λ (l : List ℕ). codes "{\"rows\":[" ++ l) (append_assoc (rows_json rows) (93 ∷ []) (125 ∷ []))
