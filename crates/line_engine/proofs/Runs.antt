@@ -129,16 +129,16 @@ pub keep_broken : {S : Type 0} (step : S → Command → Answer → S → Type 0
 keep_broken step refuses fault s partial more tail s0 h plain cause = elim cause [
   | inl e ↦ rw e (no_memory step refuses s (partial ++ (more ++ tail)) s0)
   | inr q ↦ rw q.0 record {
-      lines = [];
-      outcomes = [];
-      mid = s;
-      left = partial ++ (more ++ tail);
-      whole = refl;
-      each = tt;
-      run = refl;
-      text = refl;
-      end = (refl, (partial ++ more, tail, sym (append_assoc partial more tail), All-append (λ x. x ≢ 10) partial more h.plain plain, q.1));
-    }
+    lines = [];
+    outcomes = [];
+    mid = s;
+    left = partial ++ (more ++ tail);
+    whole = refl;
+    each = tt;
+    run = refl;
+    text = refl;
+    end = (refl, (partial ++ more, tail, sym (append_assoc partial more tail), All-append (λ x. x ≢ 10) partial more h.plain plain, q.1));
+  }
 ]
 
 pub nothing_yet : {S : Type 0} (step : S → Command → Answer → S → Type 0) (s : S) (line : List ℕ) (s0 n0 r0 : ℕ) → IsLine line → Progress step s s [] line line s0 s0 n0 n0 r0 r0

@@ -32,7 +32,7 @@ pub part_taken : {S : Type 0} (step : S → Command → Answer → S → Type 0)
     → Progress step a c (sent ++ held) (partial ++ (done ++ used)) end s0 s2 n0 n2 r0 r2
 part_taken step a b c sent was held partial done rest used end s0 s1 s2 n0 n1 n2 r0 r1 r2 p q =
     subst (λ (l : List ℕ). Progress step a c l (partial ++ (done ++ used)) end s0 s2 n0 n2 r0 r2) (sent_more sent was held q.0 q.1)
-        (feed_line step a b c (sent ++ was) q.0 partial done used rest end s0 s1 s2 n0 n1 n2 r0 r1 r2 p q.2)
+    (feed_line step a b c (sent ++ was) q.0 partial done used rest end s0 s1 s2 n0 n1 n2 r0 r1 r2 p q.2)
 
 pub part_stopped : {S : Type 0} (step : S → Command → Answer → S → Type 0) (refuses : S → S → Type 0) (fault last : RunFault) (a b c : S) (sent was held partial piece done left rest : List ℕ) (s0 s1 n0 n1 r0 r1 : ℕ)
     → piece ≡ done ++ left → Progress step a b (sent ++ was) (partial ++ done) rest s0 s1 n0 n1 r0 r1 → Grows was held (λ out. BrokenWithin step refuses fault b c out s1 rest left) → MayBeWrite fault last

@@ -53,18 +53,28 @@ pub last_stopped : {S : Type 0} (step : S → Command → Answer → S → Type 
 last_stopped step refuses fault last old mid new a d c was now x y out bytes rest given chunk s n r g k none m q e p same b =
     let b' = subst (λ (l : List ℕ). Broken step refuses fault mid new y s l) (same ∙ sym (append-nil rest)) b in
     let whole = Broken-then step refuses fault old mid new x y bytes rest [] 0 s 0 n 0 r p b' in
-    let given' = subst (λ (l : List ℕ). Consumes a c (bytes ++ l)) none (Consumes-then a d c bytes chunk g k) in
-    (bytes ++ [], [], out, open_end a c (bytes ++ []) given', q,
-     inr (inr (may_be step refuses fault last old new out (bytes ++ []) m (subst (λ (l : List ℕ). Broken step refuses fault old new l 0 (bytes ++ [])) (sym e) whole))))
+    let given' = subst (λ (l : List ℕ). Consumes a c (bytes ++ l)) none (Consumes-then a d c bytes chunk g k) in (
+      bytes ++ [],
+      [],
+      out,
+      open_end a c (bytes ++ []) given',
+      q,
+      inr (inr (may_be step refuses fault last old new out (bytes ++ []) m (subst (λ (l : List ℕ). Broken step refuses fault old new l 0 (bytes ++ [])) (sym e) whole))),
+    )
 
 -- the replies to the last lines were not written
 pub last_unwritten : {S : Type 0} (step : S → Command → Answer → S → Type 0) (refuses : S → S → Type 0) (old mid new : S) (a b c was now : Option (List ℕ)) (x y out bytes rest given chunk : List ℕ) (s n0 n1 r0 r1 : ℕ)
     → Consumes a b bytes → Consumes b c chunk → chunk ≡ [] → IsAtEnd c → AppendsFront was now out → out ≡ x ++ y → Progress step old mid x bytes rest 0 s 0 n0 0 r0 → given ≡ rest → Finished step mid new y given n0 n1 r0 r1 → Stopped step refuses runs.Write old new a c was now
 last_unwritten step refuses old mid new a b c was now x y out bytes rest given chunk s n0 n1 r0 r1 g k none end q e p same f =
     let f' = subst (λ (l : List ℕ). Finished step mid new y l n0 n1 r0 r1) same f in
-    let given' = subst (λ (l : List ℕ). Consumes a c (bytes ++ l)) none (Consumes-then a b c bytes chunk g k) in
-    (bytes, [], out, given', q,
-     inr (inl (refl, refl, end, p.lines, rest, p.outcomes ++ f'.outcomes, p.cut, Runs-then step old mid new p.lines (last_line rest) p.outcomes f'.outcomes p.run f'.run, e ∙ written_then x y p.outcomes f'.outcomes p.text f'.text)))
+    let given' = subst (λ (l : List ℕ). Consumes a c (bytes ++ l)) none (Consumes-then a b c bytes chunk g k) in (
+      bytes,
+      [],
+      out,
+      given',
+      q,
+      inr (inl (refl, refl, end, p.lines, rest, p.outcomes ++ f'.outcomes, p.cut, Runs-then step old mid new p.lines (last_line rest) p.outcomes f'.outcomes p.run f'.run, e ∙ written_then x y p.outcomes f'.outcomes p.text f'.text)),
+    )
 
 pub all_answered : {S : Type 0} (step : S → Command → Answer → S → Type 0) (old mid new : S) (a b c was now : Option (List ℕ)) (x y out bytes rest given chunk : List ℕ) (s n0 n1 r0 r1 : ℕ)
     → Consumes a b bytes → Consumes b c chunk → chunk ≡ [] → IsAtEnd c → Appends was now out → out ≡ x ++ y → Progress step old mid x bytes rest 0 s 0 n0 0 r0 → given ≡ rest → Finished step mid new y given n0 n1 r0 r1 → Answered step old new a c was now n1 r1
@@ -89,9 +99,14 @@ all_answered step old mid new a b c was now x y out bytes rest given chunk s n0 
 pub piece_stopped : {S : Type 0} (step : S → Command → Answer → S → Type 0) (refuses : S → S → Type 0) (fault : RunFault) (old mid new : S) (a b c was now : Option (List ℕ)) (x y bytes rest piece chunk : List ℕ) (s n r : ℕ)
     → Consumes a b bytes → Consumes b c chunk → piece ≡ chunk → Reaches fault was now (x ++ y) → Progress step old mid x bytes rest 0 s 0 n 0 r → BrokenWithin step refuses fault mid new y s rest piece → Stopped step refuses fault old new a c was now
 piece_stopped step refuses fault old mid new a b c was now x y bytes rest piece chunk s n r g k e w p q =
-    let all : bytes ++ chunk ≡ (bytes ++ q.0) ++ q.1 = ap (λ (l : List ℕ). bytes ++ l) (sym e ∙ q.2) ∙ sym (append_assoc bytes q.0 q.1) in
-    (bytes ++ q.0, q.1, x ++ y, subst (λ (l : List ℕ). Consumes a c l) all (Consumes-then a b c bytes chunk g k), w,
-     inr (inr (Broken-then step refuses fault old mid new x y bytes rest q.0 0 s 0 n 0 r p q.3)))
+    let all : bytes ++ chunk ≡ (bytes ++ q.0) ++ q.1 = ap (λ (l : List ℕ). bytes ++ l) (sym e ∙ q.2) ∙ sym (append_assoc bytes q.0 q.1) in (
+      bytes ++ q.0,
+      q.1,
+      x ++ y,
+      subst (λ (l : List ℕ). Consumes a c l) all (Consumes-then a b c bytes chunk g k),
+      w,
+      inr (inr (Broken-then step refuses fault old mid new x y bytes rest q.0 0 s 0 n 0 r p q.3)),
+    )
 
 pub piece_done : {S : Type 0} (step : S → Command → Answer → S → Type 0) (a b c : S) (x sent held bytes rest piece chunk end : List ℕ) (s0 s1 n0 n1 r0 r1 : ℕ) → piece ≡ chunk → Progress step a b x bytes rest 0 s0 0 n0 0 r0 → Progress step b c (sent ++ held) (rest ++ piece) end s0 s1 n0 n1 r0 r1 → Progress step a c ((x ++ sent) ++ held) (bytes ++ chunk) end 0 s1 0 n1 0 r1
 piece_done step a b c x sent held bytes rest piece chunk end s0 s1 n0 n1 r0 r1 e p q =

@@ -12,8 +12,8 @@ ghost use Rattle.std.specs.Prelude.{◌≢◌};
 
 use crate::front::Front;
 use board_lines::{
-    Command, LineFault, ReadFault, push_ask_fault, push_check, push_fault, push_json, push_line_fault,
-    push_list, push_reply, push_review,
+    Command, LineFault, ReadFault, push_ask_fault, push_check, push_fault, push_json,
+    push_line_fault, push_list, push_reply, push_review,
 };
 use board_rules::{AskFault, Call, Fault, Reply, Review};
 use rbac_core::{Object, Operation};

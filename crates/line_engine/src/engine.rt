@@ -19,11 +19,7 @@ use std::io::{Read, Write};
 type Words<'a> = Vec<&'a [u8]>;
 
 /// What a line says, without the one carriage return at its end.
-fn read<'a>(
-    alloc: Global,
-    words: &mut Words<'a>,
-    line: &'a [u8],
-) -> Result<Command, ReadFault>
+fn read<'a>(alloc: Global, words: &mut Words<'a>, line: &'a [u8]) -> Result<Command, ReadFault>
     ensures { Says result (read_of (body line.now)) }
 {
     let text = line.strip_suffix(b"\r".as_slice()).unwrap_or(line);

@@ -1,9 +1,9 @@
 use super::*;
+use board_lines::push_audit;
 use board_rules::{AskFault, Call, Denial, Fault, Refusal, Reply, Review, Row};
 use move_core::Move;
 use rbac_core::{Object, Operation};
 use separation_core::Name;
-use board_lines::push_audit;
 use std::alloc::Global;
 use std::io::{self, ErrorKind, Read, Write};
 use std::test::Fail;
@@ -341,7 +341,8 @@ fn names_its_faults(rt: HostRuntime) -> Result<(), Fail> {
 
 #[test]
 fn answers_each_question(rt: HostRuntime) -> Result<(), Fail> {
-    let script = b"1 insert 1 1 1 0\n1 json\n2 json\n1 audit\n2 audit\n1 users d\n2 roles ann\n1 check move board\n2 check move board\n";
+    let script =
+        b"1 insert 1 1 1 0\n1 json\n2 json\n1 audit\n2 audit\n1 users d\n2 roles ann\n1 check move board\n2 check move board\n";
     let mut reader = script.as_slice();
     let mut written = Vec::new(rt.alloc());
     let mut front = make_small(rt.alloc(), 3);

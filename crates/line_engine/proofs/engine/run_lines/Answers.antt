@@ -32,7 +32,7 @@ returns-in-Err-clause-err g c =
     let held : c.finish.new.outbox.held.items ≡ f.0 = nil_first _ f.0 _ c.in_ok-flush.ensures.none f.1 in
     let sent = Appends-then _ _ _ i.1 _ i.3 c.in_ok-flush.ensures.ok in
     last_stopped g.F.Front.step g.F.Front.refuses c.in-Err.fault c.close.result _ _ _ _ _ _ _ _ x f.0 (x ++ c.finish.new.outbox.held.items) i.0 c.reads.partial.items _ _ _ _ _ i.2 c.in-Ok.ensures.bytes.0 (rw c.if-count-eq0.true refl) c.close.ensures.fault
-        (Reaches-then c.close.result _ _ _ x c.finish.new.outbox.held.items sent c.close.ensures.bytes) (ap (λ (l : List ℕ). x ++ l) held) (rw (← c.flush.ensures.tally) at i.4) c.as_slice.ensures.value f.2
+    (Reaches-then c.close.result _ _ _ x c.finish.new.outbox.held.items sent c.close.ensures.bytes) (ap (λ (l : List ℕ). x ++ l) held) (rw (← c.flush.ensures.tally) at i.4) c.as_slice.ensures.value f.2
 
 pub returns-in_err-flush-2-clause-err : goal.returns-in_err-flush-2-clause-err
 returns-in_err-flush-2-clause-err g c =
@@ -43,7 +43,7 @@ returns-in_err-flush-2-clause-err g c =
     let sent = Appends-then _ _ _ i.1 _ i.3 c.in_ok-flush.ensures.ok in
     let p = err_from_is_err_and c.from_residual-in_err-flush-2.result c.from_residual-in_err-flush-2.ensures.1 in
     rw (p.1, p.2, c.in_err-flush-2.ensures.kind) (last_unwritten g.F.Front.step g.F.Front.refuses _ _ _ _ _ _ _ _ x f.0 (x ++ c.finish.new.outbox.held.items) i.0 c.reads.partial.items _ _ _ _ _ _ _ i.2 c.in-Ok.ensures.bytes.0 (rw c.if-count-eq0.true refl) (c.in-Ok.ensures.bytes.1 c.if-count-eq0.true (omega arith))
-        (AppendsFront-then _ _ _ x c.finish.new.outbox.held.items sent c.in_err-flush-2.ensures.err) (ap (λ (l : List ℕ). x ++ l) held) (rw (← c.flush.ensures.tally) at i.4) c.as_slice.ensures.value f.2)
+    (AppendsFront-then _ _ _ x c.finish.new.outbox.held.items sent c.in_err-flush-2.ensures.err) (ap (λ (l : List ℕ). x ++ l) held) (rw (← c.flush.ensures.tally) at i.4) c.as_slice.ensures.value f.2)
 
 pub returns-then-count-eq0-clause-ok : goal.returns-then-count-eq0-clause-ok
 returns-then-count-eq0-clause-ok g c =
@@ -53,7 +53,7 @@ returns-then-count-eq0-clause-ok g c =
     let held : c.finish.new.outbox.held.items ≡ f.0 = nil_first _ f.0 _ c.in_ok-flush.ensures.none f.1 in
     let sent = Appends-then _ _ _ i.1 _ i.3 c.in_ok-flush.ensures.ok in
     rw c.flush-then-count-eq0.ensures.tally (all_answered g.F.Front.step _ _ _ _ _ _ _ _ x f.0 (x ++ c.finish.new.outbox.held.items) i.0 c.reads.partial.items _ _ _ _ _ _ _ i.2 c.in-Ok.ensures.bytes.0 (rw c.if-count-eq0.true refl) (c.in-Ok.ensures.bytes.1 c.if-count-eq0.true (omega arith))
-        (Appends-then _ _ _ x c.finish.new.outbox.held.items sent c.in_ok-flush-2.ensures.ok) (ap (λ (l : List ℕ). x ++ l) held) (rw (← c.flush.ensures.tally) at i.4) c.as_slice.ensures.value f.2)
+    (Appends-then _ _ _ x c.finish.new.outbox.held.items sent c.in_ok-flush-2.ensures.ok) (ap (λ (l : List ℕ). x ++ l) held) (rw (← c.flush.ensures.tally) at i.4) c.as_slice.ensures.value f.2)
 
 pub returns-in_err-take_piece-clause-err : goal.returns-in_err-take_piece-clause-err
 returns-in_err-take_piece-clause-err g c =
@@ -71,9 +71,14 @@ reads-preserved g c =
     let n = c.in-Ok.count in
     let chunk = c.read.new.buf in
     let t = c.in_ok-take_piece.ensures.ok in
-    let sent = Appends-then _ _ _ i.1 _ i.3 c.in_ok-flush.ensures.ok in
-    (i.0 ++ take n chunk, x ++ t.0, Consumes-then _ _ _ i.0 (take n chunk) i.2 c.in-Ok.ensures.bytes.0, Appends-then _ _ _ x t.0 sent t.1,
-     piece_done g.F.Front.step _ _ _ x t.0 c.take_piece.new.outbox.held.items i.0 c.reads.partial.items _ (take n chunk) _ _ _ _ _ _ _ refl (rw (← c.flush.ensures.tally) at i.4) t.2, c.take_piece.ensures.ready)
+    let sent = Appends-then _ _ _ i.1 _ i.3 c.in_ok-flush.ensures.ok in (
+      i.0 ++ take n chunk,
+      x ++ t.0,
+      Consumes-then _ _ _ i.0 (take n chunk) i.2 c.in-Ok.ensures.bytes.0,
+      Appends-then _ _ _ x t.0 sent t.1,
+      piece_done g.F.Front.step _ _ _ x t.0 c.take_piece.new.outbox.held.items i.0 c.reads.partial.items _ (take n chunk) _ _ _ _ _ _ _ refl (rw (← c.flush.ensures.tally) at i.4) t.2,
+      c.take_piece.ensures.ready,
+    )
 
 pub returns-clause-err : goal.returns-clause-err
 returns-clause-err g c =
