@@ -6,8 +6,7 @@ use rand_core::Rng;
 
 /// The two vehicles of a round, of `k`: the remainders by `k` of the next two words, and 1 each.
 pub fn draw<R: Rng>(rng: &mut R, k: u32) -> (u32, u32)
-    requires some { 1 ≤ k }
-    requires short { k < 4294967295 }
+    requires { 1 ≤ k }
     ensures first { result.0 ≡ (next_u32 (R.stream rng.old)).0 % k + 1 }
     ensures second { result.1 ≡ (next_u32 (next_u32 (R.stream rng.old)).1).0 % k + 1 }
     ensures stream { R.stream rng.new ≡ (next_u32 (next_u32 (R.stream rng.old)).1).1 }
