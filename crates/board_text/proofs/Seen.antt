@@ -2,8 +2,8 @@
 use Rattle.std.proofs.Common.{◌≡◌, ℕ, ◌+◌, ◌∙◌, List, [], ◌∷◌, ◌++◌, length, Option, Result, Ok, Err, refl, ap, sym, subst, inl, inr, append_assoc}
 use Rattle.std.specs.List.{flat_map}
 use Rattle.std.specs.Io.KnownBytes.{Consumes}
-use Rattle.board_core.specs.Boards.{history}
-use Rattle.board_core.specs.History.{History}
+use Rattle.insertion_board.specs.Boards.{history}
+use Rattle.insertion_board.specs.History.{History}
 use Rattle.board_text.specs.declared.board_front.BoardFront.{BoardFront}
 use Rattle.board_text.specs.Reading.{read_of}
 use Rattle.board_text.specs.Replies.{ended}

@@ -6,7 +6,7 @@ ghost use Rattle.board_text.specs.Answers.{IsTold, IsToldOutcome, is_reply_refus
 use crate::command::LineFault;
 use crate::listing::push_list;
 use crate::replies::{push_ask_fault, push_fault, push_line_fault, push_reply};
-use board_core::{AskFault, Fault, Reply, Row};
+use insertion_board::{AskFault, Fault, Reply, Row};
 use std::alloc::AllocError;
 use std::marker::Model;
 
@@ -18,7 +18,7 @@ pub struct Rows {
 
 impl Model for Rows {
     ghost use Rattle.std.specs.Prelude.{List};
-    ghost use Rattle.board_core.specs.Listing.{RowShown};
+    ghost use Rattle.insertion_board.specs.Listing.{RowShown};
 
     ghost Value = { List RowShown };
 

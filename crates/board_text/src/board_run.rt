@@ -3,7 +3,7 @@
 ghost use Rattle.std.specs.Prelude.{IfOk, IfErr};
 ghost use Rattle.board_text.specs.BoardSteps.{desk_state};
 ghost use Rattle.board_text.specs.BoardRuns.{IsAnswered, IsStopped};
-ghost use Rattle.board_core.specs.Boards.{history};
+ghost use Rattle.insertion_board.specs.Boards.{history};
 
 use crate::board_front::BoardFront;
 use crate::engine::run_lines;

@@ -14,7 +14,7 @@ use crate::front::Front;
 use crate::outbox::Outbox;
 use crate::reading::read_words;
 use crate::run_fault::{Counts, RunFault};
-use board_core::{AskFault, Call, Fault};
+use insertion_board::{AskFault, Call, Fault};
 use std::alloc::{AllocError, Global};
 use std::io::{Read, Write};
 use text_words::keep_all_words;
