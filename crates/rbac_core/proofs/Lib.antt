@@ -1,3 +1,4 @@
 mod AffectedLaws
 mod StayLaws
 mod StepLaws
+mod SizeLaws

@@ -7,6 +7,8 @@ ghost use Rattle.permission_core.specs.declared.objects.Operation.{Operation as 
 ghost use Rattle.permission_core.specs.declared.objects.Object.{Object as AnObject};
 ghost use Rattle.rbac_core.specs.Step.{refusal_of, after};
 ghost use Rattle.rbac_core.specs.Affected.{affected_sessions, has_lost};
+ghost use Rattle.policy_core.specs.State.{PolicyState};
+ghost use Rattle.rbac_core.specs.declared.command.Command.{Command as ACommand};
 
 use crate::command::Command;
 use policy_core::Policy;
@@ -90,4 +92,11 @@ pub fn access_stays(old: &Policy, command: &Command, new: &Policy)
     ensures { (session : ℕ) → list_any (nat_eq session) (affected_sessions old.now command.now new.now) ≡ false →
         (operation : AnOperation) (object : AnObject) →
         has_access new.now session operation object ≡ has_access old.now session operation object }
+{
+}
+
+/// A law, for callers' proofs: no command changes the numbers of customers and vehicles.
+pub fn sizes_stay()
+    ensures customers { (p : PolicyState) (command : ACommand) → (after p command).customers ≡ p.customers }
+    ensures vehicles { (p : PolicyState) (command : ACommand) → (after p command).vehicles ≡ p.vehicles }
 {}

@@ -10,7 +10,7 @@ mod steps;
 mod twin;
 
 pub use command::{Command, Outcome};
-pub use effects::{access_stays, affected};
+pub use effects::{access_stays, affected, sizes_stay};
 pub use names::Names;
 pub use permission_core::{Object, ObjectRange, ObjectSet, Operation};
 pub use policy_core::{Counting, Policy, Refusal, Session};

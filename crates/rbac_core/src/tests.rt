@@ -8,6 +8,8 @@ use std::alloc::Global;
 use std::process::Abort;
 use std::test::Fail;
 
+// ---- commands and answers as text
+
 fn name(rt: &impl Abort, text: &str) -> Name {
     Name::new(text.as_bytes()).expect(rt, "the bytes of a name")
 }
@@ -15,115 +17,226 @@ fn name(rt: &impl Abort, text: &str) -> Name {
 fn names(rt: &impl Abort, alloc: Global, all: &[&str]) -> Names {
     let mut list = Vec::new(alloc);
     for text in all {
-        list.push(name(rt, text)).expect(rt, "memory");
+        if !text.is_empty() {
+            list.push(name(rt, text)).expect(rt, "memory");
+        }
     }
     Names::of(list)
 }
 
-fn dsd(rt: &impl Abort, set: &str) -> Refusal {
-    Refusal::Dsd(name(rt, set))
+fn number(rt: &impl Abort, text: &str) -> u32 {
+    text.parse::<u32>().expect(rt, "a number")
+}
+
+/// The words of a line, of which it has at most six.
+fn words(line: &str) -> [&str; 6] {
+    let mut words = [""; 6];
+    for (k, word) in line.split(' ').enumerate() {
+        if k < 6 {
+            words[k] = word;
+        }
+    }
+    words
+}
+
+fn operation(text: &str) -> Operation {
+    if text == "view" {
+        Operation::View
+    } else if text == "audit" {
+        Operation::Audit
+    } else {
+        Operation::Move
+    }
+}
+
+fn range(rt: &impl Abort, kind: &str, first: &str, last: &str) -> ObjectRange {
+    let (first, last) = (number(rt, first), number(rt, last));
+    if kind == "vehicle" {
+        ObjectRange::Vehicles { first, last }
+    } else {
+        ObjectRange::Customers { first, last }
+    }
+}
+
+fn of_users(rt: &impl Abort, line: &str) -> Option<Command> {
+    let [word, first, second, ..] = words(line);
+    if word == "add-user" {
+        Some(Command::AddUser {
+            user: name(rt, first),
+        })
+    } else if word == "delete-user" {
+        Some(Command::DeleteUser {
+            user: name(rt, first),
+        })
+    } else if word == "assign" {
+        Some(Command::AssignUser {
+            user: name(rt, first),
+            role: name(rt, second),
+        })
+    } else if word == "deassign" {
+        Some(Command::DeassignUser {
+            user: name(rt, first),
+            role: name(rt, second),
+        })
+    } else {
+        None
+    }
+}
+
+fn of_roles(rt: &impl Abort, line: &str) -> Option<Command> {
+    let [word, first, second, ..] = words(line);
+    if word == "add-role" {
+        Some(Command::AddRole {
+            role: name(rt, first),
+        })
+    } else if word == "delete-role" {
+        Some(Command::DeleteRole {
+            role: name(rt, first),
+        })
+    } else if word == "inherit" {
+        Some(Command::AddInheritance {
+            senior: name(rt, first),
+            junior: name(rt, second),
+        })
+    } else if word == "uninherit" {
+        Some(Command::DeleteInheritance {
+            senior: name(rt, first),
+            junior: name(rt, second),
+        })
+    } else if word == "migrate" {
+        Some(Command::Migrate)
+    } else {
+        None
+    }
+}
+
+fn of_permissions(rt: &impl Abort, line: &str) -> Option<Command> {
+    let [word, role, what, kind, first, last] = words(line);
+    if word == "grant" {
+        let range = range(rt, kind, first, last);
+        Some(Command::GrantPermission {
+            role: name(rt, role),
+            operation: operation(what),
+            range,
+        })
+    } else if word == "revoke" {
+        let range = range(rt, kind, first, last);
+        Some(Command::RevokePermission {
+            role: name(rt, role),
+            operation: operation(what),
+            range,
+        })
+    } else {
+        None
+    }
+}
+
+fn of_sets(rt: &impl Abort, alloc: Global, line: &str) -> Option<Command> {
+    let [word, set, second, third, fourth, ..] = words(line);
+    if word == "ssd-create" {
+        let roles = names(rt, alloc, &[third, fourth]);
+        Some(Command::CreateSsdSet {
+            name: name(rt, set),
+            number: number(rt, second),
+            roles,
+        })
+    } else if word == "dsd-create" {
+        let roles = names(rt, alloc, &[third, fourth]);
+        Some(Command::CreateDsdSet {
+            name: name(rt, set),
+            number: number(rt, second),
+            roles,
+        })
+    } else if word == "ssd-drop" {
+        Some(Command::DeleteSsdRoleMember {
+            name: name(rt, set),
+            role: name(rt, second),
+        })
+    } else {
+        None
+    }
+}
+
+fn of_sessions(rt: &impl Abort, alloc: Global, line: &str) -> Option<Command> {
+    let [word, first, second, third, ..] = words(line);
+    if word == "open" {
+        let roles = names(rt, alloc, &[second, third]);
+        Some(Command::CreateSession {
+            user: name(rt, first),
+            roles,
+        })
+    } else if word == "close" {
+        Some(Command::DeleteSession {
+            session: number(rt, first),
+        })
+    } else if word == "activate" {
+        Some(Command::AddActiveRole {
+            session: number(rt, first),
+            role: name(rt, second),
+        })
+    } else if word == "deactivate" {
+        Some(Command::DropActiveRole {
+            session: number(rt, first),
+            role: name(rt, second),
+        })
+    } else {
+        None
+    }
+}
+
+fn command(rt: &impl Abort, alloc: Global, line: &str) -> Command {
+    if let Some(command) = of_users(rt, line) {
+        return command;
+    }
+    if let Some(command) = of_roles(rt, line) {
+        return command;
+    }
+    if let Some(command) = of_permissions(rt, line) {
+        return command;
+    }
+    if let Some(command) = of_sets(rt, alloc, line) {
+        return command;
+    }
+    of_sessions(rt, alloc, line).expect(rt, "a command")
+}
+
+/// Whether the answer is the one of this text.
+fn is_answer(rt: &impl Abort, answer: Result<Outcome, Refusal>, text: &str) -> bool {
+    let [word, which, ..] = words(text);
+    match answer {
+        Ok(Outcome::Done) => word == "done",
+        Ok(Outcome::Session(opened)) => word == "session" && opened == number(rt, which),
+        Err(refusal) => is_refusal(refusal, word, which),
+    }
+}
+
+fn is_refusal(refusal: Refusal, word: &str, which: &str) -> bool {
+    match refusal {
+        Refusal::NoSession => word == "no-session",
+        Refusal::NoAccess => word == "no-access",
+        Refusal::NotAuthorized => word == "not-authorized",
+        Refusal::Cycle => word == "cycle",
+        Refusal::InSet => word == "in-set",
+        Refusal::Number => word == "number",
+        Refusal::Already => word == "already",
+        Refusal::NotThere => word == "not-there",
+        Refusal::Ssd(set) => word == "ssd" && set.as_bytes() == which.as_bytes(),
+        Refusal::Dsd(set) => word == "dsd" && set.as_bytes() == which.as_bytes(),
+        _ => false,
+    }
+}
+
+/// Gives each command by its session, and compares the answer.
+fn answers(rt: &impl Abort, alloc: Global, policy: &mut Policy, rows: &[(u32, &str, &str)]) {
+    for (session, line, text) in rows {
+        let answer = step(policy, *session, &command(rt, alloc, line));
+        assert!(rt; is_answer(rt, answer, text), "{session} {line}");
+    }
 }
 
 /// The opening policy of a board of 4 customers and 2 vehicles.
 fn opening(rt: &impl Abort, alloc: Global) -> Policy {
     Policy::opening(alloc, 4, 2).expect(rt, "memory")
-}
-
-fn add_user(rt: &impl Abort, user: &str) -> Command {
-    Command::AddUser {
-        user: name(rt, user),
-    }
-}
-
-fn add_role(rt: &impl Abort, role: &str) -> Command {
-    Command::AddRole {
-        role: name(rt, role),
-    }
-}
-
-fn assign(rt: &impl Abort, user: &str, role: &str) -> Command {
-    Command::AssignUser {
-        user: name(rt, user),
-        role: name(rt, role),
-    }
-}
-
-fn deassign(rt: &impl Abort, user: &str, role: &str) -> Command {
-    Command::DeassignUser {
-        user: name(rt, user),
-        role: name(rt, role),
-    }
-}
-
-fn inherit(rt: &impl Abort, senior: &str, junior: &str) -> Command {
-    Command::AddInheritance {
-        senior: name(rt, senior),
-        junior: name(rt, junior),
-    }
-}
-
-fn uninherit(rt: &impl Abort, senior: &str, junior: &str) -> Command {
-    Command::DeleteInheritance {
-        senior: name(rt, senior),
-        junior: name(rt, junior),
-    }
-}
-
-fn grant(rt: &impl Abort, role: &str, operation: Operation, range: ObjectRange) -> Command {
-    Command::GrantPermission {
-        role: name(rt, role),
-        operation,
-        range,
-    }
-}
-
-fn revoke(rt: &impl Abort, role: &str, operation: Operation, range: ObjectRange) -> Command {
-    Command::RevokePermission {
-        role: name(rt, role),
-        operation,
-        range,
-    }
-}
-
-fn open(rt: &impl Abort, alloc: Global, user: &str, roles: &[&str]) -> Command {
-    Command::CreateSession {
-        user: name(rt, user),
-        roles: names(rt, alloc, roles),
-    }
-}
-
-fn activate(rt: &impl Abort, session: u32, role: &str) -> Command {
-    Command::AddActiveRole {
-        session,
-        role: name(rt, role),
-    }
-}
-
-fn deactivate(rt: &impl Abort, session: u32, role: &str) -> Command {
-    Command::DropActiveRole {
-        session,
-        role: name(rt, role),
-    }
-}
-
-fn vehicles(first: u32, last: u32) -> ObjectRange {
-    ObjectRange::Vehicles { first, last }
-}
-
-fn customers(first: u32, last: u32) -> ObjectRange {
-    ObjectRange::Customers { first, last }
-}
-
-/// The session gives each command, and each is done.
-fn done(rt: &impl Abort, policy: &mut Policy, session: u32, commands: &[Command]) {
-    for command in commands {
-        assert_eq!(rt; step(policy, session, command), Ok(Outcome::Done));
-    }
-}
-
-/// The session gives the command, and it is refused.
-fn refused(rt: &impl Abort, policy: &mut Policy, session: u32, command: &Command, why: Refusal) {
-    assert_eq!(rt; step(policy, session, command), Err(why));
 }
 
 fn may(policy: &Policy, session: u32, operation: Operation, object: Object) -> bool {
@@ -137,140 +250,252 @@ fn compare(rt: &impl Abort, found: &[Name], wanted: &[&str]) {
     }
 }
 
-// SSD over inherited roles: u has b and c, and a and b exclude each other, so c may not be put
-// above a.
+fn compare_numbers(rt: &impl Abort, found: &[u32], wanted: &[u32]) {
+    assert_eq!(rt; found.len(), wanted.len());
+    for (one, number) in found.iter().zip(wanted) {
+        assert_eq!(rt; *one, *number);
+    }
+}
+
+// ---- answers
+
+// SSD over inherited roles: u has b and c, and a and b exclude each other, so c may not be put above a.
+const INHERITING_BOTH: &[(u32, &str, &str)] = &[
+    (1, "add-role a", "done"),
+    (1, "add-role b", "done"),
+    (1, "add-role c", "done"),
+    (1, "add-user u", "done"),
+    (1, "assign u c", "done"),
+    (1, "assign u b", "done"),
+    (1, "ssd-create s 2 a b", "done"),
+    (1, "inherit c a", "ssd s"),
+    (1, "add-role d", "done"),
+    (1, "inherit d c", "done"),
+    (1, "inherit c d", "cycle"),
+    (1, "inherit d d", "cycle"),
+    (1, "inherit d c", "already"),
+    (1, "ssd-drop s a", "number"),
+    (1, "delete-role a", "in-set"),
+];
+
 #[test]
 fn a_user_is_kept_from_inheriting_both(rt: HostRuntime) {
     let mut policy = opening(&rt, rt.alloc());
-    let roles = names(&rt, rt.alloc(), &["a", "b"]);
-    done(
-        &rt,
-        &mut policy,
-        1,
-        &[
-            add_role(&rt, "a"),
-            add_role(&rt, "b"),
-            add_role(&rt, "c"),
-            add_user(&rt, "u"),
-            assign(&rt, "u", "c"),
-            assign(&rt, "u", "b"),
-            Command::CreateSsdSet {
-                name: name(&rt, "s"),
-                number: 2,
-                roles,
-            },
-        ],
-    );
-    refused(
-        &rt,
-        &mut policy,
-        1,
-        &inherit(&rt, "c", "a"),
-        Refusal::Ssd(name(&rt, "s")),
-    );
-    done(
-        &rt,
-        &mut policy,
-        1,
-        &[add_role(&rt, "d"), inherit(&rt, "d", "c")],
-    );
-    refused(&rt, &mut policy, 1, &inherit(&rt, "c", "d"), Refusal::Cycle);
-    refused(&rt, &mut policy, 1, &inherit(&rt, "d", "d"), Refusal::Cycle);
-    refused(
-        &rt,
-        &mut policy,
-        1,
-        &inherit(&rt, "d", "c"),
-        Refusal::Already,
-    );
-    let drop = Command::DeleteSsdRoleMember {
-        name: name(&rt, "s"),
-        role: name(&rt, "a"),
-    };
-    refused(&rt, &mut policy, 1, &drop, Refusal::Number);
-    let delete = Command::DeleteRole {
-        role: name(&rt, "a"),
-    };
-    refused(&rt, &mut policy, 1, &delete, Refusal::InSet);
+    answers(&rt, rt.alloc(), &mut policy, INHERITING_BOTH);
 }
 
-// Ann drives vehicle 1 with role d, loses it, and is then kept by DSD from having d and e active
-// at once.
+const WITH_ROLE: &[(u32, &str, &str)] = &[
+    (1, "add-user ann", "done"),
+    (1, "add-role d", "done"),
+    (1, "assign ann d", "done"),
+    (1, "grant d move vehicle 1 1", "done"),
+    (1, "grant d move customer 1 4", "done"),
+    (1, "open ann d", "session 2"),
+];
+
+const DSD_MET: &[(u32, &str, &str)] = &[
+    (1, "assign ann d", "done"),
+    (1, "add-role e", "done"),
+    (1, "assign ann e", "done"),
+    (1, "dsd-create x 2 d e", "done"),
+    (1, "activate 2 d", "done"),
+    (2, "activate 2 e", "dsd x"),
+    (2, "add-user z", "no-access"),
+];
+
+// Ann drives vehicle 1 with role d, loses it, and is then kept by DSD from having d and e active at once.
 #[test]
 fn ann_loses_her_role_and_meets_a_dsd_set(rt: HostRuntime) {
     let mut policy = opening(&rt, rt.alloc());
-    done(
-        &rt,
-        &mut policy,
-        1,
-        &[
-            add_user(&rt, "ann"),
-            add_role(&rt, "d"),
-            assign(&rt, "ann", "d"),
-            grant(&rt, "d", Operation::Move, vehicles(1, 1)),
-            grant(&rt, "d", Operation::Move, customers(1, 4)),
-        ],
-    );
-    let opened = step(&mut policy, 1, &open(&rt, rt.alloc(), "ann", &["d"]));
-    assert_eq!(rt; opened, Ok(Outcome::Session(2)));
+    answers(&rt, rt.alloc(), &mut policy, WITH_ROLE);
     assert!(rt; may(&policy, 2, Operation::Move, Object::Vehicle(1)));
     assert!(rt; may(&policy, 2, Operation::Move, Object::Customer(4)));
     assert!(rt; !may(&policy, 2, Operation::Move, Object::Vehicle(2)));
     assert!(rt; !may(&policy, 2, Operation::View, Object::Vehicle(1)));
-    done(&rt, &mut policy, 1, &[deassign(&rt, "ann", "d")]);
-    assert!(rt; !may(&policy, 2, Operation::Move, Object::Vehicle(1)));
-    let roles = names(&rt, rt.alloc(), &["d", "e"]);
-    done(
+    answers(
         &rt,
+        rt.alloc(),
         &mut policy,
-        1,
-        &[
-            assign(&rt, "ann", "d"),
-            add_role(&rt, "e"),
-            assign(&rt, "ann", "e"),
-            Command::CreateDsdSet {
-                name: name(&rt, "x"),
-                number: 2,
-                roles,
-            },
-            activate(&rt, 2, "d"),
-        ],
+        &[(1, "deassign ann d", "done")],
     );
-    refused(&rt, &mut policy, 2, &activate(&rt, 2, "e"), dsd(&rt, "x"));
-    refused(&rt, &mut policy, 2, &add_user(&rt, "z"), Refusal::NoAccess);
+    assert!(rt; !may(&policy, 2, Operation::Move, Object::Vehicle(1)));
+    answers(&rt, rt.alloc(), &mut policy, DSD_MET);
 }
 
 #[test]
 fn nobody_is_left_without_root(rt: HostRuntime) {
     let mut policy = opening(&rt, rt.alloc());
-    done(
-        &rt,
-        &mut policy,
-        1,
-        &[Command::DeleteUser {
-            user: name(&rt, "root"),
-        }],
-    );
-    refused(&rt, &mut policy, 1, &add_user(&rt, "x"), Refusal::NoSession);
+    let rows = &[
+        (1u32, "delete-user root", "done"),
+        (1, "add-user x", "no-session"),
+    ];
+    answers(&rt, rt.alloc(), &mut policy, rows);
 }
+
+const PAIRS: &[(u32, &str, &str)] = &[
+    (1, "add-role a", "done"),
+    (1, "add-role b", "done"),
+    (1, "add-user u", "done"),
+    (1, "assign u a", "done"),
+    (1, "grant b move customer 1 4", "done"),
+    (1, "inherit a b", "done"),
+    (1, "open u a", "session 2"),
+];
+
+const CHAIN: &[(u32, &str, &str)] = &[
+    (2, "activate 2 b", "not-authorized"),
+    (1, "add-role c", "done"),
+    (1, "inherit a c", "done"),
+    (1, "inherit c b", "done"),
+    (2, "activate 2 b", "done"),
+];
+
+// Role a inherits b; the session keeps a and not what b may do once the pair is gone.
+#[test]
+fn a_pair_less_and_a_chain_more(rt: HostRuntime) {
+    let mut policy = opening(&rt, rt.alloc());
+    answers(&rt, rt.alloc(), &mut policy, PAIRS);
+    assert!(rt; may(&policy, 2, Operation::Move, Object::Customer(1)));
+    answers(
+        &rt,
+        rt.alloc(),
+        &mut policy,
+        &[(1, "uninherit a b", "done")],
+    );
+    assert!(rt; !may(&policy, 2, Operation::Move, Object::Customer(1)));
+    answers(&rt, rt.alloc(), &mut policy, CHAIN);
+    assert!(rt; may(&policy, 2, Operation::Move, Object::Customer(1)));
+    answers(
+        &rt,
+        rt.alloc(),
+        &mut policy,
+        &[(1, "delete-role c", "done")],
+    );
+    assert_eq!(rt; policy.active_roles(2).count(), 1);
+    assert!(rt; !may(&policy, 2, Operation::Move, Object::Customer(1)));
+}
+
+/// Ann with the roles top, which inherits d, and e; d and e exclude each other in a session.
+const ANN: &[(u32, &str, &str)] = &[
+    (1, "add-user ann", "done"),
+    (1, "add-role top", "done"),
+    (1, "add-role d", "done"),
+    (1, "add-role e", "done"),
+    (1, "inherit top d", "done"),
+    (1, "assign ann top", "done"),
+    (1, "assign ann e", "done"),
+    (1, "dsd-create x 2 d e", "done"),
+];
+
+const MIGRATED: &[(u32, &str, &str)] = &[
+    (1, "open ann top", "session 2"),
+    (2, "activate 2 e", "done"),
+    (1, "migrate", "done"),
+    (1, "migrate", "already"),
+    (2, "activate 2 top", "done"),
+    (2, "activate 2 e", "dsd x"),
+    (1, "open ann top e", "dsd x"),
+    (1, "add-role f", "done"),
+    (1, "assign ann f", "done"),
+    (2, "activate 2 f", "done"),
+    (1, "inherit f e", "dsd x"),
+    (1, "dsd-create y 2 top d", "dsd y"),
+    (2, "migrate", "no-access"),
+];
+
+// From the change of the counting on, what a session inherits counts for DSD.
+#[test]
+fn dsd_counts_what_is_inherited(rt: HostRuntime) {
+    let mut policy = opening(&rt, rt.alloc());
+    answers(&rt, rt.alloc(), &mut policy, ANN);
+    answers(&rt, rt.alloc(), &mut policy, MIGRATED);
+    assert_eq!(rt; policy.active_roles(1).count(), 1);
+    assert_eq!(rt; policy.active_roles(2).count(), 2);
+    assert_eq!(rt; policy.counting(), Counting::Inherited);
+}
+
+// Who may give a session command: an administrator, and the user whom it concerns.
+const OWN: &[(u32, &str, &str)] = &[
+    (1, "add-user bea", "done"),
+    (1, "open ann", "session 2"),
+    (1, "open ann", "session 3"),
+    (1, "open bea", "session 4"),
+    (2, "activate 3 top", "done"),
+    (2, "deactivate 3 top", "done"),
+    (4, "activate 3 top", "no-access"),
+    (4, "deactivate 2 top", "no-access"),
+    (4, "close 2", "no-access"),
+    (4, "close 9", "no-access"),
+    (1, "close 9", "not-there"),
+    (9, "close 2", "no-session"),
+    (4, "open zoe", "no-access"),
+    (4, "open bea", "session 5"),
+    (4, "close 5", "done"),
+    (4, "open bea", "session 6"),
+];
+
+#[test]
+fn session_commands_of_ones_own(rt: HostRuntime) {
+    let mut policy = opening(&rt, rt.alloc());
+    answers(&rt, rt.alloc(), &mut policy, ANN);
+    answers(&rt, rt.alloc(), &mut policy, OWN);
+    let add = command(&rt, rt.alloc(), "add-user zoe");
+    assert!(rt; guard_by(&policy, 4, &add, true).is_none());
+    assert!(rt; guard_by(&policy, 4, &add, false).is_some());
+}
+
+/// How many roles are active in a session after the session's commands.
+fn counts(
+    rt: &impl Abort,
+    alloc: Global,
+    policy: &mut Policy,
+    line: &str,
+    session: u32,
+    left: u32,
+) {
+    answers(rt, alloc, policy, &[(1, line, "done")]);
+    assert_eq!(rt; policy.active_roles(session).count(), left);
+}
+
+// The sessions of Ann after each command that takes roles from her.
+#[test]
+fn what_anns_sessions_lose(rt: HostRuntime) {
+    let mut policy = opening(&rt, rt.alloc());
+    answers(&rt, rt.alloc(), &mut policy, ANN);
+    let rows = &[
+        (1u32, "open ann top d", "session 2"),
+        (1, "open ann e", "session 3"),
+    ];
+    answers(&rt, rt.alloc(), &mut policy, rows);
+    counts(&rt, rt.alloc(), &mut policy, "uninherit top d", 2, 1);
+    counts(&rt, rt.alloc(), &mut policy, "deassign ann e", 3, 0);
+    counts(&rt, rt.alloc(), &mut policy, "delete-role top", 2, 0);
+    answers(
+        &rt,
+        rt.alloc(),
+        &mut policy,
+        &[(1, "delete-user ann", "done")],
+    );
+    assert!(rt; !policy.is_session(2));
+    assert!(rt; policy.is_session(1));
+}
+
+// ---- questions
+
+const REVIEWED: &[(u32, &str, &str)] = &[
+    (1, "add-user ann", "done"),
+    (1, "add-user bea", "done"),
+    (1, "add-role e", "done"),
+    (1, "add-role d", "done"),
+    (1, "assign bea d", "done"),
+    (1, "assign ann d", "done"),
+    (1, "assign ann e", "done"),
+];
 
 #[test]
 fn reviews_in_order_of_creation(rt: HostRuntime) -> Result<(), Fail> {
     let mut policy = opening(&rt, rt.alloc());
-    done(
-        &rt,
-        &mut policy,
-        1,
-        &[
-            add_user(&rt, "ann"),
-            add_user(&rt, "bea"),
-            add_role(&rt, "e"),
-            add_role(&rt, "d"),
-            assign(&rt, "bea", "d"),
-            assign(&rt, "ann", "d"),
-            assign(&rt, "ann", "e"),
-        ],
-    );
+    answers(&rt, rt.alloc(), &mut policy, REVIEWED);
     compare(
         &rt,
         &policy.assigned_users(name(&rt, "d"))?,
@@ -278,14 +503,9 @@ fn reviews_in_order_of_creation(rt: HostRuntime) -> Result<(), Fail> {
     );
     compare(&rt, &policy.assigned_roles(name(&rt, "ann"))?, &["e", "d"]);
     compare(&rt, &policy.session_roles(1)?, &["root"]);
-    assert!(rt;
-        matches!(
-            policy.assigned_roles(name(&rt, "bob")),
-            Err(Refusal::NoUser)
-        )
-    );
-    assert!(rt; matches!(policy.assigned_users(name(&rt, "f")), Err(Refusal::NoRole)));
-    assert!(rt; matches!(policy.session_roles(2), Err(Refusal::NotThere)));
+    assert!(rt; policy.assigned_roles(name(&rt, "bob")).is_err());
+    assert!(rt; policy.assigned_users(name(&rt, "f")).is_err());
+    assert!(rt; policy.session_roles(2).is_err());
     Ok(())
 }
 
@@ -297,352 +517,84 @@ fn access_of_the_first_session(rt: HostRuntime) {
     assert!(rt; !policy.check_plain(1, Operation::Move, Object::Vehicle(1), &mut meter));
     assert!(rt; !policy.check_plain(1, Operation::Move, Object::Vehicle(9), &mut meter));
     assert!(rt; !policy.check_plain(9, Operation::Admin, Object::Board, &mut meter));
-    assert_eq!(rt;
-        meter,
-        Meter {
-            asks: 0,
-            probes: 0,
-            walks: 4
-        }
-    );
+    assert_eq!(rt; meter.walks, 4);
 }
 
-// Role a inherits b; the session keeps a and not what b may do once the pair is gone.
-#[test]
-fn a_pair_less_and_a_chain_more(rt: HostRuntime) {
-    let mut policy = opening(&rt, rt.alloc());
-    done(
-        &rt,
-        &mut policy,
-        1,
-        &[
-            add_role(&rt, "a"),
-            add_role(&rt, "b"),
-            add_user(&rt, "u"),
-            assign(&rt, "u", "a"),
-            grant(&rt, "b", Operation::Move, vehicles(1, 1)),
-            grant(&rt, "b", Operation::Move, customers(1, 4)),
-            inherit(&rt, "a", "b"),
-        ],
-    );
-    let opened = step(&mut policy, 1, &open(&rt, rt.alloc(), "u", &["a"]));
-    assert_eq!(rt; opened, Ok(Outcome::Session(2)));
-    assert!(rt; may(&policy, 2, Operation::Move, Object::Customer(1)));
-    done(&rt, &mut policy, 1, &[uninherit(&rt, "a", "b")]);
-    assert!(rt; !may(&policy, 2, Operation::Move, Object::Customer(1)));
-    refused(
-        &rt,
-        &mut policy,
-        2,
-        &activate(&rt, 2, "b"),
-        Refusal::NotAuthorized,
-    );
-    done(
-        &rt,
-        &mut policy,
-        1,
-        &[
-            add_role(&rt, "c"),
-            inherit(&rt, "a", "c"),
-            inherit(&rt, "c", "b"),
-        ],
-    );
-    assert!(rt; may(&policy, 2, Operation::Move, Object::Customer(1)));
-    done(&rt, &mut policy, 2, &[activate(&rt, 2, "b")]);
-    done(
-        &rt,
-        &mut policy,
-        1,
-        &[Command::DeleteRole {
-            role: name(&rt, "c"),
-        }],
-    );
-    assert_eq!(rt; policy.active_roles(2).count(), 1);
-    assert!(rt; !may(&policy, 2, Operation::Move, Object::Customer(1)));
-}
-
-/// Ann with the roles top, which inherits d, and e; d and e exclude each other in a session.
-fn with_ann(rt: &impl Abort, alloc: Global) -> Policy {
-    let mut policy = opening(rt, alloc);
-    let roles = names(rt, alloc, &["d", "e"]);
-    done(
-        rt,
-        &mut policy,
-        1,
-        &[
-            add_user(rt, "ann"),
-            add_role(rt, "top"),
-            add_role(rt, "d"),
-            add_role(rt, "e"),
-            inherit(rt, "top", "d"),
-            assign(rt, "ann", "top"),
-            assign(rt, "ann", "e"),
-            Command::CreateDsdSet {
-                name: name(rt, "x"),
-                number: 2,
-                roles,
-            },
-        ],
-    );
-    policy
-}
-
-// From the change of the counting on, what a session inherits counts for DSD.
-#[test]
-fn dsd_counts_what_is_inherited(rt: HostRuntime) {
-    let mut policy = with_ann(&rt, rt.alloc());
-    let opened = step(&mut policy, 1, &open(&rt, rt.alloc(), "ann", &["top"]));
-    assert_eq!(rt; opened, Ok(Outcome::Session(2)));
-    done(&rt, &mut policy, 2, &[activate(&rt, 2, "e")]);
-    done(&rt, &mut policy, 1, &[Command::Migrate]);
-    assert_eq!(rt; policy.active_roles(2).count(), 0);
-    assert_eq!(rt; policy.active_roles(1).count(), 1);
-    refused(&rt, &mut policy, 1, &Command::Migrate, Refusal::Already);
-    done(&rt, &mut policy, 2, &[activate(&rt, 2, "top")]);
-    refused(&rt, &mut policy, 2, &activate(&rt, 2, "e"), dsd(&rt, "x"));
-    refused(
-        &rt,
-        &mut policy,
-        1,
-        &open(&rt, rt.alloc(), "ann", &["top", "e"]),
-        dsd(&rt, "x"),
-    );
-    done(
-        &rt,
-        &mut policy,
-        1,
-        &[add_role(&rt, "f"), assign(&rt, "ann", "f")],
-    );
-    done(&rt, &mut policy, 2, &[activate(&rt, 2, "f")]);
-    refused(&rt, &mut policy, 1, &inherit(&rt, "f", "e"), dsd(&rt, "x"));
-    let roles = names(&rt, rt.alloc(), &["top", "d"]);
-    let create = Command::CreateDsdSet {
-        name: name(&rt, "y"),
-        number: 2,
-        roles,
-    };
-    refused(&rt, &mut policy, 1, &create, dsd(&rt, "y"));
-    refused(&rt, &mut policy, 2, &Command::Migrate, Refusal::NoAccess);
-    assert_eq!(rt; policy.counting(), Counting::Inherited);
-}
-
-// Who may give a session command: an administrator, and the user whom it concerns.
-#[test]
-fn session_commands_of_ones_own(rt: HostRuntime) {
-    let mut policy = with_ann(&rt, rt.alloc());
-    done(&rt, &mut policy, 1, &[add_user(&rt, "bea")]);
-    for (user, number) in [("ann", 2u32), ("ann", 3), ("bea", 4)] {
-        let opened = step(&mut policy, 1, &open(&rt, rt.alloc(), user, &[]));
-        assert_eq!(rt; opened, Ok(Outcome::Session(number)));
-    }
-    done(
-        &rt,
-        &mut policy,
-        2,
-        &[activate(&rt, 3, "top"), deactivate(&rt, 3, "top")],
-    );
-    refused(
-        &rt,
-        &mut policy,
-        4,
-        &activate(&rt, 3, "top"),
-        Refusal::NoAccess,
-    );
-    refused(
-        &rt,
-        &mut policy,
-        4,
-        &deactivate(&rt, 2, "top"),
-        Refusal::NoAccess,
-    );
-    refused(
-        &rt,
-        &mut policy,
-        4,
-        &Command::DeleteSession { session: 2 },
-        Refusal::NoAccess,
-    );
-    refused(
-        &rt,
-        &mut policy,
-        4,
-        &Command::DeleteSession { session: 9 },
-        Refusal::NoAccess,
-    );
-    refused(
-        &rt,
-        &mut policy,
-        1,
-        &Command::DeleteSession { session: 9 },
-        Refusal::NotThere,
-    );
-    refused(
-        &rt,
-        &mut policy,
-        9,
-        &Command::DeleteSession { session: 2 },
-        Refusal::NoSession,
-    );
-    refused(
-        &rt,
-        &mut policy,
-        4,
-        &open(&rt, rt.alloc(), "zoe", &[]),
-        Refusal::NoAccess,
-    );
-    let opened = step(&mut policy, 4, &open(&rt, rt.alloc(), "bea", &[]));
-    assert_eq!(rt; opened, Ok(Outcome::Session(5)));
-    done(
-        &rt,
-        &mut policy,
-        4,
-        &[Command::DeleteSession { session: 5 }],
-    );
-    let opened = step(&mut policy, 4, &open(&rt, rt.alloc(), "bea", &[]));
-    assert_eq!(rt; opened, Ok(Outcome::Session(6)));
-    let add = add_user(&rt, "zoe");
-    assert_eq!(rt; guard_by(&policy, 4, &add, true), None);
-    assert_eq!(rt; guard_by(&policy, 4, &add, false), Some(Refusal::NoAccess));
-}
-
-/// The sessions of Ann after each command that takes roles from her.
-#[test]
-fn what_anns_sessions_lose(rt: HostRuntime) {
-    let mut policy = with_ann(&rt, rt.alloc());
-    for (roles, number) in [(["top", "d"], 2u32), (["e", "e"], 3)] {
-        let opened = step(&mut policy, 1, &open(&rt, rt.alloc(), "ann", &roles));
-        assert_eq!(rt; opened, Ok(Outcome::Session(number)));
-    }
-    assert_eq!(rt; policy.active_roles(2).count(), 2);
-    assert_eq!(rt; policy.active_roles(3).count(), 1);
-    done(&rt, &mut policy, 1, &[uninherit(&rt, "top", "d")]);
-    assert_eq!(rt; policy.active_roles(2).count(), 1);
-    done(&rt, &mut policy, 1, &[deassign(&rt, "ann", "e")]);
-    assert_eq!(rt; policy.active_roles(3).count(), 0);
-    done(
-        &rt,
-        &mut policy,
-        1,
-        &[Command::DeleteRole {
-            role: name(&rt, "top"),
-        }],
-    );
-    assert_eq!(rt; policy.active_roles(2).count(), 0);
-    done(
-        &rt,
-        &mut policy,
-        1,
-        &[Command::DeleteUser {
-            user: name(&rt, "ann"),
-        }],
-    );
-    assert!(rt; !policy.is_session(2));
-    assert!(rt; policy.is_session(1));
-}
-
-fn compare_numbers(rt: &impl Abort, found: &[u32], wanted: &[u32]) {
-    assert_eq!(rt; found.len(), wanted.len());
-    for (one, number) in found.iter().zip(wanted) {
-        assert_eq!(rt; *one, *number);
-    }
-}
+// ---- sessions that a command affects, and a spare policy
 
 /// Carries the command out on a copy, and compares which sessions it affects.
-fn compare_affected(
-    rt: &impl Abort,
-    alloc: Global,
-    old: &Policy,
-    command: &Command,
-    wanted: &[u32],
-) {
+fn compare_affected(rt: &impl Abort, alloc: Global, old: &Policy, line: &str, wanted: &[u32]) {
+    let command = command(rt, alloc, line);
     let mut new = old.copy().expect(rt, "memory");
-    assert!(rt; carry_out(&mut new, command).is_ok());
-    access_stays(old, command, &new);
-    let found = affected(alloc, old, command, &new).expect(rt, "memory");
+    assert!(rt; carry_out(&mut new, &command).is_ok());
+    access_stays(old, &command, &new);
+    let found = affected(alloc, old, &command, &new).expect(rt, "memory");
     compare_numbers(rt, &found, wanted);
 }
 
+const AFFECTED: &[(&str, &[u32])] = &[
+    ("grant d view vehicle 1 2", &[1, 2, 3, 4]),
+    ("revoke d view vehicle 1 2", &[1, 2, 3, 4]),
+    ("inherit e root", &[1, 2, 3, 4]),
+    ("uninherit top d", &[1, 2, 3, 4]),
+    ("delete-role top", &[1, 2, 3, 4]),
+    ("deassign ann e", &[2, 4]),
+    ("delete-user ann", &[2, 4]),
+    ("open ann", &[5]),
+    ("close 3", &[3]),
+    ("activate 4 top", &[4]),
+    ("deactivate 2 e", &[2]),
+    ("migrate", &[2]),
+    ("add-user zoe", &[]),
+    ("assign bea e", &[]),
+];
+
 #[test]
-fn which_sessions_a_command_affects(rt: HostRuntime) -> Result<(), Fail> {
-    let alloc = rt.alloc();
-    let mut policy = with_ann(&rt, alloc);
-    done(&rt, &mut policy, 1, &[add_user(&rt, "bea")]);
-    for (user, roles) in [
-        ("ann", &["top", "e"] as &[&str]),
-        ("bea", &[]),
-        ("ann", &["e"]),
-    ] {
-        assert!(rt; step(&mut policy, 1, &open(&rt, alloc, user, roles)).is_ok());
+fn which_sessions_a_command_affects(rt: HostRuntime) {
+    let mut policy = opening(&rt, rt.alloc());
+    answers(&rt, rt.alloc(), &mut policy, ANN);
+    let rows = &[
+        (1u32, "add-user bea", "done"),
+        (1, "open ann top e", "session 2"),
+        (1, "open bea", "session 3"),
+        (1, "open ann e", "session 4"),
+    ];
+    answers(&rt, rt.alloc(), &mut policy, rows);
+    for (line, wanted) in AFFECTED {
+        compare_affected(&rt, rt.alloc(), &policy, line, wanted);
     }
-    compare_numbers(&rt, &policy.sessions()?, &[1, 2, 3, 4]);
-    compare_numbers(&rt, &policy.sessions_of(name(&rt, "ann"))?, &[2, 4]);
-    compare_numbers(&rt, &policy.sessions_of(name(&rt, "zoe"))?, &[]);
-    let all: &[u32] = &[1, 2, 3, 4];
-    for (command, wanted) in [
-        (grant(&rt, "d", Operation::View, vehicles(1, 2)), all),
-        (revoke(&rt, "d", Operation::View, vehicles(1, 2)), all),
-        (inherit(&rt, "e", "root"), all),
-        (uninherit(&rt, "top", "d"), all),
-        (
-            Command::DeleteRole {
-                role: name(&rt, "top"),
-            },
-            all,
-        ),
-        (deassign(&rt, "ann", "e"), &[2, 4]),
-        (
-            Command::DeleteUser {
-                user: name(&rt, "ann"),
-            },
-            &[2, 4],
-        ),
-        (open(&rt, alloc, "ann", &[]), &[5]),
-        (Command::DeleteSession { session: 3 }, &[3]),
-        (activate(&rt, 4, "top"), &[4]),
-        (deactivate(&rt, 2, "e"), &[2]),
-        (Command::Migrate, &[2]),
-        (add_user(&rt, "zoe"), &[]),
-        (assign(&rt, "bea", "e"), &[]),
-    ] {
-        compare_affected(&rt, alloc, &policy, &command, wanted);
-    }
-    Ok(())
 }
 
 /// Tries the command on the spare policy, and lets it stand.
-fn stand(rt: &impl Abort, twin: &mut Twin, command: Command) {
-    assert!(rt; twin.prepare(&command).is_ok());
+fn stand(rt: &impl Abort, alloc: Global, twin: &mut Twin, line: &str) {
+    let command = command(rt, alloc, line);
     match twin.prepare(&command) {
         Ok(_) => twin.settle(command),
-        Err(_) => {}
+        Err(_) => assert!(rt; false, "{line}"),
     }
 }
 
 #[test]
 fn commands_by_a_spare_policy(rt: HostRuntime) -> Result<(), Fail> {
-    let mut twin = Twin::new(opening(&rt, rt.alloc()))?;
-    stand(&rt, &mut twin, add_user(&rt, "ann"));
-    stand(&rt, &mut twin, add_role(&rt, "d"));
-    stand(&rt, &mut twin, assign(&rt, "ann", "d"));
-    let again = assign(&rt, "ann", "d");
-    assert_eq!(rt; twin.prepare(&again), Err(Refusal::Already));
+    let alloc = rt.alloc();
+    let mut twin = Twin::new(opening(&rt, alloc))?;
+    stand(&rt, alloc, &mut twin, "add-user ann");
+    stand(&rt, alloc, &mut twin, "add-role d");
+    stand(&rt, alloc, &mut twin, "assign ann d");
+    assert!(rt; twin.prepare(&command(&rt, alloc, "assign ann d")).is_err());
     compare(
         &rt,
         &twin.policy().assigned_users(name(&rt, "d"))?,
         &["ann"],
     );
-    compare(&rt, &twin.tried().assigned_users(name(&rt, "d"))?, &["ann"]);
-    let leave = deassign(&rt, "ann", "d");
-    assert_eq!(rt; twin.prepare(&leave), Ok(Outcome::Done));
+    assert!(rt; twin.prepare(&command(&rt, alloc, "deassign ann d")).is_ok());
     compare(
         &rt,
         &twin.policy().assigned_users(name(&rt, "d"))?,
         &["ann"],
     );
     compare(&rt, &twin.tried().assigned_users(name(&rt, "d"))?, &[]);
-    assert_eq!(rt; twin.prepare(&again), Err(Refusal::Already));
-    let copied = leave.copy()?;
-    stand(&rt, &mut twin, copied);
+    stand(&rt, alloc, &mut twin, "deassign ann d");
     compare(&rt, &twin.policy().assigned_users(name(&rt, "d"))?, &[]);
     Ok(())
 }

@@ -1,0 +1,109 @@
+-- A core keeps its history with one call more, and what it holds is ready to be judged on.
+use Rattle.std.proofs.Common.{◌≡◌, ℕ, zero, ◌+◌, ◌-◌, ◌<◌, ◌≤◌, Bool, true, List, [], ◌∷◌, ◌++◌, length, refl, sym, ap, ◌∙◌, subst, arith, inl, inr, length-append, length-set}
+use Rattle.std.specs.Prelude.{◌==◌, slice_index, slice_set, cond, if◌then◌else◌}
+use Rattle.std.proofs.lemmas.Bool.{and_parts, leb-true, cases_eq, eq-eqb, ne_eqb, eqb-true}
+use Rattle.std.proofs.lemmas.List.{get_or-set_same, get_or-set_other}
+use Rattle.dimension_core.specs.Setting.{Setting}
+use Rattle.dimension_core.specs.Feasible.{IsFeasible}
+use Rattle.pin_core.specs.Pins.{PinState, DoPinsHold, DoFrontsFit}
+use Rattle.range_cache.specs.Cache.{IsCacheOf}
+use Rattle.policy_core.specs.State.{PolicyState}
+use Rattle.permission_table.specs.Compiled.{AreCompiled, HasSizes}
+use Rattle.board_rules.specs.declared.call.Entry.{Entry}
+use Rattle.board_rules.specs.Good.{IsGood}
+use Rattle.board_rules.specs.History.{Opening, state_after, turns_of, is_turn, IsNext, IsLegal}
+use Rattle.board_rules.specs.State.{BoardState}
+use Rattle.board_rules.specs.Step.{after}
+use Rattle.board_state.specs.Changes.{Tries}
+use Rattle.board_state.specs.Held.{HeldState, Holds, IsReady}
+use Rattle.board_core.specs.Kept.{CoreState, IsKept, history_of}
+
+-- what is held of a good state, with room for one commit more, may be judged on
+pub ready : (s : Setting) (held : HeldState) (state : BoardState) → Holds s held state → IsGood s state → length state.commits < 16777216 → IsReady s held
+ready s held state holds good few = record {
+  customers = holds.customers;
+  sized = ap length holds.routes ∙ good.sized;
+  pinned = ap (λ (p : PinState). length p.pins) holds.pins ∙ good.pinned;
+  frozen = ap (λ (p : PinState). length p.fronts) holds.pins ∙ good.frozen;
+  holding = subst (λ (rs : List (List ℕ)). DoPinsHold held.pins rs) (sym holds.routes) (subst (λ (p : PinState). DoPinsHold p state.routes) (sym holds.pins) good.pins);
+  fitting = subst (λ (rs : List (List ℕ)). DoFrontsFit held.pins rs) (sym holds.routes) (subst (λ (p : PinState). DoFrontsFit p state.routes) (sym holds.pins) good.fronts);
+  feasible = subst (λ (rs : List (List ℕ)). IsFeasible s rs) (sym holds.routes) good.feasible;
+  cache = subst (λ (rs : List (List ℕ)). IsCacheOf s rs held.cache) (sym holds.routes) holds.cache;
+  compiled = subst (λ (p : PolicyState). ∥ AreCompiled held.tables p ∥₁) (sym holds.policy) holds.compiled;
+  sizes = subst (λ (p : PolicyState). HasSizes p held.tables) (sym holds.policy) holds.sizes;
+  room = subst (λ (n : ℕ). n < 16777216) (sym holds.stamps.version) few;
+}
+
+-- what was tried and how much room there is are no part of what stands for the state
+pub holds_tried : (s : Setting) (old new : HeldState) (state : BoardState) → Tries old new → Holds s old state → Holds s new state
+holds_tried s old new state tries holds = subst (λ (h : HeldState). Holds s h state) (sym tries) (record {
+  policy = holds.policy;
+  compiled = holds.compiled;
+  sizes = record { customers = holds.sizes.customers; vehicles = holds.sizes.vehicles };
+  customers = holds.customers;
+  routes = holds.routes;
+  stamps = holds.stamps;
+  pins = holds.pins;
+  cache = holds.cache;
+})
+
+-- the same journal and turns over what is held of the same state
+pub kept_same : (s : Setting) (old new : CoreState) → IsKept s old → new.journal ≡ old.journal → new.turns ≡ old.turns → Tries old.held new.held → IsKept s new
+kept_same s old new kept journal turns tries =
+    let same : new ≡ record old { held = new.held; room = new.room } = λ i. record { held = new.held; journal = journal i; turns = turns i; room = new.room } in
+    subst (λ (c : CoreState). IsKept s c) (sym same) (record {
+      legal = kept.legal;
+      held = holds_tried s old.held new.held (state_after s old.journal) tries kept.held;
+      full = kept.full;
+      turns = kept.turns;
+      some_desk = kept.some_desk;
+      few_desks = kept.few_desks;
+    })
+
+-- one entry more
+pub kept_after : (s : Setting) (core new : CoreState) (e : Entry)
+    → ((o : Opening) (es : List Entry) (x : Entry) → IsLegal (record { opening = o; entries = es }) → IsNext o es x → IsLegal (record { opening = o; entries = es ++ x ∷ [] }))
+    → ((t : Setting) (es : List Entry) (x : Entry) → state_after t (es ++ x ∷ []) ≡ after (state_after t es) x.call x.reply)
+    → ((desk : ℕ) (es : List Entry) (x : Entry) → turns_of desk (es ++ x ∷ []) ≡ turns_of desk es + (if x.desk == desk then 1 else 0))
+    → IsKept s core → length core.journal < s.max_events → IsNext (record { setting = s; desks = length core.turns }) core.journal e
+    → new.journal ≡ core.journal ++ e ∷ [] → new.turns ≡ slice_set core.turns (e.desk - 1) e.turn
+    → Holds s new.held (after (state_after s core.journal) e.call e.reply) → IsKept s new
+kept_after s core new e legal_more state_more turns_more kept space next journal turns holds =
+    let o : Opening = record { setting = s; desks = length core.turns } in
+    let same_desks : length new.turns ≡ length core.turns = ap length turns ∙ length-set core.turns (e.desk - 1) e.turn in
+    let low = next.desk_low in
+    let high = next.desk_high in
+    record {
+      legal = subst (λ (n : ℕ). IsLegal (record { opening = record { setting = s; desks = n }; entries = new.journal })) (sym same_desks)
+          (subst (λ (es : List Entry). IsLegal (record { opening = o; entries = es })) (sym journal) (legal_more o core.journal e kept.legal next));
+      held = subst (λ (x : BoardState). Holds s new.held x) (sym (ap (state_after s) journal ∙ state_more s core.journal e)) holds;
+      full = omega (arith, ap length journal, length-append core.journal (e ∷ []));
+      turns = λ desk from to.
+          let there : desk ≤ length core.turns = omega arith in
+          let old : slice_index core.turns (desk - 1) ≡ turns_of desk core.journal = kept.turns desk from there in
+          let count : turns_of desk new.journal ≡ turns_of desk core.journal + cond (e.desk == desk) 1 0 = ap (turns_of desk) journal ∙ turns_more desk core.journal e in
+          let row : slice_index new.turns (desk - 1) ≡ slice_index (slice_set core.turns (e.desk - 1) e.turn) (desk - 1) = ap (λ xs. slice_index xs (desk - 1)) turns in
+          elim (cases_eq desk e.desk) [
+            | inl same ↦
+                let within : e.desk - 1 < length core.turns = omega arith in
+                let here : slice_index (slice_set core.turns (e.desk - 1) e.turn) (desk - 1) ≡ e.turn =
+                ap (λ n. slice_index (slice_set core.turns (e.desk - 1) e.turn) (n - 1)) same ∙ get_or-set_same core.turns (e.desk - 1) e.turn 0 within in
+                let one : (let n : ℕ = cond (e.desk == desk) 1 0 in n ≡ 1) = ap (λ b. cond b 1 0) (eq-eqb e.desk desk (sym same)) in
+                row ∙ (here ∙ (next.turn ∙ (ap (λ n. turns_of n core.journal + 1) (sym same) ∙ (ap (λ n. turns_of desk core.journal + n) (sym one) ∙ sym count))))
+            | inr other ↦
+                let apart : (desk - 1 ≡ e.desk - 1) → ⊥ = λ h. other (omega (arith, h)) in
+                let here : slice_index (slice_set core.turns (e.desk - 1) e.turn) (desk - 1) ≡ slice_index core.turns (desk - 1) =
+                get_or-set_other core.turns (e.desk - 1) (desk - 1) e.turn 0 apart in
+                let none : (let n : ℕ = cond (e.desk == desk) 1 0 in n ≡ 0) = ap (λ b. cond b 1 0) (ne_eqb e.desk desk (λ h. other (sym h))) in
+                row ∙ (here ∙ (old ∙ (sym (omega (arith, none)) ∙ sym count)))
+          ];
+      some_desk = subst (λ (n : ℕ). 1 ≤ n) (sym same_desks) kept.some_desk;
+      few_desks = subst (λ (n : ℕ). n ≤ 64) (sym same_desks) kept.few_desks;
+    }
+
+-- an event that has its turn
+pub turn_due : (n : ℕ) (es : List Entry) (desk turn : ℕ) → is_turn n es desk turn ≡ true → (1 ≤ desk) × (desk ≤ n) × (turn ≡ turns_of desk es + 1)
+turn_due n es desk turn h =
+    let one = and_parts _ _ h in
+    let two = and_parts _ _ one.0 in
+    (leb-true 1 desk two.0, leb-true desk n two.1, eqb-true turn (turns_of desk es + 1) one.1)

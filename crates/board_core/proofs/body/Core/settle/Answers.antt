@@ -1,0 +1,28 @@
+use Rattle.std.proofs.Common.{◌≡◌, ◌<◌, ◌-◌, ◌++◌, ◌∷◌, [], length, sym, ap, subst, ◌∙◌}
+use Rattle.std.specs.Prelude.{slice_set}
+use Rattle.board_rules.specs.declared.call.Entry.{Entry}
+use Rattle.board_rules.specs.History.{state_after, IsNext}
+use Rattle.board_rules.specs.Step.{after}
+use Rattle.board_state.specs.Changes.{WillHold}
+use Rattle.board_core.specs.Kept.{CoreState, history_of}
+use Rattle.board_core.specs.Prepared.{PreparedState, Makes}
+use Rattle.board_core.proofs.Keeping.{kept_after}
+use Rattle.board_core.proofs.body.Core.settle.Goals as goal
+
+pub returns-clause-kept : goal.returns-clause-kept
+returns-clause-kept c s kept makes =
+    let core = c.args.self.now in
+    let i = c.prepared.inside in
+    let e : Entry = record { desk = i.desk; turn = i.turn; call = i.call; reply = i.judged.reply } in
+    let p : PreparedState = record { of = i.of.value; entry = e; judged = i.judged } in
+    let of = ap (λ (q : PreparedState). q.of) c.prepared.view_is ∙ c.requires in
+    let made : Makes s p = subst (λ (q : PreparedState). Makes s q) (sym c.prepared.view_is) makes in
+    let will = subst (λ (x : CoreState). WillHold s x.held i.judged.change (after (state_after s x.journal) e.call e.reply)) of made.will in
+    let held = subst (λ (x : CoreState). WillHold s x.held i.judged.change (after (state_after s core.journal) e.call e.reply)) (sym c.self.view_is) will in
+    kept_after s core _ e c.histories_grow_by_entries.ensures.legal c.histories_grow_by_entries.ensures.state c.histories_grow_by_entries.ensures.turns kept
+    (subst (λ (x : CoreState). length x.journal < s.max_events) of made.space)
+    (subst (λ (x : CoreState). IsNext (history_of s x).opening x.journal e) of made.next)
+    (c.record.ensures ∙ ap (λ r. c.self.inside.journal.items ++ record { desk = i.desk; turn = i.turn; call = i.call; reply = r } ∷ []) c.settle-reply.ensures.reply
+    ∙ ap (λ (x : CoreState). x.journal ++ e ∷ []) c.self.view_is)
+    (ap (λ (x : CoreState). slice_set x.turns (i.desk - 1) i.turn) c.self.view_is)
+    (c.settle-reply.ensures.holds s (after (state_after s core.journal) e.call e.reply) held)

@@ -1,0 +1,32 @@
+-- What a board's core holds, and what it keeps of its history.
+use Rattle.std.specs.Prelude.{◌≡◌, ℕ, ◌-◌, ◌≤◌, List, length, slice_index}
+use Rattle.dimension_core.specs.Setting.{Setting}
+use Rattle.board_rules.specs.declared.call.Entry.{Entry}
+use Rattle.board_rules.specs.declared.call.Event.{Event}
+use Rattle.board_rules.specs.declared.reply.Reply.{Reply}
+use Rattle.board_rules.specs.History.{History, state_after, turns_of, IsLegal}
+use Rattle.board_state.specs.Held.{HeldState, Holds}
+
+-- the core as contracts see it: what it holds, the journal, each desk's last turn, and for how many entries more there is room
+pub record CoreState : Type 0 where
+  pub held : HeldState
+  pub journal : List Entry
+  pub turns : List ℕ
+  pub room : ℕ
+
+-- the history of a core that was opened with these numbers, tables and dimensions
+abbrev pub history_of : Setting → CoreState → History
+history_of s core = record { opening = record { setting = s; desks = length core.turns }; entries = core.journal }
+
+-- The core's history is legal, what it holds stands for the state after it, and its rows have the numbers of its entries.
+pub record IsKept (s : Setting) (core : CoreState) : Type 0 where
+  pub legal : IsLegal (history_of s core)
+  pub held : Holds s core.held (state_after s core.journal)
+  pub full : length core.journal ≤ s.max_events
+  pub turns : (desk : ℕ) → 1 ≤ desk → desk ≤ length core.turns → slice_index core.turns (desk - 1) ≡ turns_of desk core.journal
+  pub some_desk : 1 ≤ length core.turns
+  pub few_desks : length core.turns ≤ 64
+
+-- the entry of an event that got this reply
+abbrev pub entry_of : Event → Reply → Entry
+entry_of event reply = record { desk = event.desk; turn = event.turn; call = event.call; reply = reply }

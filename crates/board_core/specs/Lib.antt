@@ -1,0 +1,14 @@
+pub use Rattle.board_rules.specs.Policies
+pub use Rattle.board_rules.specs.State
+pub use Rattle.board_rules.specs.Rules
+pub use Rattle.board_rules.specs.Pinning
+pub use Rattle.board_rules.specs.Step
+pub use Rattle.board_rules.specs.History
+pub use Rattle.board_rules.specs.Listing
+pub use Rattle.board_rules.specs.Delta
+pub use Rattle.board_rules.specs.Questions
+pub use Rattle.board_rules.specs.Good
+pub mod Kept
+pub mod Alone
+pub mod Prepared
+pub mod Boards

@@ -1,0 +1,79 @@
+//! A board: a setup and the core that was opened with it.
+ghost use Rattle.std.specs.Prelude.{◌≡◌, ◌≤◌, ◌↔◌, ◌∷◌, ◌++◌, [], true, false, length, IfOk, OnErr, IsErrOf};
+ghost use Rattle.dimension_core.specs.Setup.{setting};
+ghost use Rattle.board_core.specs.Kept.{IsKept, entry_of};
+ghost use Rattle.board_core.specs.Alone.{IsKept-prop};
+ghost use Rattle.board_rules.specs.declared.reply.Fault.{Fault};
+ghost use Rattle.board_rules.specs.Good.{state_of};
+ghost use Rattle.board_rules.specs.History.{is_turn, IsLegal};
+ghost use Rattle.board_rules.specs.Questions.{check_of};
+ghost use Rattle.board_state.specs.Work.{WorksAtMost, call_asks, call_probes, reply_asks};
+
+use crate::body::Core;
+use board_rules::{Entry, Event, Fault, Reply};
+use callback_store::Meter;
+use dimension_core::Setup;
+use rbac_core::{Object, Operation};
+use std::alloc::{AllocError, Global};
+use std::sync::Arc;
+
+/// A setup and the core that was opened with it. A crate above takes the two apart, and lends the setup to the core.
+#[derive(Drop)]
+pub struct Board {
+    pub setup: Arc<Setup>,
+    pub core: Core,
+    ghost kept: { IsKept (setting setup.value) core } by { IsKept-prop _ _ },
+}
+
+impl Board {
+    ghost use Rattle.board_core.specs.Boards.{history};
+
+    /// Judges an event, and journals it with its reply. Faults, in order: `OutOfTurn`, where there is no such desk or the turn is not the
+    /// desk's last plus one; `Full`, where the journal holds the setup's greatest number of events; `NoMemory`. A faulted event is not
+    /// journaled, and the history stays as it is.
+    pub fn apply(&mut self, event: Event, meter: &mut Meter) -> Result<Reply, Fault>
+        ensures ok { IfOk result (λ reply. (history self.new).entries ≡ (history self.old).entries ++ entry_of event reply ∷ []) }
+        ensures opening { (history self.new).opening ≡ (history self.old).opening }
+        ensures out_of_turn { IsErrOf result Fault.OutOfTurn ↔ (is_turn (history self.old).opening.desks (history self.old).entries event.desk event.turn ≡ false) }
+        ensures full { IsErrOf result Fault.Full ↔ ((is_turn (history self.old).opening.desks (history self.old).entries event.desk event.turn ≡ true) × (length (history self.old).entries ≡ (history self.old).opening.setting.max_events)) }
+        ensures err { OnErr result (history self.new ≡ history self.old) }
+        ensures legal { IsLegal (history self.new) }
+        ensures work { IfOk result (λ reply. WorksAtMost meter.old meter.new
+            (reply_asks (call_asks (history self.old).opening.setting (state_of (history self.old)).routes event.call) reply)
+            (call_probes (state_of (history self.old)).pins (state_of (history self.old)).routes event.call)) }
+        ensures most { WorksAtMost meter.old meter.new
+            (call_asks (history self.old).opening.setting (state_of (history self.old)).routes event.call)
+            (call_probes (state_of (history self.old)).pins (state_of (history self.old)).routes event.call) }
+    {
+        self.core.apply(&self.setup, event, meter)
+    }
+
+    /// How many commits there were.
+    pub fn version(&self) -> u32
+        ensures version { result ≡ length (state_of (history self.now)).commits }
+        ensures legal { IsLegal (history self.now) }
+    {
+        self.core.version()
+    }
+
+    /// CheckAccess: false for a session or an object that is not there.
+    pub fn check(&self, session: u32, operation: Operation, object: Object) -> bool
+        ensures { result ≡ check_of (state_of (history self.now)) session operation object }
+    {
+        self.core.check(session, operation, object)
+    }
+
+    /// How many entries the journal has.
+    pub fn events(&self) -> usize
+        ensures { result ≡ length (history self.now).entries }
+    {
+        self.core.events()
+    }
+
+    /// The setup.
+    pub fn setup(&self) -> &Arc<Setup>
+        ensures { setting result.now.value ≡ (history self.now).opening.setting }
+    {
+        &self.setup
+    }
+}

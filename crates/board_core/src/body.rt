@@ -1,0 +1,229 @@
+//! The data of a board: what is held of its state, its journal and the turns of its desks.
+ghost use Rattle.std.specs.Prelude.{◌≡◌, ◌≤◌, ◌<◌, ◌↔◌, ℕ, ◌∷◌, ◌++◌, [], true, false, length, vec_len, vec_capacity, IfOk, OnErr, IsErrOf};
+ghost use Rattle.dimension_core.specs.Setup.{setting};
+ghost use Rattle.dimension_core.specs.Setting.{Setting};
+ghost use Rattle.board_rules.specs.declared.reply.Fault.{Fault};
+ghost use Rattle.board_rules.specs.History.{is_turn, state_after, turns_of};
+ghost use Rattle.board_rules.specs.Questions.{check_of};
+ghost use Rattle.board_state.specs.Work.{WorksAtMost, call_asks, call_probes, reply_asks};
+ghost use Rattle.board_core.specs.Kept.{IsKept, history_of, entry_of};
+ghost use Rattle.board_core.specs.Prepared.{Makes};
+
+use crate::prepared::Prepared;
+use board_rules::{
+    Call, Entry, Event, Fault, Reply, histories_grow_by_entries, legal_histories_leave_good_states,
+};
+use board_state::State;
+use callback_store::Meter;
+use dimension_core::Setup;
+use rbac_core::{Object, Operation};
+use std::alloc::{AllocError, Global};
+use std::marker::Model;
+use std::snapshot::Snapshot;
+
+/// All of a board but its setup, which is lent to each call.
+#[derive(Drop)]
+pub struct Core {
+    state: State,
+    journal: Vec<Entry>,
+    turns: Vec<u32>,
+}
+
+impl Model for Core {
+    ghost use Rattle.std.specs.Prelude.{◌-◌, length, vec_capacity};
+    ghost use Rattle.board_core.specs.Kept.{CoreState};
+
+    ghost Value = { CoreState };
+
+    ghost view = { λ a. record { held = a.state; journal = a.journal.items; turns = a.turns.items; room = vec_capacity a.journal - length a.journal.items } };
+}
+
+impl Core {
+    /// The journal: each call that was answered, in order, with its reply.
+    pub fn journal(&self) -> &[Entry]
+        ensures { result.now ≡ self.now.journal }
+    {
+        self.journal.as_slice()
+    }
+
+    /// Whether the desk is there and the turn is its last plus one.
+    fn is_turn(&self, desk: u32, turn: u32) -> bool
+        ensures { (s : Setting) → IsKept s self.now → result ≡ is_turn (length self.now.turns) self.now.journal desk turn }
+    {
+        if desk == 0 || desk as usize > self.turns.len() {
+            return false;
+        }
+        let last = self.turns[desk as usize - 1];
+        u64::from(turn) == u64::from(last) + 1
+    }
+
+    /// Judges an event, with every growth that it needs. Faults, in order: `OutOfTurn`, `Full`, `NoMemory`. Nothing that the history
+    /// tells changes.
+    pub fn prepare(
+        &mut self,
+        setup: &Setup,
+        event: Event,
+        meter: &mut Meter,
+    ) -> Result<Prepared, Fault>
+        requires { IsKept (setting setup.now) self.old }
+        ensures kept { IsKept (setting setup.now) self.new }
+        ensures journal { self.new.journal ≡ self.old.journal }
+        ensures turns { self.new.turns ≡ self.old.turns }
+        ensures of { IfOk result (λ prepared. prepared.of ≡ self.new) }
+        ensures entry { IfOk result (λ prepared. prepared.entry ≡ entry_of event prepared.entry.reply) }
+        ensures makes { IfOk result (Makes (setting setup.now)) }
+        ensures out_of_turn { IsErrOf result Fault.OutOfTurn ↔ (is_turn (length self.old.turns) self.old.journal event.desk event.turn ≡ false) }
+        ensures full { IsErrOf result Fault.Full ↔ ((is_turn (length self.old.turns) self.old.journal event.desk event.turn ≡ true) × (length self.old.journal ≡ (setting setup.now).max_events)) }
+        ensures work { IfOk result (λ prepared. WorksAtMost meter.old meter.new
+            (reply_asks (call_asks (setting setup.now) (state_after (setting setup.now) self.old.journal).routes event.call) prepared.entry.reply)
+            (call_probes (state_after (setting setup.now) self.old.journal).pins (state_after (setting setup.now) self.old.journal).routes event.call)) }
+        ensures most { WorksAtMost meter.old meter.new
+            (call_asks (setting setup.now) (state_after (setting setup.now) self.old.journal).routes event.call)
+            (call_probes (state_after (setting setup.now) self.old.journal).pins (state_after (setting setup.now) self.old.journal).routes event.call) }
+    {
+        if !self.is_turn(event.desk, event.turn) {
+            return Err(Fault::OutOfTurn);
+        }
+        if self.journal.len() >= setup.max_events() as usize {
+            return Err(Fault::Full);
+        }
+        match self.judge(setup, event, meter) {
+            Ok(prepared) => Ok(prepared),
+            Err(_) => Err(Fault::NoMemory),
+        }
+    }
+
+    /// Judges an event that has its turn, where the journal may have one entry more.
+    fn judge(
+        &mut self,
+        setup: &Setup,
+        event: Event,
+        meter: &mut Meter,
+    ) -> Result<Prepared, AllocError>
+        requires kept { IsKept (setting setup.now) self.old }
+        requires turn { is_turn (length self.old.turns) self.old.journal event.desk event.turn ≡ true }
+        requires space { length self.old.journal < (setting setup.now).max_events }
+        ensures kept { IsKept (setting setup.now) self.new }
+        ensures journal { self.new.journal ≡ self.old.journal }
+        ensures turns { self.new.turns ≡ self.old.turns }
+        ensures of { IfOk result (λ prepared. prepared.of ≡ self.new) }
+        ensures entry { IfOk result (λ prepared. prepared.entry ≡ entry_of event prepared.entry.reply) }
+        ensures makes { IfOk result (Makes (setting setup.now)) }
+        ensures work { IfOk result (λ prepared. WorksAtMost meter.old meter.new
+            (reply_asks (call_asks (setting setup.now) (state_after (setting setup.now) self.old.journal).routes event.call) prepared.entry.reply)
+            (call_probes (state_after (setting setup.now) self.old.journal).pins (state_after (setting setup.now) self.old.journal).routes event.call)) }
+        ensures most { WorksAtMost meter.old meter.new
+            (call_asks (setting setup.now) (state_after (setting setup.now) self.old.journal).routes event.call)
+            (call_probes (state_after (setting setup.now) self.old.journal).pins (state_after (setting setup.now) self.old.journal).routes event.call) }
+    {
+        legal_histories_leave_good_states();
+        let _few = setup.max_events();
+        let alloc = *self.journal.allocator();
+        self.journal.reserve(1)?;
+        let judged = self.state.prepare(alloc, setup, &event.call, meter)?;
+        let Event { desk, turn, call } = event;
+        Ok(Prepared {
+            of: Snapshot::of(self),
+            desk,
+            turn,
+            call,
+            judged,
+        })
+    }
+
+    /// Puts a judged event in place: it is journaled with its reply. The caller owes that nothing was put in place since it was judged. No
+    /// memory is taken.
+    pub fn settle(&mut self, prepared: Prepared) -> Reply
+        requires { prepared.of ≡ self.old }
+        ensures journal { self.new.journal ≡ self.old.journal ++ prepared.entry ∷ [] }
+        ensures desks { length self.new.turns ≡ length self.old.turns }
+        ensures kept { (s : Setting) → IsKept s self.old → Makes s prepared → IsKept s self.new }
+        ensures reply { result ≡ prepared.entry.reply }
+    {
+        histories_grow_by_entries();
+        let Prepared {
+            of: _,
+            desk,
+            turn,
+            call,
+            judged,
+        } = prepared;
+        let reply = self.state.settle(judged);
+        self.turns[desk as usize - 1] = turn;
+        let answer = copy_of(&reply);
+        record(&mut self.journal, desk, turn, call, reply);
+        answer
+    }
+
+    /// Judges an event, and journals it with its reply: `prepare`, and then `settle`.
+    pub fn apply(&mut self, setup: &Setup, event: Event, meter: &mut Meter) -> Result<Reply, Fault>
+        requires { IsKept (setting setup.now) self.old }
+        ensures kept { IsKept (setting setup.now) self.new }
+        ensures ok { IfOk result (λ reply. self.new.journal ≡ self.old.journal ++ entry_of event reply ∷ []) }
+        ensures desks { length self.new.turns ≡ length self.old.turns }
+        ensures err { OnErr result (self.new.journal ≡ self.old.journal) }
+        ensures out_of_turn { IsErrOf result Fault.OutOfTurn ↔ (is_turn (length self.old.turns) self.old.journal event.desk event.turn ≡ false) }
+        ensures full { IsErrOf result Fault.Full ↔ ((is_turn (length self.old.turns) self.old.journal event.desk event.turn ≡ true) × (length self.old.journal ≡ (setting setup.now).max_events)) }
+        ensures work { IfOk result (λ reply. WorksAtMost meter.old meter.new
+            (reply_asks (call_asks (setting setup.now) (state_after (setting setup.now) self.old.journal).routes event.call) reply)
+            (call_probes (state_after (setting setup.now) self.old.journal).pins (state_after (setting setup.now) self.old.journal).routes event.call)) }
+        ensures most { WorksAtMost meter.old meter.new
+            (call_asks (setting setup.now) (state_after (setting setup.now) self.old.journal).routes event.call)
+            (call_probes (state_after (setting setup.now) self.old.journal).pins (state_after (setting setup.now) self.old.journal).routes event.call) }
+    {
+        match self.prepare(setup, event, meter) {
+            Ok(prepared) => Ok(self.settle(prepared)),
+            Err(fault) => Err(fault),
+        }
+    }
+
+    /// How many commits there were.
+    pub fn version(&self) -> u32
+        ensures { (s : Setting) → IsKept s self.now → result ≡ length (state_after s self.now.journal).commits }
+    {
+        self.state.plan().version()
+    }
+
+    /// CheckAccess: false for a session or an object that is not there.
+    pub fn check(&self, session: u32, operation: Operation, object: Object) -> bool
+        ensures { (s : Setting) → IsKept s self.now → result ≡ check_of (state_after s self.now.journal) session operation object }
+    {
+        self.state.check(session, operation, object)
+    }
+
+    /// The desk's last turn, 0 before its first.
+    pub fn turns(&self, desk: u32) -> u32
+        requires low { 1 ≤ desk }
+        requires high { desk ≤ length self.now.turns }
+        ensures { (s : Setting) → IsKept s self.now → result ≡ turns_of desk self.now.journal }
+    {
+        self.turns[desk as usize - 1]
+    }
+
+    /// How many entries the journal has.
+    pub fn events(&self) -> usize
+        ensures { result ≡ length self.now.journal }
+    {
+        self.journal.len()
+    }
+}
+
+/// Puts an entry at the end, where there is room for it.
+fn record(journal: &mut Vec<Entry>, desk: u32, turn: u32, call: Call, reply: Reply)
+    requires { vec_len journal.old < vec_capacity journal.old }
+    ensures { journal.new.items ≡ journal.old.items ++ record { desk = desk; turn = turn; call = call; reply = reply } ∷ [] }
+{
+    journal.push_reserved(Entry {
+        desk,
+        turn,
+        call,
+        reply,
+    });
+}
+
+/// The same reply.
+fn copy_of(reply: &Reply) -> Reply
+    ensures { result ≡ reply.now }
+{
+    *reply
+}

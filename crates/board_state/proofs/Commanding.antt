@@ -1,0 +1,74 @@
+-- Policy commands: what the compiled permissions and the spare policy say of the step.
+use Rattle.std.proofs.Common.{◌≡◌, ℕ, ◌↔◌, Bool, true, false, Option, Some, None, Ok, Err, refl, sym, ap, ◌∙◌, subst}
+use Rattle.std.specs.Option.{option_or}
+use Rattle.std.proofs.Math.Logic.{∥∥₁_elim}
+use Rattle.std.proofs.Math.Bool.{Bool-set}
+use Rattle.permission_core.specs.declared.objects.Operation.{Operation}
+use Rattle.permission_core.specs.declared.objects.Operation.TheVariants as operations
+use Rattle.permission_core.specs.declared.objects.Object.{Object}
+use Rattle.permission_core.specs.declared.objects.Object.TheVariants as objects
+use Rattle.policy_core.specs.State.{PolicyState}
+use Rattle.policy_core.specs.Access.{has_access}
+use Rattle.policy_core.specs.Commands.{Says}
+use Rattle.policy_core.specs.declared.refusal.Refusal.{Refusal}
+use Rattle.policy_core.specs.declared.refusal.Refusal.TheVariants.{NoSession, NoAccess, NoUser, NoRole, NoSet, BadObject, Already, NotThere, NotAuthorized, Cycle, InSet, Number, Ssd, Dsd, Full, NoMemory}
+use Rattle.rbac_core.specs.declared.command.Command.{Command}
+use Rattle.rbac_core.specs.Step.{guard, guard_by, refusal_of, after, outcome_of, step, answered}
+use Rattle.permission_table.specs.Tables.{TablesState, allows}
+use Rattle.permission_table.specs.Compiled.{AreCompiled}
+use Rattle.board_rules.specs.declared.reply.Reply.TheVariants.{Refused}
+use Rattle.board_rules.specs.Policies.{board_refusal, reply_of, policy_reply, policy_after}
+
+-- the tables say what the test says
+pub allows_access : (t : TablesState) (p : PolicyState) → ∥ AreCompiled t p ∥₁ → (session : ℕ) (operation : Operation) (object : Object)
+    → allows t session operation object ≡ has_access p session operation object
+allows_access t p compiled session operation object = ∥∥₁_elim compiled (Bool-set _ _) (λ are. are session operation object)
+
+-- a refusal of the guard, and one of the command
+pub guarded : (p : PolicyState) (session : ℕ) (command : Command) (e : Refusal) → guard p session command ≡ Some e
+    → (policy_reply p session command ≡ Refused (board_refusal e)) × (policy_after p session command ≡ p)
+unfolding policy_reply policy_after step
+guarded p session command e h = (
+  ap (λ o. reply_of (answered p (option_or o (refusal_of p command)) (after p command) (outcome_of p command)).1) h,
+  ap (λ o. (answered p (option_or o (refusal_of p command)) (after p command) (outcome_of p command)).0) h,
+)
+
+pub refused : (p : PolicyState) (session : ℕ) (command : Command) (e : Refusal) → guard p session command ≡ None → refusal_of p command ≡ Some e
+    → (policy_reply p session command ≡ Refused (board_refusal e)) × (policy_after p session command ≡ p)
+unfolding policy_reply policy_after step
+refused p session command e free h = (
+  ap (λ o. reply_of (answered p (option_or o (refusal_of p command)) (after p command) (outcome_of p command)).1) free
+  ∙ ap (λ o. reply_of (answered p o (after p command) (outcome_of p command)).1) h,
+  ap (λ o. (answered p (option_or o (refusal_of p command)) (after p command) (outcome_of p command)).0) free
+  ∙ ap (λ o. (answered p o (after p command) (outcome_of p command)).0) h,
+)
+
+-- a command that is carried out
+pub carried : (p : PolicyState) (session : ℕ) (command : Command) → guard p session command ≡ None → refusal_of p command ≡ None
+    → (policy_reply p session command ≡ reply_of (Ok (outcome_of p command))) × (policy_after p session command ≡ after p command)
+unfolding policy_reply policy_after step
+carried p session command free h = (
+  ap (λ o. reply_of (answered p (option_or o (refusal_of p command)) (after p command) (outcome_of p command)).1) free
+  ∙ ap (λ o. reply_of (answered p o (after p command) (outcome_of p command)).1) h,
+  ap (λ o. (answered p (option_or o (refusal_of p command)) (after p command) (outcome_of p command)).0) free
+  ∙ ap (λ o. (answered p o (after p command) (outcome_of p command)).0) h,
+)
+
+-- every refusal but want of memory is the one that is due
+pub says_other : (e : Refusal) (o : Option Refusal) → Says e o → (e ≡ NoMemory → ⊥) → o ≡ Some e
+says_other NoSession o h other = h
+says_other NoAccess o h other = h
+says_other NoUser o h other = h
+says_other NoRole o h other = h
+says_other NoSet o h other = h
+says_other BadObject o h other = h
+says_other Already o h other = h
+says_other NotThere o h other = h
+says_other NotAuthorized o h other = h
+says_other Cycle o h other = h
+says_other InSet o h other = h
+says_other Number o h other = h
+says_other (Ssd set) o h other = h
+says_other (Dsd set) o h other = h
+says_other Full o h other = h
+says_other NoMemory o h other = absurd (other refl)

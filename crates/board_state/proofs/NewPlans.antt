@@ -1,0 +1,44 @@
+-- New routes that are in bounds keep a plan feasible.
+use Rattle.std.specs.declared.sync.Arc.{Arc}
+use Rattle.std.proofs.Common.{◌≡◌, ℕ, ◌-◌, ◌<◌, ◌≤◌, inl, inr, List, [], ◌∷◌, length, get_or, Some, All, sym, ap, ◌∙◌, subst, arith, length-set}
+use Rattle.std.specs.Prelude.{slice_get, slice_index_or, slice_set}
+use Rattle.std.specs.Option.{option_map}
+use Rattle.std.proofs.lemmas.Option.{slice_get-get_or, slice_get-map}
+use Rattle.std.proofs.lemmas.Bool.{cases_eq}
+use Rattle.std.proofs.lemmas.List.{get_or-set_same, get_or-set_other}
+use Rattle.dimension_core.specs.Setting.{Setting}
+use Rattle.dimension_core.specs.Feasible.{FitsAll, IsFeasible}
+use Rattle.dimension_core.specs.NewRoutes.{AllFit}
+use Rattle.plan_core.specs.Plan.{Changes, IsPlan, AreApart, changes_of, with_routes}
+
+feasible_one : (s : Setting) (routes : List (List ℕ)) (v : ℕ) (r : List ℕ) → length routes ≡ s.vehicles → 1 ≤ v → v ≤ s.vehicles → FitsAll s v r
+    → IsFeasible s routes → IsFeasible s (slice_set routes (v - 1) r)
+feasible_one s routes v r sized low high fits old w wlow whigh = elim (cases_eq w v) [
+  | inl same ↦
+      let below : v - 1 < length routes = omega arith in
+      let e : slice_index_or (slice_set routes (v - 1) r) (w - 1) [] ≡ r =
+      ap (λ (n : ℕ). slice_index_or (slice_set routes (v - 1) r) (n - 1) []) same ∙ get_or-set_same routes (v - 1) r [] below in
+      subst (λ (xs : List ℕ). FitsAll s w xs) (sym e) (subst (λ (n : ℕ). FitsAll s n r) (sym same) fits)
+  | inr other ↦
+      let apart : (w - 1 ≡ v - 1) → ⊥ = λ h. other (omega (arith, h)) in
+      subst (λ (xs : List ℕ). FitsAll s w xs) (sym (get_or-set_other routes (v - 1) (w - 1) r [] apart)) (old w wlow whigh)
+]
+
+pub feasible_all : (s : Setting) (changes : Changes) (routes : List (List ℕ)) → length routes ≡ s.vehicles → AreApart s.vehicles changes → AllFit s changes
+    → IsFeasible s routes → IsFeasible s (with_routes changes routes)
+feasible_all s [] routes sized apart fits old = old
+feasible_all s (c ∷ cs) routes sized apart fits old =
+    feasible_all s cs (slice_set routes (c.0 - 1) c.1) (length-set routes (c.0 - 1) c.1 ∙ sized) apart.3 fits.1
+    (feasible_one s routes c.0 c.1 sized apart.0 apart.1 fits.0 old)
+
+-- new routes that make a plan are no longer than there are customers
+pub short_routes : {Z : Type 0} (customers limit : ℕ) (changes : List (ℕ × Arc (List ℕ) Z)) (routes : List (List ℕ)) → customers ≤ limit → IsPlan customers (with_routes (changes_of changes) routes)
+    → AreApart (length routes) (changes_of changes)
+    → ((n : ℕ) (cs : Changes) (rs : List (List ℕ)) (k : ℕ) (c : ℕ × List ℕ) → IsPlan n (with_routes cs rs) → AreApart (length rs) cs → slice_get cs k ≡ Some c → length c.1 ≤ n)
+    → All (λ c. length c.1.value ≤ limit) changes
+short_routes customers limit changes routes few plan apart law k d below =
+    let c = get_or changes k d in
+    let at : slice_get (changes_of changes) k ≡ Some (c.0, c.1.value) =
+    slice_get-map (λ e. (e.0, e.1.value)) changes k ∙ ap (option_map (λ e. (e.0, e.1.value))) (slice_get-get_or changes k d below) in
+    let short = law customers (changes_of changes) routes k (c.0, c.1.value) plan apart at in
+    omega (arith, short, few)

@@ -1,0 +1,87 @@
+-- Pins that a session may override: what is judged of the touched customers is so of all.
+use Rattle.std.proofs.Common.{◌≡◌, ℕ, zero, suc, ◌+◌, ◌<◌, ◌≤◌, ◌⊎◌, inl, inr, Bool, true, false, List, [], ◌∷◌, ◌++◌, length, drop, get_or, Option, Some, None, refl, sym, ap, subst, ◌∙◌, arith, ⊎_elim}
+use Rattle.std.specs.Prelude.{slice_get, is_some, is_none, if◌then◌else◌}
+use Rattle.std.proofs.lemmas.Bool.{both_ways, cases_order}
+use Rattle.std.proofs.lemmas.List.Sums.{sum_by-drop_more}
+use Rattle.plan_core.specs.declared.touch.Touch.{Touch}
+use Rattle.pin_core.specs.Pins.{PinState, IsHeld, StandsOn, DoPinsHold, pin_of}
+use Rattle.pin_core.specs.Allowed.{IsTouched, AreAllTouched, IsFirstFailing}
+use Rattle.pin_core.specs.Override.{IsPassed, DoPinsPass, IsFirstForbidden, after_commit}
+use Rattle.board_rules.specs.Override.{IsAllowed, DoPinsAllow, IsFirstHeldBack, AreAnswers}
+use Rattle.board_state.specs.Work.{is_leaving, leaving}
+
+-- pins that hold forbid nothing
+pub held_allow : (pins : PinState) (free : ℕ → Bool) (others : List (List ℕ)) → DoPinsHold pins others → DoPinsAllow pins free others
+held_allow pins free others holds c low not_free = holds c low
+
+module _ (pins : PinState) (free : ℕ → Bool) (others : List (List ℕ)) (touched : List Touch) (answers : List Bool)
+    (are : AreAnswers pins free others touched answers) where
+  -- an answer is the session's, unless the customer stays
+  same_answer : (k : ℕ) (t : Touch) (b : Bool) → slice_get touched k ≡ Some t → slice_get answers k ≡ Some b → IsHeld pins others t.customer ⊎ (free t.customer ≡ b)
+  same_answer k t b at answered = ⊎_elim (λ (h : IsHeld pins others t.customer). inl h) (λ (e : slice_get answers k ≡ Some (free t.customer)). inr (let both = sym e ∙ answered in cc)) (are.each k t at)
+
+  passed_allowed : (k : ℕ) (t : Touch) → slice_get touched k ≡ Some t → IsPassed pins others touched answers k → IsAllowed pins free others t.customer
+  passed_allowed k t at passed bound = ⊎_elim
+      (λ (h : IsHeld pins others t.customer). h)
+      (λ (yes : slice_get answers k ≡ Some true). ⊎_elim (λ (h : IsHeld pins others t.customer). h) (λ (e : free t.customer ≡ true). absurd (both_ways (free t.customer) bound e)) (same_answer k t true at yes))
+      (passed t at)
+
+  -- pins that pass allow the new routes
+  pub passed_allow : (routes : List (List ℕ)) → DoPinsHold pins routes → AreAllTouched routes others touched → DoPinsPass pins others touched answers → DoPinsAllow pins free others
+  passed_allow routes holds all passes c low bound v pinned =
+      let stands = holds c low v pinned in
+      ⊎_elim (λ (h : StandsOn others c v). h)
+      (λ (q : IsTouched touched c).
+      let t = q.1.0 in
+      let allowed : IsAllowed pins free others c = subst (λ (x : ℕ). IsAllowed pins free others x) q.1.2 (passed_allowed q.0 t q.1.1 (passes q.0)) in
+      allowed bound v pinned)
+      (all c v stands.0 stands.1)
+
+  -- the first that is forbidden is the first that is held back
+  pub forbidden_held : (t : Touch) → IsFirstForbidden pins others touched answers t → IsFirstHeldBack pins free others touched t
+  forbidden_held t first = (first.k, record {
+    found = first.found;
+    fails = λ allowed. ⊎_elim (λ (h : IsHeld pins others t.customer). first.loose h)
+        (λ (e : free t.customer ≡ false). first.loose (allowed e)) (same_answer first.k t false first.found first.bound);
+    before = λ j y early at. passed_allowed j y at (first.before j early);
+  })
+
+-- a customer that does not stay is leaving
+pub leaves_test : (pins : PinState) (others : List (List ℕ)) (c : ℕ) → ¬ IsHeld pins others c → pin_of (after_commit others pins) c ≡ None → is_leaving pins others c ≡ true
+leaves_test pins others c out gone = split (pin_of pins c) refl
+  where
+    split : (o : Option ℕ) → pin_of pins c ≡ o → is_leaving pins others c ≡ true
+    split None e = absurd (out (λ v h. absurd cc))
+    split (Some v) e = rw (e, gone) refl
+
+-- ---- answers one by one
+
+get_front : {X : Type 0} (xs ys : List X) (k : ℕ) (x : X) → slice_get xs k ≡ Some x → slice_get (xs ++ ys) k ≡ Some x
+get_front [] ys k x h = absurd cc
+get_front (y ∷ xs) ys zero x h = h
+get_front (y ∷ xs) ys (suc k) x h = get_front xs ys k x h
+
+get_end : {X : Type 0} (xs : List X) (y : X) → slice_get (xs ++ y ∷ []) (length xs) ≡ Some y
+get_end [] y = refl
+get_end (x ∷ xs) y = get_end xs y
+
+pub answers_more : (Held : ℕ → Type 0) (may : ℕ → Bool) (touched : List Touch) (free : List Bool) (i : ℕ) (t : Touch) (b : Bool) → length free ≡ i
+    → slice_get touched i ≡ Some t → Held t.customer ⊎ (b ≡ may t.customer)
+    → ((k : ℕ) (u : Touch) → k < i → slice_get touched k ≡ Some u → Held u.customer ⊎ (slice_get free k ≡ Some (may u.customer)))
+    → (k : ℕ) (u : Touch) → k < i + 1 → slice_get touched k ≡ Some u → Held u.customer ⊎ (slice_get (free ++ b ∷ []) k ≡ Some (may u.customer))
+answers_more Held may touched free i t b sized at new before k u low there = elim (cases_order k i) [
+  | inl same ↦
+      let one : t ≡ u = let e : slice_get touched i ≡ Some u = subst (λ (n : ℕ). slice_get touched n ≡ Some u) same there in cc in
+      let last : slice_get (free ++ b ∷ []) k ≡ Some b = subst (λ (n : ℕ). slice_get (free ++ b ∷ []) n ≡ Some b) (sized ∙ sym same) (get_end free b) in
+      subst (λ (x : Touch). Held x.customer ⊎ (slice_get (free ++ b ∷ []) k ≡ Some (may x.customer))) one
+      (⊎_elim (λ (h : Held t.customer). inl h) (λ (e : b ≡ may t.customer). inr (last ∙ ap Some e)) new)
+  | inr q ↦ elim q [
+    | inl early ↦ ⊎_elim (λ (h : Held u.customer). inl h) (λ (e : slice_get free k ≡ Some (may u.customer)). inr (get_front free (b ∷ []) k (may u.customer) e)) (before k u early there)
+    | inr late ↦ absurd (omega (arith, low, late))
+  ]
+]
+
+-- how many are left to leave
+pub leaving_left : (pins : PinState) (others : List (List ℕ)) (touched : List Touch) (i : ℕ) (d : Touch) → i < length touched
+    → leaving pins others (drop i touched) ≡ (if is_leaving pins others (get_or touched i d).customer then 1 else 0) + leaving pins others (drop (i + 1) touched)
+leaving_left pins others touched i d h = sum_by-drop_more _ touched i d h

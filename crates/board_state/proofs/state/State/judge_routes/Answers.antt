@@ -1,0 +1,116 @@
+use Rattle.std.proofs.Common.{◌≡◌, ◌≤◌, ℕ, ◌+◌, ◌⊎◌, List, length, sym, ap, ◌∙◌, subst, arith, All}
+use Rattle.callback_store.specs.Meter.{AsksAtMost}
+use Rattle.dimension_core.specs.Setup.{setting}
+use Rattle.dimension_core.specs.NewRoutes.{AllFit, AllKnown, IsOut}
+use Rattle.plan_core.specs.declared.touch.Touch.{Touch}
+use Rattle.plan_core.specs.Plan.{Changes, changes_of, with_routes, IsPlan, AreChanges}
+use Rattle.pin_core.specs.Pins.{AreFreezesKept, IsHeld}
+use Rattle.pin_core.specs.Allowed.{IsTouched}
+use Rattle.range_cache.specs.Asks.{judge_asks}
+use Rattle.move_core.specs.Moves.{changes_by}
+use Rattle.move_core.specs.Touched.{touched_by}
+use Rattle.board_rules.specs.Override.{DoPinsAllow}
+use Rattle.board_rules.specs.Rules.{may_override, routes_after}
+use Rattle.board_state.specs.Held.{HeldState, held_basis}
+use Rattle.board_state.specs.Verdicts.{IsPinStop, ArePlaceable}
+use Rattle.board_state.specs.Work.{WorksAtMost, leaving}
+use Rattle.board_state.proofs.Proposals.{pin_stop, passes_all, out_of_bounds}
+use Rattle.board_state.proofs.WorkLaws.{wider, then, asks_alone}
+use Rattle.board_state.proofs.state.State.judge_routes.Goals as goal
+
+pub returns-in-Err-clause-stop : goal.returns-in-Err-clause-stop
+returns-in-Err-clause-stop g c =
+    let a = c.args in
+    let held = a.self.now in
+    let changes = ap (λ xs. changes_of xs) c.deref-2.ensures.value ∙ c.in-Ok.ensures.changes in
+    pin_stop (setting a.setup.now) held a.session a.base a.mv.now c.requires.ready c.requires.passes c.in-Ok.ensures.named a.touched.items c.in-Err.stop c.requires.touched
+    (subst (λ (cs : Changes). IsPinStop held.pins (may_override (held_basis held a.session)) held.plan.routes cs a.touched.items c.in-Err.stop) changes
+    (subst (λ (ts : List Touch). IsPinStop held.pins (may_override (held_basis held a.session)) held.plan.routes (changes_of c.deref-2.result.now) ts c.in-Err.stop) c.deref-3.ensures.value c.in-Err.ensures.stop))
+
+pub returns-in-Ok-judge-clause-passes : goal.returns-in-Ok-judge-clause-passes
+returns-in-Ok-judge-clause-passes g c =
+    let a = c.args in
+    let held = a.self.now in
+    let changes = ap (λ xs. changes_of xs) c.deref-2.ensures.value ∙ c.in-Ok.ensures.changes in
+    let judged = ap (λ xs. changes_of xs) c.deref-4.ensures.value ∙ c.in-Ok.ensures.changes in
+    passes_all (setting a.setup.now) held a.session a.base a.mv.now c.requires.ready c.requires.passes c.in-Ok.ensures.named c.deref.result.now c.in-Ok.ensures.placeable
+    (subst (λ (cs : Changes). AreFreezesKept held.pins held.plan.routes (with_routes cs held.plan.routes)) changes c.in_default-judge_pins.ensures.fronts)
+    (subst (λ (cs : Changes). DoPinsAllow held.pins (may_override (held_basis held a.session)) (with_routes cs held.plan.routes)) changes c.in_default-judge_pins.ensures.pins)
+    (subst (λ (cs : Changes). AllFit (setting a.setup.now) cs) judged c.in-Ok-judge.ensures.fits)
+
+pub returns-in-Ok-judge-clause-ready : goal.returns-in-Ok-judge-clause-ready
+returns-in-Ok-judge-clause-ready g c =
+    let a = c.args in
+    let held = a.self.now in
+    let same = sym c.in-Ok.ensures.changes in
+    let placeable = subst (λ (ts : List Touch). ArePlaceable held (changes_by held.plan.routes a.mv.now) ts) c.deref.ensures.value c.in-Ok.ensures.placeable in
+    record {
+      changes = subst (λ (cs : Changes). AreChanges (length held.plan.routes) cs) same placeable.changes;
+      plan = subst (λ (cs : Changes). IsPlan held.plan.customers (with_routes cs held.plan.routes)) same placeable.plan;
+      room = c.requires.ready.room;
+      known = subst (λ (n : ℕ). All (λ t. (1 ≤ t.customer) × (t.customer ≤ n)) a.touched.items) (sym placeable.pinned) placeable.known;
+      touched = subst (λ (cs : Changes). (d : ℕ) → 1 ≤ d → IsHeld held.pins (with_routes cs held.plan.routes) d ⊎ IsTouched a.touched.items d) same
+          (c.pins_after_commits.ensures.touched held.pins held.plan.routes (with_routes (changes_by held.plan.routes a.mv.now) held.plan.routes) a.touched.items placeable.holding placeable.touched);
+      pending = c.in-Ok-judge.ensures.of ∙ ap (λ (h : HeldState). h.cache) c.self.view_is;
+    }
+
+pub returns-in-Err-Bound-clause-stop : goal.returns-in-Err-Bound-clause-stop
+returns-in-Err-Bound-clause-stop g c =
+    let a = c.args in
+    let held = a.self.now in
+    let v = c.in-Err-Bound.vehicle in
+    let d = c.in-Err-Bound.dimension in
+    let changes = ap (λ xs. changes_of xs) c.deref-2.ensures.value ∙ c.in-Ok.ensures.changes in
+    let judged = ap (λ xs. changes_of xs) c.deref-4.ensures.value ∙ c.in-Ok.ensures.changes in
+    let out = rw c.in-Err-Bound.field-0-is at c.in-Err-Bound.ensures.fault in
+    out_of_bounds (setting a.setup.now) held a.session a.base a.mv.now c.requires.ready c.requires.passes c.in-Ok.ensures.named c.deref.result.now c.in-Ok.ensures.placeable
+    (subst (λ (cs : Changes). AreFreezesKept held.pins held.plan.routes (with_routes cs held.plan.routes)) changes c.in_default-judge_pins.ensures.fronts)
+    (subst (λ (cs : Changes). DoPinsAllow held.pins (may_override (held_basis held a.session)) (with_routes cs held.plan.routes)) changes c.in_default-judge_pins.ensures.pins)
+    v d (subst (λ (cs : Changes). IsOut (setting a.setup.now) cs v d) judged out)
+
+pub returns-in-Ok-judge-clause-work : goal.returns-in-Ok-judge-clause-work
+returns-in-Ok-judge-clause-work g c =
+    let a = c.args in
+    let held = a.self.now in
+    let s = setting a.setup.now in
+    let changes = ap (λ xs. changes_of xs) c.deref-2.ensures.value ∙ c.in-Ok.ensures.changes in
+    let judged = ap (λ xs. changes_of xs) c.deref-4.ensures.value ∙ c.in-Ok.ensures.changes in
+    let pins = subst (λ (cs : Changes). WorksAtMost a.meter.now c.judge_pins.new.meter 0 (leaving held.pins (with_routes cs held.plan.routes) a.touched.items)) changes
+        (subst (λ (ts : List Touch). WorksAtMost a.meter.now c.judge_pins.new.meter 0 (leaving held.pins (with_routes (changes_of c.deref-2.result.now) held.plan.routes) ts)) c.deref-3.ensures.value c.judge_pins.ensures.work) in
+    let bounds = subst (λ (cs : Changes). AsksAtMost c.judge_pins.new.meter c.judge.new.meter (judge_asks (length s.dimensions) held.plan.routes cs)) judged
+        (subst (λ (h : HeldState). AsksAtMost c.judge_pins.new.meter c.judge.new.meter (judge_asks (length s.dimensions) h.plan.routes (changes_of c.deref-4.result.now))) c.self.view_is c.judge.ensures.asks) in
+    let touched = subst (λ (ts : List Touch). WorksAtMost a.meter.now c.judge_pins.new.meter 0 (leaving held.pins (routes_after held.plan.routes a.mv.now) ts)) c.requires.touched pins in
+    then _ _ _ 0 (leaving held.pins (routes_after held.plan.routes a.mv.now) (touched_by held.plan.routes a.mv.now)) (judge_asks (length s.dimensions) held.plan.routes (changes_by held.plan.routes a.mv.now)) 0 _ _ touched
+    (asks_alone _ _ _ 0 bounds) (omega arith) (omega arith)
+
+pub returns-in-Err-Bound-clause-work : goal.returns-in-Err-Bound-clause-work
+returns-in-Err-Bound-clause-work g c =
+    let a = c.args in
+    let held = a.self.now in
+    let s = setting a.setup.now in
+    let changes = ap (λ xs. changes_of xs) c.deref-2.ensures.value ∙ c.in-Ok.ensures.changes in
+    let judged = ap (λ xs. changes_of xs) c.deref-4.ensures.value ∙ c.in-Ok.ensures.changes in
+    let pins = subst (λ (cs : Changes). WorksAtMost a.meter.now c.judge_pins.new.meter 0 (leaving held.pins (with_routes cs held.plan.routes) a.touched.items)) changes
+        (subst (λ (ts : List Touch). WorksAtMost a.meter.now c.judge_pins.new.meter 0 (leaving held.pins (with_routes (changes_of c.deref-2.result.now) held.plan.routes) ts)) c.deref-3.ensures.value c.judge_pins.ensures.work) in
+    let bounds = subst (λ (cs : Changes). AsksAtMost c.judge_pins.new.meter c.judge.new.meter (judge_asks (length s.dimensions) held.plan.routes cs)) judged
+        (subst (λ (h : HeldState). AsksAtMost c.judge_pins.new.meter c.judge.new.meter (judge_asks (length s.dimensions) h.plan.routes (changes_of c.deref-4.result.now))) c.self.view_is c.judge.ensures.asks) in
+    let touched = subst (λ (ts : List Touch). WorksAtMost a.meter.now c.judge_pins.new.meter 0 (leaving held.pins (routes_after held.plan.routes a.mv.now) ts)) c.requires.touched pins in
+    then _ _ _ 0 (leaving held.pins (routes_after held.plan.routes a.mv.now) (touched_by held.plan.routes a.mv.now)) (judge_asks (length s.dimensions) held.plan.routes (changes_by held.plan.routes a.mv.now)) 0 _ _ touched
+    (asks_alone _ _ _ 0 bounds) (omega arith) (omega arith)
+
+pub judge-requires-clause-known : goal.judge-requires-clause-known
+judge-requires-clause-known g c =
+    let s = setting c.args.setup.now in
+    let judged = ap (λ xs. changes_of xs) c.deref-4.ensures.value ∙ c.in-Ok.ensures.changes in
+    subst (λ (cs : Changes). AllKnown s cs) (sym judged) (c.in-Ok.ensures.known s c.requires.ready.sized c.requires.ready.customers)
+
+pub returns-in-Err-clause-work : goal.returns-in-Err-clause-work
+returns-in-Err-clause-work g c =
+    let a = c.args in
+    let held = a.self.now in
+    let s = setting a.setup.now in
+    let changes = ap (λ xs. changes_of xs) c.deref-2.ensures.value ∙ c.in-Ok.ensures.changes in
+    let pins = subst (λ (cs : Changes). WorksAtMost a.meter.now c.judge_pins.new.meter 0 (leaving held.pins (with_routes cs held.plan.routes) a.touched.items)) changes
+        (subst (λ (ts : List Touch). WorksAtMost a.meter.now c.judge_pins.new.meter 0 (leaving held.pins (with_routes (changes_of c.deref-2.result.now) held.plan.routes) ts)) c.deref-3.ensures.value c.judge_pins.ensures.work) in
+    let touched = subst (λ (ts : List Touch). WorksAtMost a.meter.now c.judge_pins.new.meter 0 (leaving held.pins (routes_after held.plan.routes a.mv.now) ts)) c.requires.touched pins in
+    wider _ _ 0 (leaving held.pins (routes_after held.plan.routes a.mv.now) (touched_by held.plan.routes a.mv.now)) _ _ touched (omega arith) (omega arith)

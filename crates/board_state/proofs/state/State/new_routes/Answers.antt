@@ -1,0 +1,39 @@
+use Rattle.std.proofs.Common.{◌≡◌, Some, sym, subst, List, All, ◌≤◌}
+use Rattle.plan_core.specs.declared.touch.Touch.{Touch}
+use Rattle.plan_core.specs.Plan.{IsPlan, AreSizes, changes_of, with_routes}
+use Rattle.pin_core.specs.Allowed.{AreAllTouched}
+use Rattle.move_core.specs.Moves.{effect, changes_by}
+use Rattle.board_state.specs.Held.{HeldState}
+use Rattle.board_state.proofs.NewPlans.{short_routes}
+use Rattle.board_state.proofs.state.State.new_routes.Goals as goal
+
+pub returns-in-Ok-clause-placeable : goal.returns-in-Ok-clause-placeable
+returns-in-Ok-clause-placeable c =
+    let held = c.args.self.now in
+    let mv = c.args.mv.now in
+    let changes = changes_by held.plan.routes mv in
+    let plan = subst (λ (h : HeldState). IsPlan h.plan.customers h.plan.routes) c.self.view_is c.customers-sound.ensures.sound in
+    record {
+      pinned = c.requires.pinned;
+      frozen = c.requires.frozen;
+      holding = c.requires.holding;
+      fitting = c.requires.fitting;
+      changes = c.moves_name_vehicles.ensures.changes held.plan.customers held.plan.routes mv changes c.requires.effect;
+      plan = c.moves_keep_plans.ensures.plan held.plan.customers held.plan.routes mv changes plan c.requires.effect;
+      known = subst (λ (ts : List Touch). All (λ t. (1 ≤ t.customer) × (t.customer ≤ held.plan.customers)) ts) (sym c.requires.touched)
+          (c.moves_keep_plans.ensures.known held.plan.customers held.plan.routes mv changes plan c.requires.effect);
+      touched = subst (λ (ts : List Touch). AreAllTouched held.plan.routes (with_routes changes held.plan.routes) ts) (sym c.requires.touched)
+          (λ d v p at. c.moves_keep_the_untouched.ensures.stay held.plan.customers held.plan.routes mv changes d v p c.requires.effect at);
+    }
+
+pub returns-in-Ok-clause-short : goal.returns-in-Ok-clause-short
+returns-in-Ok-clause-short c =
+    let held = c.args.self.now in
+    let mv = c.args.mv.now in
+    let plan = subst (λ (h : HeldState). IsPlan h.plan.customers h.plan.routes) c.self.view_is c.customers-sound.ensures.sound in
+    let sizes = subst (λ (h : HeldState). AreSizes h.plan) c.self.view_is c.customers-sound.ensures.sizes in
+    let effected = subst (λ (h : HeldState). effect h.plan.customers h.plan.routes mv ≡ Some (changes_of c.in-Ok.changes.items)) c.self.view_is c.in-Ok.ensures.ok in
+    short_routes held.plan.customers 1000 c.in-Ok.changes.items held.plan.routes sizes.customers
+    (c.moves_keep_plans.ensures.plan held.plan.customers held.plan.routes mv (changes_of c.in-Ok.changes.items) plan effected)
+    (c.moves_name_vehicles.ensures.changes held.plan.customers held.plan.routes mv (changes_of c.in-Ok.changes.items) effected).apart
+    c.routes_are_known.ensures.new_short

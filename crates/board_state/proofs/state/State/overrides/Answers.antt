@@ -1,0 +1,43 @@
+use Rattle.std.proofs.Common.{rules, ◌≡◌, ℕ, ◌+◌, ◌⊎◌, Bool, List, length, get_or, Some, refl, sym, ap, subst, ◌∙◌, arith, length-append}
+use Rattle.std.specs.Prelude.{slice_get}
+use Rattle.std.proofs.lemmas.Option.{slice_get-get_or, slice_get_within}
+use Rattle.plan_core.specs.declared.touch.Touch.{Touch}
+use Rattle.plan_core.specs.Plan.{changes_of, with_routes}
+use Rattle.pin_core.specs.Pins.{IsHeld}
+use Rattle.permission_table.specs.Tables.{allows}
+use Rattle.permission_core.specs.declared.objects.Operation.TheVariants as operations
+use Rattle.permission_core.specs.declared.objects.Object.TheVariants as objects
+use Rattle.board_state.proofs.Overrides.{answers_more, leaving_left}
+use Rattle.board_state.proofs.state.State.overrides.Goals as goal
+
+pub loop-touch-preserved : goal.loop-touch-preserved
+loop-touch-preserved c =
+    let held = c.args.self.now in
+    let touched = c.args.touched.now in
+    let l = c.loop-touch in
+    let others = with_routes (changes_of c.args.changes.now) held.plan.routes in
+    let d : Touch = record { vehicle = 0; place = 0; customer = 0 } in
+    let left = leaving_left held.pins others touched l.touch-index d c.loop-touch-test.true in
+    let low = l.invariant.probes_low in
+    let high = l.invariant.probes_high in
+    let work = c.may_leave-may.ensures.work in
+    record {
+      walks = work.walks ∙ l.invariant.walks;
+      asks = omega (arith, work.asks_low, work.asks_high, l.invariant.asks);
+      probes_low = omega (arith, work.probes_low);
+      probes_high = omega (arith, work.probes_high, left);
+      sized = search rules;
+      within = omega (arith, c.loop-touch-test.true);
+      each = λ k u low there. subst (λ (free : List Bool). IsHeld held.pins others u.customer ⊎ (slice_get free k ≡ Some (allows held.tables c.args.session operations.Override (objects.Customer u.customer)))) (sym c.in_ok-push.ensures.items)
+          (answers_more (IsHeld held.pins others) (λ x. allows held.tables c.args.session operations.Override (objects.Customer x)) touched l.free.items l.touch-index
+          (get_or touched l.touch-index d) c.may_leave-may.result l.invariant.sized (slice_get-get_or touched l.touch-index d c.loop-touch-test.true)
+          c.may_leave-may.ensures.may l.invariant.each k u low there);
+    }
+
+pub returns-clause-answers : goal.returns-clause-answers
+returns-clause-answers c =
+    let l = c.loop-touch in
+    record {
+      sized = omega (arith, l.invariant.sized, l.invariant.within, c.loop-touch-test.false);
+      each = λ k t at. l.invariant.each k t (let in_list = slice_get_within _ k t at in omega (arith, l.invariant.within, c.loop-touch-test.false)) at;
+    }

@@ -1,0 +1,115 @@
+-- What a judged call changes of what is held.
+use Rattle.std.specs.Prelude.{◌≡◌, ℕ, ◌≤◌, ◌<◌, ◌⊎◌, List, length, Some, None, All}
+use Rattle.dimension_core.specs.Setting.{Setting}
+use Rattle.plan_core.specs.Plan.{PlanState, IsPlan, AreChanges, changes_of, replaced, with_routes}
+use Rattle.plan_core.specs.Commits.{AreStamps}
+use Rattle.pin_core.specs.Pins.{PinState, IsHeld, with_pin, with_front}
+use Rattle.pin_core.specs.Allowed.{IsTouched}
+use Rattle.pin_core.specs.Override.{after_commit}
+use Rattle.range_cache.specs.Cache.{IsCacheOf}
+use Rattle.range_cache.specs.Pending.{AreNewRows}
+use Rattle.rbac_core.specs.Tried.{Tried}
+use Rattle.rbac_core.specs.Step.{refusal_of, after}
+use Rattle.policy_core.specs.State.{PolicyState}
+use Rattle.permission_table.specs.Tables.{TablesState}
+use Rattle.permission_table.specs.Compiled.{AreCompiled, WillBeCompiled, HasSizes}
+use Rattle.board_rules.specs.State.{BoardState}
+use Rattle.board_rules.specs.declared.reply.Reply.{Reply}
+use Rattle.board_state.specs.declared.change.Commit.{Commit}
+use Rattle.board_state.specs.declared.change.Change.{Change}
+use Rattle.board_state.specs.declared.change.Change.TheVariants.{Nothing, Replace, Pin, Unpin, Front, Command}
+use Rattle.board_state.specs.Held.{HeldState}
+
+-- a judged call as contracts see it: what it was judged on, the reply, and what changes
+pub record JudgedState : Type 0 where
+  pub of : HeldState
+  pub reply : Reply
+  pub change : Change
+
+-- the plan, the pins and the policy once the change is in place
+abbrev pub plan_after : PlanState → Change → PlanState
+plan_after plan (Replace commit) = replaced (changes_of commit.changes.items) plan
+plan_after plan _ = plan
+
+abbrev pub pins_after : HeldState → Change → PinState
+pins_after held (Replace commit) = after_commit (with_routes (changes_of commit.changes.items) held.plan.routes) held.pins
+pins_after held (Pin customer vehicle) = with_pin customer (Some vehicle) held.pins
+pins_after held (Unpin customer) = with_pin customer None held.pins
+pins_after held (Front vehicle n) = with_front vehicle n held.pins
+pins_after held _ = held.pins
+
+abbrev pub policy_made : Tried → Change → PolicyState
+policy_made policy (Command rows command) = policy.tried
+policy_made policy _ = policy.now
+
+-- the tables say CheckAccess of the policy once the change is in place
+abbrev pub WillCompile : TablesState → Change → PolicyState → Type 0
+WillCompile tables (Command rows command) p = WillBeCompiled rows p
+WillCompile tables _ p = AreCompiled tables p
+
+-- the kept ranges are those of the routes once the change is in place
+abbrev pub WillKeep : Setting → HeldState → Change → List (List ℕ) → Type 0
+WillKeep s held (Replace commit) routes = IsCacheOf s held.plan.routes held.cache × AreNewRows s (changes_of commit.changes.items) commit.pending.rows
+    × (with_routes (changes_of commit.changes.items) held.plan.routes ≡ routes)
+WillKeep s held _ routes = IsCacheOf s routes held.cache
+
+-- what is held stands for the state once the change is in place
+pub record WillHold (s : Setting) (held : HeldState) (change : Change) (next : BoardState) : Type 0 where
+  pub policy : policy_made held.policy change ≡ next.policy
+  pub compiled : ∥ WillCompile held.tables change next.policy ∥₁
+  pub sizes : HasSizes next.policy held.tables
+  pub customers : held.plan.customers ≡ s.customers
+  pub routes : (plan_after held.plan change).routes ≡ next.routes
+  pub stamps : AreStamps next.commits (plan_after held.plan change)
+  pub pins : pins_after held change ≡ next.pins
+  pub cache : WillKeep s held change next.routes
+
+-- a commit may be put in place
+pub record IsCommittable (held : HeldState) (commit : Commit) : Type 0 where
+  pub changes : AreChanges (length held.plan.routes) (changes_of commit.changes.items)
+  pub plan : IsPlan held.plan.customers (with_routes (changes_of commit.changes.items) held.plan.routes)
+  pub room : held.plan.version < 16777216
+  pub known : All (λ t. (1 ≤ t.customer) × (t.customer ≤ length held.pins.pins)) commit.touched.items
+  pub touched : (c : ℕ) → 1 ≤ c → IsHeld held.pins (with_routes (changes_of commit.changes.items) held.plan.routes) c ⊎ IsTouched commit.touched.items c
+  pub pending : commit.pending.of ≡ held.cache
+
+-- a change may be put in place
+abbrev pub IsSettleable : HeldState → Change → Type 0
+IsSettleable held (Replace commit) = IsCommittable held commit
+IsSettleable held (Pin customer vehicle) = (1 ≤ customer) × (customer ≤ length held.pins.pins)
+IsSettleable held (Unpin customer) = (1 ≤ customer) × (customer ≤ length held.pins.pins)
+IsSettleable held (Front vehicle n) = (1 ≤ vehicle) × (vehicle ≤ length held.pins.fronts)
+IsSettleable held (Command rows command) = (rows.of ≡ held.tables) × (refusal_of held.policy.now command ≡ None) × (held.policy.tried ≡ after held.policy.now command)
+IsSettleable held Nothing = Unit {0}
+
+-- a change is of the pins and frozen lengths alone, if of anything
+abbrev pub IsOfPins : Change → Type 0
+IsOfPins (Replace commit) = ⊥
+IsOfPins (Command rows command) = ⊥
+IsOfPins _ = Unit {0}
+
+-- the change may be put in place, and makes these pins and frozen lengths and nothing else
+pub record PinsWillBe (held : HeldState) (change : Change) (next : PinState) : Type 0 where
+  pub alone : IsOfPins change
+  pub made : pins_after held change ≡ next
+  pub ready : IsSettleable held change
+
+-- the change is of the policy alone, if of anything, and may be put in place
+abbrev pub IsCommandReady : Tried → TablesState → Change → Type 0
+IsCommandReady policy tables (Command rows command) = (rows.of ≡ tables) × (refusal_of policy.now command ≡ None) × (policy.tried ≡ after policy.now command)
+IsCommandReady policy tables Nothing = Unit {0}
+IsCommandReady policy tables _ = ⊥
+
+-- the change may be put in place, and makes this policy with its rows and nothing else
+pub record PolicyWillBe (policy : Tried) (tables : TablesState) (change : Change) (next : PolicyState) : Type 0 where
+  pub ready : IsCommandReady policy tables change
+  pub made : policy_made policy change ≡ next
+  pub compiled : ∥ WillCompile tables change next ∥₁
+  pub sizes : HasSizes next tables
+
+-- nothing is held otherwise, but what was tried on the spare policy, and for how many rows more there is room
+abbrev pub Tries : HeldState → HeldState → Type 0
+Tries old new = new ≡ record old {
+  policy = record { now = old.policy.now; tried = new.policy.tried };
+  tables = record old.tables { room = new.tables.room };
+}

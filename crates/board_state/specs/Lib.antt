@@ -1,0 +1,4 @@
+pub mod Held
+pub mod Work
+pub mod Verdicts
+pub mod Changes

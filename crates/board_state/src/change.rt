@@ -1,0 +1,54 @@
+//! What a judged call changes.
+use board_rules::Reply;
+use permission_table::Rows;
+use plan_core::{Route, Touch};
+use range_cache::Pending;
+use rbac_core::Command;
+use std::marker::Model;
+use std::snapshot::Snapshot;
+use std::sync::Arc;
+
+use crate::state::State;
+
+/// New routes that pass every rule, with the customers that they touch and their ranges.
+#[derive(Drop)]
+pub struct Commit {
+    pub(crate) changes: Vec<(u32, Arc<Route>)>,
+    pub(crate) touched: Vec<Touch>,
+    pub(crate) pending: Pending,
+}
+
+/// What a call changes of what is held.
+#[derive(Drop)]
+pub enum Change {
+    /// The call was denied or refused.
+    Nothing,
+    /// New routes.
+    Replace(Commit),
+    /// The customer is pinned to the vehicle.
+    Pin(u32, u32),
+    /// The customer is pinned no longer.
+    Unpin(u32),
+    /// The vehicle has this frozen length.
+    Front(u32, u32),
+    /// The policy is as this command was tried on it, and these are its rows.
+    Command(Rows, Command),
+}
+
+/// A judged call, for what was held when it was judged.
+#[derive(Drop)]
+pub struct Judged {
+    pub(crate) of: Snapshot<State>,
+    pub(crate) reply: Reply,
+    pub(crate) change: Change,
+}
+
+impl Model for Judged {
+    ghost use Rattle.board_state.specs.Changes.{JudgedState, IsSettleable};
+
+    ghost Value = { JudgedState };
+
+    ghost view = { λ a. record { of = a.of.value; reply = a.reply; change = a.change } };
+
+    ghost invariant = { λ a. IsSettleable a.of.value a.change };
+}

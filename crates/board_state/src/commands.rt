@@ -1,0 +1,152 @@
+//! Policy commands: tried on the spare policy, with the rows of the sessions whose access they change.
+ghost use Rattle.std.specs.Prelude.{◌≡◌, ℕ, Option, None, Some, Ok, IfOk, IfSome};
+ghost use Rattle.policy_core.specs.Commands.{Says};
+ghost use Rattle.policy_core.specs.declared.refusal.Refusal.{Refusal as PolicyRefusal};
+ghost use Rattle.rbac_core.specs.Step.{guard, guard_by, refusal_of, after};
+ghost use Rattle.permission_table.specs.Tables.{allows};
+ghost use Rattle.permission_table.specs.Compiled.{AreCompiled, HasSizes};
+ghost use Rattle.permission_core.specs.declared.objects.Operation.TheVariants as operations;
+ghost use Rattle.permission_core.specs.declared.objects.Object.TheVariants as objects;
+ghost use Rattle.board_rules.specs.Policies.{board_refusal, reply_of, policy_reply, policy_after};
+ghost use Rattle.board_state.specs.Changes.{PolicyWillBe, Tries};
+ghost use Rattle.board_state.specs.Work.{WorksAtMost};
+
+use crate::change::Change;
+use crate::state::State;
+use board_rules::{Refusal, Reply};
+use callback_store::Meter;
+use permission_table::Tables;
+use policy_core::Refusal as PolicyRefusal;
+use rbac_core::{Command, Object, Operation, Outcome, Twin, access_stays, affected, guard_by, sizes_stay};
+use std::alloc::{AllocError, Global};
+
+impl State {
+    /// Why the session may not give the command.
+    fn command_guard(
+        &self,
+        session: u32,
+        command: &Command,
+        meter: &mut Meter,
+    ) -> Option<PolicyRefusal>
+        ensures refused { result ≡ guard_by (allows self.now.tables session operations.Admin objects.Board) self.now.policy.now session command.now }
+        ensures work { WorksAtMost meter.old meter.new 0 1 }
+    {
+        let admin = self.may(session, Operation::Admin, Object::Board, meter);
+        guard_by(self.policy.policy(), session, command, admin)
+    }
+
+    /// Judges a policy command, which is tried on the spare policy.
+    pub(crate) fn judge_command(
+        &mut self,
+        alloc: Global,
+        session: u32,
+        command: &Command,
+        meter: &mut Meter,
+    ) -> Result<(Reply, Change), AllocError>
+        requires compiled { ∥ AreCompiled self.old.tables self.old.policy.now ∥₁ }
+        requires sizes { HasSizes self.old.policy.now self.old.tables }
+        ensures kept { Tries self.old self.new }
+        ensures reply { IfOk result (λ r. r.0 ≡ policy_reply self.old.policy.now session command.now) }
+        ensures change { IfOk result (λ r. PolicyWillBe self.new.policy self.new.tables r.1 (policy_after self.old.policy.now session command.now)) }
+        ensures work { WorksAtMost meter.old meter.new 0 1 }
+    {
+        if let Some(refusal) = self.command_guard(session, command, meter) {
+            return Ok((Reply::Refused(board_refusal(refusal)), Change::Nothing));
+        }
+        try_command(alloc, &mut self.policy, &mut self.tables, command)
+    }
+}
+
+/// Tries a command that the session may give.
+fn try_command(
+    alloc: Global,
+    policy: &mut Twin,
+    tables: &mut Tables,
+    command: &Command,
+) -> Result<(Reply, Change), AllocError>
+    requires compiled { ∥ AreCompiled tables.old policy.old.now ∥₁ }
+    requires sizes { HasSizes policy.old.now tables.old }
+    ensures policy { policy.new.now ≡ policy.old.now }
+    ensures tables { tables.new ≡ record tables.old { room = tables.new.room } }
+    ensures reply { (session : ℕ) → guard policy.old.now session command.now ≡ None → IfOk result (λ r. r.0 ≡ policy_reply policy.old.now session command.now) }
+    ensures change { (session : ℕ) → guard policy.old.now session command.now ≡ None → IfOk result (λ r. PolicyWillBe policy.new tables.new r.1 (policy_after policy.old.now session command.now)) }
+{
+    match policy.prepare(command) {
+        Ok(outcome) => {
+            let change = compile(alloc, policy, tables, command)?;
+            Ok((reply_to(outcome), change))
+        }
+        Err(refusal) => match due_refusal(refusal) {
+            Some(due) => Ok((Reply::Refused(due), Change::Nothing)),
+            None => Err(AllocError),
+        },
+    }
+}
+
+/// The rows of the sessions whose access the tried command changes.
+fn compile(
+    alloc: Global,
+    policy: &Twin,
+    tables: &mut Tables,
+    command: &Command,
+) -> Result<Change, AllocError>
+    requires compiled { ∥ AreCompiled tables.old policy.now.now ∥₁ }
+    requires sizes { HasSizes policy.now.now tables.old }
+    requires allowed { refusal_of policy.now.now command.now ≡ None }
+    requires tried { policy.now.tried ≡ after policy.now.now command.now }
+    ensures tables { tables.new ≡ record tables.old { room = tables.new.room } }
+    ensures change { IfOk result (λ change. PolicyWillBe policy.now tables.new change (after policy.now.now command.now)) }
+{
+    sizes_stay();
+    let old = policy.policy();
+    let new = policy.tried();
+    access_stays(old, command, new);
+    let sessions = affected(alloc, old, command, new)?;
+    let rows = tables.rebuild(new, &sessions)?;
+    let command = command.copy()?;
+    Ok(Change::Command(rows, command))
+}
+
+/// A refusal of the policy as one of the board, unless it is want of memory.
+fn due_refusal(refusal: PolicyRefusal) -> Option<Refusal>
+    ensures due { IfSome result (λ r. (o : Option PolicyRefusal) → Says refusal o → o ≡ Some refusal) }
+    ensures value { IfSome result (λ r. r ≡ board_refusal refusal) }
+{
+    match refusal {
+        PolicyRefusal::NoMemory => None,
+        _ => Some(board_refusal(refusal)),
+    }
+}
+
+/// A refusal of the policy as one of the board.
+fn board_refusal(refusal: PolicyRefusal) -> Refusal
+    ensures { result ≡ board_refusal refusal }
+{
+    match refusal {
+        PolicyRefusal::NoSession => Refusal::NoSession,
+        PolicyRefusal::NoAccess => Refusal::NoAccess,
+        PolicyRefusal::NoUser => Refusal::NoUser,
+        PolicyRefusal::NoRole => Refusal::NoRole,
+        PolicyRefusal::NoSet => Refusal::NoSet,
+        PolicyRefusal::BadObject => Refusal::BadObject,
+        PolicyRefusal::Already => Refusal::Already,
+        PolicyRefusal::NotThere => Refusal::NotThere,
+        PolicyRefusal::NotAuthorized => Refusal::NotAuthorized,
+        PolicyRefusal::Cycle => Refusal::Cycle,
+        PolicyRefusal::InSet => Refusal::InSet,
+        PolicyRefusal::Number => Refusal::Number,
+        PolicyRefusal::Ssd(set) => Refusal::Ssd(set),
+        PolicyRefusal::Dsd(set) => Refusal::Dsd(set),
+        PolicyRefusal::Full | PolicyRefusal::NoMemory => Refusal::Full,
+    }
+}
+
+/// The reply to a command that was carried out.
+fn reply_to(outcome: Outcome) -> Reply
+    ensures { result ≡ reply_of (Ok outcome) }
+{
+    match outcome {
+        Outcome::Done => Reply::Done,
+        Outcome::Session(number) => Reply::Session(number),
+    }
+}

@@ -1,0 +1,17 @@
+//! What is held of a board's state: how a call is judged by it, and how what was judged is put in place.
+#![tactic(auto)]
+
+mod change;
+mod commands;
+mod named;
+mod pinning;
+mod pins;
+mod prepare;
+mod proposal;
+mod rules;
+mod settle;
+mod state;
+mod stop;
+
+pub use change::{Change, Commit, Judged};
+pub use state::State;

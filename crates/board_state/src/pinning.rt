@@ -1,0 +1,179 @@
+//! Pins and freezes: why a call on them is refused.
+ghost use Rattle.std.specs.Prelude.{◌≡◌, ◌≤◌, ℕ, length, IfOk, IfNone, None, Some};
+ghost use Rattle.std.specs.Result.{result_err};
+ghost use Rattle.dimension_core.specs.Setup.{setting};
+ghost use Rattle.pin_core.specs.Pins.{with_pin, with_front};
+ghost use Rattle.board_rules.specs.Pinning.{vehicle_of, pinned, pin_guard, freeze_guard, pin_refusal, unpin_refusal, freeze_refusal, thaw_refusal};
+ghost use Rattle.board_rules.specs.Rules.{is_one_of};
+ghost use Rattle.board_state.specs.Held.{held_basis};
+ghost use Rattle.board_state.specs.Changes.{PinsWillBe};
+ghost use Rattle.board_state.specs.Work.{WorksAtMost};
+
+use crate::change::Change;
+use crate::named::is_one_of;
+use crate::state::State;
+use board_rules::{Refusal, customers_have_one_spot};
+use callback_store::Meter;
+use dimension_core::Setup;
+use rbac_core::{Object, Operation};
+
+impl State {
+    #[tactic(auto, unfolding(board_rules::specs::Pinning::pin_guard))]
+    fn pin_guard(
+        &self,
+        setup: &Setup,
+        session: u32,
+        customer: u32,
+        meter: &mut Meter,
+    ) -> Option<Refusal>
+        ensures refused { result ≡ pin_guard (setting setup.now) (held_basis self.now session) customer }
+        ensures low { IfNone result (1 ≤ customer) }
+        ensures high { IfNone result (customer ≤ (setting setup.now).customers) }
+        ensures work { WorksAtMost meter.old meter.new 0 1 }
+    {
+        if !self.is_session(session) {
+            return Some(Refusal::NoSession);
+        }
+        if !is_one_of(setup.customers(), customer) {
+            return Some(Refusal::BadCustomer);
+        }
+        if !self.may(session, Operation::Pin, Object::Customer(customer), meter) {
+            return Some(Refusal::NoAccess);
+        }
+        None
+    }
+
+    #[tactic(auto, unfolding(board_rules::specs::Pinning::freeze_guard))]
+    fn freeze_guard(
+        &self,
+        setup: &Setup,
+        session: u32,
+        vehicle: u32,
+        meter: &mut Meter,
+    ) -> Option<Refusal>
+        ensures refused { result ≡ freeze_guard (setting setup.now) (held_basis self.now session) vehicle }
+        ensures low { IfNone result (1 ≤ vehicle) }
+        ensures high { IfNone result (vehicle ≤ (setting setup.now).vehicles) }
+        ensures work { WorksAtMost meter.old meter.new 0 1 }
+    {
+        if !self.is_session(session) {
+            return Some(Refusal::NoSession);
+        }
+        if !is_one_of(setup.vehicles(), vehicle) {
+            return Some(Refusal::BadVehicle);
+        }
+        if !self.may(session, Operation::Freeze, Object::Vehicle(vehicle), meter) {
+            return Some(Refusal::NoAccess);
+        }
+        None
+    }
+
+    /// The vehicle on which a customer stands.
+    fn vehicle_of(&self, customer: u32) -> Option<u32>
+        ensures { result ≡ vehicle_of self.now.plan.routes customer }
+    {
+        customers_have_one_spot();
+        match self.plan.place_of(customer) {
+            Some((vehicle, _)) => Some(vehicle),
+            None => None,
+        }
+    }
+
+    /// Judges a pin of a customer to the vehicle on which it stands.
+    #[tactic(auto, unfolding(board_rules::specs::Pinning::pin_refusal))]
+    pub(crate) fn judge_pin(
+        &self,
+        setup: &Setup,
+        session: u32,
+        customer: u32,
+        meter: &mut Meter,
+    ) -> Result<Change, Refusal>
+        requires { length self.now.pins.pins ≡ (setting setup.now).customers }
+        ensures refused { result_err result ≡ pin_refusal (setting setup.now) (held_basis self.now session) customer }
+        ensures change { IfOk result (λ change. PinsWillBe self.now change (pinned self.now.plan.routes customer self.now.pins)) }
+        ensures work { WorksAtMost meter.old meter.new 0 1 }
+    {
+        if let Some(refusal) = self.pin_guard(setup, session, customer, meter) {
+            return Err(refusal);
+        }
+        let Some(vehicle) = self.vehicle_of(customer) else {
+            return Err(Refusal::NotPlaced);
+        };
+        if self.pins.pinned(customer).is_some() {
+            return Err(Refusal::Already);
+        }
+        Ok(Change::Pin(customer, vehicle))
+    }
+
+    /// Judges that a customer be pinned no longer.
+    #[tactic(auto, unfolding(board_rules::specs::Pinning::unpin_refusal))]
+    pub(crate) fn judge_unpin(
+        &self,
+        setup: &Setup,
+        session: u32,
+        customer: u32,
+        meter: &mut Meter,
+    ) -> Result<Change, Refusal>
+        requires { length self.now.pins.pins ≡ (setting setup.now).customers }
+        ensures refused { result_err result ≡ unpin_refusal (setting setup.now) (held_basis self.now session) customer }
+        ensures change { IfOk result (λ change. PinsWillBe self.now change (with_pin customer None self.now.pins)) }
+        ensures work { WorksAtMost meter.old meter.new 0 1 }
+    {
+        if let Some(refusal) = self.pin_guard(setup, session, customer, meter) {
+            return Err(refusal);
+        }
+        if self.pins.pinned(customer).is_none() {
+            return Err(Refusal::NotThere);
+        }
+        Ok(Change::Unpin(customer))
+    }
+
+    /// Judges a longer frozen front.
+    #[tactic(auto, unfolding(board_rules::specs::Pinning::freeze_refusal))]
+    pub(crate) fn judge_freeze(
+        &self,
+        setup: &Setup,
+        session: u32,
+        vehicle: u32,
+        frozen: u32,
+        meter: &mut Meter,
+    ) -> Result<Change, Refusal>
+        requires routes { length self.now.plan.routes ≡ (setting setup.now).vehicles }
+        requires fronts { length self.now.pins.fronts ≡ (setting setup.now).vehicles }
+        ensures refused { result_err result ≡ freeze_refusal (setting setup.now) (held_basis self.now session) vehicle frozen }
+        ensures change { IfOk result (λ change. PinsWillBe self.now change (with_front vehicle frozen self.now.pins)) }
+        ensures work { WorksAtMost meter.old meter.new 0 1 }
+    {
+        if let Some(refusal) = self.freeze_guard(setup, session, vehicle, meter) {
+            return Err(refusal);
+        }
+        if self.pins.frozen(vehicle) >= frozen || frozen as usize > self.plan.route(vehicle).len() {
+            return Err(Refusal::Length);
+        }
+        Ok(Change::Front(vehicle, frozen))
+    }
+
+    /// Judges a shorter frozen front.
+    #[tactic(auto, unfolding(board_rules::specs::Pinning::thaw_refusal))]
+    pub(crate) fn judge_thaw(
+        &self,
+        setup: &Setup,
+        session: u32,
+        vehicle: u32,
+        left: u32,
+        meter: &mut Meter,
+    ) -> Result<Change, Refusal>
+        requires { length self.now.pins.fronts ≡ (setting setup.now).vehicles }
+        ensures refused { result_err result ≡ thaw_refusal (setting setup.now) (held_basis self.now session) vehicle left }
+        ensures change { IfOk result (λ change. PinsWillBe self.now change (with_front vehicle left self.now.pins)) }
+        ensures work { WorksAtMost meter.old meter.new 0 1 }
+    {
+        if let Some(refusal) = self.freeze_guard(setup, session, vehicle, meter) {
+            return Err(refusal);
+        }
+        if self.pins.frozen(vehicle) <= left {
+            return Err(Refusal::Length);
+        }
+        Ok(Change::Front(vehicle, left))
+    }
+}

@@ -1,0 +1,121 @@
+//! The rules on frozen fronts and pins, over new routes.
+ghost use Rattle.std.specs.Prelude.{◌≡◌, ◌≤◌, ◌+◌, ◌⊎◌, ℕ, length, if◌then◌else◌, IfOk, IfErr, OnOk, MatchResult};
+ghost use Rattle.plan_core.specs.Plan.{AreApart, changes_of, with_routes};
+ghost use Rattle.plan_core.specs.Commits.{named_vehicles};
+ghost use Rattle.pin_core.specs.Pins.{IsHeld, DoPinsHold, AreFreezesKept};
+ghost use Rattle.permission_table.specs.Tables.{allows};
+ghost use Rattle.permission_core.specs.declared.objects.Operation.TheVariants as operations;
+ghost use Rattle.permission_core.specs.declared.objects.Object.TheVariants as objects;
+ghost use Rattle.board_rules.specs.Override.{DoPinsAllow, AreAnswers};
+ghost use Rattle.board_rules.specs.Rules.{may_override};
+ghost use Rattle.board_state.specs.Held.{held_basis};
+ghost use Rattle.board_state.specs.Verdicts.{ArePlaceable, IsPinStop};
+ghost use Rattle.board_state.specs.Work.{WorksAtMost, is_leaving, leaving};
+
+use crate::state::State;
+use crate::stop::Stop;
+use board_rules::Denial;
+use callback_store::Meter;
+use pin_core::{PinFault, pins_after_commits};
+use plan_core::{Route, Touch};
+use rbac_core::{Object, Operation};
+use std::alloc::{AllocError, Global};
+use std::sync::Arc;
+
+impl State {
+    /// Whether new routes keep the frozen fronts, and no pin forbids them. Only where a pinned customer would leave its vehicle the
+    /// session is asked for `override`.
+    pub(crate) fn judge_pins(
+        &self,
+        alloc: Global,
+        session: u32,
+        changes: &[(u32, Arc<Route>)],
+        touched: &[Touch],
+        meter: &mut Meter,
+    ) -> Result<(), Stop>
+        requires { ArePlaceable self.now (changes_of changes.now) touched.now }
+        ensures fronts { OnOk result (AreFreezesKept self.now.pins self.now.plan.routes (with_routes (changes_of changes.now) self.now.plan.routes)) }
+        ensures pins { OnOk result (DoPinsAllow self.now.pins (may_override (held_basis self.now session)) (with_routes (changes_of changes.now) self.now.plan.routes)) }
+        ensures stop { IfErr result (IsPinStop self.now.pins (may_override (held_basis self.now session)) self.now.plan.routes (changes_of changes.now) touched.now) }
+        ensures work { WorksAtMost meter.old meter.new 0 (leaving self.now.pins (with_routes (changes_of changes.now) self.now.plan.routes) touched.now) }
+    {
+        match self.pins.allows(&self.plan, changes, touched) {
+            Ok(()) => Ok(()),
+            Err(PinFault::Frozen(vehicle)) => Err(Stop::Denied(Denial::Frozen(vehicle))),
+            Err(PinFault::Pinned(..)) => {
+                self.judge_overrides(alloc, session, changes, touched, meter)
+            }
+        }
+    }
+
+    /// The same, where some pin is overridden or forbids the new routes.
+    fn judge_overrides(
+        &self,
+        alloc: Global,
+        session: u32,
+        changes: &[(u32, Arc<Route>)],
+        touched: &[Touch],
+        meter: &mut Meter,
+    ) -> Result<(), Stop>
+        requires { ArePlaceable self.now (changes_of changes.now) touched.now }
+        ensures fronts { OnOk result (AreFreezesKept self.now.pins self.now.plan.routes (with_routes (changes_of changes.now) self.now.plan.routes)) }
+        ensures pins { OnOk result (DoPinsAllow self.now.pins (may_override (held_basis self.now session)) (with_routes (changes_of changes.now) self.now.plan.routes)) }
+        ensures stop { IfErr result (IsPinStop self.now.pins (may_override (held_basis self.now session)) self.now.plan.routes (changes_of changes.now) touched.now) }
+        ensures work { WorksAtMost meter.old meter.new 0 (leaving self.now.pins (with_routes (changes_of changes.now) self.now.plan.routes) touched.now) }
+    {
+        let Ok(free) = self.overrides(alloc, session, changes, touched, meter) else {
+            return Err(Stop::NoMemory);
+        };
+        match self.pins.allows_with(&self.plan, changes, touched, &free) {
+            Ok(()) => Ok(()),
+            Err(PinFault::Frozen(vehicle)) => Err(Stop::Denied(Denial::Frozen(vehicle))),
+            Err(PinFault::Pinned(vehicle, place)) => {
+                Err(Stop::Denied(Denial::Pinned(vehicle, place)))
+            }
+        }
+    }
+
+    /// For each touched customer that would leave the vehicle to which it is pinned, whether the session may override that.
+    fn overrides(
+        &self,
+        alloc: Global,
+        session: u32,
+        changes: &[(u32, Arc<Route>)],
+        touched: &[Touch],
+        meter: &mut Meter,
+    ) -> Result<Vec<bool>, AllocError>
+        requires { ArePlaceable self.now (changes_of changes.now) touched.now }
+        ensures answers { IfOk result (λ free. AreAnswers self.now.pins (may_override (held_basis self.now session)) (with_routes (changes_of changes.now) self.now.plan.routes) touched.now free.items) }
+        ensures work { WorksAtMost meter.old meter.new 0 (leaving self.now.pins (with_routes (changes_of changes.now) self.now.plan.routes) touched.now) }
+    {
+        let mut free = Vec::new(alloc);
+        for touch in touched {
+            let may = self.may_leave(session, changes, touch.customer, meter);
+            free.push(may)?;
+        }
+        Ok(free)
+    }
+
+    /// Whether a customer would leave the vehicle to which it is pinned, and the session may override that.
+    fn may_leave(
+        &self,
+        session: u32,
+        changes: &[(u32, Arc<Route>)],
+        customer: u32,
+        meter: &mut Meter,
+    ) -> bool
+        requires low { 1 ≤ customer }
+        requires high { customer ≤ length self.now.pins.pins }
+        requires holding { DoPinsHold self.now.pins self.now.plan.routes }
+        requires apart { AreApart (length self.now.plan.routes) (changes_of changes.now) }
+        ensures may { IsHeld self.now.pins (with_routes (changes_of changes.now) self.now.plan.routes) customer
+            ⊎ (result ≡ allows self.now.tables session operations.Override (objects.Customer customer)) }
+        ensures work { WorksAtMost meter.old meter.new 0 (if is_leaving self.now.pins (with_routes (changes_of changes.now) self.now.plan.routes) customer then 1 else 0) }
+    {
+        pins_after_commits();
+        if !self.pins.leaves(&self.plan, changes, customer) {
+            return false;
+        }
+        self.may(session, Operation::Override, Object::Customer(customer), meter)
+    }
+}

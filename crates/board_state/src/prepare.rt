@@ -1,0 +1,142 @@
+//! Calls: judged, with what they change.
+ghost use Rattle.std.specs.Prelude.{◌≡◌, ◌+◌, ◌≤◌, ℕ, length, Some, IfOk, OnOk, MatchResult};
+ghost use Rattle.std.specs.Result.{result_err};
+ghost use Rattle.dimension_core.specs.Setup.{setting};
+ghost use Rattle.move_core.specs.declared.moves.Move.{Move};
+ghost use Rattle.board_rules.specs.State.{BoardState};
+ghost use Rattle.dimension_core.specs.Setting.{Setting};
+ghost use Rattle.board_rules.specs.Rules.{Agree, basis_of};
+ghost use Rattle.board_rules.specs.Step.{IsReply, after, refused_by};
+ghost use Rattle.board_rules.specs.declared.call.Call.TheVariants.{Propose};
+ghost use Rattle.board_state.specs.Held.{Holds, IsReady, held_basis};
+ghost use Rattle.board_state.specs.Changes.{Tries, WillHold, IsSettleable};
+ghost use Rattle.board_state.specs.Work.{WorksAtMost, call_asks, call_probes, reply_asks};
+
+use crate::change::{Change, Judged};
+use crate::state::State;
+use crate::stop::Stop;
+use board_rules::{Call, Refusal, Reply, changes_by_stamps, verdicts_by_agreeing_facts};
+use callback_store::Meter;
+use dimension_core::Setup;
+use move_core::{Move, moves_name_vehicles};
+use plan_core::stamps_by_one_more;
+use std::alloc::{AllocError, Global};
+use std::snapshot::Snapshot;
+
+impl State {
+    /// Judges a call, with every growth that it needs, and changes nothing that a contract sees but what is tried on the spare policy and
+    /// for how many rows there is room.
+    pub fn prepare(
+        &mut self,
+        alloc: Global,
+        setup: &Setup,
+        call: &Call,
+        meter: &mut Meter,
+    ) -> Result<Judged, AllocError>
+        requires { IsReady (setting setup.now) self.old }
+        ensures kept { Tries self.old self.new }
+        ensures of { IfOk result (λ judged. judged.of ≡ self.new) }
+        ensures reply { (state : BoardState) → Holds (setting setup.now) self.old state → IfOk result (λ judged. ∥ IsReply (setting setup.now) state call.now judged.reply ∥₁) }
+        ensures change { (state : BoardState) → Holds (setting setup.now) self.old state → IfOk result (λ judged. WillHold (setting setup.now) self.new judged.change (after state call.now judged.reply)) }
+        ensures work { IfOk result (λ judged. WorksAtMost meter.old meter.new (reply_asks (call_asks (setting setup.now) self.old.plan.routes call.now) judged.reply) (call_probes self.old.pins self.old.plan.routes call.now)) }
+        ensures most { WorksAtMost meter.old meter.new (call_asks (setting setup.now) self.old.plan.routes call.now) (call_probes self.old.pins self.old.plan.routes call.now) }
+    {
+        let (reply, change) = self.judge(alloc, setup, call, meter)?;
+        Ok(Judged {
+            of: Snapshot::of(self),
+            reply,
+            change,
+        })
+    }
+
+    /// A law: what is held answers the rules as the state for which it stands does.
+    fn agrees(&self)
+        ensures { (s : Setting) (state : BoardState) → Holds s self.now state → length self.now.plan.routes ≡ s.vehicles → (session : ℕ) → Agree s (held_basis self.now session) (basis_of state session) }
+    {
+        changes_by_stamps();
+        let _sizes = self.plan.version();
+    }
+
+    /// The reply to a call, and what it changes.
+    fn judge(
+        &mut self,
+        alloc: Global,
+        setup: &Setup,
+        call: &Call,
+        meter: &mut Meter,
+    ) -> Result<(Reply, Change), AllocError>
+        requires { IsReady (setting setup.now) self.old }
+        ensures kept { Tries self.old self.new }
+        ensures ready { IfOk result (λ r. IsSettleable self.new r.1) }
+        ensures reply { (state : BoardState) → Holds (setting setup.now) self.old state → IfOk result (λ r. ∥ IsReply (setting setup.now) state call.now r.0 ∥₁) }
+        ensures change { (state : BoardState) → Holds (setting setup.now) self.old state → IfOk result (λ r. WillHold (setting setup.now) self.new r.1 (after state call.now r.0)) }
+        ensures work { IfOk result (λ r. WorksAtMost meter.old meter.new (reply_asks (call_asks (setting setup.now) self.old.plan.routes call.now) r.0) (call_probes self.old.pins self.old.plan.routes call.now)) }
+        ensures most { WorksAtMost meter.old meter.new (call_asks (setting setup.now) self.old.plan.routes call.now) (call_probes self.old.pins self.old.plan.routes call.now) }
+    {
+        self.agrees();
+        match call {
+            Call::Propose { session, base, mv } => {
+                self.answer_proposal(alloc, setup, *session, *base, mv, meter)
+            }
+            Call::Pin { session, customer } => {
+                Ok(answered(self.judge_pin(setup, *session, *customer, meter)))
+            }
+            Call::Unpin { session, customer } => {
+                Ok(answered(self.judge_unpin(setup, *session, *customer, meter)))
+            }
+            Call::Freeze {
+                session,
+                vehicle,
+                length,
+            } => Ok(answered(self.judge_freeze(setup, *session, *vehicle, *length, meter))),
+            Call::Thaw {
+                session,
+                vehicle,
+                length,
+            } => Ok(answered(self.judge_thaw(setup, *session, *vehicle, *length, meter))),
+            Call::Policy { session, command } => {
+                self.judge_command(alloc, *session, command, meter)
+            }
+        }
+    }
+
+    /// The reply to a proposal, and what it changes.
+    fn answer_proposal(
+        &self,
+        alloc: Global,
+        setup: &Setup,
+        session: u32,
+        base: u32,
+        mv: &Move,
+        meter: &mut Meter,
+    ) -> Result<(Reply, Change), AllocError>
+        requires { IsReady (setting setup.now) self.now }
+        ensures ready { IfOk result (λ r. IsSettleable self.now r.1) }
+        ensures reply { (state : BoardState) → Holds (setting setup.now) self.now state → IfOk result (λ r. ∥ IsReply (setting setup.now) state (Propose session base mv.now) r.0 ∥₁) }
+        ensures change { (state : BoardState) → Holds (setting setup.now) self.now state → IfOk result (λ r. WillHold (setting setup.now) self.now r.1 (after state (Propose session base mv.now) r.0)) }
+        ensures work { IfOk result (λ r. WorksAtMost meter.old meter.new (reply_asks (call_asks (setting setup.now) self.now.plan.routes (Propose session base mv.now)) r.0) (call_probes self.now.pins self.now.plan.routes (Propose session base mv.now))) }
+        ensures most { WorksAtMost meter.old meter.new (call_asks (setting setup.now) self.now.plan.routes (Propose session base mv.now)) (call_probes self.now.pins self.now.plan.routes (Propose session base mv.now)) }
+    {
+        self.agrees();
+        verdicts_by_agreeing_facts();
+        moves_name_vehicles();
+        stamps_by_one_more();
+        let version = self.plan.version();
+        match self.judge_proposal(alloc, setup, session, base, mv, meter) {
+            Ok(commit) => Ok((Reply::Committed(version + 1), Change::Replace(commit))),
+            Err(Stop::Denied(denial)) => Ok((Reply::Denied(denial), Change::Nothing)),
+            Err(Stop::NoMemory) => Err(AllocError),
+        }
+    }
+}
+
+/// The reply to a call on pins that was judged so, and what it changes.
+fn answered(judged: Result<Change, Refusal>) -> (Reply, Change)
+    ensures reply { result.0 ≡ refused_by (result_err judged) }
+    ensures change { MatchResult judged (λ change. result.1 ≡ change) (λ refusal. result.1 ≡ Change.Nothing) }
+{
+    match judged {
+        Ok(change) => (Reply::Done, change),
+        Err(refusal) => (Reply::Refused(refusal), Change::Nothing),
+    }
+}

@@ -1,0 +1,161 @@
+//! Proposals: the rules in their order, and what passes them all.
+ghost use Rattle.std.specs.Prelude.{◌≡◌, ◌≤◌, ◌+◌, ℕ, length, All, None, Some, IfOk, IfErr, OnOk};
+ghost use Rattle.dimension_core.specs.NewRoutes.{AllKnown};
+ghost use Rattle.dimension_core.specs.Setting.{Setting};
+ghost use Rattle.dimension_core.specs.Setup.{setting};
+ghost use Rattle.plan_core.specs.Plan.{changes_of};
+ghost use Rattle.plan_core.specs.Commits.{named_vehicles};
+ghost use Rattle.pin_core.specs.Pins.{DoPinsHold, DoFrontsFit};
+ghost use Rattle.move_core.specs.Moves.{named_by, changes_by, effect};
+ghost use Rattle.move_core.specs.Touched.{touched_by};
+ghost use Rattle.range_cache.specs.Asks.{judge_asks};
+ghost use Rattle.range_cache.specs.Pending.{AreNewRows};
+ghost use Rattle.board_rules.specs.Rules.{IsVerdictBy, PassesBase, PassesCustomers, PassesAll, routes_after};
+ghost use Rattle.board_state.specs.Held.{held_basis, IsReady};
+ghost use Rattle.board_state.specs.Changes.{IsCommittable};
+ghost use Rattle.board_state.specs.Verdicts.{ArePlaceable, IsStop, result_asks};
+ghost use Rattle.board_state.specs.Work.{WorksAtMost, leaving};
+
+use crate::change::Commit;
+use crate::state::State;
+use crate::stop::Stop;
+use board_rules::{Denial, plans_are_judged_by_new_routes};
+use callback_store::Meter;
+use dimension_core::Setup;
+use move_core::{Move, MoveFault, moves_keep_plans, moves_keep_the_untouched, moves_name_vehicles};
+use pin_core::pins_after_commits;
+use plan_core::{Route, Touch, routes_are_known};
+use range_cache::JudgeFault;
+use std::alloc::{AllocError, Global};
+use std::sync::Arc;
+
+impl State {
+    /// Judges a proposal: the new routes that it may put in place, or the first rule that it fails.
+    pub(crate) fn judge_proposal(
+        &self,
+        alloc: Global,
+        setup: &Setup,
+        session: u32,
+        base: u32,
+        mv: &Move,
+        meter: &mut Meter,
+    ) -> Result<Commit, Stop>
+        requires { IsReady (setting setup.now) self.now }
+        ensures passes { OnOk result (PassesAll (setting setup.now) (held_basis self.now session) base mv.now) }
+        ensures changes { IfOk result (λ commit. changes_of commit.changes.items ≡ changes_by self.now.plan.routes mv.now) }
+        ensures ready { IfOk result (IsCommittable self.now) }
+        ensures ranges { IfOk result (λ commit. AreNewRows (setting setup.now) (changes_by self.now.plan.routes mv.now) commit.pending.rows) }
+        ensures stop { IfErr result (IsStop (setting setup.now) (held_basis self.now session) base mv.now) }
+        ensures work { WorksAtMost meter.old meter.new (result_asks (judge_asks (length (setting setup.now).dimensions) self.now.plan.routes (changes_by self.now.plan.routes mv.now)) result)
+            (length (named_by mv.now) + length (touched_by self.now.plan.routes mv.now) + leaving self.now.pins (routes_after self.now.plan.routes mv.now) (touched_by self.now.plan.routes mv.now)) }
+    {
+        if let Some(denial) = self.base_denial(setup, session, base, mv, meter) {
+            return Err(Stop::Denied(denial));
+        }
+        self.judge_move(alloc, setup, session, base, mv, meter)
+    }
+
+    /// The rules from the effect of the move on.
+    fn judge_move(
+        &self,
+        alloc: Global,
+        setup: &Setup,
+        session: u32,
+        base: u32,
+        mv: &Move,
+        meter: &mut Meter,
+    ) -> Result<Commit, Stop>
+        requires ready { IsReady (setting setup.now) self.now }
+        requires passes { PassesBase (setting setup.now) (held_basis self.now session) base mv.now }
+        ensures passes { OnOk result (PassesAll (setting setup.now) (held_basis self.now session) base mv.now) }
+        ensures changes { IfOk result (λ commit. changes_of commit.changes.items ≡ changes_by self.now.plan.routes mv.now) }
+        ensures ready { IfOk result (IsCommittable self.now) }
+        ensures ranges { IfOk result (λ commit. AreNewRows (setting setup.now) (changes_by self.now.plan.routes mv.now) commit.pending.rows) }
+        ensures stop { IfErr result (IsStop (setting setup.now) (held_basis self.now session) base mv.now) }
+        ensures work { WorksAtMost meter.old meter.new (result_asks (judge_asks (length (setting setup.now).dimensions) self.now.plan.routes (changes_by self.now.plan.routes mv.now)) result)
+            (length (touched_by self.now.plan.routes mv.now) + leaving self.now.pins (routes_after self.now.plan.routes mv.now) (touched_by self.now.plan.routes mv.now)) }
+    {
+        let touched = match mv.touched(alloc, &self.plan) {
+            Ok(touched) => touched,
+            Err(MoveFault::BadPlace) => return Err(Stop::Denied(Denial::BadPlace)),
+            Err(MoveFault::NoMemory) => return Err(Stop::NoMemory),
+        };
+        if let Some(touch) = self.first_barred_customer(session, &touched, meter) {
+            return Err(Stop::Denied(Denial::AccessCustomer(touch.vehicle, touch.place)));
+        }
+        self.judge_routes(alloc, setup, session, base, mv, touched, meter)
+    }
+
+    /// The rules on the new routes: fronts, pins and bounds.
+    fn judge_routes(
+        &self,
+        alloc: Global,
+        setup: &Setup,
+        session: u32,
+        base: u32,
+        mv: &Move,
+        touched: Vec<Touch>,
+        meter: &mut Meter,
+    ) -> Result<Commit, Stop>
+        requires ready { IsReady (setting setup.now) self.now }
+        requires passes { PassesCustomers (setting setup.now) (held_basis self.now session) base mv.now }
+        requires touched { touched.items ≡ touched_by self.now.plan.routes mv.now }
+        ensures passes { OnOk result (PassesAll (setting setup.now) (held_basis self.now session) base mv.now) }
+        ensures changes { IfOk result (λ commit. changes_of commit.changes.items ≡ changes_by self.now.plan.routes mv.now) }
+        ensures ready { IfOk result (IsCommittable self.now) }
+        ensures ranges { IfOk result (λ commit. AreNewRows (setting setup.now) (changes_by self.now.plan.routes mv.now) commit.pending.rows) }
+        ensures stop { IfErr result (IsStop (setting setup.now) (held_basis self.now session) base mv.now) }
+        ensures work { WorksAtMost meter.old meter.new (result_asks (judge_asks (length (setting setup.now).dimensions) self.now.plan.routes (changes_by self.now.plan.routes mv.now)) result)
+            (leaving self.now.pins (routes_after self.now.plan.routes mv.now) (touched_by self.now.plan.routes mv.now)) }
+    {
+        pins_after_commits();
+        let Ok(changes) = self.new_routes(alloc, mv, &touched) else {
+            return Err(Stop::NoMemory);
+        };
+        if let Err(stop) = self.judge_pins(alloc, session, &changes, &touched, meter) {
+            return Err(stop);
+        }
+        match self.cache.judge(setup, &self.plan, &changes, meter) {
+            Ok(pending) => Ok(Commit {
+                changes,
+                touched,
+                pending,
+            }),
+            Err(JudgeFault::Bound(vehicle, dimension)) => {
+                Err(Stop::Denied(Denial::Bound(vehicle, dimension)))
+            }
+            Err(JudgeFault::NoMemory) => Err(Stop::NoMemory),
+        }
+    }
+
+    /// The new routes of a move that has an effect, with the customers that it touches.
+    fn new_routes(
+        &self,
+        alloc: Global,
+        mv: &Move,
+        touched: &[Touch],
+    ) -> Result<Vec<(u32, Arc<Route>)>, AllocError>
+        requires pinned { length self.now.pins.pins ≡ self.now.plan.customers }
+        requires frozen { length self.now.pins.fronts ≡ length self.now.plan.routes }
+        requires holding { DoPinsHold self.now.pins self.now.plan.routes }
+        requires fitting { DoFrontsFit self.now.pins self.now.plan.routes }
+        requires touched { touched.now ≡ touched_by self.now.plan.routes mv.now }
+        requires effect { effect self.now.plan.customers self.now.plan.routes mv.now ≡ Some (changes_by self.now.plan.routes mv.now) }
+        ensures changes { IfOk result (λ changes. changes_of changes.items ≡ changes_by self.now.plan.routes mv.now) }
+        ensures named { named_vehicles (changes_by self.now.plan.routes mv.now) ≡ named_by mv.now }
+        ensures known { (s : Setting) → length self.now.plan.routes ≡ s.vehicles → self.now.plan.customers ≡ s.customers → AllKnown s (changes_by self.now.plan.routes mv.now) }
+        ensures short { IfOk result (λ changes. All (λ c. length c.1.value ≤ 1000) changes.items) }
+        ensures placeable { OnOk result (ArePlaceable self.now (changes_by self.now.plan.routes mv.now) touched.now) }
+    {
+        moves_name_vehicles();
+        moves_keep_plans();
+        moves_keep_the_untouched();
+        plans_are_judged_by_new_routes();
+        routes_are_known();
+        let _sound = self.plan.customers();
+        match mv.new_routes(alloc, &self.plan) {
+            Ok(changes) => Ok(changes),
+            Err(_) => Err(AllocError),
+        }
+    }
+}

@@ -1,0 +1,73 @@
+//! The rules of proposals that need no new route, in their order.
+ghost use Rattle.std.specs.Prelude.{◌≡◌, ◌≤◌, ◌+◌, ℕ, ◌∷◌, length, find, not, true, MatchOption, Some};
+ghost use Rattle.dimension_core.specs.Setup.{setting};
+ghost use Rattle.permission_table.specs.Tables.{allows};
+ghost use Rattle.plan_core.specs.declared.touch.Touch.{Touch};
+ghost use Rattle.permission_core.specs.declared.objects.Operation.TheVariants as operations;
+ghost use Rattle.permission_core.specs.declared.objects.Object.TheVariants as objects;
+ghost use Rattle.move_core.specs.Moves.{named_by};
+ghost use Rattle.board_rules.specs.Rules.{IsVerdictBy, PassesBase};
+ghost use Rattle.board_state.specs.Held.{held_basis};
+ghost use Rattle.board_state.specs.Work.{WorksAtMost};
+
+use crate::named::are_in_fleet;
+use crate::state::State;
+use board_rules::Denial;
+use callback_store::Meter;
+use dimension_core::Setup;
+use move_core::Move;
+use plan_core::Touch;
+use rbac_core::{Object, Operation};
+
+impl State {
+    /// The denial of a proposal by its session, its vehicles or its base.
+    pub(crate) fn base_denial(
+        &self,
+        setup: &Setup,
+        session: u32,
+        base: u32,
+        mv: &Move,
+        meter: &mut Meter,
+    ) -> Option<Denial>
+        requires { length self.now.plan.routes ≡ (setting setup.now).vehicles }
+        ensures denial { MatchOption result (PassesBase (setting setup.now) (held_basis self.now session) base mv.now)
+            (λ d. IsVerdictBy (setting setup.now) (held_basis self.now session) base mv.now (Some d)) }
+        ensures work { WorksAtMost meter.old meter.new 0 (length (named_by mv.now)) }
+    {
+        if !self.is_session(session) {
+            return Some(Denial::NoSession);
+        }
+        let named = mv.vehicles();
+        if !are_in_fleet(setup.vehicles(), named) {
+            return Some(Denial::BadVehicle);
+        }
+        if let Some(vehicle) = self.first_barred_vehicle(session, named, meter) {
+            return Some(Denial::AccessVehicle(vehicle));
+        }
+        if self.plan.version() < base {
+            return Some(Denial::Ahead);
+        }
+        match self.first_stale(base, named) {
+            Some(vehicle) => Some(Denial::Stale(vehicle)),
+            None => None,
+        }
+    }
+
+    /// The first touched customer that the session may not move.
+    pub(crate) fn first_barred_customer(
+        &self,
+        session: u32,
+        touched: &[Touch],
+        meter: &mut Meter,
+    ) -> Option<Touch>
+        ensures first { result ≡ find (λ t. not (allows self.now.tables session operations.Move (objects.Customer t.customer))) touched.now }
+        ensures work { WorksAtMost meter.old meter.new 0 (length touched.now) }
+    {
+        for touch in touched {
+            if !self.may(session, Operation::Move, Object::Customer(touch.customer), meter) {
+                return Some(*touch);
+            }
+        }
+        None
+    }
+}

@@ -1,0 +1,77 @@
+//! Judged calls, put in place.
+ghost use Rattle.std.specs.Prelude.{◌≡◌, ℕ, List};
+ghost use Rattle.dimension_core.specs.Setting.{Setting};
+ghost use Rattle.plan_core.specs.Plan.{Changes, changes_of, replaced, with_routes};
+ghost use Rattle.pin_core.specs.Override.{after_commit};
+ghost use Rattle.range_cache.specs.Cache.{IsCacheOf};
+ghost use Rattle.range_cache.specs.Pending.{AreNewRows};
+ghost use Rattle.policy_core.specs.State.{PolicyState};
+ghost use Rattle.permission_table.specs.Compiled.{AreCompiled};
+ghost use Rattle.board_rules.specs.State.{BoardState};
+ghost use Rattle.board_state.specs.Held.{Holds};
+ghost use Rattle.board_state.specs.Changes.{WillHold, WillCompile, WillKeep, IsCommittable, IsSettleable, policy_made, plan_after, pins_after};
+
+use crate::change::{Change, Commit, Judged};
+use crate::state::State;
+use board_rules::Reply;
+
+impl State {
+    /// Puts a judged call in place, and gives its reply. The caller owes that nothing was put in place since it was judged. No memory is
+    /// taken.
+    pub fn settle(&mut self, judged: Judged) -> Reply
+        requires { judged.of ≡ self.old }
+        ensures holds { (s : Setting) (next : BoardState) → WillHold s self.old judged.change next → Holds s self.new next }
+        ensures reply { result ≡ judged.reply }
+    {
+        let Judged {
+            of: _,
+            reply,
+            change,
+        } = judged;
+        self.put(change);
+        reply
+    }
+
+    /// Puts a change in place.
+    fn put(&mut self, change: Change)
+        requires { IsSettleable self.old change }
+        ensures policy { self.new.policy.now ≡ policy_made self.old.policy change }
+        ensures compiled { (p : PolicyState) → WillCompile self.old.tables change p → AreCompiled self.new.tables p }
+        ensures customers { self.new.tables.customers ≡ self.old.tables.customers }
+        ensures vehicles { self.new.tables.vehicles ≡ self.old.tables.vehicles }
+        ensures plan { self.new.plan ≡ plan_after self.old.plan change }
+        ensures pins { self.new.pins ≡ pins_after self.old change }
+        ensures ranges { (s : Setting) (routes : List (List ℕ)) → WillKeep s self.old change routes → IsCacheOf s routes self.new.cache }
+    {
+        match change {
+            Change::Nothing => {}
+            Change::Replace(commit) => self.replace(commit),
+            Change::Pin(customer, vehicle) => self.pins.pin(customer, vehicle),
+            Change::Unpin(customer) => self.pins.unpin(customer),
+            Change::Front(vehicle, frozen) => self.pins.freeze(vehicle, frozen),
+            Change::Command(rows, command) => {
+                self.policy.settle(command);
+                self.tables.put(rows);
+            }
+        }
+    }
+
+    /// Gives the named vehicles their new routes and ranges, and takes away the pins of customers that left their vehicle.
+    fn replace(&mut self, commit: Commit)
+        requires { IsCommittable self.old commit }
+        ensures policy { self.new.policy ≡ self.old.policy }
+        ensures tables { self.new.tables ≡ self.old.tables }
+        ensures plan { self.new.plan ≡ replaced (changes_of commit.changes.items) self.old.plan }
+        ensures pins { self.new.pins ≡ after_commit (with_routes (changes_of commit.changes.items) self.old.plan.routes) self.old.pins }
+        ensures cache { (s : Setting) (routes : List (List ℕ)) (changes : Changes) → IsCacheOf s routes self.old.cache → AreNewRows s changes commit.pending.rows → IsCacheOf s (with_routes changes routes) self.new.cache }
+    {
+        let Commit {
+            changes,
+            touched,
+            pending,
+        } = commit;
+        self.plan.replace(changes);
+        self.pins.release(&self.plan, &touched);
+        self.cache.take(pending);
+    }
+}

@@ -1,0 +1,11 @@
+//! Why a proposal is not committed.
+use board_rules::Denial;
+
+/// Why a proposal is not committed.
+#[derive(Clone, Copy, Debug, PartialEq, Eq)]
+pub enum Stop {
+    /// A rule denies it.
+    Denied(Denial),
+    /// A growth was refused.
+    NoMemory,
+}
