@@ -1,8 +1,8 @@
 -- A core keeps its history with one call more, and what it holds is ready to be judged on.
-use Rattle.std.proofs.Common.{◌≡◌, ℕ, zero, ◌+◌, ◌-◌, ◌<◌, ◌≤◌, Bool, true, List, [], ◌∷◌, ◌++◌, length, refl, sym, ap, ◌∙◌, subst, arith, inl, inr, length-append, length-set}
-use Rattle.std.specs.Prelude.{◌==◌, slice_index, slice_set, cond, if◌then◌else◌}
+use Rattle.std.proofs.Common.{◌≡◌, ℕ, zero, suc, Some, ◌+◌, ◌-◌, ◌<◌, ◌≤◌, Bool, true, List, [], ◌∷◌, ◌++◌, length, refl, sym, ap, ◌∙◌, subst, arith, inl, inr, length-append, length-set}
+use Rattle.std.specs.Prelude.{◌==◌, slice_get, slice_index, slice_set, replicate, cond, if◌then◌else◌}
 use Rattle.std.proofs.lemmas.Bool.{and_parts, leb-true, cases_eq, eq-eqb, ne_eqb, eqb-true}
-use Rattle.std.proofs.lemmas.List.{get_or-set_same, get_or-set_other}
+use Rattle.std.proofs.lemmas.List.{length-replicate, get_or-set_same, get_or-set_other}
 use Rattle.dimension_core.specs.Setting.{Setting}
 use Rattle.dimension_core.specs.Feasible.{IsFeasible}
 use Rattle.pin_core.specs.Pins.{PinState, DoPinsHold, DoFrontsFit}
@@ -15,7 +15,7 @@ use Rattle.board_rules.specs.History.{Opening, state_after, turns_of, is_turn, I
 use Rattle.board_rules.specs.State.{BoardState}
 use Rattle.board_rules.specs.Step.{after}
 use Rattle.board_state.specs.Changes.{Tries}
-use Rattle.board_state.specs.Held.{HeldState, Holds, IsReady}
+use Rattle.board_state.specs.Held.{HeldState, Holds, IsOpening, IsReady}
 use Rattle.board_core.specs.Kept.{CoreState, IsKept, history_of}
 
 -- what is held of a good state, with room for one commit more, may be judged on
@@ -107,3 +107,22 @@ turn_due n es desk turn h =
     let one = and_parts _ _ h in
     let two = and_parts _ _ one.0 in
     (leb-true 1 desk two.0, leb-true desk n two.1, eqb-true turn (turns_of desk es + 1) one.1)
+
+-- a core that was just opened
+pub kept_opened : (s : Setting) (core : CoreState) (desks : ℕ) → IsOpening s core.held → core.journal ≡ [] → core.turns ≡ replicate desks 0 → 1 ≤ desks → desks ≤ 64 → IsKept s core
+unfolding IsOpening
+kept_opened s core desks opening journal turns low high =
+    let many : length core.turns ≡ desks = ap length turns ∙ length-replicate desks 0 in
+    record {
+      legal = λ k e at. let none : slice_get (let es : List Entry = [] in es) k ≡ Some e = subst (λ (es : List Entry). slice_get es k ≡ Some e) journal at in absurd cc;
+      held = subst (λ (es : List Entry). Holds s core.held (state_after s es)) (sym journal) opening;
+      full = subst (λ (es : List Entry). length es ≤ s.max_events) (sym journal) (omega arith);
+      turns = λ desk from to. ap (λ xs. slice_index xs (desk - 1)) turns ∙ (zeros desks (desk - 1) ∙ sym (ap (turns_of desk) journal));
+      some_desk = subst (λ (n : ℕ). 1 ≤ n) (sym many) low;
+      few_desks = subst (λ (n : ℕ). n ≤ 64) (sym many) high;
+    }
+  where
+    zeros : (n k : ℕ) → slice_index (replicate n 0) k ≡ 0
+    zeros zero k = refl
+    zeros (suc n) zero = refl
+    zeros (suc n) (suc k) = zeros n k

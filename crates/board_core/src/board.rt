@@ -3,6 +3,7 @@ ghost use Rattle.std.specs.Prelude.{◌≡◌, ◌≤◌, ◌↔◌, ◌∷◌, 
 ghost use Rattle.dimension_core.specs.Setup.{setting};
 ghost use Rattle.board_core.specs.Kept.{IsKept, entry_of};
 ghost use Rattle.board_core.specs.Alone.{IsKept-prop};
+ghost use Rattle.board_core.specs.Prepared.{Makes};
 ghost use Rattle.board_rules.specs.declared.reply.Fault.{Fault};
 ghost use Rattle.board_rules.specs.Good.{state_of};
 ghost use Rattle.board_rules.specs.History.{is_turn, IsLegal};
@@ -10,7 +11,8 @@ ghost use Rattle.board_rules.specs.Questions.{check_of};
 ghost use Rattle.board_state.specs.Work.{WorksAtMost, call_asks, call_probes, reply_asks};
 
 use crate::body::Core;
-use board_rules::{Entry, Event, Fault, Reply};
+use crate::prepared::Prepared;
+use board_rules::{Event, Fault, Reply};
 use callback_store::Meter;
 use dimension_core::Setup;
 use rbac_core::{Object, Operation};
@@ -27,6 +29,17 @@ pub struct Board {
 
 impl Board {
     ghost use Rattle.board_core.specs.Boards.{history};
+
+    /// A board over the setup with desks 1 to `desks`, which are 1 to 64. It begins with an empty plan at version 0, the user `root`
+    /// assigned to the role `root`, and session 1 of that user with that role active; the role has `admin` on the board and nothing else.
+    pub fn new(alloc: Global, setup: Arc<Setup>, desks: u32) -> Result<Board, AllocError>
+        requires low { 1 ≤ desks }
+        requires high { desks ≤ 64 }
+        ensures { IfOk result (λ board. history board ≡ record { opening = record { setting = setting setup.value; desks = desks }; entries = [] }) }
+    {
+        let core = Core::new(alloc, &setup, desks)?;
+        Ok(Board { setup, core })
+    }
 
     /// Judges an event, and journals it with its reply. Faults, in order: `OutOfTurn`, where there is no such desk or the turn is not the
     /// desk's last plus one; `Full`, where the journal holds the setup's greatest number of events; `NoMemory`. A faulted event is not
@@ -46,6 +59,31 @@ impl Board {
             (call_probes (state_of (history self.old)).pins (state_of (history self.old)).routes event.call) }
     {
         self.core.apply(&self.setup, event, meter)
+    }
+
+    /// Judges an event, with every growth that it needs; the history stays as it is. Faults, in order: `OutOfTurn`, `Full`, `NoMemory`.
+    pub fn prepare(&mut self, event: Event, meter: &mut Meter) -> Result<Prepared, Fault>
+        ensures history { history self.new ≡ history self.old }
+        ensures of { IfOk result (λ prepared. prepared.of ≡ self.new.core) }
+        ensures entry { IfOk result (λ prepared. prepared.entry ≡ entry_of event prepared.entry.reply) }
+        ensures makes { IfOk result (Makes (history self.old).opening.setting) }
+        ensures out_of_turn { IsErrOf result Fault.OutOfTurn ↔ (is_turn (history self.old).opening.desks (history self.old).entries event.desk event.turn ≡ false) }
+        ensures full { IsErrOf result Fault.Full ↔ ((is_turn (history self.old).opening.desks (history self.old).entries event.desk event.turn ≡ true) × (length (history self.old).entries ≡ (history self.old).opening.setting.max_events)) }
+    {
+        self.core.prepare(&self.setup, event, meter)
+    }
+
+    /// Puts a judged event in place: it is journaled with its reply. The caller owes that nothing was put in place since it was judged. No
+    /// memory is taken.
+    pub fn settle(&mut self, prepared: Prepared) -> Reply
+        requires of { prepared.of ≡ self.old.core }
+        requires makes { Makes (history self.old).opening.setting prepared }
+        ensures entries { (history self.new).entries ≡ (history self.old).entries ++ prepared.entry ∷ [] }
+        ensures opening { (history self.new).opening ≡ (history self.old).opening }
+        ensures legal { IsLegal (history self.new) }
+        ensures reply { result ≡ prepared.entry.reply }
+    {
+        self.core.settle(prepared)
     }
 
     /// How many commits there were.

@@ -39,6 +39,22 @@ impl Model for Core {
 }
 
 impl Core {
+    /// The core of a board with so many desks, before its first call.
+    pub fn new(alloc: Global, setup: &Setup, desks: u32) -> Result<Core, AllocError>
+        requires low { 1 ≤ desks }
+        requires high { desks ≤ 64 }
+        ensures kept { IfOk result (IsKept (setting setup.now)) }
+        ensures history { IfOk result (λ core. history_of (setting setup.now) core ≡ record { opening = record { setting = setting setup.now; desks = desks }; entries = [] }) }
+    {
+        let state = State::new(alloc, setup)?;
+        let turns = vec![in alloc; 0u32; desks as usize]?;
+        Ok(Core {
+            state,
+            journal: Vec::new(alloc),
+            turns,
+        })
+    }
+
     /// The journal: each call that was answered, in order, with its reply.
     pub fn journal(&self) -> &[Entry]
         ensures { result.now ≡ self.now.journal }

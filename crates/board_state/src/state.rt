@@ -1,5 +1,5 @@
 //! What is held of a board's state.
-ghost use Rattle.std.specs.Prelude.{◌≡◌, ◌≤◌, ℕ, replicate, [], IfOk, true};
+ghost use Rattle.std.specs.Prelude.{◌≡◌, ◌≤◌, ℕ, replicate, [], None, IfOk};
 ghost use Rattle.dimension_core.specs.Setting.{Setting};
 ghost use Rattle.dimension_core.specs.Setup.{setting};
 ghost use Rattle.policy_core.specs.Access.{has_access};
@@ -7,6 +7,7 @@ ghost use Rattle.policy_core.specs.Opening.{opening};
 ghost use Rattle.permission_table.specs.Compiled.{AreCompiled, HasSizes};
 ghost use Rattle.board_rules.specs.State.{BoardState};
 ghost use Rattle.board_state.specs.Held.{Holds, IsOpening, IsOpened};
+ghost use Rattle.range_cache.specs.Cache.{IsCacheOf};
 ghost use Rattle.board_state.specs.Work.{WorksAtMost};
 ghost use Rattle.permission_table.specs.Tables.{allows};
 ghost use Rattle.policy_core.specs.State.{is_session};
@@ -40,6 +41,21 @@ impl Model for State {
 }
 
 impl State {
+    /// What is held before the first call of a board.
+    pub fn new(alloc: Global, setup: &Setup) -> Result<State, AllocError>
+        ensures { IfOk result (IsOpening (setting setup.now)) }
+    {
+        let (policy, tables) = opening_permissions(alloc, setup.customers(), setup.vehicles())?;
+        let (plan, pins, cache) = empty_plan(alloc, setup)?;
+        Ok(State {
+            policy,
+            tables,
+            plan,
+            pins,
+            cache,
+        })
+    }
+
     /// The policy.
     pub fn policy(&self) -> &Policy
         ensures { result.now ≡ self.now.policy.now }
@@ -97,6 +113,35 @@ impl State {
         let _few = meter.probes;
         self.tables.check(session, operation, object, meter)
     }
+}
+
+/// The opening policy with its spare one, and its permissions compiled.
+fn opening_permissions(
+    alloc: Global,
+    customers: u32,
+    vehicles: u32,
+) -> Result<(Twin, Tables), AllocError>
+    requires few_customers { customers ≤ 1000 }
+    requires few_vehicles { vehicles ≤ 1000 }
+    ensures { IfOk result (λ r. IsOpened customers vehicles r.0.now r.1) }
+{
+    let (opening, tables) = opening_policy(alloc, customers, vehicles)?;
+    let policy = Twin::new(opening)?;
+    Ok((policy, tables))
+}
+
+/// An empty plan with no pin, and its ranges.
+fn empty_plan(alloc: Global, setup: &Setup) -> Result<(Plan, Pins, Cache), AllocError>
+    ensures plan { IfOk result (λ r. r.0 ≡ record { customers = (setting setup.now).customers; routes = replicate (setting setup.now).vehicles []; version = 0; stamps = replicate (setting setup.now).vehicles 0 }) }
+    ensures pins { IfOk result (λ r. r.1 ≡ record { pins = replicate (setting setup.now).customers None; fronts = replicate (setting setup.now).vehicles 0 }) }
+    ensures cache { IfOk result (λ r. IsCacheOf (setting setup.now) (replicate (setting setup.now).vehicles []) r.2) }
+{
+    let customers = setup.customers();
+    let vehicles = setup.vehicles();
+    let plan = Plan::new(alloc, customers, vehicles)?;
+    let pins = Pins::new(alloc, customers, vehicles)?;
+    let cache = Cache::new(alloc, setup)?;
+    Ok((plan, pins, cache))
 }
 
 /// The opening policy with its permissions compiled.
