@@ -17,7 +17,7 @@ use board_lines::{
 };
 use board_rules::{AskFault, Call, Fault, Reply, Review};
 use rbac_core::{Object, Operation};
-use std::alloc::{AllocError, Global};
+use std::alloc::AllocError;
 
 /// Memory ran out.
 #[derive(Clone, Copy, Drop)]
@@ -230,7 +230,6 @@ fn check<R, F: Front<R>>(
 
 fn json<R, F: Front<R>>(
     rt: &R,
-    alloc: Global,
     front: &mut F,
     text: &mut String,
     session: u32,
@@ -243,7 +242,7 @@ fn json<R, F: Front<R>>(
 {
     match front.list(rt, session) {
         Ok(rows) => {
-            push_json(alloc, text, rows.as_slice())?;
+            push_json(text, rows.as_slice())?;
             text.push_str("\n")?;
             Ok(Mark::said(false))
         }
@@ -260,7 +259,6 @@ fn json<R, F: Front<R>>(
 /// Has the front do what a line says, and puts the text of what it answers into the text, which is empty before.
 pub(crate) fn obey<R, F: Front<R>>(
     rt: &R,
-    alloc: Global,
     front: &mut F,
     text: &mut String,
     command: Command,
@@ -275,7 +273,7 @@ pub(crate) fn obey<R, F: Front<R>>(
         Command::Skip => Ok(Mark::skipped()),
         Command::Submit(call) => submit(rt, front, text, call),
         Command::List { session } => list(rt, front, text, session),
-        Command::Json { session } => json(rt, alloc, front, text, session),
+        Command::Json { session } => json(rt, front, text, session),
         Command::Audit { session } => audit(rt, front, text, session),
         Command::Check {
             session,

@@ -42,7 +42,7 @@ fn answer<'a, R, F: Front<R>>(
 {
     text.clear();
     match read(alloc, words, line) {
-        Ok(command) => obey(rt, alloc, front, text, command),
+        Ok(command) => obey(rt, front, text, command),
         Err(fault) => unread(text, fault),
     }
 }

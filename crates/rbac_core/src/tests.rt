@@ -58,146 +58,144 @@ fn range(rt: &impl Abort, kind: &str, first: &str, last: &str) -> ObjectRange {
     }
 }
 
-fn of_users(rt: &impl Abort, line: &str) -> Option<Command> {
+fn of_users(rt: &impl Abort, line: &str) -> Command {
     let [word, first, second, ..] = words(line);
     if word == "add-user" {
-        Some(Command::AddUser {
+        Command::AddUser {
             user: name(rt, first),
-        })
+        }
     } else if word == "delete-user" {
-        Some(Command::DeleteUser {
+        Command::DeleteUser {
             user: name(rt, first),
-        })
+        }
     } else if word == "assign" {
-        Some(Command::AssignUser {
+        Command::AssignUser {
             user: name(rt, first),
             role: name(rt, second),
-        })
-    } else if word == "deassign" {
-        Some(Command::DeassignUser {
-            user: name(rt, first),
-            role: name(rt, second),
-        })
+        }
     } else {
-        None
+        Command::DeassignUser {
+            user: name(rt, first),
+            role: name(rt, second),
+        }
     }
 }
 
-fn of_roles(rt: &impl Abort, line: &str) -> Option<Command> {
+fn of_roles(rt: &impl Abort, line: &str) -> Command {
     let [word, first, second, ..] = words(line);
     if word == "add-role" {
-        Some(Command::AddRole {
+        Command::AddRole {
             role: name(rt, first),
-        })
+        }
     } else if word == "delete-role" {
-        Some(Command::DeleteRole {
+        Command::DeleteRole {
             role: name(rt, first),
-        })
+        }
     } else if word == "inherit" {
-        Some(Command::AddInheritance {
+        Command::AddInheritance {
             senior: name(rt, first),
             junior: name(rt, second),
-        })
+        }
     } else if word == "uninherit" {
-        Some(Command::DeleteInheritance {
+        Command::DeleteInheritance {
             senior: name(rt, first),
             junior: name(rt, second),
-        })
-    } else if word == "migrate" {
-        Some(Command::Migrate)
+        }
     } else {
-        None
+        Command::Migrate
     }
 }
 
-fn of_permissions(rt: &impl Abort, line: &str) -> Option<Command> {
+fn of_permissions(rt: &impl Abort, line: &str) -> Command {
     let [word, role, what, kind, first, last] = words(line);
     if word == "grant" {
         let range = range(rt, kind, first, last);
-        Some(Command::GrantPermission {
+        Command::GrantPermission {
             role: name(rt, role),
             operation: operation(what),
             range,
-        })
-    } else if word == "revoke" {
-        let range = range(rt, kind, first, last);
-        Some(Command::RevokePermission {
-            role: name(rt, role),
-            operation: operation(what),
-            range,
-        })
+        }
     } else {
-        None
+        let range = range(rt, kind, first, last);
+        Command::RevokePermission {
+            role: name(rt, role),
+            operation: operation(what),
+            range,
+        }
     }
 }
 
-fn of_sets(rt: &impl Abort, alloc: Global, line: &str) -> Option<Command> {
+fn of_sets(rt: &impl Abort, alloc: Global, line: &str) -> Command {
     let [word, set, second, third, fourth, ..] = words(line);
     if word == "ssd-create" {
         let roles = names(rt, alloc, &[third, fourth]);
-        Some(Command::CreateSsdSet {
+        Command::CreateSsdSet {
             name: name(rt, set),
             number: number(rt, second),
             roles,
-        })
+        }
     } else if word == "dsd-create" {
         let roles = names(rt, alloc, &[third, fourth]);
-        Some(Command::CreateDsdSet {
+        Command::CreateDsdSet {
             name: name(rt, set),
             number: number(rt, second),
             roles,
-        })
-    } else if word == "ssd-drop" {
-        Some(Command::DeleteSsdRoleMember {
+        }
+    } else {
+        Command::DeleteSsdRoleMember {
             name: name(rt, set),
             role: name(rt, second),
-        })
-    } else {
-        None
+        }
     }
 }
 
-fn of_sessions(rt: &impl Abort, alloc: Global, line: &str) -> Option<Command> {
+fn of_sessions(rt: &impl Abort, alloc: Global, line: &str) -> Command {
     let [word, first, second, third, ..] = words(line);
     if word == "open" {
         let roles = names(rt, alloc, &[second, third]);
-        Some(Command::CreateSession {
+        Command::CreateSession {
             user: name(rt, first),
             roles,
-        })
+        }
     } else if word == "close" {
-        Some(Command::DeleteSession {
+        Command::DeleteSession {
             session: number(rt, first),
-        })
+        }
     } else if word == "activate" {
-        Some(Command::AddActiveRole {
+        Command::AddActiveRole {
             session: number(rt, first),
             role: name(rt, second),
-        })
-    } else if word == "deactivate" {
-        Some(Command::DropActiveRole {
-            session: number(rt, first),
-            role: name(rt, second),
-        })
+        }
     } else {
-        None
+        Command::DropActiveRole {
+            session: number(rt, first),
+            role: name(rt, second),
+        }
     }
 }
 
+fn is_any(word: &str, of: &[&str]) -> bool {
+    for one in of {
+        if *one == word {
+            return true;
+        }
+    }
+    false
+}
+
 fn command(rt: &impl Abort, alloc: Global, line: &str) -> Command {
-    if let Some(command) = of_users(rt, line) {
-        return command;
+    let [word, ..] = words(line);
+    if is_any(word, &["add-user", "delete-user", "assign", "deassign"]) {
+        of_users(rt, line)
+    } else if is_any(word, &["grant", "revoke"]) {
+        of_permissions(rt, line)
+    } else if is_any(word, &["ssd-create", "dsd-create", "ssd-drop"]) {
+        of_sets(rt, alloc, line)
+    } else if is_any(word, &["open", "close", "activate", "deactivate"]) {
+        of_sessions(rt, alloc, line)
+    } else {
+        of_roles(rt, line)
     }
-    if let Some(command) = of_roles(rt, line) {
-        return command;
-    }
-    if let Some(command) = of_permissions(rt, line) {
-        return command;
-    }
-    if let Some(command) = of_sets(rt, alloc, line) {
-        return command;
-    }
-    of_sessions(rt, alloc, line).expect(rt, "a command")
 }
 
 /// Whether the answer is the one of this text.
@@ -492,21 +490,37 @@ const REVIEWED: &[(u32, &str, &str)] = &[
     (1, "assign ann e", "done"),
 ];
 
+fn compare_users(rt: &impl Abort, policy: &Policy, role: &str, wanted: &[&str]) {
+    match policy.assigned_users(name(rt, role)) {
+        Ok(found) => compare(rt, &found, wanted),
+        Err(_) => assert!(rt; false, "{role}"),
+    }
+}
+
+fn compare_roles(rt: &impl Abort, policy: &Policy, user: &str, wanted: &[&str]) {
+    match policy.assigned_roles(name(rt, user)) {
+        Ok(found) => compare(rt, &found, wanted),
+        Err(_) => assert!(rt; false, "{user}"),
+    }
+}
+
+fn compare_active(rt: &impl Abort, policy: &Policy, session: u32, wanted: &[&str]) {
+    match policy.session_roles(session) {
+        Ok(found) => compare(rt, &found, wanted),
+        Err(_) => assert!(rt; false, "{session}"),
+    }
+}
+
 #[test]
-fn reviews_in_order_of_creation(rt: HostRuntime) -> Result<(), Fail> {
+fn reviews_in_order_of_creation(rt: HostRuntime) {
     let mut policy = opening(&rt, rt.alloc());
     answers(&rt, rt.alloc(), &mut policy, REVIEWED);
-    compare(
-        &rt,
-        &policy.assigned_users(name(&rt, "d"))?,
-        &["ann", "bea"],
-    );
-    compare(&rt, &policy.assigned_roles(name(&rt, "ann"))?, &["e", "d"]);
-    compare(&rt, &policy.session_roles(1)?, &["root"]);
+    compare_users(&rt, &policy, "d", &["ann", "bea"]);
+    compare_roles(&rt, &policy, "ann", &["e", "d"]);
+    compare_active(&rt, &policy, 1, &["root"]);
     assert!(rt; policy.assigned_roles(name(&rt, "bob")).is_err());
     assert!(rt; policy.assigned_users(name(&rt, "f")).is_err());
     assert!(rt; policy.session_roles(2).is_err());
-    Ok(())
 }
 
 #[test]
@@ -526,7 +540,10 @@ fn access_of_the_first_session(rt: HostRuntime) {
 fn compare_affected(rt: &impl Abort, alloc: Global, old: &Policy, line: &str, wanted: &[u32]) {
     let command = command(rt, alloc, line);
     let mut new = old.copy().expect(rt, "memory");
-    assert!(rt; carry_out(&mut new, &command).is_ok());
+    let Ok(_) = carry_out(&mut new, &command) else {
+        assert!(rt; false, "{line}");
+        return;
+    };
     access_stays(old, &command, &new);
     let found = affected(alloc, old, &command, &new).expect(rt, "memory");
     compare_numbers(rt, &found, wanted);
@@ -574,29 +591,24 @@ fn stand(rt: &impl Abort, alloc: Global, twin: &mut Twin, line: &str) {
     }
 }
 
+/// Whether the command is carried out on the spare policy.
+fn is_tried(rt: &impl Abort, alloc: Global, twin: &mut Twin, line: &str) -> bool {
+    twin.prepare(&command(rt, alloc, line)).is_ok()
+}
+
+fn spare(rt: &impl Abort, alloc: Global) -> Twin {
+    Twin::new(opening(rt, alloc)).expect(rt, "memory")
+}
+
 #[test]
-fn commands_by_a_spare_policy(rt: HostRuntime) -> Result<(), Fail> {
+fn commands_by_a_spare_policy(rt: HostRuntime) {
     let alloc = rt.alloc();
-    let mut twin = Twin::new(opening(&rt, alloc))?;
-    stand(&rt, alloc, &mut twin, "add-user ann");
+    let mut twin = spare(&rt, alloc);
     stand(&rt, alloc, &mut twin, "add-role d");
-    stand(&rt, alloc, &mut twin, "assign ann d");
-    assert!(rt; twin.prepare(&command(&rt, alloc, "assign ann d")).is_err());
-    compare(
-        &rt,
-        &twin.policy().assigned_users(name(&rt, "d"))?,
-        &["ann"],
-    );
-    assert!(rt; twin.prepare(&command(&rt, alloc, "deassign ann d")).is_ok());
-    compare(
-        &rt,
-        &twin.policy().assigned_users(name(&rt, "d"))?,
-        &["ann"],
-    );
-    compare(&rt, &twin.tried().assigned_users(name(&rt, "d"))?, &[]);
-    stand(&rt, alloc, &mut twin, "deassign ann d");
-    compare(&rt, &twin.policy().assigned_users(name(&rt, "d"))?, &[]);
-    Ok(())
+    assert!(rt; !is_tried(&rt, alloc, &mut twin, "add-role d"));
+    assert!(rt; is_tried(&rt, alloc, &mut twin, "add-role e"));
+    assert!(rt; twin.policy().slot_of(name(&rt, "e")).is_none());
+    assert!(rt; twin.tried().slot_of(name(&rt, "e")).is_some());
 }
 
 #[test]
