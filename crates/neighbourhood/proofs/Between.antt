@@ -50,13 +50,13 @@ module _ (law : Laws) where
       let stands_there : (c : ℕ) → Contains (route_at routes w) c → StandsOn routes c w = λ c h. law.places.somewhere routes c w b.other.0 b.other.1 h in
       let comes : (c : ℕ) → Contains r c → StandsOn (with_routes changes routes) c v =
       λ c h. law.places.somewhere (with_routes changes routes) c v b.vehicle.0 (omega arith)
-          (subst (λ (xs : List ℕ). Contains xs c) (sym (law.replaced.first v r ((w, q) ∷ []) routes apart)) h) in
+      (subst (λ (xs : List ℕ). Contains xs c) (sym (law.replaced.first v r ((w, q) ∷ []) routes apart)) h) in
       let goes : (c : ℕ) → Contains q c → StandsOn (with_routes changes routes) c w =
       λ c h. law.places.somewhere (with_routes changes routes) c w b.other.0 (omega arith)
-          (subst (λ (xs : List ℕ). Contains xs c) (sym (law.replaced.second w q (v, r) routes apart)) h) in
+      (subst (λ (xs : List ℕ). Contains xs c) (sym (law.replaced.second w q (v, r) routes apart)) h) in
       let each : DoPinsHold s (with_routes changes routes) → (c : ℕ) → IsTouchedBy law (touched_by routes mv) c → pin_of s c ≡ None =
       λ now c t. subst (λ (d : ℕ). pin_of s d ≡ None) t.1.2
-          (either t.1.0.customer now plan after held (law.between n routes mv v w r q made t.0 t.1.0 t.1.1) b.apart (stands t.1.0.customer) (stands_there t.1.0.customer) (comes t.1.0.customer) (goes t.1.0.customer)) in (
+      (either t.1.0.customer now plan after held (law.between n routes mv v w r q made t.0 t.1.0 t.1.1) b.apart (stands t.1.0.customer) (stands_there t.1.0.customer) (comes t.1.0.customer) (goes t.1.0.customer)) in (
         λ holds.
             let now = subst (λ (cs : Changes). DoPinsHold s (with_routes cs routes)) b.changes holds in
             (λ c inside. each now c (b.over_touched c inside), λ c inside. each now c (b.back_touched c inside)),

@@ -54,9 +54,6 @@ module _ (law : Laws) where
       let m = subst (λ (i : ℕ). IsSpan o (λ y. (x : ℕ) × IsWithin (Some r) x × IsStep t d v i x 0 y)) last n in
       subst (λ (xs : List ℕ). IsSpan o (Reaches t d v (xs ++ 0 ∷ []))) e (law.spans.push t d v js 0 r o s m)
 
-  IsTrue-prop : (r : Bool) → IsProp (IsTrue r)
-  IsTrue-prop r = hlevel props
-
   -- one dimension of a setting, by the cumuls at the return
   pub fits_by_return : (s : Setting) (k v : ℕ) (route : List ℕ) (ts : List Table) (ds : List Bounds) (d : Bounds) (o : Option Range)
       → ts ≡ s.tables → ds ≡ s.dimensions → k < length ds → d ≡ slice_index_or ds k d → 0 < length route
@@ -65,8 +62,7 @@ module _ (law : Laws) where
       let same : d ≡ dimension_at s k = e ∙ get_or_default ds k d no_bounds h ∙ ap (λ (xs : List Bounds). slice_index_or xs k no_bounds) ed in
       let b = law.spans.bounds (table_of ts d) d v route o some span in
       let b' = subst (λ (xs : List Table). IsTrue (is_some o) ↔ IsInBounds (table_of xs d) d v route) et b in
-      let f = subst (λ (x : Bounds). IsTrue (is_some o) ↔ IsInBounds (table_of s.tables x) x v route) same b' in
-      (λ p. ∣ f.0 p ∣₁, λ q. ∥∥₁_elim q (IsTrue-prop (is_some o)) f.1)
+      subst (λ (x : Bounds). IsTrue (is_some o) ↔ IsInBounds (table_of s.tables x) x v route) same b'
 
   -- the test whether a route is empty
   pub empty_from : (r : List ℕ) (b : Bool) → b ≡ (length r == 0) → b ≡ true → r ≡ []

@@ -156,8 +156,12 @@ module _ (law : Laws) where
       let least : min p q ≡ p = omega arith in
       record {
         vehicle = (f.vehicle.low, f.vehicle.high);
-        changes = rw (eq-eqb v v refl, one_stretch r q f.at.low f.at.high, one_stretch r p f.place.low f.place.high,
-            swap_parts r p q (customer_at r p) (customer_at r q) f.place.low h f.at.high) refl;
+        changes = rw (
+          eq-eqb v v refl,
+          one_stretch r q f.at.low f.at.high,
+          one_stretch r p f.place.low f.place.high,
+          swap_parts r p q (customer_at r p) (customer_at r q) f.place.low h f.at.high,
+        ) refl;
         first = rw (eq-eqb v v refl) least;
         kind = tt;
       }

@@ -106,14 +106,10 @@ fn allows_between(
     if is_skipped(skip, &mv) {
         return false;
     }
-    if !fits(
-        setup, v, v_front, false, v_middle, &[], &[], v_back, meter,
-    ) {
+    if !fits(setup, v, v_front, false, v_middle, &[], &[], v_back, meter) {
         return false;
     }
-    fits(
-        setup, w, w_front, false, w_middle, &[], &[], w_back, meter,
-    )
+    fits(setup, w, w_front, false, w_middle, &[], &[], w_back, meter)
 }
 
 /// Whether a move inside a vehicle is allowed, by its new route in parts.
@@ -144,9 +140,7 @@ fn allows_inside(
     if is_skipped(skip, &mv) {
         return false;
     }
-    fits(
-        setup, v, front, turned, first, second, third, back, meter,
-    )
+    fits(setup, v, front, turned, first, second, third, back, meter)
 }
 
 /// Whether a shift inside a vehicle is allowed.

@@ -55,8 +55,10 @@ fn reverse_row(
     for last in first + 1..end {
         let index = last as usize;
         let all_lost = lost + sums[index] + u64::from(edges[index]);
-        let all_gained =
-            gained + u64::from(before[index]) + back_sums[index] + u64::from(here[index + 1]);
+        let all_gained = gained
+            + u64::from(before[index])
+            + back_sums[index]
+            + u64::from(here[index + 1]);
         let mv = Move::Reverse {
             vehicle: v,
             first,

@@ -74,14 +74,48 @@ fn best_between(
     let out = table_of(alloc, setup, false, &from, &to, &mut meter)?;
     let into = table_of(alloc, setup, true, &from, &to, &mut meter)?;
     let shifted = best_shift(
-        view, setup, skip, v, w, &from, &to, &from_edges, &to_edges, &out, &into, None, &mut meter,
+        view,
+        setup,
+        skip,
+        v,
+        w,
+        &from,
+        &to,
+        &from_edges,
+        &to_edges,
+        &out,
+        &into,
+        None,
+        &mut meter,
     );
     let swapped = best_swap(
-        view, setup, skip, v, w, &from, &to, &from_edges, &to_edges, &out, &into, shifted,
+        view,
+        setup,
+        skip,
+        v,
+        w,
+        &from,
+        &to,
+        &from_edges,
+        &to_edges,
+        &out,
+        &into,
+        shifted,
         &mut meter,
     );
     let crossed = best_cross(
-        view, setup, skip, v, w, &from, &to, &from_edges, &to_edges, &out, &into, swapped,
+        view,
+        setup,
+        skip,
+        v,
+        w,
+        &from,
+        &to,
+        &from_edges,
+        &to_edges,
+        &out,
+        &into,
+        swapped,
         &mut meter,
     );
     Ok(crossed)

@@ -195,10 +195,10 @@ fn swap_next(
     let before = row(out, from.len(), index - 1);
     let here = row(out, from.len(), index);
     let back = row(into, from.len(), index);
-    let lost =
-        u64::from(edges[index - 1]) + u64::from(edges[index]) + u64::from(edges[index + 1]);
-    let gained =
-        u64::from(before[index + 1]) + u64::from(back[index + 1]) + u64::from(here[index + 2]);
+    let lost = u64::from(edges[index - 1]) + u64::from(edges[index]) + u64::from(edges[index + 1]);
+    let gained = u64::from(before[index + 1])
+        + u64::from(back[index + 1])
+        + u64::from(here[index + 2]);
     let mv = Move::Swap {
         vehicle: v,
         place,

@@ -55,8 +55,14 @@ fn the_best_moves_of_three_customers(rt: HostRuntime) -> Result<(), Fail> {
         to: 1,
         at: 3,
     };
-    assert_eq!(&rt; best_move(rt.alloc(), &view, &setup, 1, 1, &[])?, Some((first, 60)));
-    assert_eq!(&rt; best_move(rt.alloc(), &view, &setup, 1, 1, &[first])?, Some((second, 60)));
+    assert_eq!(&rt;
+        best_move(rt.alloc(), &view, &setup, 1, 1, &[])?,
+        Some((first, 60))
+    );
+    assert_eq!(&rt;
+        best_move(rt.alloc(), &view, &setup, 1, 1, &[first])?,
+        Some((second, 60))
+    );
     let sorted = view_of_three(rt.alloc(), &[1, 2, 3])?;
     assert_eq!(&rt; best_move(rt.alloc(), &sorted, &setup, 1, 1, &[])?, None);
     Ok(())

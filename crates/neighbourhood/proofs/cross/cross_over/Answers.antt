@@ -22,23 +22,27 @@ cross_row-requires-clause-saving g c =
     let fit = r.keep in
     let f = c.from-lost.ensures in
     λ l h.
-      let few : l + 1 < length c.args.to.now = elim c.if-last.branch [
-        | then-last w ↦ let e = w.end-is in omega arith
-        | else-last w ↦ let e = w.end-is in omega arith
-      ] in
-      let some : (c.args.keep < length (route_at c.args.view.now.routes c.args.v)) ⊎ (l < length (route_at c.args.view.now.routes c.args.w)) = elim c.if-last.branch [
-        | then-last w ↦ let e = w.end-is in inr (omega arith)
-        | else-last w ↦ let o = w.if-last.false in inl (omega arith)
-      ] in
-      let can = (r.laws.possible.cross s.customers c.args.view.now.routes c.args.v c.args.keep c.args.w l).1 (record {
-        vehicle = record { low = r.from.low; high = r.from.high }; other = record { low = r.to.low; high = r.to.high }; apart = r.apart;
-        kept = omega arith; kept_other = omega arith; some = some;
-      }) in
-      let saving = cross_by r.laws s c.args.view.now c.args.v c.args.keep c.args.w l c.args.from.now c.args.to.now r.view.plan r.from r.to can in
-      rw (f) (cross_tabled s c.args.view.now (Cross c.args.v c.args.keep c.args.w l) t c.args.from.now c.args.to.now c.args.from_edges.now c.args.to_edges.now
-      c.row-here.result.now c.row-next.result.now c.args.keep l saving fit few r.from_edges r.to_edges
-      (row_of false t c.args.from.now c.args.to.now c.args.out.now c.row-here.result.now c.args.keep r.out (omega arith) c.row-here.ensures.cells)
-      (row_of true t c.args.from.now c.args.to.now c.args.into.now c.row-next.result.now (c.args.keep + 1) r.into (omega arith) c.row-next.ensures.cells))
+    let few : l + 1 < length c.args.to.now = elim c.if-last.branch [
+      | then-last w ↦ let e = w.end-is in omega arith
+      | else-last w ↦ let e = w.end-is in omega arith
+    ] in
+    let some : (c.args.keep < length (route_at c.args.view.now.routes c.args.v)) ⊎ (l < length (route_at c.args.view.now.routes c.args.w)) = elim c.if-last.branch [
+      | then-last w ↦ let e = w.end-is in inr (omega arith)
+      | else-last w ↦ let o = w.if-last.false in inl (omega arith)
+    ] in
+    let can = (r.laws.possible.cross s.customers c.args.view.now.routes c.args.v c.args.keep c.args.w l).1 (record {
+      vehicle = record { low = r.from.low; high = r.from.high };
+      other = record { low = r.to.low; high = r.to.high };
+      apart = r.apart;
+      kept = omega arith;
+      kept_other = omega arith;
+      some = some;
+    }) in
+    let saving = cross_by r.laws s c.args.view.now c.args.v c.args.keep c.args.w l c.args.from.now c.args.to.now r.view.plan r.from r.to can in
+    rw (f) (cross_tabled s c.args.view.now (Cross c.args.v c.args.keep c.args.w l) t c.args.from.now c.args.to.now c.args.from_edges.now c.args.to_edges.now
+    c.row-here.result.now c.row-next.result.now c.args.keep l saving fit few r.from_edges r.to_edges
+    (row_of false t c.args.from.now c.args.to.now c.args.out.now c.row-here.result.now c.args.keep r.out (omega arith) c.row-here.ensures.cells)
+    (row_of true t c.args.from.now c.args.to.now c.args.into.now c.row-next.result.now (c.args.keep + 1) r.into (omega arith) c.row-next.ensures.cells))
 
 pub returns : goal.returns
 returns g c =

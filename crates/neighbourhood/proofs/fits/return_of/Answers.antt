@@ -5,6 +5,13 @@ use Rattle.neighbourhood.specs.Ways.{way_of}
 use Rattle.neighbourhood.proofs.Carried.{append_nil, return_none, return_found, all_left, all_right, all_way}
 use Rattle.neighbourhood.proofs.fits.return_of.Goals as goal
 
+pub returns-in_err-range : goal.returns-in_err-range
+returns-in_err-range g c =
+    let law = c.requires.laws in
+    let s0 = law.spans.start (table_of (tables c.args.registry.now) c.args.dimension.now) _ _ _ c.in_err-range.ensures.span in
+    rw c.from_residual.ensures
+    (return_none law _ _ _ [] (c.args.front.now ++ (way_of c.args.turned c.args.first.now ++ (c.args.second.now ++ (c.args.third.now ++ c.args.back.now)))) _ refl s0)
+
 pub returns-in_err-range-2 : goal.returns-in_err-range-2
 returns-in_err-range-2 g c =
     let law = c.requires.laws in

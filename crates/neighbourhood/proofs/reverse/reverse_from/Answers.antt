@@ -15,11 +15,14 @@ reverse_row-requires-clause-saving g c =
     let fit = r.first.1 in
     let f = c.from.ensures in
     λ last l h.
-      let can = (r.laws.possible.reverse s.customers c.args.view.now.routes c.args.v c.args.first last).1 (record {
-        vehicle = record { low = r.from.low; high = r.from.high }; low = low; order = l; high = omega arith;
-      }) in
-      let saving = reverse_by r.laws s c.args.view.now c.args.v c.args.first last c.args.from.now r.view.plan r.from can in
-      rw (f) (reverse_tabled s c.args.view.now (Reverse c.args.v c.args.first last) t c.args.from.now c.args.edges.now c.args.sums.now c.args.back_sums.now
-      c.row-before.result.now c.row-here.result.now c.args.first last saving low l (omega arith) r.edges r.sums r.back_sums
-      (row_of false t c.args.from.now c.args.from.now c.args.out.now c.row-before.result.now (c.args.first - 1) r.out (omega arith) c.row-before.ensures.cells)
-      (row_of false t c.args.from.now c.args.from.now c.args.out.now c.row-here.result.now c.args.first r.out (omega arith) c.row-here.ensures.cells))
+    let can = (r.laws.possible.reverse s.customers c.args.view.now.routes c.args.v c.args.first last).1 (record {
+      vehicle = record { low = r.from.low; high = r.from.high };
+      low = low;
+      order = l;
+      high = omega arith;
+    }) in
+    let saving = reverse_by r.laws s c.args.view.now c.args.v c.args.first last c.args.from.now r.view.plan r.from can in
+    rw (f) (reverse_tabled s c.args.view.now (Reverse c.args.v c.args.first last) t c.args.from.now c.args.edges.now c.args.sums.now c.args.back_sums.now
+    c.row-before.result.now c.row-here.result.now c.args.first last saving low l (omega arith) r.edges r.sums r.back_sums
+    (row_of false t c.args.from.now c.args.from.now c.args.out.now c.row-before.result.now (c.args.first - 1) r.out (omega arith) c.row-before.ensures.cells)
+    (row_of false t c.args.from.now c.args.from.now c.args.out.now c.row-here.result.now c.args.first r.out (omega arith) c.row-here.ensures.cells))

@@ -18,13 +18,13 @@ shift_row-requires-clause-saving g c =
     let f = c.from.ensures in
     let f2 = c.from-2.ensures in
     λ at l h.
-      let can = (r.laws.possible.shift s.customers c.args.view.now.routes c.args.v c.args.place c.args.count c.args.w at).1 (record {
-        from = record { vehicle = record { low = r.from.low; high = r.from.high }; some = some; low = low; high = omega arith };
-        onto = record { vehicle = record { low = r.to.low; high = r.to.high }; low = l; inside = λ e. absurd (r.apart e); outside = λ e. omega arith };
-      }) in
-      let saving = shift_by r.laws s c.args.view.now c.args.v c.args.place c.args.count c.args.w at c.args.from.now c.args.to.now r.view.plan r.apart r.from r.to can in
-      rw (f, f2) (shift_tabled s c.args.view.now (Shift c.args.v c.args.place c.args.count c.args.w at) t c.args.from.now c.args.to.now c.args.from_edges.now c.args.to_edges.now c.row-comes.result.now c.row-goes.result.now
-      c.args.place c.args.count 0 at c.hop-gained.result saving low some fit l (omega arith) r.from_edges r.to_edges
-      (row_of true t c.args.from.now c.args.to.now c.args.into.now c.row-comes.result.now c.args.place r.into (omega arith) c.row-comes.ensures.cells)
-      (row_of false t c.args.from.now c.args.to.now c.args.out.now c.row-goes.result.now (c.args.place + c.args.count - 1) r.out (omega arith) c.row-goes.ensures.cells)
-      c.hop-gained.ensures.value)
+    let can = (r.laws.possible.shift s.customers c.args.view.now.routes c.args.v c.args.place c.args.count c.args.w at).1 (record {
+      from = record { vehicle = record { low = r.from.low; high = r.from.high }; some = some; low = low; high = omega arith };
+      onto = record { vehicle = record { low = r.to.low; high = r.to.high }; low = l; inside = λ e. absurd (r.apart e); outside = λ e. omega arith };
+    }) in
+    let saving = shift_by r.laws s c.args.view.now c.args.v c.args.place c.args.count c.args.w at c.args.from.now c.args.to.now r.view.plan r.apart r.from r.to can in
+    rw (f, f2) (shift_tabled s c.args.view.now (Shift c.args.v c.args.place c.args.count c.args.w at) t c.args.from.now c.args.to.now c.args.from_edges.now c.args.to_edges.now c.row-comes.result.now c.row-goes.result.now
+    c.args.place c.args.count 0 at c.hop-gained.result saving low some fit l (omega arith) r.from_edges r.to_edges
+    (row_of true t c.args.from.now c.args.to.now c.args.into.now c.row-comes.result.now c.args.place r.into (omega arith) c.row-comes.ensures.cells)
+    (row_of false t c.args.from.now c.args.to.now c.args.out.now c.row-goes.result.now (c.args.place + c.args.count - 1) r.out (omega arith) c.row-goes.ensures.cells)
+    c.hop-gained.ensures.value)

@@ -22,17 +22,17 @@ shift_row-forwards-requires-clause-saving g c =
     let f = c.from.ensures in
     let f2 = c.from-2.ensures in
     λ at l h.
-      let can = (r.laws.possible.shift s.customers c.args.view.now.routes c.args.v c.args.place c.args.count c.args.v at).1 (record {
-        from = record { vehicle = record { low = r.from.low; high = r.from.high }; some = some; low = low; high = omega arith };
-        onto = record { vehicle = record { low = r.from.low; high = r.from.high }; low = l; inside = λ e. (omega arith, λ e. omega arith); outside = λ o. absurd (o refl) };
-      }) in
-      let saving = shift_inside_by r.laws s c.args.view.now c.args.v c.args.place c.args.count 0 at c.args.from.now r.view.plan r.from can
-      (around_before (route_at c.args.view.now.routes c.args.v) c.args.place c.args.count at low (omega arith) h) in
-      rw (f, f2) (shift_tabled s c.args.view.now (Shift c.args.v c.args.place c.args.count c.args.v at) t c.args.from.now c.args.from.now c.args.edges.now c.args.edges.now c.row-comes.result.now c.row-goes.result.now
-      c.args.place c.args.count 0 at c.hop-gained.result saving low some fit l (omega arith) r.edges r.edges
-      (row_of true t c.args.from.now c.args.from.now c.args.into.now c.row-comes.result.now c.args.place r.into (omega arith) c.row-comes.ensures.cells)
-      (row_of false t c.args.from.now c.args.from.now c.args.out.now c.row-goes.result.now (c.args.place + c.args.count - 1) r.out (omega arith) c.row-goes.ensures.cells)
-      c.hop-gained.ensures.value)
+    let can = (r.laws.possible.shift s.customers c.args.view.now.routes c.args.v c.args.place c.args.count c.args.v at).1 (record {
+      from = record { vehicle = record { low = r.from.low; high = r.from.high }; some = some; low = low; high = omega arith };
+      onto = record { vehicle = record { low = r.from.low; high = r.from.high }; low = l; inside = λ e. (omega arith, λ e. omega arith); outside = λ o. absurd (o refl) };
+    }) in
+    let saving = shift_inside_by r.laws s c.args.view.now c.args.v c.args.place c.args.count 0 at c.args.from.now r.view.plan r.from can
+    (around_before (route_at c.args.view.now.routes c.args.v) c.args.place c.args.count at low (omega arith) h) in
+    rw (f, f2) (shift_tabled s c.args.view.now (Shift c.args.v c.args.place c.args.count c.args.v at) t c.args.from.now c.args.from.now c.args.edges.now c.args.edges.now c.row-comes.result.now c.row-goes.result.now
+    c.args.place c.args.count 0 at c.hop-gained.result saving low some fit l (omega arith) r.edges r.edges
+    (row_of true t c.args.from.now c.args.from.now c.args.into.now c.row-comes.result.now c.args.place r.into (omega arith) c.row-comes.ensures.cells)
+    (row_of false t c.args.from.now c.args.from.now c.args.out.now c.row-goes.result.now (c.args.place + c.args.count - 1) r.out (omega arith) c.row-goes.ensures.cells)
+    c.hop-gained.ensures.value)
 
 pub shift_row-requires-clause-saving : goal.shift_row-requires-clause-saving
 shift_row-requires-clause-saving g c =
@@ -46,17 +46,17 @@ shift_row-requires-clause-saving g c =
     let f = c.from.ensures in
     let f2 = c.from-2.ensures in
     λ at l h.
-      let can = (r.laws.possible.shift s.customers c.args.view.now.routes c.args.v c.args.place c.args.count c.args.v at).1 (record {
-        from = record { vehicle = record { low = r.from.low; high = r.from.high }; some = some; low = low; high = omega arith };
-        onto = record { vehicle = record { low = r.from.low; high = r.from.high }; low = omega arith; inside = λ e. (omega arith, λ e. omega arith); outside = λ o. absurd (o refl) };
-      }) in
-      let saving = shift_inside_by r.laws s c.args.view.now c.args.v c.args.place c.args.count c.args.count at c.args.from.now r.view.plan r.from can
-      (around_after (route_at c.args.view.now.routes c.args.v) c.args.place c.args.count at low (omega arith) (omega arith)) in
-      rw (f, f2) (shift_tabled s c.args.view.now (Shift c.args.v c.args.place c.args.count c.args.v at) t c.args.from.now c.args.from.now c.args.edges.now c.args.edges.now c.row-comes.result.now c.row-goes.result.now
-      c.args.place c.args.count c.args.count at c.hop-gained.result saving low some fit (omega arith) (omega arith) r.edges r.edges
-      (row_of true t c.args.from.now c.args.from.now c.args.into.now c.row-comes.result.now c.args.place r.into (omega arith) c.row-comes.ensures.cells)
-      (row_of false t c.args.from.now c.args.from.now c.args.out.now c.row-goes.result.now (c.args.place + c.args.count - 1) r.out (omega arith) c.row-goes.ensures.cells)
-      c.hop-gained.ensures.value)
+    let can = (r.laws.possible.shift s.customers c.args.view.now.routes c.args.v c.args.place c.args.count c.args.v at).1 (record {
+      from = record { vehicle = record { low = r.from.low; high = r.from.high }; some = some; low = low; high = omega arith };
+      onto = record { vehicle = record { low = r.from.low; high = r.from.high }; low = omega arith; inside = λ e. (omega arith, λ e. omega arith); outside = λ o. absurd (o refl) };
+    }) in
+    let saving = shift_inside_by r.laws s c.args.view.now c.args.v c.args.place c.args.count c.args.count at c.args.from.now r.view.plan r.from can
+    (around_after (route_at c.args.view.now.routes c.args.v) c.args.place c.args.count at low (omega arith) (omega arith)) in
+    rw (f, f2) (shift_tabled s c.args.view.now (Shift c.args.v c.args.place c.args.count c.args.v at) t c.args.from.now c.args.from.now c.args.edges.now c.args.edges.now c.row-comes.result.now c.row-goes.result.now
+    c.args.place c.args.count c.args.count at c.hop-gained.result saving low some fit (omega arith) (omega arith) r.edges r.edges
+    (row_of true t c.args.from.now c.args.from.now c.args.into.now c.row-comes.result.now c.args.place r.into (omega arith) c.row-comes.ensures.cells)
+    (row_of false t c.args.from.now c.args.from.now c.args.out.now c.row-goes.result.now (c.args.place + c.args.count - 1) r.out (omega arith) c.row-goes.ensures.cells)
+    c.hop-gained.ensures.value)
 
 pub shift_row-requires-clause-best : goal.shift_row-requires-clause-best
 shift_row-requires-clause-best g c =

@@ -23,7 +23,10 @@ better-requires-clause-saving g c =
     let f5 = c.from-5.ensures in
     let f6 = c.from-6.ensures in
     let can = (r.laws.possible.swap s.customers c.args.view.now.routes c.args.v c.args.place c.args.v (c.args.place + 1)).1 (record {
-      vehicle = record { low = r.from.low; high = r.from.high }; other = record { low = r.from.low; high = r.from.high }; place = record { low = low; high = omega arith }; at = record { low = omega arith; high = omega arith };
+      vehicle = record { low = r.from.low; high = r.from.high };
+      other = record { low = r.from.low; high = r.from.high };
+      place = record { low = low; high = omega arith };
+      at = record { low = omega arith; high = omega arith };
       apart = λ e k. omega arith;
     }) in
     let saving = swap_next_by r.laws s c.args.view.now c.args.v c.args.place c.args.from.now r.view.plan r.from can in

@@ -27,15 +27,18 @@ swap_row-requires-clause-saving g c =
     let f = c.from.ensures in
     let f2 = c.from-2.ensures in
     λ at l h.
-      let can = (r.laws.possible.swap s.customers c.args.view.now.routes c.args.v c.args.place c.args.v at).1 (record {
-        vehicle = record { low = r.from.low; high = r.from.high }; other = record { low = r.from.low; high = r.from.high }; place = record { low = low; high = omega arith }; at = record { low = omega arith; high = omega arith };
-        apart = λ e k. omega arith;
-      }) in
-      let saving = swap_inside_by r.laws s c.args.view.now c.args.v c.args.place at c.args.from.now r.view.plan r.from can (omega arith) in
-      rw (f, f2) (swap_tabled s c.args.view.now (Swap c.args.v c.args.place c.args.v at) t c.args.from.now c.args.from.now c.args.edges.now c.args.edges.now
-      c.row-before.result.now c.row-here.result.now c.row-next.result.now c.row-back.result.now
-      c.args.place at saving low fit (omega arith) (omega arith) r.edges r.edges
-      (row_of false t c.args.from.now c.args.from.now c.args.out.now c.row-before.result.now (c.args.place - 1) r.out (omega arith) c.row-before.ensures.cells)
-      (row_of false t c.args.from.now c.args.from.now c.args.out.now c.row-here.result.now c.args.place r.out (omega arith) c.row-here.ensures.cells)
-      (row_of true t c.args.from.now c.args.from.now c.args.into.now c.row-next.result.now (c.args.place + 1) r.into (omega arith) c.row-next.ensures.cells)
-      (row_of true t c.args.from.now c.args.from.now c.args.into.now c.row-back.result.now c.args.place r.into (omega arith) c.row-back.ensures.cells))
+    let can = (r.laws.possible.swap s.customers c.args.view.now.routes c.args.v c.args.place c.args.v at).1 (record {
+      vehicle = record { low = r.from.low; high = r.from.high };
+      other = record { low = r.from.low; high = r.from.high };
+      place = record { low = low; high = omega arith };
+      at = record { low = omega arith; high = omega arith };
+      apart = λ e k. omega arith;
+    }) in
+    let saving = swap_inside_by r.laws s c.args.view.now c.args.v c.args.place at c.args.from.now r.view.plan r.from can (omega arith) in
+    rw (f, f2) (swap_tabled s c.args.view.now (Swap c.args.v c.args.place c.args.v at) t c.args.from.now c.args.from.now c.args.edges.now c.args.edges.now
+    c.row-before.result.now c.row-here.result.now c.row-next.result.now c.row-back.result.now
+    c.args.place at saving low fit (omega arith) (omega arith) r.edges r.edges
+    (row_of false t c.args.from.now c.args.from.now c.args.out.now c.row-before.result.now (c.args.place - 1) r.out (omega arith) c.row-before.ensures.cells)
+    (row_of false t c.args.from.now c.args.from.now c.args.out.now c.row-here.result.now c.args.place r.out (omega arith) c.row-here.ensures.cells)
+    (row_of true t c.args.from.now c.args.from.now c.args.into.now c.row-next.result.now (c.args.place + 1) r.into (omega arith) c.row-next.ensures.cells)
+    (row_of true t c.args.from.now c.args.from.now c.args.into.now c.row-back.result.now c.args.place r.into (omega arith) c.row-back.ensures.cells))
