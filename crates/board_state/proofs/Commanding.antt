@@ -38,9 +38,9 @@ pub refused : (p : PolicyState) (session : ℕ) (command : Command) (e : Refusal
 unfolding policy_reply policy_after step
 refused p session command e free h = (
   ap (λ o. reply_of (answered p (option_or o (refusal_of p command)) (after p command) (outcome_of p command)).1) free
-  ∙ ap (λ o. reply_of (answered p o (after p command) (outcome_of p command)).1) h,
+      ∙ ap (λ o. reply_of (answered p o (after p command) (outcome_of p command)).1) h,
   ap (λ o. (answered p (option_or o (refusal_of p command)) (after p command) (outcome_of p command)).0) free
-  ∙ ap (λ o. (answered p o (after p command) (outcome_of p command)).0) h,
+      ∙ ap (λ o. (answered p o (after p command) (outcome_of p command)).0) h,
 )
 
 -- a command that is carried out
@@ -49,9 +49,9 @@ pub carried : (p : PolicyState) (session : ℕ) (command : Command) → guard p 
 unfolding policy_reply policy_after step
 carried p session command free h = (
   ap (λ o. reply_of (answered p (option_or o (refusal_of p command)) (after p command) (outcome_of p command)).1) free
-  ∙ ap (λ o. reply_of (answered p o (after p command) (outcome_of p command)).1) h,
+      ∙ ap (λ o. reply_of (answered p o (after p command) (outcome_of p command)).1) h,
   ap (λ o. (answered p (option_or o (refusal_of p command)) (after p command) (outcome_of p command)).0) free
-  ∙ ap (λ o. (answered p o (after p command) (outcome_of p command)).0) h,
+      ∙ ap (λ o. (answered p o (after p command) (outcome_of p command)).0) h,
 )
 
 -- every refusal but want of memory is the one that is due

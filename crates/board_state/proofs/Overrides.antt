@@ -39,12 +39,15 @@ module _ (pins : PinState) (free : ℕ → Bool) (others : List (List ℕ)) (tou
 
   -- the first that is forbidden is the first that is held back
   pub forbidden_held : (t : Touch) → IsFirstForbidden pins others touched answers t → IsFirstHeldBack pins free others touched t
-  forbidden_held t first = (first.k, record {
-    found = first.found;
-    fails = λ allowed. ⊎_elim (λ (h : IsHeld pins others t.customer). first.loose h)
-        (λ (e : free t.customer ≡ false). first.loose (allowed e)) (same_answer first.k t false first.found first.bound);
-    before = λ j y early at. passed_allowed j y at (first.before j early);
-  })
+  forbidden_held t first = (
+    first.k,
+    record {
+      found = first.found;
+      fails = λ allowed. ⊎_elim (λ (h : IsHeld pins others t.customer). first.loose h)
+          (λ (e : free t.customer ≡ false). first.loose (allowed e)) (same_answer first.k t false first.found first.bound);
+      before = λ j y early at. passed_allowed j y at (first.before j early);
+    },
+  )
 
 -- a customer that does not stay is leaving
 pub leaves_test : (pins : PinState) (others : List (List ℕ)) (c : ℕ) → ¬ IsHeld pins others c → pin_of (after_commit others pins) c ≡ None → is_leaving pins others c ≡ true

@@ -22,7 +22,6 @@ use Rattle.board_state.proofs.NewPlans.{feasible_all}
 
 module _ (s : Setting) (held : HeldState) (session base : ℕ) (mv : Move) (ready : IsReady s held)
     (passes : PassesCustomers s (held_basis held session) base mv) (names : named_vehicles (changes_by held.plan.routes mv) ≡ named_by mv) where
-
   -- a pin or a front stops the proposal as it stops the new routes
   pub pin_stop : (touched : List Touch) (stop : Stop) → touched ≡ touched_by held.plan.routes mv
       → IsPinStop held.pins (may_override (held_basis held session)) held.plan.routes (changes_by held.plan.routes mv) touched stop
@@ -46,10 +45,11 @@ module _ (s : Setting) (held : HeldState) (session base : ℕ) (mv : Move) (read
       (pins : DoPinsAllow held.pins (may_override (held_basis held session)) (with_routes (changes_by held.plan.routes mv) held.plan.routes)) where
     -- new routes that are in bounds pass every rule
     pub passes_all : AllFit s (changes_by held.plan.routes mv) → PassesAll s (held_basis held session) base mv
-    passes_all fits =
-        (((passes, fronts), pins),
-        feasible_all s (changes_by held.plan.routes mv) held.plan.routes ready.sized
-        (subst (λ (n : ℕ). AreApart n (changes_by held.plan.routes mv)) ready.sized placeable.changes.apart) fits ready.feasible)
+    passes_all fits = (
+      ((passes, fronts), pins),
+      feasible_all s (changes_by held.plan.routes mv) held.plan.routes ready.sized
+          (subst (λ (n : ℕ). AreApart n (changes_by held.plan.routes mv)) ready.sized placeable.changes.apart) fits ready.feasible,
+    )
 
     pub out_of_bounds : (v d : ℕ) → IsOut s (changes_by held.plan.routes mv) v d → IsVerdictBy s (held_basis held session) base mv (Some (Bound v d))
     out_of_bounds v d out = (((passes, fronts), pins), out)

@@ -212,7 +212,7 @@ policy_call s old new state call session command (Ok r) is holds kept said will 
     let whole : new ≡ record old { policy = new.policy; tables = new.tables } =
     kept ∙ (λ i. record old { policy = sym (ap (λ (h : HeldState). h.policy) kept) i; tables = sym (ap (λ (h : HeldState). h.tables) kept) i }) in
     let made = policy_will s old new state r.1 (policy_after state.policy session command) holds whole
-        (subst (λ (p : PolicyState). PolicyWillBe new.policy new.tables r.1 (policy_after p session command)) holds.policy will) in
+    (subst (λ (p : PolicyState). PolicyWillBe new.policy new.tables r.1 (policy_after p session command)) holds.policy will) in
     let reply : r.0 ≡ policy_reply state.policy session command = said ∙ ap (λ (p : PolicyState). policy_reply p session command) holds.policy in
     subst (λ (x : Call). WillHold s new r.1 (after state x r.0)) (sym is)
     (subst (λ (b : BoardState). WillHold s new r.1 b) (sym (ap (after state (Policy session command)) reply ∙ after_policy state session command)) made)

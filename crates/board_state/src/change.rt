@@ -1,4 +1,5 @@
 //! What a judged call changes.
+use crate::state::State;
 use board_rules::Reply;
 use permission_table::Rows;
 use plan_core::{Route, Touch};
@@ -7,8 +8,6 @@ use rbac_core::Command;
 use std::marker::Model;
 use std::snapshot::Snapshot;
 use std::sync::Arc;
-
-use crate::state::State;
 
 /// New routes that pass every rule, with the customers that they touch and their ranges.
 #[derive(Drop)]

@@ -17,7 +17,9 @@ use board_rules::{Refusal, Reply};
 use callback_store::Meter;
 use permission_table::Tables;
 use policy_core::Refusal as PolicyRefusal;
-use rbac_core::{Command, Object, Operation, Outcome, Twin, access_stays, affected, guard_by, sizes_stay};
+use rbac_core::{
+    Command, Object, Operation, Outcome, Twin, access_stays, affected, guard_by, sizes_stay,
+};
 use std::alloc::{AllocError, Global};
 
 impl State {

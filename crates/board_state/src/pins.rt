@@ -116,6 +116,11 @@ impl State {
         if !self.pins.leaves(&self.plan, changes, customer) {
             return false;
         }
-        self.may(session, Operation::Override, Object::Customer(customer), meter)
+        self.may(
+            session,
+            Operation::Override,
+            Object::Customer(customer),
+            meter,
+        )
     }
 }

@@ -64,7 +64,12 @@ impl State {
         ensures work { WorksAtMost meter.old meter.new 0 (length touched.now) }
     {
         for touch in touched {
-            if !self.may(session, Operation::Move, Object::Customer(touch.customer), meter) {
+            if !self.may(
+                session,
+                Operation::Move,
+                Object::Customer(touch.customer),
+                meter,
+            ) {
                 return Some(*touch);
             }
         }

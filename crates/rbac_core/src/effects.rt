@@ -92,8 +92,7 @@ pub fn access_stays(old: &Policy, command: &Command, new: &Policy)
     ensures { (session : ℕ) → list_any (nat_eq session) (affected_sessions old.now command.now new.now) ≡ false →
         (operation : AnOperation) (object : AnObject) →
         has_access new.now session operation object ≡ has_access old.now session operation object }
-{
-}
+{}
 
 /// A law, for callers' proofs: no command changes the numbers of customers and vehicles.
 pub fn sizes_stay()

@@ -17,7 +17,7 @@ returns-clause-change c =
     let next = c.tried-new.ensures ∙ c.requires.tried in
     let sessions : c.deref.result.now ≡ affected_sessions old a.command.now new = c.deref.ensures.value ∙ c.in_ok-sessions.ensures in
     let same : SameAccessBut c.deref.result.now old new = λ session out operation object.
-        c.access_stays.ensures session (subst (λ (xs : List ℕ). list_any (nat_eq session) xs ≡ false) sessions out) operation object in
+    c.access_stays.ensures session (subst (λ (xs : List ℕ). list_any (nat_eq session) xs ≡ false) sessions out) operation object in
     let tables : c.rebuild.new.self ≡ record a.tables.now { room = c.rebuild.new.self.room } = c.in_ok-rows.ensures.kept in
     record {
       ready = (

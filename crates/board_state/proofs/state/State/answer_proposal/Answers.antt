@@ -14,8 +14,8 @@ returns-in-Ok-clause-reply g c state holds =
     let held = a.self.now in
     let agree = c.agrees.ensures s state holds c.requires.sized a.session in
     ∣ (
-        ap (λ n. n + 1) (c.version-version.ensures.value ∙ ap (λ (h : HeldState). h.plan.version) c.self.view_is ∙ holds.stamps.version),
-        c.verdicts_by_agreeing_facts.ensures s (held_basis held a.session) (basis_of state a.session) a.base a.mv.now None agree c.in-Ok.ensures.passes,
+      ap (λ n. n + 1) (c.version-version.ensures.value ∙ ap (λ (h : HeldState). h.plan.version) c.self.view_is ∙ holds.stamps.version),
+      c.verdicts_by_agreeing_facts.ensures s (held_basis held a.session) (basis_of state a.session) a.base a.mv.now None agree c.in-Ok.ensures.passes,
     ) ∣₁
 
 pub returns-in-Ok-clause-change : goal.returns-in-Ok-clause-change

@@ -20,12 +20,12 @@ returns-in-Propose-clause-reply g c state holds =
 pub returns-in-Propose-clause-work : goal.returns-in-Propose-clause-work
 returns-in-Propose-clause-work g c =
     subst (λ (x : Call). IfOk c.answer_proposal.result (λ r. WorksAtMost c.args.meter.now c.answer_proposal.new.meter
-        (reply_asks (call_asks (setting c.args.setup.now) c.args.self.now.plan.routes x) r.0) (call_probes c.args.self.now.pins c.args.self.now.plan.routes x))) (sym c.in-Propose.is) c.answer_proposal.ensures.work
+    (reply_asks (call_asks (setting c.args.setup.now) c.args.self.now.plan.routes x) r.0) (call_probes c.args.self.now.pins c.args.self.now.plan.routes x))) (sym c.in-Propose.is) c.answer_proposal.ensures.work
 
 pub returns-in-Propose-clause-most : goal.returns-in-Propose-clause-most
 returns-in-Propose-clause-most g c =
     subst (λ (x : Call). WorksAtMost c.args.meter.now c.answer_proposal.new.meter
-        (call_asks (setting c.args.setup.now) c.args.self.now.plan.routes x) (call_probes c.args.self.now.pins c.args.self.now.plan.routes x)) (sym c.in-Propose.is) c.answer_proposal.ensures.most
+    (call_asks (setting c.args.setup.now) c.args.self.now.plan.routes x) (call_probes c.args.self.now.pins c.args.self.now.plan.routes x)) (sym c.in-Propose.is) c.answer_proposal.ensures.most
 
 pub returns-in-Pin-clause-reply : goal.returns-in-Pin-clause-reply
 returns-in-Pin-clause-reply g c state holds =

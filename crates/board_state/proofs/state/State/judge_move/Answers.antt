@@ -14,6 +14,6 @@ returns-in-Some-clause-stop g c =
     let mv = c.args.mv.now in
     let touched = c.deref.ensures.value ∙ c.in-Ok.ensures.ok ∙ ap (λ (h : HeldState). touched_by h.plan.routes mv) c.self.view_is in
     let possible = subst (λ (n : ℕ). effect n held.plan.routes mv ≡ Some (changes_by held.plan.routes mv)) c.requires.ready.customers
-        (subst (λ (h : HeldState). effect h.plan.customers h.plan.routes mv ≡ Some (changes_by h.plan.routes mv)) c.self.view_is c.in-Ok.ensures.possible) in
+    (subst (λ (h : HeldState). effect h.plan.customers h.plan.routes mv ≡ Some (changes_by h.plan.routes mv)) c.self.view_is c.in-Ok.ensures.possible) in
     let first = ap (λ (ts : List Touch). find (λ t. not (allows c.args.self.now.tables c.args.session operations.Move (objects.Customer t.customer))) ts) (sym touched) ∙ sym c.in-Some.ensures.first in
     ((c.requires.passes, possible), (c.in-Some.touch, first, refl, refl))

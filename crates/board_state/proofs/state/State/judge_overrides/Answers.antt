@@ -31,6 +31,6 @@ returns-clause-stop c =
     let p = c.in-Err-Pinned.place in
     let fault = rw c.in-Err-Pinned.field-0-is at c.in-Err-Pinned.ensures in
     let here = subst (λ (h : HeldState). AreFreezesKept h.pins h.plan.routes (with_routes (changes_of c.args.changes.now) h.plan.routes)
-        × ((t : Touch) × IsFirstForbidden h.pins (with_routes (changes_of c.args.changes.now) h.plan.routes) c.args.touched.now c.deref.result.now t × (t.vehicle ≡ v) × (t.place ≡ p))) c.self.view_is fault in
+    × ((t : Touch) × IsFirstForbidden h.pins (with_routes (changes_of c.args.changes.now) h.plan.routes) c.args.touched.now c.deref.result.now t × (t.vehicle ≡ v) × (t.place ≡ p))) c.self.view_is fault in
     let first = subst (λ (free : List Bool). (t : Touch) × IsFirstForbidden held.pins others c.args.touched.now free t × (t.vehicle ≡ v) × (t.place ≡ p)) c.deref.ensures.value here.1 in
     (here.0, (first.0, forbidden_held held.pins (may_override (held_basis held c.args.session)) others c.args.touched.now c.in-Ok.free.items c.in-Ok.ensures.answers first.0 first.1, first.2, first.3))

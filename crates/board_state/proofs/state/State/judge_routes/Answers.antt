@@ -76,9 +76,9 @@ returns-in-Ok-judge-clause-work g c =
     let changes = ap (λ xs. changes_of xs) c.deref-2.ensures.value ∙ c.in-Ok.ensures.changes in
     let judged = ap (λ xs. changes_of xs) c.deref-4.ensures.value ∙ c.in-Ok.ensures.changes in
     let pins = subst (λ (cs : Changes). WorksAtMost a.meter.now c.judge_pins.new.meter 0 (leaving held.pins (with_routes cs held.plan.routes) a.touched.items)) changes
-        (subst (λ (ts : List Touch). WorksAtMost a.meter.now c.judge_pins.new.meter 0 (leaving held.pins (with_routes (changes_of c.deref-2.result.now) held.plan.routes) ts)) c.deref-3.ensures.value c.judge_pins.ensures.work) in
+    (subst (λ (ts : List Touch). WorksAtMost a.meter.now c.judge_pins.new.meter 0 (leaving held.pins (with_routes (changes_of c.deref-2.result.now) held.plan.routes) ts)) c.deref-3.ensures.value c.judge_pins.ensures.work) in
     let bounds = subst (λ (cs : Changes). AsksAtMost c.judge_pins.new.meter c.judge.new.meter (judge_asks (length s.dimensions) held.plan.routes cs)) judged
-        (subst (λ (h : HeldState). AsksAtMost c.judge_pins.new.meter c.judge.new.meter (judge_asks (length s.dimensions) h.plan.routes (changes_of c.deref-4.result.now))) c.self.view_is c.judge.ensures.asks) in
+    (subst (λ (h : HeldState). AsksAtMost c.judge_pins.new.meter c.judge.new.meter (judge_asks (length s.dimensions) h.plan.routes (changes_of c.deref-4.result.now))) c.self.view_is c.judge.ensures.asks) in
     let touched = subst (λ (ts : List Touch). WorksAtMost a.meter.now c.judge_pins.new.meter 0 (leaving held.pins (routes_after held.plan.routes a.mv.now) ts)) c.requires.touched pins in
     then _ _ _ 0 (leaving held.pins (routes_after held.plan.routes a.mv.now) (touched_by held.plan.routes a.mv.now)) (judge_asks (length s.dimensions) held.plan.routes (changes_by held.plan.routes a.mv.now)) 0 _ _ touched
     (asks_alone _ _ _ 0 bounds) (omega arith) (omega arith)
@@ -91,9 +91,9 @@ returns-in-Err-Bound-clause-work g c =
     let changes = ap (λ xs. changes_of xs) c.deref-2.ensures.value ∙ c.in-Ok.ensures.changes in
     let judged = ap (λ xs. changes_of xs) c.deref-4.ensures.value ∙ c.in-Ok.ensures.changes in
     let pins = subst (λ (cs : Changes). WorksAtMost a.meter.now c.judge_pins.new.meter 0 (leaving held.pins (with_routes cs held.plan.routes) a.touched.items)) changes
-        (subst (λ (ts : List Touch). WorksAtMost a.meter.now c.judge_pins.new.meter 0 (leaving held.pins (with_routes (changes_of c.deref-2.result.now) held.plan.routes) ts)) c.deref-3.ensures.value c.judge_pins.ensures.work) in
+    (subst (λ (ts : List Touch). WorksAtMost a.meter.now c.judge_pins.new.meter 0 (leaving held.pins (with_routes (changes_of c.deref-2.result.now) held.plan.routes) ts)) c.deref-3.ensures.value c.judge_pins.ensures.work) in
     let bounds = subst (λ (cs : Changes). AsksAtMost c.judge_pins.new.meter c.judge.new.meter (judge_asks (length s.dimensions) held.plan.routes cs)) judged
-        (subst (λ (h : HeldState). AsksAtMost c.judge_pins.new.meter c.judge.new.meter (judge_asks (length s.dimensions) h.plan.routes (changes_of c.deref-4.result.now))) c.self.view_is c.judge.ensures.asks) in
+    (subst (λ (h : HeldState). AsksAtMost c.judge_pins.new.meter c.judge.new.meter (judge_asks (length s.dimensions) h.plan.routes (changes_of c.deref-4.result.now))) c.self.view_is c.judge.ensures.asks) in
     let touched = subst (λ (ts : List Touch). WorksAtMost a.meter.now c.judge_pins.new.meter 0 (leaving held.pins (routes_after held.plan.routes a.mv.now) ts)) c.requires.touched pins in
     then _ _ _ 0 (leaving held.pins (routes_after held.plan.routes a.mv.now) (touched_by held.plan.routes a.mv.now)) (judge_asks (length s.dimensions) held.plan.routes (changes_by held.plan.routes a.mv.now)) 0 _ _ touched
     (asks_alone _ _ _ 0 bounds) (omega arith) (omega arith)
@@ -111,6 +111,6 @@ returns-in-Err-clause-work g c =
     let s = setting a.setup.now in
     let changes = ap (λ xs. changes_of xs) c.deref-2.ensures.value ∙ c.in-Ok.ensures.changes in
     let pins = subst (λ (cs : Changes). WorksAtMost a.meter.now c.judge_pins.new.meter 0 (leaving held.pins (with_routes cs held.plan.routes) a.touched.items)) changes
-        (subst (λ (ts : List Touch). WorksAtMost a.meter.now c.judge_pins.new.meter 0 (leaving held.pins (with_routes (changes_of c.deref-2.result.now) held.plan.routes) ts)) c.deref-3.ensures.value c.judge_pins.ensures.work) in
+    (subst (λ (ts : List Touch). WorksAtMost a.meter.now c.judge_pins.new.meter 0 (leaving held.pins (with_routes (changes_of c.deref-2.result.now) held.plan.routes) ts)) c.deref-3.ensures.value c.judge_pins.ensures.work) in
     let touched = subst (λ (ts : List Touch). WorksAtMost a.meter.now c.judge_pins.new.meter 0 (leaving held.pins (routes_after held.plan.routes a.mv.now) ts)) c.requires.touched pins in
     wider _ _ 0 (leaving held.pins (routes_after held.plan.routes a.mv.now) (touched_by held.plan.routes a.mv.now)) _ _ touched (omega arith) (omega arith)
