@@ -79,14 +79,14 @@ test_from_contains c xs (k, h, e) = list_any_at (λ w. nat_eq w c) xs k c h (eq-
 
 -- on a named vehicle a customer stands exactly where the new route holds it
 pub stands_on_new : CountLaw → NamedLaw → (changes : Changes) (routes : List (List ℕ)) (k c v : ℕ) (r : List ℕ) → AreApart (length routes) changes
-    → slice_get changes k ≡ Some (v, r) → (list_any (λ w. nat_eq w c) r ≡ true) ↔ StandsOn (with_routes changes routes) c v
+    → slice_get changes k ≡ Some (v, r) → Contains r c ↔ StandsOn (with_routes changes routes) c v
 stands_on_new count named changes routes k c v r apart e =
     let own : route_at (with_routes changes routes) v ≡ r = named changes routes k (v, r) apart e in
     let fleet = apart_at changes (length routes) k (v, r) apart e in
     let long = count changes routes in
     let top : v ≤ length (with_routes changes routes) = subst (λ (n : ℕ). v ≤ n) (sym long) fleet.1 in (
-      λ h. stands_from_contains (with_routes changes routes) c v fleet.0 top (subst (λ (xs : List ℕ). Contains xs c) (sym own) (contains_from_test c r h)),
-      λ s. test_from_contains c r (subst (λ (xs : List ℕ). Contains xs c) own (contains_from_stands (with_routes changes routes) c v s)),
+      λ h. stands_from_contains (with_routes changes routes) c v fleet.0 top (subst (λ (xs : List ℕ). Contains xs c) (sym own) h),
+      λ s. subst (λ (xs : List ℕ). Contains xs c) own (contains_from_stands (with_routes changes routes) c v s),
     )
 
 -- on any other vehicle it stands exactly where it did

@@ -58,11 +58,12 @@ impl Pins {
         ensures { MatchOption result (DoPinsPass self.now (with_routes (changes_of new_routes.now) plan.now.routes) touched.now free.now)
             (IsFirstForbidden self.now (with_routes (changes_of new_routes.now) plan.now.routes) touched.now free.now) }
     {
+        let mut near = 0;
         for (k, touch) in touched.iter().enumerate() {
             if free[k] {
                 continue;
             }
-            if self.leaves(plan, new_routes, touch.customer) {
+            if self.leaves_near(plan, new_routes, touch.customer, &mut near) {
                 return Some(*touch);
             }
         }
@@ -76,13 +77,14 @@ impl Pins {
         requires touched { (c : ℕ) → 1 ≤ c → IsHeld self.old plan.now.routes c ⊎ IsTouched touched.now c }
         ensures { self.new ≡ after_commit plan.now.routes self.old }
     {
+        let mut near = 0;
         for touch in touched {
-            self.release_one(plan, touch.customer);
+            self.release_one(plan, touch.customer, &mut near);
         }
     }
 
-    /// Takes away the pin of a customer that does not stand on its vehicle.
-    fn release_one(&mut self, plan: &Plan, customer: u32)
+    /// Takes away the pin of a customer that does not stand on its vehicle, looked for from an index of its route outwards.
+    fn release_one(&mut self, plan: &Plan, customer: u32, near: &mut usize)
         requires low { 1 ≤ customer }
         requires high { customer ≤ length self.old.pins }
         ensures { self.new ≡ with_pin customer (pin_left plan.now.routes customer (pin_of self.old customer)) self.old }
@@ -90,7 +92,7 @@ impl Pins {
         let Some(vehicle) = self.pinned(customer) else {
             return;
         };
-        if !stands(plan, customer, vehicle) {
+        if !stands(plan, customer, vehicle, near) {
             self.unpin(customer);
         }
     }

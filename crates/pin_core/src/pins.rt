@@ -1,4 +1,4 @@
-ghost use Rattle.std.specs.Prelude.{◌≡◌, ℕ, ◌≤◌, ◌<◌, ◌↔◌, [], length, take, replicate, Some, None, IsTrue, IfOk, MatchBool, MatchOption, MatchResult, slice_get, All};
+ghost use Rattle.std.specs.Prelude.{◌≡◌, ℕ, ◌≤◌, ◌<◌, ◌↔◌, [], length, take, replicate, Some, None, IsTrue, IfOk, MatchBool, MatchOption, MatchResult, slice_get, All, Contains};
 ghost use Rattle.plan_core.specs.Plan.{AreApart, AreChanges, IsNamed, changes_of, route_at, with_routes};
 ghost use Rattle.plan_core.specs.Commits.{named_vehicles};
 ghost use Rattle.pin_core.specs.Pins.{StandsOn, IsHeld, DoPinsHold, AreFreezesKept, DoFrontsFit, pin_of, front_of, with_pin, with_front};
@@ -163,9 +163,27 @@ impl Pins {
         requires apart { AreApart (length plan.now.routes) (changes_of new_routes.now) }
         ensures { MatchBool result (¬ IsHeld self.now (with_routes (changes_of new_routes.now) plan.now.routes) customer) (IsHeld self.now (with_routes (changes_of new_routes.now) plan.now.routes) customer) }
     {
+        self.leaves_near(plan, new_routes, customer, &mut 0)
+    }
+
+    /// The same, where the customer is looked for from an index of the new route outwards. Where it is found is the index for the next
+    /// one: a move keeps or turns round the order of those that stay, so that all of them together cost one walk.
+    pub(crate) fn leaves_near(
+        &self,
+        plan: &Plan,
+        new_routes: &[(u32, Arc<Route>)],
+        customer: u32,
+        near: &mut usize,
+    ) -> bool
+        requires low { 1 ≤ customer }
+        requires high { customer ≤ length self.now.pins }
+        requires holding { DoPinsHold self.now plan.now.routes }
+        requires apart { AreApart (length plan.now.routes) (changes_of new_routes.now) }
+        ensures { MatchBool result (¬ IsHeld self.now (with_routes (changes_of new_routes.now) plan.now.routes) customer) (IsHeld self.now (with_routes (changes_of new_routes.now) plan.now.routes) customer) }
+    {
         match self.pinned(customer) {
             None => false,
-            Some(vehicle) => !would_stay(plan, new_routes, customer, vehicle),
+            Some(vehicle) => !would_stay(plan, new_routes, customer, vehicle, near),
         }
     }
 
@@ -182,8 +200,9 @@ impl Pins {
         ensures { MatchOption result ((k : ℕ) (t : Touch) → slice_get touched.now k ≡ Some t → IsHeld self.now (with_routes (changes_of new_routes.now) plan.now.routes) t.customer)
             (IsFirstLoose self.now (with_routes (changes_of new_routes.now) plan.now.routes) touched.now) }
     {
+        let mut near = 0;
         for touch in touched {
-            if self.leaves(plan, new_routes, touch.customer) {
+            if self.leaves_near(plan, new_routes, touch.customer, &mut near) {
                 return Some(*touch);
             }
         }
@@ -192,14 +211,20 @@ impl Pins {
 }
 
 /// Whether a customer that stands on a vehicle stays on it once the new routes are in place.
-fn would_stay(plan: &Plan, new_routes: &[(u32, Arc<Route>)], customer: u32, vehicle: u32) -> bool
+fn would_stay(
+    plan: &Plan,
+    new_routes: &[(u32, Arc<Route>)],
+    customer: u32,
+    vehicle: u32,
+    near: &mut usize,
+) -> bool
     requires stands { StandsOn plan.now.routes customer vehicle }
     requires apart { AreApart (length plan.now.routes) (changes_of new_routes.now) }
     ensures { IsTrue result ↔ StandsOn (with_routes (changes_of new_routes.now) plan.now.routes) customer vehicle }
 {
     routes_replaced();
     match new_route(new_routes, vehicle) {
-        Some(route) => route.customers().contains(&customer),
+        Some(route) => is_on(route.customers(), customer, near),
         None => true,
     }
 }
@@ -217,11 +242,29 @@ fn new_route(new_routes: &[(u32, Arc<Route>)], vehicle: u32) -> Option<&Arc<Rout
 }
 
 /// Whether a customer stands on a vehicle.
-pub(crate) fn stands(plan: &Plan, customer: u32, vehicle: u32) -> bool
+pub(crate) fn stands(plan: &Plan, customer: u32, vehicle: u32, near: &mut usize) -> bool
     ensures { IsTrue result ↔ StandsOn plan.now.routes customer vehicle }
 {
-    match plan.place_of(customer) {
-        Some((home, _)) => home == vehicle,
-        None => false,
+    if vehicle == 0 || vehicle > plan.vehicles() {
+        return false;
     }
+    is_on(plan.route(vehicle).customers(), customer, near)
+}
+
+/// Whether a customer is on a route. It is looked for from an index outwards, and where it is found is the index for the next one.
+fn is_on(route: &[u32], customer: u32, near: &mut usize) -> bool
+    ensures { IsTrue result ↔ Contains route.now customer }
+{
+    let from = (*near).min(route.len().saturating_sub(1));
+    for away in 0..route.len() {
+        if away <= from && route[from - away] == customer {
+            *near = from - away;
+            return true;
+        }
+        if from + away < route.len() && route[from + away] == customer {
+            *near = from + away;
+            return true;
+        }
+    }
+    false
 }

@@ -10,7 +10,7 @@ use Rattle.solomon_reader.specs.Fields.{is_field, field_value, trimmed, is_name,
 use Rattle.solomon_reader.specs.declared.instance.Node.{Node}
 use Rattle.solomon_reader.specs.Checks.{Check, value_at, row_checks, rows_checks, checks, is_vehicle, is_fleet_heading, is_customer, is_node_heading}
 use Rattle.solomon_reader.specs.Instances.{Plain, IsRow, AreRows, BeginsWith, IsInstance}
-use Rattle.solomon_reader.specs.Reading.{node_of, nodes_of, instance_of, all_of}
+use Rattle.solomon_reader.specs.Reading.{node_of, nodes_of_rows, instance_of, all_of}
 use Rattle.solomon_reader.proofs.Booleans.{both, eq_from, le_from, lt_from, most_of, lt_test, same_again, depot_from, depot_test, not_two, not_seven}
 use Rattle.solomon_reader.proofs.Checking.{done, checked_value}
 use Rattle.solomon_reader.proofs.Faults.{all_hold, hold_all}
@@ -80,7 +80,7 @@ row_from count n ws h =
     subst (λ (l : List ℕ). AllZip IsNumber ws l) same (numbers_from ws h.1.1.0)
 
 pub record TookRows (count : ℕ) (lines : List Numbered) : Type 0 where
-  pub each : AreRows count lines (nodes_of lines)
+  pub each : AreRows count lines (nodes_of_rows lines)
   pub some : 2 ≤ count + length lines
   pub few : count ≤ 1001 → count + length lines ≤ 1001
 
@@ -96,7 +96,7 @@ rows_from missing count (line ∷ lines) h =
       few = λ k. omega (arith, more.few (omega arith));
     }
 
-length-nodes : (lines : List Numbered) → length (nodes_of lines) ≡ length lines
+length-nodes : (lines : List Numbered) → length (nodes_of_rows lines) ≡ length lines
 length-nodes [] = refl
 length-nodes (line ∷ lines) = ap suc (length-nodes lines)
 
@@ -202,7 +202,7 @@ row_holds count node (a ∷ b ∷ c ∷ d ∷ e ∷ f ∷ g ∷ i ∷ ws) h = ab
 
 pub record HoldsRows (missing count : ℕ) (lines : List Numbered) (nodes : List Node) : Type 0 where
   pub all : Hold (rows_checks missing count lines)
-  pub nodes_are : nodes_of lines ≡ nodes
+  pub nodes_are : nodes_of_rows lines ≡ nodes
 
 rows_hold : (missing count : ℕ) (lines : List Numbered) (nodes : List Node) → AreRows count lines nodes → 2 ≤ count + length nodes → count + length nodes ≤ 1001 → HoldsRows missing count lines nodes
 rows_hold missing count [] [] h some few = record { all = (most_of 2 count (omega (arith, some)), tt); nodes_are = refl }
@@ -218,7 +218,7 @@ rows_hold missing count (line ∷ lines) (node ∷ nodes) h some few =
     let depot : (nat_lt 0 count || eqb (node_of ws).demand 0) ≡ true = subst (λ (n : Node). (nat_lt 0 count || eqb n.demand 0) ≡ true) (sym r.node_is) (depot_test count node.demand h.2) in
     record {
       all = (room, (r.all_fields, (numbers_test ws _ h.0, (order, (window, (depot, more.all))))));
-      nodes_are = ap (λ (n : Node). n ∷ nodes_of lines) r.node_is ∙ ap (λ (l : List Node). node ∷ l) more.nodes_are;
+      nodes_are = ap (λ (n : Node). n ∷ nodes_of_rows lines) r.node_is ∙ ap (λ (l : List Node). node ∷ l) more.nodes_are;
     }
 
 abbrev lines_of : {lines : List Numbered} {i : Plain} → IsInstance lines i → List Numbered

@@ -8,7 +8,7 @@ use Rattle.solomon_reader.specs.declared.fault.ReadFault.{ReadFault}
 use Rattle.solomon_reader.specs.declared.fault.ReadFault.TheVariants.{NoMemory, At}
 use Rattle.solomon_reader.specs.declared.instance.Node.{Node}
 use Rattle.solomon_reader.specs.Checks.{Fault, Check, checked, name_checks, heading_checks, fleet_checks, rows_checks, tail, checks, first_text, value_at, is_vehicle, is_fleet_heading, is_customer, is_node_heading}
-use Rattle.solomon_reader.specs.Reading.{Fails, instance_of, all_of, nodes_of}
+use Rattle.solomon_reader.specs.Reading.{Fails, instance_of, all_of, nodes_of_rows}
 use Rattle.solomon_reader.specs.Instances.{Plain}
 use Rattle.solomon_reader.specs.Parts.{name_read, fleet_read, rows_read}
 use Rattle.solomon_reader.proofs.Checking.{done, failed, held, fail_step, checked_more, checked_value, Fails_on}
@@ -59,7 +59,7 @@ any_fails NoMemory cs x v h = tt
 any_fails (At k n) cs x v h = same_fault cs x v (record { kind = k; line = n }) h
 
 pub stopped_last : (bad : ReadFault) (m : ℕ) (lines : List Numbered) (v : Plain) (whole : Result Plain Fault) → checked (rows_checks m 0 lines) v ≡ whole → Fails bad (rows_read m 0 lines) → Fails bad whole
-stopped_last bad m lines v whole h e = rw (← h) (any_fails bad (rows_checks m 0 lines) (nodes_of lines) v e)
+stopped_last bad m lines v whole h e = rw (← h) (any_fails bad (rows_checks m 0 lines) (nodes_of_rows lines) v e)
 
 abbrev plain : List ℕ → ℕ × ℕ → List Node → Plain
 plain name fleet nodes = record { name = name; vehicles = fleet.0; capacity = fleet.1; nodes = nodes }
@@ -67,7 +67,7 @@ plain name fleet nodes = record { name = name; vehicles = fleet.0; capacity = fl
 abbrev fleet_values : List Numbered → ℕ × ℕ
 fleet_values lines = (value_at 0 (words (first_text lines)), value_at 1 (words (first_text lines)))
 
-parts_of : (lines fleet rows : List Numbered) → fleet ≡ tail (tail (tail lines)) → rows ≡ tail (tail (tail fleet)) → instance_of lines ≡ plain (trimmed (first_text lines)) (fleet_values fleet) (nodes_of rows)
+parts_of : (lines fleet rows : List Numbered) → fleet ≡ tail (tail (tail lines)) → rows ≡ tail (tail (tail fleet)) → instance_of lines ≡ plain (trimmed (first_text lines)) (fleet_values fleet) (nodes_of_rows rows)
 unfolding instance_of
 parts_of lines fleet rows f r = rw (r, f) refl
 
@@ -75,13 +75,13 @@ pub made : (m m' m'' : ℕ) (lines l1 l2 l3 l4 l5 l6 : List Numbered) (name : Li
 made m m' m'' lines l1 l2 l3 l4 l5 l6 name fleet nodes whole e1 e2 e3 e4 e5 e6 n f r h =
     let at3 : l3 ≡ tail (tail (tail lines)) = e3 ∙ ap tail (e2 ∙ ap tail e1) in
     let at6 : l6 ≡ tail (tail (tail l3)) = e6 ∙ ap tail (e5 ∙ ap tail e4) in
-    let all : checked (rows_checks m'' 0 l6) (instance_of lines) ≡ done (instance_of lines) = checked_any (rows_checks m'' 0 l6) (nodes_of l6) nodes (instance_of lines) r in
+    let all : checked (rows_checks m'' 0 l6) (instance_of lines) ≡ done (instance_of lines) = checked_any (rows_checks m'' 0 l6) (nodes_of_rows l6) nodes (instance_of lines) r in
     let same_name : trimmed (first_text lines) ≡ name = checked_value (name_checks m lines) (trimmed (first_text lines)) name n in
     let same_fleet : fleet_values l3 ≡ fleet = checked_value (fleet_checks m' l3) (fleet_values l3) fleet f in
-    let same_nodes : nodes_of l6 ≡ nodes = checked_value (rows_checks m'' 0 l6) (nodes_of l6) nodes r in
+    let same_nodes : nodes_of_rows l6 ≡ nodes = checked_value (rows_checks m'' 0 l6) (nodes_of_rows l6) nodes r in
     let first : instance_of lines ≡ plain name fleet nodes =
     parts_of lines l3 l6 at3 at6
-    ∙ ap (λ (x : List ℕ). plain x (fleet_values l3) (nodes_of l6)) same_name
-    ∙ ap (λ (x : ℕ × ℕ). plain name x (nodes_of l6)) same_fleet
+    ∙ ap (λ (x : List ℕ). plain x (fleet_values l3) (nodes_of_rows l6)) same_name
+    ∙ ap (λ (x : ℕ × ℕ). plain name x (nodes_of_rows l6)) same_fleet
     ∙ ap (λ (x : List Node). plain name fleet x) same_nodes in
     sym h ∙ all ∙ ap (done {A = Plain}) first

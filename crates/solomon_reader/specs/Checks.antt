@@ -30,7 +30,7 @@ checked [] value = Ok value
 checked (c ∷ more) value = if c.holds then checked more value else fault c.kind c.line
 
 -- the check of that kind on that line fails, and every earlier one holds
-pub record IsFirstFailing (checks : List Check) (kind : Kind) (line : ℕ) : Type 0 where
+pub record IsFirstFailedCheck (checks : List Check) (kind : Kind) (line : ℕ) : Type 0 where
   pub before : List Check
   pub behind : List Check
   pub whole : checks ≡ before ++ check kind line false ∷ behind

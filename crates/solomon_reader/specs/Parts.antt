@@ -4,7 +4,7 @@ use Rattle.text_words.specs.Words.{words}
 use Rattle.solomon_reader.specs.Cuts.{Numbered}
 use Rattle.solomon_reader.specs.Fields.{is_field, field_value, trimmed}
 use Rattle.solomon_reader.specs.Checks.{Fault, fault, checked, first_text, value_at, name_checks, heading_checks, fleet_checks, rows_checks}
-use Rattle.solomon_reader.specs.Reading.{nodes_of}
+use Rattle.solomon_reader.specs.Reading.{nodes_of_rows}
 use Rattle.solomon_reader.specs.declared.fault.Kind.{Kind}
 use Rattle.solomon_reader.specs.declared.fault.Kind.TheVariants.{Fleet, Fields, Number, Order, Window, Depot, Count}
 use Rattle.solomon_reader.specs.declared.instance.Node.{Node}
@@ -59,4 +59,4 @@ abbrev pub fleet_read : ℕ → List Numbered → Result (ℕ × ℕ) Fault
 fleet_read missing lines = checked (fleet_checks missing lines) (value_at 0 (words (first_text lines)), value_at 1 (words (first_text lines)))
 
 abbrev pub rows_read : ℕ → ℕ → List Numbered → Result (List Node) Fault
-rows_read missing count lines = checked (rows_checks missing count lines) (nodes_of lines)
+rows_read missing count lines = checked (rows_checks missing count lines) (nodes_of_rows lines)

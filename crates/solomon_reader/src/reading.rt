@@ -2,7 +2,7 @@
 
 ghost use Rattle.std.specs.Prelude.{◌≡◌, ℕ, map, OnOk, IfOk, IfErr, Ok, string_bytes};
 ghost use Rattle.solomon_reader.specs.Cuts.{full_left, number_after};
-ghost use Rattle.solomon_reader.specs.Checks.{fault, tail, checks, IsFirstFailing, heading_test};
+ghost use Rattle.solomon_reader.specs.Checks.{fault, tail, checks, IsFirstFailedCheck, heading_test};
 ghost use Rattle.solomon_reader.specs.declared.fault.Kind.{Kind};
 ghost use Rattle.solomon_reader.specs.Reading.{Gives, read_of, IsFault};
 ghost use Rattle.solomon_reader.specs.Instances.{view, IsInstance, IsSound, Plain};
@@ -198,7 +198,7 @@ pub fn read(alloc: Global, text: &[u8]) -> Result<Instance, ReadFault>
     // A fault is that of the first check of the file that fails, on its line.
     ensures fault { IfErr result (λ e. IsFault text.now e) }
     // The first check that fails is answered, unless memory runs out.
-    ensures fault_only { (kind : Kind) (line : ℕ) → IsFirstFailing (checks (number_after 1 text.now) (full_left 1 text.now)) kind line → Gives view result (fault kind line) }
+    ensures fault_only { (kind : Kind) (line : ℕ) → IsFirstFailedCheck (checks (number_after 1 text.now) (full_left 1 text.now)) kind line → Gives view result (fault kind line) }
 
     // What every instance keeps.
     ensures sound { IfOk result (λ i. IsSound (view i)) }

@@ -8,7 +8,7 @@ use Rattle.pin_core.proofs.pins.Pins.first_loose.Goals as goal
 pub loop-touch-preserved : goal.loop-touch-preserved
 loop-touch-preserved c =
     before_more (λ (t : Touch). IsHeld c.args.self.now (with_routes (changes_of c.args.new_routes.now) c.args.plan.now.routes) t.customer) c.args.touched.now c.loop-touch.touch-index
-    _ (slice_get-get_or c.args.touched.now c.loop-touch.touch-index _ c.loop-touch-test.true) c.if-leaves.ensures c.loop-touch.invariant
+    _ (slice_get-get_or c.args.touched.now c.loop-touch.touch-index _ c.loop-touch-test.true) c.if-leaves_near.ensures c.loop-touch.invariant
 
 pub returns : goal.returns
 returns c =

@@ -1,9 +1,8 @@
-use Rattle.std.proofs.Common.{◌≡◌, ℕ, List, None, sym, ap, ◌∙◌, arith, true, false}
-use Rattle.std.specs.List.{list_any}
+use Rattle.std.proofs.Common.{ℕ, List, sym, ap, ◌∙◌, arith}
 use Rattle.std.proofs.lemmas.List.{take_all}
 use Rattle.std.proofs.lemmas.Bool.{false≢true}
 use Rattle.separation_core.specs.declared.sets.Limit.{Limit}
-use Rattle.separation_core.specs.Groups.{first_breaking, is_broken}
+use Rattle.separation_core.specs.Groups.{first_breaking}
 use Rattle.separation_core.specs.GroupLaws.{breaking-none, breaking-here, breaking-more}
 use Rattle.separation_core.proofs.sets.Sets.broken_by_some.Goals.{in-Some+else-breaks_some, in_default}
 use Rattle.separation_core.proofs.sets.Sets.broken_by_some.Goals as goal
