@@ -5,3 +5,8 @@ pub mod Proposals
 pub mod Commanding
 pub mod Stepping
 pub mod Opened
+pub mod Numbers
+pub mod Spots
+pub mod Releases
+pub mod Deltas
+pub mod Naming

@@ -1,13 +1,15 @@
 -- Pins that a session may override: what is judged of the touched customers is so of all.
-use Rattle.std.proofs.Common.{◌≡◌, ℕ, zero, suc, ◌+◌, ◌<◌, ◌≤◌, ◌⊎◌, inl, inr, Bool, true, false, List, [], ◌∷◌, ◌++◌, length, drop, get_or, Option, Some, None, refl, sym, ap, subst, ◌∙◌, arith, ⊎_elim}
+use Rattle.std.proofs.Common.{◌≡◌, ℕ, zero, suc, ◌+◌, ◌<◌, ◌≤◌, ◌⊎◌, inl, inr, Bool, true, false, List, [], ◌∷◌, ◌++◌, length, drop, get_or, Option, Some, None, refl, sym, ap, subst, ◌∙◌, arith, ⊎_elim, All, length-append}
 use Rattle.std.specs.Prelude.{slice_get, is_some, is_none, if◌then◌else◌}
 use Rattle.std.proofs.lemmas.Bool.{both_ways, cases_order}
 use Rattle.std.proofs.lemmas.List.Sums.{sum_by-drop_more}
+use Rattle.std.proofs.lemmas.Option.{get_or_from_slice_get, slice_get_within}
 use Rattle.plan_core.specs.declared.touch.Touch.{Touch}
 use Rattle.pin_core.specs.Pins.{PinState, IsHeld, StandsOn, DoPinsHold, pin_of}
 use Rattle.pin_core.specs.Allowed.{IsTouched, AreAllTouched, IsFirstFailing}
 use Rattle.pin_core.specs.Override.{IsPassed, DoPinsPass, IsFirstForbidden, after_commit}
 use Rattle.board_rules.specs.Override.{IsAllowed, DoPinsAllow, IsFirstHeldBack, AreAnswers}
+use Rattle.board_state.specs.Deltas.{AreFreed}
 use Rattle.board_state.specs.Work.{is_leaving, leaving}
 
 -- pins that hold forbid nothing
@@ -83,6 +85,37 @@ answers_more Held may touched free i t b sized at new before k u low there = eli
     | inr late ↦ absurd (omega (arith, low, late))
   ]
 ]
+
+get_back : {X : Type 0} (xs ys : List X) (k : ℕ) (x : X) → k < length xs → slice_get (xs ++ ys) k ≡ Some x → slice_get xs k ≡ Some x
+get_back [] ys k x low h = absurd (omega (arith, low))
+get_back (y ∷ xs) ys zero x low h = h
+get_back (y ∷ xs) ys (suc k) x low h = get_back xs ys k x (omega (arith, low)) h
+
+-- one mark more
+pub marks_more : (Held : ℕ → Type 0) (touched : List Touch) (free : List Bool) (i : ℕ) (t : Touch) (b : Bool) → length free ≡ i
+    → slice_get touched i ≡ Some t → (b ≡ true → ¬ Held t.customer)
+    → ((k : ℕ) (u : Touch) → slice_get touched k ≡ Some u → slice_get free k ≡ Some true → ¬ Held u.customer)
+    → (k : ℕ) (u : Touch) → slice_get touched k ≡ Some u → slice_get (free ++ b ∷ []) k ≡ Some true → ¬ Held u.customer
+marks_more Held touched free i t b sized at new before k u there mark = elim (cases_order k i) [
+  | inl same ↦
+      let one : t ≡ u = let e : slice_get touched i ≡ Some u = subst (λ (n : ℕ). slice_get touched n ≡ Some u) same there in cc in
+      let last : slice_get (free ++ b ∷ []) k ≡ Some b = subst (λ (n : ℕ). slice_get (free ++ b ∷ []) n ≡ Some b) (sized ∙ sym same) (get_end free b) in
+      let yes : b ≡ true = let e = sym last ∙ mark in cc in
+      subst (λ (x : Touch). Held x.customer → ⊥) one (new yes)
+  | inr q ↦ elim q [
+    | inl early ↦ before k u there (get_back free (b ∷ []) k true (omega (arith, early, sized)) mark)
+    | inr late ↦ let within = slice_get_within (free ++ b ∷ []) k true mark in absurd (omega (arith, late, sized, within, length-append free (b ∷ [])))
+  ]
+]
+
+-- where the pins hold nobody is marked
+pub none_freed : (pins : PinState) (others : List (List ℕ)) (touched : List Touch) (n : ℕ) → All (λ t. (1 ≤ t.customer) × (t.customer ≤ n)) touched → DoPinsHold pins others → AreFreed pins others touched []
+none_freed pins others touched n known holds = record {
+  short = omega arith;
+  leave = λ k t at mark. absurd cc;
+  stay = λ k t at.
+      inl (holds t.customer (subst (λ (u : Touch). 1 ≤ u.customer) (get_or_from_slice_get touched k t t at) (known k t (slice_get_within touched k t at)).0));
+}
 
 -- how many are left to leave
 pub leaving_left : (pins : PinState) (others : List (List ℕ)) (touched : List Touch) (i : ℕ) (d : Touch) → i < length touched

@@ -1,11 +1,14 @@
 -- What a judged call changes of what is held.
-use Rattle.std.specs.Prelude.{◌≡◌, ℕ, ◌≤◌, ◌<◌, ◌⊎◌, List, length, Some, None, All}
+use Rattle.std.specs.Prelude.{◌≡◌, ◌≢◌, ℕ, ◌≤◌, ◌<◌, ◌⊎◌, List, length, Some, None, All}
+use Rattle.std.specs.Option.{option_map}
 use Rattle.dimension_core.specs.Setting.{Setting}
-use Rattle.plan_core.specs.Plan.{PlanState, IsPlan, AreChanges, changes_of, replaced, with_routes}
+use Rattle.plan_core.specs.Plan.{PlanState, IsPlan, AreChanges, changes_of, replaced, route_at, with_routes}
 use Rattle.plan_core.specs.Commits.{AreStamps}
-use Rattle.pin_core.specs.Pins.{PinState, IsHeld, with_pin, with_front}
+use Rattle.pin_core.specs.Pins.{PinState, IsHeld, pin_of, front_of, with_pin, with_front}
 use Rattle.pin_core.specs.Allowed.{IsTouched}
 use Rattle.pin_core.specs.Override.{after_commit}
+use Rattle.move_core.specs.Moves.{vehicles_of, effect}
+use Rattle.move_core.specs.Touched.{touched_by}
 use Rattle.range_cache.specs.Cache.{IsCacheOf}
 use Rattle.range_cache.specs.Pending.{AreNewRows}
 use Rattle.rbac_core.specs.Tried.{Tried}
@@ -19,6 +22,7 @@ use Rattle.board_state.specs.declared.change.Commit.{Commit}
 use Rattle.board_state.specs.declared.change.Change.{Change}
 use Rattle.board_state.specs.declared.change.Change.TheVariants.{Nothing, Replace, Pin, Unpin, Front, Command}
 use Rattle.board_state.specs.Held.{HeldState}
+use Rattle.board_state.specs.Deltas.{AreFreed}
 
 -- a judged call as contracts see it: what it was judged on, the reply, and what changes
 pub record JudgedState : Type 0 where
@@ -64,8 +68,16 @@ pub record WillHold (s : Setting) (held : HeldState) (change : Change) (next : B
   pub pins : pins_after held change ≡ next.pins
   pub cache : WillKeep s held change next.routes
 
--- a commit may be put in place
+-- A commit may be put in place: it is that of a move that has an effect, with the customers that this touches, the routes that its vehicles
+-- had, and marks on the customers whose pins it releases.
 pub record IsCommittable (held : HeldState) (commit : Commit) : Type 0 where
+  pub sound : IsPlan held.plan.customers held.plan.routes
+  pub possible : effect held.plan.customers held.plan.routes commit.mv ≡ Some (changes_of commit.changes.items)
+  pub by : commit.touched.items ≡ touched_by held.plan.routes commit.mv
+  pub former : commit.former.value ≡ route_at held.plan.routes (vehicles_of commit.mv).0
+  pub other : option_map (λ r. r.value) commit.other ≡ option_map (route_at held.plan.routes) (vehicles_of commit.mv).1
+  pub lengths : All (λ c. length c.1.value ≤ 1000) commit.changes.items
+  pub freed : AreFreed held.pins (with_routes (changes_of commit.changes.items) held.plan.routes) commit.touched.items commit.freed.items
   pub changes : AreChanges (length held.plan.routes) (changes_of commit.changes.items)
   pub plan : IsPlan held.plan.customers (with_routes (changes_of commit.changes.items) held.plan.routes)
   pub room : held.plan.version < 16777216
@@ -73,14 +85,19 @@ pub record IsCommittable (held : HeldState) (commit : Commit) : Type 0 where
   pub touched : (c : ℕ) → 1 ≤ c → IsHeld held.pins (with_routes (changes_of commit.changes.items) held.plan.routes) c ⊎ IsTouched commit.touched.items c
   pub pending : commit.pending.of ≡ held.cache
 
--- a change may be put in place
+-- A change may be put in place, and it changes something: nobody is pinned or unpinned twice, and no frozen length stays.
 abbrev pub IsSettleable : HeldState → Change → Type 0
 IsSettleable held (Replace commit) = IsCommittable held commit
-IsSettleable held (Pin customer vehicle) = (1 ≤ customer) × (customer ≤ length held.pins.pins)
-IsSettleable held (Unpin customer) = (1 ≤ customer) × (customer ≤ length held.pins.pins)
-IsSettleable held (Front vehicle n) = (1 ≤ vehicle) × (vehicle ≤ length held.pins.fronts)
+IsSettleable held (Pin customer vehicle) = (1 ≤ customer) × (customer ≤ length held.pins.pins) × (pin_of held.pins customer ≡ None)
+IsSettleable held (Unpin customer) = (1 ≤ customer) × (customer ≤ length held.pins.pins) × (pin_of held.pins customer ≢ None)
+IsSettleable held (Front vehicle n) = (1 ≤ vehicle) × (vehicle ≤ length held.pins.fronts) × (n ≢ front_of held.pins vehicle)
 IsSettleable held (Command rows command) = (rows.of ≡ held.tables) × (refusal_of held.policy.now command ≡ None) × (held.policy.tried ≡ after held.policy.now command)
 IsSettleable held Nothing = Unit {0}
+
+-- a judged call may be put in place, and has the version of what it was judged on
+pub record IsJudged (held : HeldState) (version : ℕ) (change : Change) : Type 0 where
+  pub ready : IsSettleable held change
+  pub then : version ≡ held.plan.version
 
 -- a change is of the pins and frozen lengths alone, if of anything
 abbrev pub IsOfPins : Change → Type 0

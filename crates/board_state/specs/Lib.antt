@@ -1,4 +1,5 @@
 pub mod Held
 pub mod Work
 pub mod Verdicts
+pub mod Deltas
 pub mod Changes

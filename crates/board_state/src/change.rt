@@ -1,19 +1,27 @@
 //! What a judged call changes.
 use crate::state::State;
 use board_rules::Reply;
+use move_core::Move;
 use permission_table::Rows;
 use plan_core::{Route, Touch};
 use range_cache::Pending;
 use rbac_core::Command;
+use std::alloc::Global;
 use std::marker::Model;
 use std::snapshot::Snapshot;
 use std::sync::Arc;
 
-/// New routes that pass every rule, with the customers that they touch and their ranges.
+/// New routes that pass every rule, with the move that makes them, the customers that it touches, the routes that its vehicles had, and the
+/// new ranges.
 #[derive(Drop)]
 pub struct Commit {
+    pub(crate) mv: Move,
     pub(crate) changes: Vec<(u32, Arc<Route>)>,
     pub(crate) touched: Vec<Touch>,
+    pub(crate) former: Arc<Route>,
+    pub(crate) other: Option<Arc<Route>>,
+    /// For each touched customer whether it leaves the vehicle of its pin, or nothing where none does.
+    pub(crate) freed: Vec<bool>,
     pub(crate) pending: Pending,
 }
 
@@ -34,20 +42,22 @@ pub enum Change {
     Command(Rows, Command),
 }
 
-/// A judged call, for what was held when it was judged.
+/// A judged call, for what was held when it was judged, with the version then.
 #[derive(Drop)]
 pub struct Judged {
     pub(crate) of: Snapshot<State>,
+    pub(crate) alloc: Global,
+    pub(crate) version: u32,
     pub(crate) reply: Reply,
     pub(crate) change: Change,
 }
 
 impl Model for Judged {
-    ghost use Rattle.board_state.specs.Changes.{JudgedState, IsSettleable};
+    ghost use Rattle.board_state.specs.Changes.{JudgedState, IsJudged};
 
     ghost Value = { JudgedState };
 
     ghost view = { λ a. record { of = a.of.value; reply = a.reply; change = a.change } };
 
-    ghost invariant = { λ a. IsSettleable a.of.value a.change };
+    ghost invariant = { λ a. IsJudged a.of.value a.version a.change };
 }

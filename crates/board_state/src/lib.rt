@@ -3,6 +3,7 @@
 
 mod change;
 mod commands;
+mod delta;
 mod named;
 mod pinning;
 mod pins;

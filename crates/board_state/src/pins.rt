@@ -1,5 +1,6 @@
 //! The rules on frozen fronts and pins, over new routes.
-ghost use Rattle.std.specs.Prelude.{◌≡◌, ◌≤◌, ◌+◌, ◌⊎◌, ℕ, length, if◌then◌else◌, IfOk, IfErr, OnOk, MatchResult};
+ghost use Rattle.std.specs.Prelude.{◌≡◌, ◌≤◌, ◌+◌, ◌⊎◌, ℕ, true, Some, slice_get, length, if◌then◌else◌, IfOk, IfErr, OnOk, MatchResult};
+ghost use Rattle.plan_core.specs.declared.touch.Touch.{Touch};
 ghost use Rattle.plan_core.specs.Plan.{AreApart, changes_of, with_routes};
 ghost use Rattle.plan_core.specs.Commits.{named_vehicles};
 ghost use Rattle.pin_core.specs.Pins.{IsHeld, DoPinsHold, AreFreezesKept};
@@ -8,6 +9,7 @@ ghost use Rattle.permission_core.specs.declared.objects.Operation.TheVariants as
 ghost use Rattle.permission_core.specs.declared.objects.Object.TheVariants as objects;
 ghost use Rattle.board_rules.specs.Override.{DoPinsAllow, AreAnswers};
 ghost use Rattle.board_rules.specs.Rules.{may_override};
+ghost use Rattle.board_state.specs.Deltas.{AreFreed};
 ghost use Rattle.board_state.specs.Held.{held_basis};
 ghost use Rattle.board_state.specs.Verdicts.{ArePlaceable, IsPinStop};
 ghost use Rattle.board_state.specs.Work.{WorksAtMost, is_leaving, leaving};
@@ -24,7 +26,8 @@ use std::sync::Arc;
 
 impl State {
     /// Whether new routes keep the frozen fronts, and no pin forbids them. Only where a pinned customer would leave its vehicle the
-    /// session is asked for `override`.
+    /// session is asked for `override`. The answer marks the touched customers that leave the vehicle of their pin, and is empty where none
+    /// does.
     pub(crate) fn judge_pins(
         &self,
         alloc: Global,
@@ -32,15 +35,16 @@ impl State {
         changes: &[(u32, Arc<Route>)],
         touched: &[Touch],
         meter: &mut Meter,
-    ) -> Result<(), Stop>
+    ) -> Result<Vec<bool>, Stop>
         requires { ArePlaceable self.now (changes_of changes.now) touched.now }
+        ensures freed { IfOk result (λ freed. AreFreed self.now.pins (with_routes (changes_of changes.now) self.now.plan.routes) touched.now freed.items) }
         ensures fronts { OnOk result (AreFreezesKept self.now.pins self.now.plan.routes (with_routes (changes_of changes.now) self.now.plan.routes)) }
         ensures pins { OnOk result (DoPinsAllow self.now.pins (may_override (held_basis self.now session)) (with_routes (changes_of changes.now) self.now.plan.routes)) }
         ensures stop { IfErr result (IsPinStop self.now.pins (may_override (held_basis self.now session)) self.now.plan.routes (changes_of changes.now) touched.now) }
         ensures work { WorksAtMost meter.old meter.new 0 (leaving self.now.pins (with_routes (changes_of changes.now) self.now.plan.routes) touched.now) }
     {
         match self.pins.allows(&self.plan, changes, touched) {
-            Ok(()) => Ok(()),
+            Ok(()) => Ok(Vec::new(alloc)),
             Err(PinFault::Frozen(vehicle)) => Err(Stop::Denied(Denial::Frozen(vehicle))),
             Err(PinFault::Pinned(..)) => {
                 self.judge_overrides(alloc, session, changes, touched, meter)
@@ -56,8 +60,9 @@ impl State {
         changes: &[(u32, Arc<Route>)],
         touched: &[Touch],
         meter: &mut Meter,
-    ) -> Result<(), Stop>
+    ) -> Result<Vec<bool>, Stop>
         requires { ArePlaceable self.now (changes_of changes.now) touched.now }
+        ensures freed { IfOk result (λ freed. AreFreed self.now.pins (with_routes (changes_of changes.now) self.now.plan.routes) touched.now freed.items) }
         ensures fronts { OnOk result (AreFreezesKept self.now.pins self.now.plan.routes (with_routes (changes_of changes.now) self.now.plan.routes)) }
         ensures pins { OnOk result (DoPinsAllow self.now.pins (may_override (held_basis self.now session)) (with_routes (changes_of changes.now) self.now.plan.routes)) }
         ensures stop { IfErr result (IsPinStop self.now.pins (may_override (held_basis self.now session)) self.now.plan.routes (changes_of changes.now) touched.now) }
@@ -67,7 +72,7 @@ impl State {
             return Err(Stop::NoMemory);
         };
         match self.pins.allows_with(&self.plan, changes, touched, &free) {
-            Ok(()) => Ok(()),
+            Ok(()) => Ok(free),
             Err(PinFault::Frozen(vehicle)) => Err(Stop::Denied(Denial::Frozen(vehicle))),
             Err(PinFault::Pinned(vehicle, place)) => {
                 Err(Stop::Denied(Denial::Pinned(vehicle, place)))
@@ -85,6 +90,7 @@ impl State {
         meter: &mut Meter,
     ) -> Result<Vec<bool>, AllocError>
         requires { ArePlaceable self.now (changes_of changes.now) touched.now }
+        ensures leave { IfOk result (λ free. (k : ℕ) (t : Touch) → slice_get touched.now k ≡ Some t → slice_get free.items k ≡ Some true → ¬ IsHeld self.now.pins (with_routes (changes_of changes.now) self.now.plan.routes) t.customer) }
         ensures answers { IfOk result (λ free. AreAnswers self.now.pins (may_override (held_basis self.now session)) (with_routes (changes_of changes.now) self.now.plan.routes) touched.now free.items) }
         ensures work { WorksAtMost meter.old meter.new 0 (leaving self.now.pins (with_routes (changes_of changes.now) self.now.plan.routes) touched.now) }
     {
@@ -108,6 +114,7 @@ impl State {
         requires high { customer ≤ length self.now.pins.pins }
         requires holding { DoPinsHold self.now.pins self.now.plan.routes }
         requires apart { AreApart (length self.now.plan.routes) (changes_of changes.now) }
+        ensures leaves { result ≡ true → ¬ IsHeld self.now.pins (with_routes (changes_of changes.now) self.now.plan.routes) customer }
         ensures may { IsHeld self.now.pins (with_routes (changes_of changes.now) self.now.plan.routes) customer
             ⊎ (result ≡ allows self.now.tables session operations.Override (objects.Customer customer)) }
         ensures work { WorksAtMost meter.old meter.new 0 (if is_leaving self.now.pins (with_routes (changes_of changes.now) self.now.plan.routes) customer then 1 else 0) }

@@ -44,6 +44,8 @@ impl State {
         let (reply, change) = self.judge(alloc, setup, call, meter)?;
         Ok(Judged {
             of: Snapshot::of(self),
+            alloc,
+            version: self.plan.version(),
             reply,
             change,
         })

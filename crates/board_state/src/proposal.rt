@@ -1,16 +1,18 @@
 //! Proposals: the rules in their order, and what passes them all.
-ghost use Rattle.std.specs.Prelude.{◌≡◌, ◌≤◌, ◌+◌, ℕ, length, All, None, Some, IfOk, IfErr, OnOk};
+ghost use Rattle.std.specs.Prelude.{◌≡◌, ◌≤◌, ◌+◌, ℕ, true, length, All, None, Some, IfOk, IfErr, OnOk};
 ghost use Rattle.dimension_core.specs.NewRoutes.{AllKnown};
 ghost use Rattle.dimension_core.specs.Setting.{Setting};
 ghost use Rattle.dimension_core.specs.Setup.{setting};
-ghost use Rattle.plan_core.specs.Plan.{changes_of};
+ghost use Rattle.std.specs.List.{list_all};
+ghost use Rattle.std.specs.Option.{option_map};
+ghost use Rattle.plan_core.specs.Plan.{IsPlan, changes_of, route_at};
 ghost use Rattle.plan_core.specs.Commits.{named_vehicles};
 ghost use Rattle.pin_core.specs.Pins.{DoPinsHold, DoFrontsFit};
-ghost use Rattle.move_core.specs.Moves.{named_by, changes_by, effect};
+ghost use Rattle.move_core.specs.Moves.{vehicles_of, named_by, changes_by, effect};
 ghost use Rattle.move_core.specs.Touched.{touched_by};
 ghost use Rattle.range_cache.specs.Asks.{judge_asks};
 ghost use Rattle.range_cache.specs.Pending.{AreNewRows};
-ghost use Rattle.board_rules.specs.Rules.{IsVerdictBy, PassesBase, PassesCustomers, PassesAll, routes_after};
+ghost use Rattle.board_rules.specs.Rules.{is_one_of, IsVerdictBy, PassesBase, PassesCustomers, PassesAll, routes_after};
 ghost use Rattle.board_state.specs.Held.{held_basis, IsReady};
 ghost use Rattle.board_state.specs.Changes.{IsCommittable};
 ghost use Rattle.board_state.specs.Verdicts.{ArePlaceable, IsStop, result_asks};
@@ -112,13 +114,21 @@ impl State {
         let Ok(changes) = self.new_routes(alloc, mv, &touched) else {
             return Err(Stop::NoMemory);
         };
-        if let Err(stop) = self.judge_pins(alloc, session, &changes, &touched, meter) {
-            return Err(stop);
-        }
+        let freed = match self.judge_pins(alloc, session, &changes, &touched, meter) {
+            Ok(freed) => freed,
+            Err(stop) => return Err(stop),
+        };
+        let Ok((former, other)) = self.former_routes(mv) else {
+            return Err(Stop::NoMemory);
+        };
         match self.cache.judge(setup, &self.plan, &changes, meter) {
             Ok(pending) => Ok(Commit {
+                mv: *mv,
                 changes,
                 touched,
+                former,
+                other,
+                freed,
                 pending,
             }),
             Err(JudgeFault::Bound(vehicle, dimension)) => {
@@ -141,6 +151,7 @@ impl State {
         requires fitting { DoFrontsFit self.now.pins self.now.plan.routes }
         requires touched { touched.now ≡ touched_by self.now.plan.routes mv.now }
         requires effect { effect self.now.plan.customers self.now.plan.routes mv.now ≡ Some (changes_by self.now.plan.routes mv.now) }
+        ensures sound { IsPlan self.now.plan.customers self.now.plan.routes }
         ensures changes { IfOk result (λ changes. changes_of changes.items ≡ changes_by self.now.plan.routes mv.now) }
         ensures named { named_vehicles (changes_by self.now.plan.routes mv.now) ≡ named_by mv.now }
         ensures known { (s : Setting) → length self.now.plan.routes ≡ s.vehicles → self.now.plan.customers ≡ s.customers → AllKnown s (changes_by self.now.plan.routes mv.now) }
@@ -157,5 +168,19 @@ impl State {
             Ok(changes) => Ok(changes),
             Err(_) => Err(AllocError),
         }
+    }
+    /// The routes of the vehicles that the move names, as they are.
+    fn former_routes(&self, mv: &Move) -> Result<(Arc<Route>, Option<Arc<Route>>), AllocError>
+        requires { list_all (is_one_of (length self.now.plan.routes)) (named_by mv.now) ≡ true }
+        ensures former { IfOk result (λ r. r.0.value ≡ route_at self.now.plan.routes (vehicles_of mv.now).0) }
+        ensures other { IfOk result (λ r. option_map (λ route. route.value) r.1 ≡ option_map (route_at self.now.plan.routes) (vehicles_of mv.now).1) }
+    {
+        let (first, second) = mv.vehicles();
+        let former = Arc::try_clone(self.plan.route(first))?;
+        let Some(vehicle) = second else {
+            return Ok((former, None));
+        };
+        let other = Arc::try_clone(self.plan.route(vehicle))?;
+        Ok((former, Some(other)))
     }
 }

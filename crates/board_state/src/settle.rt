@@ -23,11 +23,7 @@ impl State {
         ensures holds { (s : Setting) (next : BoardState) → WillHold s self.old judged.change next → Holds s self.new next }
         ensures reply { result ≡ judged.reply }
     {
-        let Judged {
-            of: _,
-            reply,
-            change,
-        } = judged;
+        let Judged { reply, change, .. } = judged;
         self.put(change);
         reply
     }
@@ -69,6 +65,7 @@ impl State {
             changes,
             touched,
             pending,
+            ..
         } = commit;
         self.plan.replace(changes);
         self.pins.release(&self.plan, &touched);

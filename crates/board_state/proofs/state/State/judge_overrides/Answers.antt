@@ -1,4 +1,4 @@
-use Rattle.std.proofs.Common.{◌≡◌, sym, subst, List, Bool, ℕ}
+use Rattle.std.proofs.Common.{◌≡◌, sym, subst, List, Bool, ℕ, arith}
 use Rattle.plan_core.specs.declared.touch.Touch.{Touch}
 use Rattle.plan_core.specs.Plan.{changes_of, with_routes}
 use Rattle.pin_core.specs.Pins.{AreFreezesKept}
@@ -12,6 +12,15 @@ use Rattle.board_state.proofs.state.State.judge_overrides.Goals as goal
 pub allows_with-requires-clause-touched : goal.allows_with-requires-clause-touched
 allows_with-requires-clause-touched c =
     subst (λ (h : HeldState). AreAllTouched h.plan.routes (with_routes (changes_of c.args.changes.now) h.plan.routes) c.args.touched.now) (sym c.self.view_is) c.requires.touched
+
+pub returns-in-Ok-allows_with-clause-freed : goal.returns-in-Ok-allows_with-clause-freed
+returns-in-Ok-allows_with-clause-freed c =
+    let held = c.args.self.now in
+    let others = with_routes (changes_of c.args.changes.now) held.plan.routes in
+    let passes : DoPinsPass held.pins others c.args.touched.now c.in-Ok.free.items =
+    subst (λ (free : List Bool). DoPinsPass held.pins others c.args.touched.now free) c.deref.ensures.value
+    (subst (λ (h : HeldState). DoPinsPass h.pins (with_routes (changes_of c.args.changes.now) h.plan.routes) c.args.touched.now c.deref.result.now) c.self.view_is c.in-Ok-allows_with.ensures.1) in
+    record { short = omega (arith, c.in-Ok.ensures.answers.sized); leave = c.in-Ok.ensures.leave; stay = passes }
 
 pub returns-in-Ok-allows_with-clause-pins : goal.returns-in-Ok-allows_with-clause-pins
 returns-in-Ok-allows_with-clause-pins c =

@@ -1,9 +1,20 @@
-use Rattle.std.proofs.Common.{sym, subst}
+use Rattle.std.proofs.Common.{List, Bool, sym, subst}
 use Rattle.plan_core.specs.Plan.{changes_of, with_routes}
 use Rattle.pin_core.specs.Allowed.{AreAllTouched}
+use Rattle.pin_core.specs.Pins.{DoPinsHold}
+use Rattle.board_state.specs.Deltas.{AreFreed}
 use Rattle.board_state.specs.Held.{HeldState}
+use Rattle.board_state.proofs.Overrides.{none_freed}
 use Rattle.board_state.proofs.state.State.judge_pins.Goals as goal
 
 pub allows-requires-clause-touched : goal.allows-requires-clause-touched
 allows-requires-clause-touched c =
     subst (λ (h : HeldState). AreAllTouched h.plan.routes (with_routes (changes_of c.args.changes.now) h.plan.routes) c.args.touched.now) (sym c.self.view_is) c.requires.touched
+
+pub returns-in-Ok-clause-freed : goal.returns-in-Ok-clause-freed
+returns-in-Ok-clause-freed c =
+    let held = c.args.self.now in
+    let others = with_routes (changes_of c.args.changes.now) held.plan.routes in
+    subst (λ (freed : List Bool). AreFreed held.pins others c.args.touched.now freed) (sym c.new.ensures.items)
+    (none_freed held.pins (with_routes (changes_of c.args.changes.now) held.plan.routes) c.args.touched.now held.plan.customers c.requires.known
+    (subst (λ (h : HeldState). DoPinsHold h.pins (with_routes (changes_of c.args.changes.now) h.plan.routes)) c.self.view_is c.in-Ok.ensures.1))

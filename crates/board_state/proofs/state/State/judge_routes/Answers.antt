@@ -1,4 +1,4 @@
-use Rattle.std.proofs.Common.{◌≡◌, ◌≤◌, ℕ, ◌+◌, ◌⊎◌, List, length, sym, ap, ◌∙◌, subst, arith, All}
+use Rattle.std.proofs.Common.{◌≡◌, ◌≤◌, ℕ, ◌+◌, ◌⊎◌, List, Some, length, sym, ap, ◌∙◌, subst, arith, All}
 use Rattle.callback_store.specs.Meter.{AsksAtMost}
 use Rattle.dimension_core.specs.Setup.{setting}
 use Rattle.dimension_core.specs.NewRoutes.{AllFit, AllKnown, IsOut}
@@ -7,10 +7,11 @@ use Rattle.plan_core.specs.Plan.{Changes, changes_of, with_routes, IsPlan, AreCh
 use Rattle.pin_core.specs.Pins.{AreFreezesKept, IsHeld}
 use Rattle.pin_core.specs.Allowed.{IsTouched}
 use Rattle.range_cache.specs.Asks.{judge_asks}
-use Rattle.move_core.specs.Moves.{changes_by}
+use Rattle.move_core.specs.Moves.{changes_by, effect}
 use Rattle.move_core.specs.Touched.{touched_by}
 use Rattle.board_rules.specs.Override.{DoPinsAllow}
 use Rattle.board_rules.specs.Rules.{may_override, routes_after}
+use Rattle.board_state.specs.Deltas.{AreFreed}
 use Rattle.board_state.specs.Held.{HeldState, held_basis}
 use Rattle.board_state.specs.Verdicts.{IsPinStop, ArePlaceable}
 use Rattle.board_state.specs.Work.{WorksAtMost, leaving}
@@ -34,8 +35,8 @@ returns-in-Ok-judge-clause-passes g c =
     let changes = ap (λ xs. changes_of xs) c.deref-2.ensures.value ∙ c.in-Ok.ensures.changes in
     let judged = ap (λ xs. changes_of xs) c.deref-4.ensures.value ∙ c.in-Ok.ensures.changes in
     passes_all (setting a.setup.now) held a.session a.base a.mv.now c.requires.ready c.requires.passes c.in-Ok.ensures.named c.deref.result.now c.in-Ok.ensures.placeable
-    (subst (λ (cs : Changes). AreFreezesKept held.pins held.plan.routes (with_routes cs held.plan.routes)) changes c.in_default-judge_pins.ensures.fronts)
-    (subst (λ (cs : Changes). DoPinsAllow held.pins (may_override (held_basis held a.session)) (with_routes cs held.plan.routes)) changes c.in_default-judge_pins.ensures.pins)
+    (subst (λ (cs : Changes). AreFreezesKept held.pins held.plan.routes (with_routes cs held.plan.routes)) changes c.in-Ok-judge_pins.ensures.fronts)
+    (subst (λ (cs : Changes). DoPinsAllow held.pins (may_override (held_basis held a.session)) (with_routes cs held.plan.routes)) changes c.in-Ok-judge_pins.ensures.pins)
     (subst (λ (cs : Changes). AllFit (setting a.setup.now) cs) judged c.in-Ok-judge.ensures.fits)
 
 pub returns-in-Ok-judge-clause-ready : goal.returns-in-Ok-judge-clause-ready
@@ -45,6 +46,14 @@ returns-in-Ok-judge-clause-ready g c =
     let same = sym c.in-Ok.ensures.changes in
     let placeable = subst (λ (ts : List Touch). ArePlaceable held (changes_by held.plan.routes a.mv.now) ts) c.deref.ensures.value c.in-Ok.ensures.placeable in
     record {
+      sound = c.new_routes.ensures.sound;
+      possible = subst (λ (n : ℕ). effect n held.plan.routes a.mv.now ≡ Some (changes_by held.plan.routes a.mv.now)) (sym c.requires.ready.customers) c.requires.passes.0.1 ∙ ap Some same;
+      by = c.requires.touched;
+      former = c.in-Ok-former_routes.ensures.former;
+      other = c.in-Ok-former_routes.ensures.other;
+      lengths = c.in-Ok.ensures.short;
+      freed = subst (λ (ts : List Touch). AreFreed held.pins (with_routes (changes_of c.in-Ok.changes.items) held.plan.routes) ts c.in-Ok-judge_pins.freed.items) c.deref-3.ensures.value
+          (subst (λ (cs : Changes). AreFreed held.pins (with_routes cs held.plan.routes) c.deref-3.result.now c.in-Ok-judge_pins.freed.items) (ap (λ xs. changes_of xs) c.deref-2.ensures.value) c.in-Ok-judge_pins.ensures.freed);
       changes = subst (λ (cs : Changes). AreChanges (length held.plan.routes) cs) same placeable.changes;
       plan = subst (λ (cs : Changes). IsPlan held.plan.customers (with_routes cs held.plan.routes)) same placeable.plan;
       room = c.requires.ready.room;
@@ -64,8 +73,8 @@ returns-in-Err-Bound-clause-stop g c =
     let judged = ap (λ xs. changes_of xs) c.deref-4.ensures.value ∙ c.in-Ok.ensures.changes in
     let out = rw c.in-Err-Bound.field-0-is at c.in-Err-Bound.ensures.fault in
     out_of_bounds (setting a.setup.now) held a.session a.base a.mv.now c.requires.ready c.requires.passes c.in-Ok.ensures.named c.deref.result.now c.in-Ok.ensures.placeable
-    (subst (λ (cs : Changes). AreFreezesKept held.pins held.plan.routes (with_routes cs held.plan.routes)) changes c.in_default-judge_pins.ensures.fronts)
-    (subst (λ (cs : Changes). DoPinsAllow held.pins (may_override (held_basis held a.session)) (with_routes cs held.plan.routes)) changes c.in_default-judge_pins.ensures.pins)
+    (subst (λ (cs : Changes). AreFreezesKept held.pins held.plan.routes (with_routes cs held.plan.routes)) changes c.in-Ok-judge_pins.ensures.fronts)
+    (subst (λ (cs : Changes). DoPinsAllow held.pins (may_override (held_basis held a.session)) (with_routes cs held.plan.routes)) changes c.in-Ok-judge_pins.ensures.pins)
     v d (subst (λ (cs : Changes). IsOut (setting a.setup.now) cs v d) judged out)
 
 pub returns-in-Ok-judge-clause-work : goal.returns-in-Ok-judge-clause-work
@@ -106,6 +115,32 @@ judge-requires-clause-known g c =
 
 pub returns-in-Err-clause-work : goal.returns-in-Err-clause-work
 returns-in-Err-clause-work g c =
+    let a = c.args in
+    let held = a.self.now in
+    let s = setting a.setup.now in
+    let changes = ap (λ xs. changes_of xs) c.deref-2.ensures.value ∙ c.in-Ok.ensures.changes in
+    let pins = subst (λ (cs : Changes). WorksAtMost a.meter.now c.judge_pins.new.meter 0 (leaving held.pins (with_routes cs held.plan.routes) a.touched.items)) changes
+    (subst (λ (ts : List Touch). WorksAtMost a.meter.now c.judge_pins.new.meter 0 (leaving held.pins (with_routes (changes_of c.deref-2.result.now) held.plan.routes) ts)) c.deref-3.ensures.value c.judge_pins.ensures.work) in
+    let touched = subst (λ (ts : List Touch). WorksAtMost a.meter.now c.judge_pins.new.meter 0 (leaving held.pins (routes_after held.plan.routes a.mv.now) ts)) c.requires.touched pins in
+    wider _ _ 0 (leaving held.pins (routes_after held.plan.routes a.mv.now) (touched_by held.plan.routes a.mv.now)) _ _ touched (omega arith) (omega arith)
+
+pub returns-clause-work : goal.returns-clause-work
+returns-clause-work g c =
+    let a = c.args in
+    let held = a.self.now in
+    let s = setting a.setup.now in
+    let changes = ap (λ xs. changes_of xs) c.deref-2.ensures.value ∙ c.in-Ok.ensures.changes in
+    let judged = ap (λ xs. changes_of xs) c.deref-4.ensures.value ∙ c.in-Ok.ensures.changes in
+    let pins = subst (λ (cs : Changes). WorksAtMost a.meter.now c.judge_pins.new.meter 0 (leaving held.pins (with_routes cs held.plan.routes) a.touched.items)) changes
+    (subst (λ (ts : List Touch). WorksAtMost a.meter.now c.judge_pins.new.meter 0 (leaving held.pins (with_routes (changes_of c.deref-2.result.now) held.plan.routes) ts)) c.deref-3.ensures.value c.judge_pins.ensures.work) in
+    let bounds = subst (λ (cs : Changes). AsksAtMost c.judge_pins.new.meter c.judge.new.meter (judge_asks (length s.dimensions) held.plan.routes cs)) judged
+    (subst (λ (h : HeldState). AsksAtMost c.judge_pins.new.meter c.judge.new.meter (judge_asks (length s.dimensions) h.plan.routes (changes_of c.deref-4.result.now))) c.self.view_is c.judge.ensures.asks) in
+    let touched = subst (λ (ts : List Touch). WorksAtMost a.meter.now c.judge_pins.new.meter 0 (leaving held.pins (routes_after held.plan.routes a.mv.now) ts)) c.requires.touched pins in
+    then _ _ _ 0 (leaving held.pins (routes_after held.plan.routes a.mv.now) (touched_by held.plan.routes a.mv.now)) (judge_asks (length s.dimensions) held.plan.routes (changes_by held.plan.routes a.mv.now)) 0 _ _ touched
+    (asks_alone _ _ _ 0 bounds) (omega arith) (omega arith)
+
+pub returns-in_default-former_routes-clause-work : goal.returns-in_default-former_routes-clause-work
+returns-in_default-former_routes-clause-work g c =
     let a = c.args in
     let held = a.self.now in
     let s = setting a.setup.now in

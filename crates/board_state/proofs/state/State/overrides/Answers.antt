@@ -1,4 +1,4 @@
-use Rattle.std.proofs.Common.{rules, ◌≡◌, ℕ, ◌+◌, ◌⊎◌, Bool, List, length, get_or, Some, refl, sym, ap, subst, ◌∙◌, arith, length-append}
+use Rattle.std.proofs.Common.{rules, ◌≡◌, ℕ, ◌+◌, ◌⊎◌, Bool, List, length, get_or, Some, true, refl, sym, ap, subst, ◌∙◌, arith, length-append}
 use Rattle.std.specs.Prelude.{slice_get}
 use Rattle.std.proofs.lemmas.Option.{slice_get-get_or, slice_get_within}
 use Rattle.plan_core.specs.declared.touch.Touch.{Touch}
@@ -7,7 +7,7 @@ use Rattle.pin_core.specs.Pins.{IsHeld}
 use Rattle.permission_table.specs.Tables.{allows}
 use Rattle.permission_core.specs.declared.objects.Operation.TheVariants as operations
 use Rattle.permission_core.specs.declared.objects.Object.TheVariants as objects
-use Rattle.board_state.proofs.Overrides.{answers_more, leaving_left}
+use Rattle.board_state.proofs.Overrides.{answers_more, marks_more, leaving_left}
 use Rattle.board_state.proofs.state.State.overrides.Goals as goal
 
 pub loop-touch-preserved : goal.loop-touch-preserved
@@ -28,6 +28,9 @@ loop-touch-preserved c =
       probes_high = omega (arith, work.probes_high, left);
       sized = search rules;
       within = omega (arith, c.loop-touch-test.true);
+      leave = λ k u there mark. marks_more (IsHeld held.pins others) touched l.free.items l.touch-index (get_or touched l.touch-index d) c.may_leave-may.result
+          l.invariant.sized (slice_get-get_or touched l.touch-index d c.loop-touch-test.true) c.may_leave-may.ensures.leaves l.invariant.leave k u there
+          (subst (λ (free : List Bool). slice_get free k ≡ Some true) c.in_ok-push.ensures.items mark);
       each = λ k u low there. subst (λ (free : List Bool). IsHeld held.pins others u.customer ⊎ (slice_get free k ≡ Some (allows held.tables c.args.session operations.Override (objects.Customer u.customer)))) (sym c.in_ok-push.ensures.items)
           (answers_more (IsHeld held.pins others) (λ x. allows held.tables c.args.session operations.Override (objects.Customer x)) touched l.free.items l.touch-index
           (get_or touched l.touch-index d) c.may_leave-may.result l.invariant.sized (slice_get-get_or touched l.touch-index d c.loop-touch-test.true)

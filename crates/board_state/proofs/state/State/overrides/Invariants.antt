@@ -1,4 +1,4 @@
-use Rattle.std.proofs.Common.{◌≡◌, ◌≤◌, ◌<◌, ◌+◌, ◌⊎◌, ℕ, length, drop, slice_get, Some}
+use Rattle.std.proofs.Common.{◌≡◌, ◌≤◌, ◌<◌, ◌+◌, ◌⊎◌, ℕ, length, drop, slice_get, Some, true}
 use Rattle.plan_core.specs.declared.touch.Touch.{Touch}
 use Rattle.plan_core.specs.Plan.{changes_of, with_routes}
 use Rattle.pin_core.specs.Pins.{IsHeld}
@@ -18,6 +18,8 @@ invariant-loop-touch l = record {
       ≤ l.fn.meter.probes + leaving l.self.pins (with_routes (changes_of l.changes) l.self.plan.routes) l.touched;
   sized : length l.free.items ≡ l.touch-index;
   within : l.touch-index ≤ length l.touched;
+  leave : (k : ℕ) (t : Touch) → slice_get l.touched k ≡ Some t → slice_get l.free.items k ≡ Some true
+      → ¬ IsHeld l.self.pins (with_routes (changes_of l.changes) l.self.plan.routes) t.customer;
   each : (k : ℕ) (t : Touch) → k < l.touch-index → slice_get l.touched k ≡ Some t
       → IsHeld l.self.pins (with_routes (changes_of l.changes) l.self.plan.routes) t.customer
       ⊎ (slice_get l.free.items k ≡ Some (allows l.self.tables l.session operations.Override (objects.Customer t.customer)));
