@@ -1,13 +1,11 @@
-use Rattle.std.proofs.Common.{◌≡◌, ◌∙◌, ℕ, ◌+◌, ◌-◌, ◌<◌, ◌≤◌, ◌↔◌, inl, refl, sym, ap, subst, arith, List, [], ◌∷◌, ◌++◌, length, take, drop, reverse, slice_index, slice_index_or, append_assoc, take_all, Option, Some, None, IsTrue, is_some, Bool, true, false, ◌==◌, All}
-use Rattle.std.proofs.Math.Logic.{∥∥₁_elim}
-use Rattle.std.proofs.Props.{props}
+use Rattle.std.proofs.Common.{◌≡◌, ◌∙◌, ℕ, ◌+◌, ◌-◌, ◌<◌, ◌≤◌, inl, refl, sym, ap, subst, arith, List, [], ◌∷◌, ◌++◌, length, take, drop, reverse, slice_index, slice_index_or, append_assoc, take_all, Option, Some, None, Bool, true, false, ◌==◌, All}
 use Rattle.std.proofs.lemmas.Bool.{eqb-true}
-use Rattle.std.proofs.lemmas.List.{take_more, take-append-drop, get_or_default, get_or_append_left, get_or-append-add, get_or-reverse, length-append, length-reverse}
+use Rattle.std.proofs.lemmas.List.{take_more, take-append-drop, get_or_append_left, get_or-append-add, get_or-reverse, length-append, length-reverse}
 use Rattle.callback_store.specs.Tables.{Table}
 use Rattle.dimension_core.specs.declared.range.Range.{Range}
-use Rattle.dimension_core.specs.Cumuls.{Bounds, IsStep, IsWithin, IsSpan, IsInBounds, Reaches, last_of, table_of}
-use Rattle.dimension_core.specs.Setting.{Setting, dimension_at, no_bounds}
-use Rattle.dimension_core.specs.Feasible.{FitsIn, FitsAll}
+use Rattle.dimension_core.specs.Cumuls.{Bounds, IsStep, IsWithin, IsSpan, Reaches, last_of}
+use Rattle.dimension_core.specs.Setting.{Setting}
+use Rattle.dimension_core.specs.Feasible.{FitsAll}
 use Rattle.neighbourhood.specs.Ways.{way_of}
 use Rattle.neighbourhood.specs.Laws.{Laws}
 
@@ -38,31 +36,21 @@ module _ (law : Laws) where
       append_assoc done (take k nodes) (drop k nodes) ∙ ap (λ (ys : List ℕ). done ++ ys) (take-append-drop k nodes) in
       subst (λ (js : List ℕ). IsSpan None (Reaches t d v js)) e (law.spans.none t d v (done ++ take k nodes) (drop k nodes) s)
 
-  -- there are no cumuls at the return where there are none after the first parts
-  pub return_none : (t : Table) (d : Bounds) (v : ℕ) (js ks route : List ℕ) → js ++ ks ≡ route → IsSpan None (Reaches t d v js)
-      → IsSpan None (Reaches t d v (route ++ 0 ∷ []))
-  return_none t d v js ks route e s =
-      let p = law.spans.none t d v js (ks ++ 0 ∷ []) s in
-      let q : js ++ (ks ++ 0 ∷ []) ≡ route ++ 0 ∷ [] = sym (append_assoc js ks (0 ∷ [])) ∙ ap (λ (ys : List ℕ). ys ++ 0 ∷ []) e in
+  -- there are no cumuls at the next stop where there are none after the first parts
+  pub stop_none : (t : Table) (d : Bounds) (v : ℕ) (js ks route : List ℕ) (next : ℕ) → js ++ ks ≡ route → IsSpan None (Reaches t d v js)
+      → IsSpan None (Reaches t d v (route ++ next ∷ []))
+  stop_none t d v js ks route next e s =
+      let p = law.spans.none t d v js (ks ++ next ∷ []) s in
+      let q : js ++ (ks ++ next ∷ []) ≡ route ++ next ∷ [] = sym (append_assoc js ks (next ∷ [])) ∙ ap (λ (ys : List ℕ). ys ++ next ∷ []) e in
       subst (λ (xs : List ℕ). IsSpan None (Reaches t d v xs)) q p
 
-  -- the cumuls at the return, by those after the last part
-  pub return_found : (t : Table) (d : Bounds) (v : ℕ) (js route : List ℕ) (from : ℕ) (r : Range) (o : Option Range) → js ≡ route
+  -- the cumuls at the next stop, by those after the last part
+  pub stop_found : (t : Table) (d : Bounds) (v : ℕ) (js route : List ℕ) (from next : ℕ) (r : Range) (o : Option Range) → js ≡ route
       → IsSpan (Some r) (Reaches t d v js) → from ≡ last_of 0 js
-      → IsSpan o (λ y. (x : ℕ) × IsWithin (Some r) x × IsStep t d v from x 0 y) → IsSpan o (Reaches t d v (route ++ 0 ∷ []))
-  return_found t d v js route from r o e s last n =
-      let m = subst (λ (i : ℕ). IsSpan o (λ y. (x : ℕ) × IsWithin (Some r) x × IsStep t d v i x 0 y)) last n in
-      subst (λ (xs : List ℕ). IsSpan o (Reaches t d v (xs ++ 0 ∷ []))) e (law.spans.push t d v js 0 r o s m)
-
-  -- one dimension of a setting, by the cumuls at the return
-  pub fits_by_return : (s : Setting) (k v : ℕ) (route : List ℕ) (ts : List Table) (ds : List Bounds) (d : Bounds) (o : Option Range)
-      → ts ≡ s.tables → ds ≡ s.dimensions → k < length ds → d ≡ slice_index_or ds k d → 0 < length route
-      → IsSpan o (Reaches (table_of ts d) d v (route ++ 0 ∷ [])) → IsTrue (is_some o) ↔ FitsIn s k v route
-  fits_by_return s k v route ts ds d o et ed h e some span =
-      let same : d ≡ dimension_at s k = e ∙ get_or_default ds k d no_bounds h ∙ ap (λ (xs : List Bounds). slice_index_or xs k no_bounds) ed in
-      let b = law.spans.bounds (table_of ts d) d v route o some span in
-      let b' = subst (λ (xs : List Table). IsTrue (is_some o) ↔ IsInBounds (table_of xs d) d v route) et b in
-      subst (λ (x : Bounds). IsTrue (is_some o) ↔ IsInBounds (table_of s.tables x) x v route) same b'
+      → IsSpan o (λ y. (x : ℕ) × IsWithin (Some r) x × IsStep t d v from x next y) → IsSpan o (Reaches t d v (route ++ next ∷ []))
+  stop_found t d v js route from next r o e s last n =
+      let m = subst (λ (i : ℕ). IsSpan o (λ y. (x : ℕ) × IsWithin (Some r) x × IsStep t d v i x next y)) last n in
+      subst (λ (xs : List ℕ). IsSpan o (Reaches t d v (xs ++ next ∷ []))) e (law.spans.push t d v js next r o s m)
 
   -- the test whether a route is empty
   pub empty_from : (r : List ℕ) (b : Bool) → b ≡ (length r == 0) → b ≡ true → r ≡ []

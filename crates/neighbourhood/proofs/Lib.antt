@@ -7,6 +7,8 @@ pub mod Ways
 pub mod Reversals
 pub mod Costs
 pub mod Carried
+pub mod Keeping
+pub mod Meeting
 pub mod Allowing
 pub mod Between
 pub mod Inside

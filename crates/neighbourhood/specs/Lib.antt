@@ -3,5 +3,6 @@ pub mod Best
 pub mod Search
 pub mod Ways
 pub mod Between
+pub mod Kept
 pub mod Savings
 pub mod Laws

@@ -7,11 +7,13 @@ ghost use Rattle.pin_core.specs.View.{pins_of};
 ghost use Rattle.neighbourhood.specs.View.{IsViewOf};
 ghost use Rattle.neighbourhood.specs.Best.{IsNear, IsAllowed};
 ghost use Rattle.neighbourhood.specs.Between.{IsBetween, IsInside};
+ghost use Rattle.neighbourhood.specs.Kept.{AreKept, HasAhead, HasBehind};
 ghost use Rattle.neighbourhood.specs.Laws.{Laws};
 ghost use Rattle.neighbourhood.specs.Search.{AreLoose};
 ghost use Rattle.neighbourhood.specs.Ways.{way_of};
 
 use crate::fits::fits;
+use crate::kept::{Kept, Spans};
 use callback_store::Meter;
 use dimension_core::Setup;
 use move_core::Move;
@@ -77,18 +79,26 @@ fn allows_between(
     y: u32,
     over: &[u32],
     back: &[u32],
+    v_ahead: &Spans,
     v_front: &[u32],
     v_middle: &[u32],
     v_back: &[u32],
+    v_behind: &Spans,
+    w_ahead: &Spans,
     w_front: &[u32],
     w_middle: &[u32],
     w_back: &[u32],
+    w_behind: &Spans,
     meter: &mut Meter,
 ) -> bool
     requires laws { Laws }
     requires view { IsViewOf (setting setup.now) view.now }
     requires possible { is_possible (setting setup.now).customers view.now.routes mv ≡ true }
     requires between { IsBetween view.now.routes mv v w x y over.now back.now (v_front.now ++ (v_middle.now ++ v_back.now)) (w_front.now ++ (w_middle.now ++ w_back.now)) }
+    requires v_ahead { HasAhead (setting setup.now) v v_front.now v_ahead.now }
+    requires v_behind { HasBehind (setting setup.now) v v_back.now v_behind.now }
+    requires w_ahead { HasAhead (setting setup.now) w w_front.now w_ahead.now }
+    requires w_behind { HasBehind (setting setup.now) w w_back.now w_behind.now }
     ensures { IsTrue result ↔ IsAllowed (setting setup.now) view.now skip.now mv }
 {
     if x <= view.front(v) {
@@ -106,10 +116,34 @@ fn allows_between(
     if is_skipped(skip, &mv) {
         return false;
     }
-    if !fits(setup, v, v_front, false, v_middle, &[], &[], v_back, meter) {
+    if !fits(
+        setup,
+        v,
+        v_ahead,
+        v_front,
+        false,
+        v_middle,
+        &[],
+        &[],
+        v_back,
+        v_behind,
+        meter,
+    ) {
         return false;
     }
-    fits(setup, w, w_front, false, w_middle, &[], &[], w_back, meter)
+    fits(
+        setup,
+        w,
+        w_ahead,
+        w_front,
+        false,
+        w_middle,
+        &[],
+        &[],
+        w_back,
+        w_behind,
+        meter,
+    )
 }
 
 /// Whether a move inside a vehicle is allowed, by its new route in parts.
@@ -120,17 +154,21 @@ fn allows_inside(
     mv: Move,
     v: u32,
     x: u32,
+    ahead: &Spans,
     front: &[u32],
     turned: bool,
     first: &[u32],
     second: &[u32],
     third: &[u32],
     back: &[u32],
+    behind: &Spans,
     meter: &mut Meter,
 ) -> bool
     requires laws { Laws }
     requires view { IsViewOf (setting setup.now) view.now }
     requires possible { is_possible (setting setup.now).customers view.now.routes mv ≡ true }
+    requires ahead { HasAhead (setting setup.now) v front.now ahead.now }
+    requires behind { HasBehind (setting setup.now) v back.now behind.now }
     requires inside { IsInside view.now.routes mv v x (front.now ++ (way_of turned first.now ++ (second.now ++ (third.now ++ back.now)))) }
     ensures { IsTrue result ↔ IsAllowed (setting setup.now) view.now skip.now mv }
 {
@@ -140,7 +178,9 @@ fn allows_inside(
     if is_skipped(skip, &mv) {
         return false;
     }
-    fits(setup, v, front, turned, first, second, third, back, meter)
+    fits(
+        setup, v, ahead, front, turned, first, second, third, back, behind, meter,
+    )
 }
 
 /// Whether a shift inside a vehicle is allowed.
@@ -152,9 +192,11 @@ fn allows_shift_inside(
     place: u32,
     length: u32,
     at: u32,
+    kept: &Kept,
     meter: &mut Meter,
 ) -> bool
     requires laws { Laws }
+    requires kept { AreKept (setting setup.now) view.now.routes v v kept.now }
     requires view { IsViewOf (setting setup.now) view.now }
     requires possible { is_possible (setting setup.now).customers view.now.routes (Shift v place length v at) ≡ true }
     ensures { IsTrue result ↔ IsAllowed (setting setup.now) view.now skip.now (Shift v place length v at) }
@@ -179,12 +221,14 @@ fn allows_shift_inside(
             mv,
             v,
             at,
+            &kept.ahead,
             front,
             false,
             stretch,
             between,
             &[],
             back,
+            &kept.behind,
             meter,
         );
     }
@@ -198,12 +242,14 @@ fn allows_shift_inside(
         mv,
         v,
         place,
+        &kept.ahead,
         front,
         false,
         between,
         stretch,
         &[],
         back,
+        &kept.behind,
         meter,
     )
 }
@@ -216,9 +262,11 @@ fn allows_swap_inside(
     v: u32,
     place: u32,
     at: u32,
+    kept: &Kept,
     meter: &mut Meter,
 ) -> bool
     requires laws { Laws }
+    requires kept { AreKept (setting setup.now) view.now.routes v v kept.now }
     requires view { IsViewOf (setting setup.now) view.now }
     requires possible { is_possible (setting setup.now).customers view.now.routes (Swap v place v at) ≡ true }
     requires order { place < at }
@@ -237,7 +285,21 @@ fn allows_swap_inside(
     let there = part(route, at, at + 1);
     let back = back_of(route, at as usize);
     allows_inside(
-        view, setup, skip, mv, v, place, front, false, there, between, here, back, meter,
+        view,
+        setup,
+        skip,
+        mv,
+        v,
+        place,
+        &kept.ahead,
+        front,
+        false,
+        there,
+        between,
+        here,
+        back,
+        &kept.behind,
+        meter,
     )
 }
 
@@ -249,9 +311,11 @@ fn allows_reverse(
     v: u32,
     first: u32,
     last: u32,
+    kept: &Kept,
     meter: &mut Meter,
 ) -> bool
     requires laws { Laws }
+    requires kept { AreKept (setting setup.now) view.now.routes v v kept.now }
     requires view { IsViewOf (setting setup.now) view.now }
     requires possible { is_possible (setting setup.now).customers view.now.routes (Reverse v first last) ≡ true }
     ensures { IsTrue result ↔ IsAllowed (setting setup.now) view.now skip.now (Reverse v first last) }
@@ -272,12 +336,14 @@ fn allows_reverse(
         mv,
         v,
         first,
+        &kept.ahead,
         front,
         true,
         stretch,
         &[],
         &[],
         back,
+        &kept.behind,
         meter,
     )
 }
@@ -292,9 +358,13 @@ fn allows_shift(
     length: u32,
     w: u32,
     at: u32,
+    v_kept: &Kept,
+    w_kept: &Kept,
     meter: &mut Meter,
 ) -> bool
     requires laws { Laws }
+    requires v_kept { AreKept (setting setup.now) view.now.routes v w v_kept.now }
+    requires w_kept { AreKept (setting setup.now) view.now.routes w v w_kept.now }
     requires view { IsViewOf (setting setup.now) view.now }
     requires possible { is_possible (setting setup.now).customers view.now.routes (Shift v place length w at) ≡ true }
     requires apart { v ≢ w }
@@ -325,12 +395,16 @@ fn allows_shift(
         at,
         stretch,
         &[],
+        &v_kept.ahead,
         front,
         &[],
         rest,
+        &v_kept.behind,
+        &w_kept.ahead,
         before,
         stretch,
         after,
+        &w_kept.behind,
         meter,
     )
 }
@@ -344,9 +418,13 @@ fn allows_swap(
     place: u32,
     w: u32,
     at: u32,
+    v_kept: &Kept,
+    w_kept: &Kept,
     meter: &mut Meter,
 ) -> bool
     requires laws { Laws }
+    requires v_kept { AreKept (setting setup.now) view.now.routes v w v_kept.now }
+    requires w_kept { AreKept (setting setup.now) view.now.routes w v w_kept.now }
     requires view { IsViewOf (setting setup.now) view.now }
     requires possible { is_possible (setting setup.now).customers view.now.routes (Swap v place w at) ≡ true }
     requires apart { v ≢ w }
@@ -367,8 +445,27 @@ fn allows_swap(
     let there = part(other, at, at + 1);
     let after = back_of(other, at as usize);
     allows_between(
-        view, setup, skip, mv, v, w, place, at, here, there, front, there, rest, before, here,
-        after, meter,
+        view,
+        setup,
+        skip,
+        mv,
+        v,
+        w,
+        place,
+        at,
+        here,
+        there,
+        &v_kept.ahead,
+        front,
+        there,
+        rest,
+        &v_kept.behind,
+        &w_kept.ahead,
+        before,
+        here,
+        after,
+        &w_kept.behind,
+        meter,
     )
 }
 
@@ -381,9 +478,13 @@ fn allows_cross(
     keep: u32,
     w: u32,
     keep_other: u32,
+    v_kept: &Kept,
+    w_kept: &Kept,
     meter: &mut Meter,
 ) -> bool
     requires laws { Laws }
+    requires v_kept { AreKept (setting setup.now) view.now.routes v w v_kept.now }
+    requires w_kept { AreKept (setting setup.now) view.now.routes w v w_kept.now }
     requires view { IsViewOf (setting setup.now) view.now }
     requires possible { is_possible (setting setup.now).customers view.now.routes (Cross v keep w keep_other) ≡ true }
     ensures { IsTrue result ↔ IsAllowed (setting setup.now) view.now skip.now (Cross v keep w keep_other) }
@@ -408,12 +509,16 @@ fn allows_cross(
         keep_other + 1,
         tail,
         end,
+        &v_kept.ahead,
         front,
         &[],
         end,
+        &v_kept.over,
+        &w_kept.ahead,
         before,
         &[],
         tail,
+        &w_kept.over,
         meter,
     )
 }
@@ -425,10 +530,14 @@ pub(crate) fn allows(
     skip: &[Move],
     v: u32,
     w: u32,
+    v_kept: &Kept,
+    w_kept: &Kept,
     mv: Move,
     meter: &mut Meter,
 ) -> bool
     requires laws { Laws }
+    requires v_kept { AreKept (setting setup.now) view.now.routes v w v_kept.now }
+    requires w_kept { AreKept (setting setup.now) view.now.routes w v w_kept.now }
     requires view { IsViewOf (setting setup.now) view.now }
     requires possible { is_possible (setting setup.now).customers view.now.routes mv ≡ true }
     requires near { IsNear v w mv }
@@ -443,9 +552,11 @@ pub(crate) fn allows(
             at,
         } => {
             if vehicle == to {
-                allows_shift_inside(view, setup, skip, vehicle, place, length, at, meter)
+                allows_shift_inside(view, setup, skip, vehicle, place, length, at, v_kept, meter)
             } else {
-                allows_shift(view, setup, skip, vehicle, place, length, to, at, meter)
+                allows_shift(
+                    view, setup, skip, vehicle, place, length, to, at, v_kept, w_kept, meter,
+                )
             }
         }
         Move::Swap {
@@ -455,22 +566,26 @@ pub(crate) fn allows(
             at,
         } => {
             if vehicle == other {
-                allows_swap_inside(view, setup, skip, vehicle, place, at, meter)
+                allows_swap_inside(view, setup, skip, vehicle, place, at, v_kept, meter)
             } else {
-                allows_swap(view, setup, skip, vehicle, place, other, at, meter)
+                allows_swap(
+                    view, setup, skip, vehicle, place, other, at, v_kept, w_kept, meter,
+                )
             }
         }
         Move::Reverse {
             vehicle,
             first,
             last,
-        } => allows_reverse(view, setup, skip, vehicle, first, last, meter),
+        } => allows_reverse(view, setup, skip, vehicle, first, last, v_kept, meter),
         Move::Cross {
             vehicle,
             keep,
             other,
             keep_other,
-        } => allows_cross(view, setup, skip, vehicle, keep, other, keep_other, meter),
+        } => allows_cross(
+            view, setup, skip, vehicle, keep, other, keep_other, v_kept, w_kept, meter,
+        ),
         Move::Insert { .. } | Move::Remove { .. } => false,
     }
 }

@@ -4,10 +4,12 @@ ghost use Rattle.dimension_core.specs.Setup.{setting};
 ghost use Rattle.move_core.specs.Moves.{is_possible};
 ghost use Rattle.neighbourhood.specs.View.{IsViewOf};
 ghost use Rattle.neighbourhood.specs.Best.{IsNear, Counts, numbers_of};
+ghost use Rattle.neighbourhood.specs.Kept.{AreKept};
 ghost use Rattle.neighbourhood.specs.Laws.{Laws};
 ghost use Rattle.neighbourhood.specs.Search.{gain_of, IsBestSoFar, IsNext, IsSaving};
 
 use crate::allowed::allows;
+use crate::kept::Kept;
 use callback_store::Meter;
 use dimension_core::Setup;
 use move_core::Move;
@@ -33,6 +35,8 @@ pub(crate) fn better(
     skip: &[Move],
     v: u32,
     w: u32,
+    v_kept: &Kept,
+    w_kept: &Kept,
     mv: Move,
     lost: u64,
     gained: u64,
@@ -41,6 +45,8 @@ pub(crate) fn better(
 ) -> Option<(Move, u64)>
     requires laws { Laws }
     requires view { IsViewOf (setting setup.now) view.now }
+    requires v_kept { AreKept (setting setup.now) view.now.routes v w v_kept.now }
+    requires w_kept { AreKept (setting setup.now) view.now.routes w v w_kept.now }
     requires possible { is_possible (setting setup.now).customers view.now.routes mv ≡ true }
     requires near { IsNear v w mv }
     requires saving { IsSaving (setting setup.now) view.now mv lost gained }
@@ -51,7 +57,7 @@ pub(crate) fn better(
     if gain <= gain_of(best) {
         return best;
     }
-    if !allows(view, setup, skip, v, w, mv, meter) {
+    if !allows(view, setup, skip, v, w, v_kept, w_kept, mv, meter) {
         return best;
     }
     Some((mv, gain))

@@ -5,11 +5,13 @@ ghost use Rattle.dimension_core.specs.Setup.{setting};
 ghost use Rattle.move_core.specs.declared.moves.Move.TheVariants.{Cross};
 ghost use Rattle.move_core.specs.Moves.{is_possible};
 ghost use Rattle.neighbourhood.specs.View.{IsViewOf};
+ghost use Rattle.neighbourhood.specs.Kept.{AreKept};
 ghost use Rattle.neighbourhood.specs.Laws.{Laws};
 ghost use Rattle.neighbourhood.specs.Search.{IsBestSoFar, IsSaving};
 ghost use Rattle.neighbourhood.specs.Ways.{AreStops, AreEdges, AreHops};
 
 use crate::best::better;
+use crate::kept::Kept;
 use crate::table::row;
 use callback_store::Meter;
 use dimension_core::Setup;
@@ -30,11 +32,15 @@ fn cross_row(
     here: &[u32],
     next: &[u32],
     end: u32,
+    v_kept: &Kept,
+    w_kept: &Kept,
     best: Option<(Move, u64)>,
     meter: &mut Meter,
 ) -> Option<(Move, u64)>
     requires laws { Laws }
     requires view { IsViewOf (setting setup.now) view.now }
+    requires v_kept { AreKept (setting setup.now) view.now.routes v w v_kept.now }
+    requires w_kept { AreKept (setting setup.now) view.now.routes w v w_kept.now }
     requires apart { v ≢ w }
     requires edges { end ≤ length edges.now }
     requires here { end < length here.now }
@@ -58,7 +64,7 @@ fn cross_row(
             keep_other,
         };
         best = better(
-            view, setup, skip, v, w, mv, all_lost, all_gained, best, meter,
+            view, setup, skip, v, w, v_kept, w_kept, mv, all_lost, all_gained, best, meter,
         );
     }
     best
@@ -78,11 +84,15 @@ fn cross_over(
     to_edges: &[u32],
     out: &[u32],
     into: &[u32],
+    v_kept: &Kept,
+    w_kept: &Kept,
     best: Option<(Move, u64)>,
     meter: &mut Meter,
 ) -> Option<(Move, u64)>
     requires laws { Laws }
     requires view { IsViewOf (setting setup.now) view.now }
+    requires v_kept { AreKept (setting setup.now) view.now.routes v w v_kept.now }
+    requires w_kept { AreKept (setting setup.now) view.now.routes w v w_kept.now }
     requires apart { v ≢ w }
     requires keep { keep + 1 < length from.now }
     requires from { AreStops (setting setup.now).customers view.now.routes v from.now }
@@ -101,7 +111,8 @@ fn cross_over(
     let here = row(out, to.len(), index);
     let next = row(into, to.len(), index + 1);
     cross_row(
-        view, setup, skip, v, w, keep, lost, to_edges, here, next, end as u32, best, meter,
+        view, setup, skip, v, w, keep, lost, to_edges, here, next, end as u32, v_kept, w_kept,
+        best, meter,
     )
 }
 
@@ -118,11 +129,15 @@ pub(crate) fn best_cross(
     to_edges: &[u32],
     out: &[u32],
     into: &[u32],
+    v_kept: &Kept,
+    w_kept: &Kept,
     best: Option<(Move, u64)>,
     meter: &mut Meter,
 ) -> Option<(Move, u64)>
     requires laws { Laws }
     requires view { IsViewOf (setting setup.now) view.now }
+    requires v_kept { AreKept (setting setup.now) view.now.routes v w v_kept.now }
+    requires w_kept { AreKept (setting setup.now) view.now.routes w v w_kept.now }
     requires apart { v ≢ w }
     requires from { AreStops (setting setup.now).customers view.now.routes v from.now }
     requires to { AreStops (setting setup.now).customers view.now.routes w to.now }
@@ -136,7 +151,8 @@ pub(crate) fn best_cross(
     let mut best = best;
     for keep in 0..from.len() as u32 - 1 {
         best = cross_over(
-            view, setup, skip, v, w, keep, from, to, from_edges, to_edges, out, into, best, meter,
+            view, setup, skip, v, w, keep, from, to, from_edges, to_edges, out, into, v_kept,
+            w_kept, best, meter,
         );
     }
     best

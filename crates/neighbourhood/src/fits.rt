@@ -1,12 +1,14 @@
 //! Whether a route of parts is in bounds, with no list made of it.
-ghost use Rattle.std.specs.Prelude.{◌≡◌, ◌==◌, ℕ, ◌+◌, ◌≤◌, ◌<◌, ◌↔◌, List, [], ◌∷◌, ◌++◌, length, reverse, Option, Some, None, IsTrue, All, MatchOption, IfSome};
+ghost use Rattle.std.specs.Prelude.{max, min, ◌≡◌, ◌==◌, ℕ, ◌+◌, ◌≤◌, ◌<◌, ◌↔◌, List, [], ◌∷◌, ◌++◌, length, reverse, Option, Some, None, IsTrue, All, MatchOption, IfSome};
 ghost use Rattle.callback_store.specs.Registry.{tables};
-ghost use Rattle.dimension_core.specs.Cumuls.{IsServed, IsSpan, Reaches, table_of, last_of};
+ghost use Rattle.dimension_core.specs.Cumuls.{IsServed, IsInBounds, IsSpan, Reaches, table_of, last_of};
 ghost use Rattle.dimension_core.specs.Feasible.{FitsAll};
 ghost use Rattle.dimension_core.specs.Setup.{setting};
+ghost use Rattle.neighbourhood.specs.Kept.{GoesOn, HasAhead, HasBehind};
 ghost use Rattle.neighbourhood.specs.Laws.{Laws};
 ghost use Rattle.neighbourhood.specs.Ways.{way_of};
 
+use crate::kept::Spans;
 use callback_store::{Meter, Registry};
 use dimension_core::{Dimension, Range, Setup};
 
@@ -72,35 +74,136 @@ fn carry_way(
     }
 }
 
-/// The cumuls at the return of a route of five parts, the second of which may be driven back: none where there are none.
-fn return_of(
+/// The last of some customers, or the depot where there are none.
+fn last_stop(front: &[u32]) -> u32
+    ensures { result ≡ last_of 0 front.now }
+{
+    if front.is_empty() {
+        0
+    } else {
+        front[front.len() - 1]
+    }
+}
+
+/// The first of some customers, or the depot where there are none.
+fn next_stop(back: &[u32]) -> u32
+    ensures { (rest : List ℕ) × (back.now ++ 0 ∷ [] ≡ result ∷ rest) }
+{
+    if back.is_empty() { 0 } else { back[0] }
+}
+
+/// The cumuls at the next stop after three parts, the first of which may be driven back, by those after the parts in front of them: none
+/// where there are none.
+fn arrival(
     dimension: &Dimension,
     registry: &Registry,
     vehicle: u32,
+    here: Range,
+    front: &[u32],
+    turned: bool,
+    first: &[u32],
+    second: &[u32],
+    third: &[u32],
+    next: u32,
+    meter: &mut Meter,
+) -> Option<Range>
+    requires laws { Laws }
+    requires served { IsServed (tables registry.now) dimension.now }
+    requires here { IsSpan (Some here) (Reaches (table_of (tables registry.now) dimension.now) dimension.now vehicle front.now) }
+    requires known { All (λ node. node < length dimension.now.ranges) (front.now ++ (way_of turned first.now ++ (second.now ++ third.now))) }
+    requires next { next < length dimension.now.ranges }
+    requires low { 1 ≤ vehicle }
+    requires high { vehicle ≤ length dimension.now.caps }
+    ensures { IsSpan result (Reaches (table_of (tables registry.now) dimension.now) dimension.now vehicle ((front.now ++ (way_of turned first.now ++ (second.now ++ third.now))) ++ next ∷ [])) }
+{
+    let _nodes = dimension.nodes();
+    let from = last_stop(front);
+    let (range, from) = carry_way(
+        dimension, registry, here, from, turned, first, vehicle, meter,
+    )?;
+    let (range, from) = dimension.carry(registry, range, from, second, vehicle, meter)?;
+    let (range, from) = dimension.carry(registry, range, from, third, vehicle, meter)?;
+    dimension.extend(registry, range, from, next, vehicle, meter)
+}
+
+/// Whether two ranges have a number in common.
+fn overlap(here: Range, there: Range) -> bool
+    ensures { IsTrue result ↔ (max here.lo there.lo ≤ min here.hi there.hi) }
+{
+    here.lo.max(there.lo) <= here.hi.min(there.hi)
+}
+
+/// Whether a route of five parts, the second of which may be driven back, is in bounds in a dimension, by the cumuls after its first part
+/// and those before its last one.
+fn joins(
+    dimension: &Dimension,
+    registry: &Registry,
+    vehicle: u32,
+    here: Range,
     front: &[u32],
     turned: bool,
     first: &[u32],
     second: &[u32],
     third: &[u32],
     back: &[u32],
+    there: Range,
     meter: &mut Meter,
-) -> Option<Range>
+) -> bool
     requires laws { Laws }
     requires served { IsServed (tables registry.now) dimension.now }
+    requires here { IsSpan (Some here) (Reaches (table_of (tables registry.now) dimension.now) dimension.now vehicle front.now) }
+    requires there { IsSpan (Some there) (GoesOn (table_of (tables registry.now) dimension.now) dimension.now vehicle (back.now ++ 0 ∷ [])) }
+    requires some { 0 < length (front.now ++ (way_of turned first.now ++ (second.now ++ (third.now ++ back.now)))) }
     requires known { All (λ node. node < length dimension.now.ranges) (front.now ++ (way_of turned first.now ++ (second.now ++ (third.now ++ back.now)))) }
     requires low { 1 ≤ vehicle }
     requires high { vehicle ≤ length dimension.now.caps }
-    ensures { IsSpan result (Reaches (table_of (tables registry.now) dimension.now) dimension.now vehicle ((front.now ++ (way_of turned first.now ++ (second.now ++ (third.now ++ back.now)))) ++ 0 ∷ [])) }
+    ensures { IsTrue result ↔ IsInBounds (table_of (tables registry.now) dimension.now) dimension.now vehicle (front.now ++ (way_of turned first.now ++ (second.now ++ (third.now ++ back.now)))) }
 {
-    let range = dimension.start(vehicle)?;
-    let (range, from) = dimension.carry(registry, range, 0, front, vehicle, meter)?;
-    let (range, from) = carry_way(
-        dimension, registry, range, from, turned, first, vehicle, meter,
-    )?;
-    let (range, from) = dimension.carry(registry, range, from, second, vehicle, meter)?;
-    let (range, from) = dimension.carry(registry, range, from, third, vehicle, meter)?;
-    let (range, from) = dimension.carry(registry, range, from, back, vehicle, meter)?;
-    dimension.extend(registry, range, from, 0, vehicle, meter)
+    let _nodes = dimension.nodes();
+    let next = next_stop(back);
+    match arrival(
+        dimension, registry, vehicle, here, front, turned, first, second, third, next, meter,
+    ) {
+        None => false,
+        Some(arrived) => overlap(arrived, there),
+    }
+}
+
+/// Whether a route of five parts is in bounds in a dimension, where there may be no cumuls after its first part or before its last one.
+fn meets(
+    dimension: &Dimension,
+    registry: &Registry,
+    vehicle: u32,
+    ahead: Option<Range>,
+    front: &[u32],
+    turned: bool,
+    first: &[u32],
+    second: &[u32],
+    third: &[u32],
+    back: &[u32],
+    behind: Option<Range>,
+    meter: &mut Meter,
+) -> bool
+    requires laws { Laws }
+    requires served { IsServed (tables registry.now) dimension.now }
+    requires ahead { IsSpan ahead (Reaches (table_of (tables registry.now) dimension.now) dimension.now vehicle front.now) }
+    requires behind { IsSpan behind (GoesOn (table_of (tables registry.now) dimension.now) dimension.now vehicle (back.now ++ 0 ∷ [])) }
+    requires some { 0 < length (front.now ++ (way_of turned first.now ++ (second.now ++ (third.now ++ back.now)))) }
+    requires known { All (λ node. node < length dimension.now.ranges) (front.now ++ (way_of turned first.now ++ (second.now ++ (third.now ++ back.now)))) }
+    requires low { 1 ≤ vehicle }
+    requires high { vehicle ≤ length dimension.now.caps }
+    ensures { IsTrue result ↔ IsInBounds (table_of (tables registry.now) dimension.now) dimension.now vehicle (front.now ++ (way_of turned first.now ++ (second.now ++ (third.now ++ back.now)))) }
+{
+    match ahead {
+        None => false,
+        Some(here) => match behind {
+            None => false,
+            Some(there) => joins(
+                dimension, registry, vehicle, here, front, turned, first, second, third, back,
+                there, meter,
+            ),
+        },
+    }
 }
 
 /// Whether a route of five parts has no customer.
@@ -129,41 +232,48 @@ fn is_nothing(
     back.is_empty()
 }
 
-/// Whether a route of five parts, the second of which may be driven back, is in bounds in each dimension.
+/// Whether a route of five parts, the second of which may be driven back, is in bounds in each dimension, by the cumuls after its first
+/// part and those before its last one.
 pub(crate) fn fits(
     setup: &Setup,
     vehicle: u32,
+    ahead: &Spans,
     front: &[u32],
     turned: bool,
     first: &[u32],
     second: &[u32],
     third: &[u32],
     back: &[u32],
+    behind: &Spans,
     meter: &mut Meter,
 ) -> bool
     requires laws { Laws }
     requires known { All (λ c. c ≤ (setting setup.now).customers) (front.now ++ (way_of turned first.now ++ (second.now ++ (third.now ++ back.now)))) }
     requires low { 1 ≤ vehicle }
     requires high { vehicle ≤ (setting setup.now).vehicles }
+    requires ahead { HasAhead (setting setup.now) vehicle front.now ahead.now }
+    requires behind { HasBehind (setting setup.now) vehicle back.now behind.now }
     ensures { IsTrue result ↔ FitsAll (setting setup.now) vehicle (front.now ++ (way_of turned first.now ++ (second.now ++ (third.now ++ back.now)))) }
 {
     if is_nothing(front, turned, first, second, third, back) {
         return true;
     }
     for (k, dimension) in setup.dimensions().iter().enumerate() {
-        let end = return_of(
+        let fits = meets(
             dimension,
             setup.registry(),
             vehicle,
+            ahead.at(k, front.len()),
             front,
             turned,
             first,
             second,
             third,
             back,
+            behind.at(k, back.len()),
             meter,
         );
-        if !end.is_some() {
+        if !fits {
             return false;
         }
     }

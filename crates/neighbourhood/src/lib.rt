@@ -6,6 +6,7 @@ mod best;
 mod cross;
 mod fits;
 mod hops;
+mod kept;
 mod laws;
 mod reverse;
 mod round;

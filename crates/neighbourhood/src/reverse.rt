@@ -5,11 +5,13 @@ ghost use Rattle.dimension_core.specs.Setup.{setting};
 ghost use Rattle.move_core.specs.declared.moves.Move.TheVariants.{Reverse};
 ghost use Rattle.move_core.specs.Moves.{is_possible};
 ghost use Rattle.neighbourhood.specs.View.{IsViewOf};
+ghost use Rattle.neighbourhood.specs.Kept.{AreKept};
 ghost use Rattle.neighbourhood.specs.Laws.{Laws};
 ghost use Rattle.neighbourhood.specs.Search.{IsBestSoFar, IsSaving};
 ghost use Rattle.neighbourhood.specs.Ways.{AreStops, AreEdges, AreHops, AreSums};
 
 use crate::best::better;
+use crate::kept::Kept;
 use crate::table::row;
 use callback_store::Meter;
 use dimension_core::Setup;
@@ -32,11 +34,13 @@ fn reverse_row(
     before: &[u32],
     here: &[u32],
     end: u32,
+    kept: &Kept,
     best: Option<(Move, u64)>,
     meter: &mut Meter,
 ) -> Option<(Move, u64)>
     requires laws { Laws }
     requires view { IsViewOf (setting setup.now) view.now }
+    requires kept { AreKept (setting setup.now) view.now.routes v v kept.now }
     requires order { first < end }
     requires edges { end ≤ length edges.now }
     requires sums { end ≤ length sums.now }
@@ -65,7 +69,7 @@ fn reverse_row(
             last,
         };
         best = better(
-            view, setup, skip, v, v, mv, all_lost, all_gained, best, meter,
+            view, setup, skip, v, v, kept, kept, mv, all_lost, all_gained, best, meter,
         );
     }
     best
@@ -83,11 +87,13 @@ fn reverse_from(
     sums: &[u64],
     back_sums: &[u64],
     out: &[u32],
+    kept: &Kept,
     best: Option<(Move, u64)>,
     meter: &mut Meter,
 ) -> Option<(Move, u64)>
     requires laws { Laws }
     requires view { IsViewOf (setting setup.now) view.now }
+    requires kept { AreKept (setting setup.now) view.now.routes v v kept.now }
     requires first { (1 ≤ first) × (first + 1 < length from.now) }
     requires from { AreStops (setting setup.now).customers view.now.routes v from.now }
     requires edges { AreEdges (table_at (setting setup.now).tables (setting setup.now).cost) from.now edges.now }
@@ -117,6 +123,7 @@ fn reverse_from(
         before,
         here,
         from.len() as u32 - 1,
+        kept,
         best,
         meter,
     )
@@ -133,11 +140,13 @@ pub(crate) fn best_reverse(
     sums: &[u64],
     back_sums: &[u64],
     out: &[u32],
+    kept: &Kept,
     best: Option<(Move, u64)>,
     meter: &mut Meter,
 ) -> Option<(Move, u64)>
     requires laws { Laws }
     requires view { IsViewOf (setting setup.now) view.now }
+    requires kept { AreKept (setting setup.now) view.now.routes v v kept.now }
     requires from { AreStops (setting setup.now).customers view.now.routes v from.now }
     requires edges { AreEdges (table_at (setting setup.now).tables (setting setup.now).cost) from.now edges.now }
     requires sums { AreSums false (table_at (setting setup.now).tables (setting setup.now).cost) from.now (length from.now) sums.now }
@@ -150,7 +159,7 @@ pub(crate) fn best_reverse(
     let mut best = best;
     for first in 1..from.len() as u32 - 1 {
         best = reverse_from(
-            view, setup, skip, v, first, from, edges, sums, back_sums, out, best, meter,
+            view, setup, skip, v, first, from, edges, sums, back_sums, out, kept, best, meter,
         );
     }
     best

@@ -7,6 +7,7 @@ ghost use Rattle.neighbourhood.specs.Laws.{Laws};
 
 use crate::cross::best_cross;
 use crate::hops::stops_of;
+use crate::kept::{kept_alone, kept_between};
 use crate::laws::laws_below;
 use crate::reverse::best_reverse;
 use crate::shift::{best_shift, best_shift_inside};
@@ -38,14 +39,15 @@ fn best_inside(
     let back_sums = sums_of(alloc, setup, true, &from, &mut meter)?;
     let out = table_of(alloc, setup, false, &from, &from, &mut meter)?;
     let into = table_of(alloc, setup, true, &from, &from, &mut meter)?;
+    let kept = kept_alone(alloc, view, setup, v, &mut meter)?;
     let shifted = best_shift_inside(
-        view, setup, skip, v, &from, &edges, &out, &into, None, &mut meter,
+        view, setup, skip, v, &from, &edges, &out, &into, &kept, None, &mut meter,
     );
     let swapped = best_swap_inside(
-        view, setup, skip, v, &from, &edges, &out, &into, shifted, &mut meter,
+        view, setup, skip, v, &from, &edges, &out, &into, &kept, shifted, &mut meter,
     );
     let reversed = best_reverse(
-        view, setup, skip, v, &from, &edges, &sums, &back_sums, &out, swapped, &mut meter,
+        view, setup, skip, v, &from, &edges, &sums, &back_sums, &out, &kept, swapped, &mut meter,
     );
     Ok(reversed)
 }
@@ -73,6 +75,8 @@ fn best_between(
     let to_edges = edges_of(alloc, setup, &to, &mut meter)?;
     let out = table_of(alloc, setup, false, &from, &to, &mut meter)?;
     let into = table_of(alloc, setup, true, &from, &to, &mut meter)?;
+    let v_kept = kept_between(alloc, view, setup, v, w, &mut meter)?;
+    let w_kept = kept_between(alloc, view, setup, w, v, &mut meter)?;
     let shifted = best_shift(
         view,
         setup,
@@ -85,6 +89,8 @@ fn best_between(
         &to_edges,
         &out,
         &into,
+        &v_kept,
+        &w_kept,
         None,
         &mut meter,
     );
@@ -100,6 +106,8 @@ fn best_between(
         &to_edges,
         &out,
         &into,
+        &v_kept,
+        &w_kept,
         shifted,
         &mut meter,
     );
@@ -115,6 +123,8 @@ fn best_between(
         &to_edges,
         &out,
         &into,
+        &v_kept,
+        &w_kept,
         swapped,
         &mut meter,
     );

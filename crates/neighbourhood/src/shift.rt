@@ -6,12 +6,14 @@ ghost use Rattle.plan_core.specs.Plan.{route_at};
 ghost use Rattle.move_core.specs.declared.moves.Move.TheVariants.{Shift};
 ghost use Rattle.move_core.specs.Moves.{is_possible};
 ghost use Rattle.neighbourhood.specs.View.{IsViewOf};
+ghost use Rattle.neighbourhood.specs.Kept.{AreKept};
 ghost use Rattle.neighbourhood.specs.Laws.{Laws};
 ghost use Rattle.neighbourhood.specs.Search.{IsBestSoFar, IsSaving};
 ghost use Rattle.neighbourhood.specs.Ways.{AreStops, AreEdges, AreHops};
 
 use crate::best::better;
 use crate::hops::hop;
+use crate::kept::Kept;
 use crate::table::row;
 use callback_store::Meter;
 use dimension_core::Setup;
@@ -37,11 +39,15 @@ fn shift_row(
     offset: u32,
     first: u32,
     end: u32,
+    v_kept: &Kept,
+    w_kept: &Kept,
     best: Option<(Move, u64)>,
     meter: &mut Meter,
 ) -> Option<(Move, u64)>
     requires laws { Laws }
     requires view { IsViewOf (setting setup.now) view.now }
+    requires v_kept { AreKept (setting setup.now) view.now.routes v w v_kept.now }
+    requires w_kept { AreKept (setting setup.now) view.now.routes w v w_kept.now }
     requires few { count ≤ 3 }
     requires low { 1 ≤ first }
     requires order { first ≤ end }
@@ -68,7 +74,7 @@ fn shift_row(
             at,
         };
         best = better(
-            view, setup, skip, v, w, mv, all_lost, all_gained, best, meter,
+            view, setup, skip, v, w, v_kept, w_kept, mv, all_lost, all_gained, best, meter,
         );
     }
     best
@@ -89,11 +95,15 @@ fn shift_over(
     to_edges: &[u32],
     out: &[u32],
     into: &[u32],
+    v_kept: &Kept,
+    w_kept: &Kept,
     best: Option<(Move, u64)>,
     meter: &mut Meter,
 ) -> Option<(Move, u64)>
     requires laws { Laws }
     requires view { IsViewOf (setting setup.now) view.now }
+    requires v_kept { AreKept (setting setup.now) view.now.routes v w v_kept.now }
+    requires w_kept { AreKept (setting setup.now) view.now.routes w v w_kept.now }
     requires apart { v ≢ w }
     requires count { (1 ≤ count) × (count ≤ 3) }
     requires place { (1 ≤ place) × (place + count < length from.now) }
@@ -128,6 +138,8 @@ fn shift_over(
         0,
         1,
         to.len() as u32,
+        v_kept,
+        w_kept,
         best,
         meter,
     )
@@ -146,11 +158,15 @@ pub(crate) fn best_shift(
     to_edges: &[u32],
     out: &[u32],
     into: &[u32],
+    v_kept: &Kept,
+    w_kept: &Kept,
     best: Option<(Move, u64)>,
     meter: &mut Meter,
 ) -> Option<(Move, u64)>
     requires laws { Laws }
     requires view { IsViewOf (setting setup.now) view.now }
+    requires v_kept { AreKept (setting setup.now) view.now.routes v w v_kept.now }
+    requires w_kept { AreKept (setting setup.now) view.now.routes w v w_kept.now }
     requires apart { v ≢ w }
     requires from { AreStops (setting setup.now).customers view.now.routes v from.now }
     requires to { AreStops (setting setup.now).customers view.now.routes w to.now }
@@ -167,7 +183,7 @@ pub(crate) fn best_shift(
             if place as usize + (count as usize) < from.len() {
                 best = shift_over(
                     view, setup, skip, v, w, place, count, from, to, from_edges, to_edges, out,
-                    into, best, meter,
+                    into, v_kept, w_kept, best, meter,
                 );
             }
         }
@@ -187,11 +203,13 @@ fn shift_within(
     edges: &[u32],
     out: &[u32],
     into: &[u32],
+    kept: &Kept,
     best: Option<(Move, u64)>,
     meter: &mut Meter,
 ) -> Option<(Move, u64)>
     requires laws { Laws }
     requires view { IsViewOf (setting setup.now) view.now }
+    requires kept { AreKept (setting setup.now) view.now.routes v v kept.now }
     requires count { (1 ≤ count) × (count ≤ 3) }
     requires place { (1 ≤ place) × (place + count < length from.now) }
     requires from { AreStops (setting setup.now).customers view.now.routes v from.now }
@@ -208,8 +226,8 @@ fn shift_within(
     let comes = row(into, from.len(), first);
     let goes = row(out, from.len(), after - 1);
     let forwards = shift_row(
-        view, setup, skip, v, v, place, count, lost, gained, edges, comes, goes, 0, 1, place, best,
-        meter,
+        view, setup, skip, v, v, place, count, lost, gained, edges, comes, goes, 0, 1, place, kept,
+        kept, best, meter,
     );
     shift_row(
         view,
@@ -227,6 +245,8 @@ fn shift_within(
         count,
         place + 1,
         from.len() as u32 - count,
+        kept,
+        kept,
         forwards,
         meter,
     )
@@ -242,11 +262,13 @@ pub(crate) fn best_shift_inside(
     edges: &[u32],
     out: &[u32],
     into: &[u32],
+    kept: &Kept,
     best: Option<(Move, u64)>,
     meter: &mut Meter,
 ) -> Option<(Move, u64)>
     requires laws { Laws }
     requires view { IsViewOf (setting setup.now) view.now }
+    requires kept { AreKept (setting setup.now) view.now.routes v v kept.now }
     requires from { AreStops (setting setup.now).customers view.now.routes v from.now }
     requires edges { AreEdges (table_at (setting setup.now).tables (setting setup.now).cost) from.now edges.now }
     requires out { AreHops false (table_at (setting setup.now).tables (setting setup.now).cost) from.now from.now (length from.now * length from.now) out.now }
@@ -259,7 +281,7 @@ pub(crate) fn best_shift_inside(
         for count in 1..4 {
             if place as usize + (count as usize) < from.len() {
                 best = shift_within(
-                    view, setup, skip, v, place, count, from, edges, out, into, best, meter,
+                    view, setup, skip, v, place, count, from, edges, out, into, kept, best, meter,
                 );
             }
         }

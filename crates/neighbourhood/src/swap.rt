@@ -5,11 +5,13 @@ ghost use Rattle.dimension_core.specs.Setup.{setting};
 ghost use Rattle.move_core.specs.declared.moves.Move.TheVariants.{Swap};
 ghost use Rattle.move_core.specs.Moves.{is_possible};
 ghost use Rattle.neighbourhood.specs.View.{IsViewOf};
+ghost use Rattle.neighbourhood.specs.Kept.{AreKept};
 ghost use Rattle.neighbourhood.specs.Laws.{Laws};
 ghost use Rattle.neighbourhood.specs.Search.{IsBestSoFar, IsSaving};
 ghost use Rattle.neighbourhood.specs.Ways.{AreStops, AreEdges, AreHops};
 
 use crate::best::better;
+use crate::kept::Kept;
 use crate::table::row;
 use callback_store::Meter;
 use dimension_core::Setup;
@@ -33,11 +35,15 @@ fn swap_row(
     back: &[u32],
     first: u32,
     end: u32,
+    v_kept: &Kept,
+    w_kept: &Kept,
     best: Option<(Move, u64)>,
     meter: &mut Meter,
 ) -> Option<(Move, u64)>
     requires laws { Laws }
     requires view { IsViewOf (setting setup.now) view.now }
+    requires v_kept { AreKept (setting setup.now) view.now.routes v w v_kept.now }
+    requires w_kept { AreKept (setting setup.now) view.now.routes w v w_kept.now }
     requires low { 1 ≤ first }
     requires order { first ≤ end }
     requires near { v ≡ w → place < first }
@@ -68,7 +74,7 @@ fn swap_row(
             at,
         };
         best = better(
-            view, setup, skip, v, w, mv, all_lost, all_gained, best, meter,
+            view, setup, skip, v, w, v_kept, w_kept, mv, all_lost, all_gained, best, meter,
         );
     }
     best
@@ -88,11 +94,15 @@ fn swap_over(
     to_edges: &[u32],
     out: &[u32],
     into: &[u32],
+    v_kept: &Kept,
+    w_kept: &Kept,
     best: Option<(Move, u64)>,
     meter: &mut Meter,
 ) -> Option<(Move, u64)>
     requires laws { Laws }
     requires view { IsViewOf (setting setup.now) view.now }
+    requires v_kept { AreKept (setting setup.now) view.now.routes v w v_kept.now }
+    requires w_kept { AreKept (setting setup.now) view.now.routes w v w_kept.now }
     requires apart { v ≢ w }
     requires place { (1 ≤ place) × (place + 1 < length from.now) }
     requires from { AreStops (setting setup.now).customers view.now.routes v from.now }
@@ -125,6 +135,8 @@ fn swap_over(
         back,
         1,
         to.len() as u32 - 1,
+        v_kept,
+        w_kept,
         best,
         meter,
     )
@@ -143,11 +155,15 @@ pub(crate) fn best_swap(
     to_edges: &[u32],
     out: &[u32],
     into: &[u32],
+    v_kept: &Kept,
+    w_kept: &Kept,
     best: Option<(Move, u64)>,
     meter: &mut Meter,
 ) -> Option<(Move, u64)>
     requires laws { Laws }
     requires view { IsViewOf (setting setup.now) view.now }
+    requires v_kept { AreKept (setting setup.now) view.now.routes v w v_kept.now }
+    requires w_kept { AreKept (setting setup.now) view.now.routes w v w_kept.now }
     requires apart { v ≢ w }
     requires from { AreStops (setting setup.now).customers view.now.routes v from.now }
     requires to { AreStops (setting setup.now).customers view.now.routes w to.now }
@@ -161,7 +177,8 @@ pub(crate) fn best_swap(
     let mut best = best;
     for place in 1..from.len() as u32 - 1 {
         best = swap_over(
-            view, setup, skip, v, w, place, from, to, from_edges, to_edges, out, into, best, meter,
+            view, setup, skip, v, w, place, from, to, from_edges, to_edges, out, into, v_kept,
+            w_kept, best, meter,
         );
     }
     best
@@ -178,11 +195,13 @@ fn swap_next(
     edges: &[u32],
     out: &[u32],
     into: &[u32],
+    kept: &Kept,
     best: Option<(Move, u64)>,
     meter: &mut Meter,
 ) -> Option<(Move, u64)>
     requires laws { Laws }
     requires view { IsViewOf (setting setup.now) view.now }
+    requires kept { AreKept (setting setup.now) view.now.routes v v kept.now }
     requires place { (1 ≤ place) × (place + 2 < length from.now) }
     requires from { AreStops (setting setup.now).customers view.now.routes v from.now }
     requires edges { AreEdges (table_at (setting setup.now).tables (setting setup.now).cost) from.now edges.now }
@@ -205,7 +224,9 @@ fn swap_next(
         other: v,
         at: place + 1,
     };
-    better(view, setup, skip, v, v, mv, lost, gained, best, meter)
+    better(
+        view, setup, skip, v, v, kept, kept, mv, lost, gained, best, meter,
+    )
 }
 
 /// The better of the best so far and the swaps of the customer at a place with those behind it.
@@ -219,11 +240,13 @@ fn swap_within(
     edges: &[u32],
     out: &[u32],
     into: &[u32],
+    kept: &Kept,
     best: Option<(Move, u64)>,
     meter: &mut Meter,
 ) -> Option<(Move, u64)>
     requires laws { Laws }
     requires view { IsViewOf (setting setup.now) view.now }
+    requires kept { AreKept (setting setup.now) view.now.routes v v kept.now }
     requires place { (1 ≤ place) × (place + 1 < length from.now) }
     requires from { AreStops (setting setup.now).customers view.now.routes v from.now }
     requires edges { AreEdges (table_at (setting setup.now).tables (setting setup.now).cost) from.now edges.now }
@@ -237,7 +260,7 @@ fn swap_within(
         return best;
     }
     let near = swap_next(
-        view, setup, skip, v, place, from, edges, out, into, best, meter,
+        view, setup, skip, v, place, from, edges, out, into, kept, best, meter,
     );
     let lost = u64::from(edges[index - 1]) + u64::from(edges[index]);
     let before = row(out, from.len(), index - 1);
@@ -259,6 +282,8 @@ fn swap_within(
         back,
         place + 2,
         from.len() as u32 - 1,
+        kept,
+        kept,
         near,
         meter,
     )
@@ -274,11 +299,13 @@ pub(crate) fn best_swap_inside(
     edges: &[u32],
     out: &[u32],
     into: &[u32],
+    kept: &Kept,
     best: Option<(Move, u64)>,
     meter: &mut Meter,
 ) -> Option<(Move, u64)>
     requires laws { Laws }
     requires view { IsViewOf (setting setup.now) view.now }
+    requires kept { AreKept (setting setup.now) view.now.routes v v kept.now }
     requires from { AreStops (setting setup.now).customers view.now.routes v from.now }
     requires edges { AreEdges (table_at (setting setup.now).tables (setting setup.now).cost) from.now edges.now }
     requires out { AreHops false (table_at (setting setup.now).tables (setting setup.now).cost) from.now from.now (length from.now * length from.now) out.now }
@@ -289,7 +316,7 @@ pub(crate) fn best_swap_inside(
     let mut best = best;
     for place in 1..from.len() as u32 - 1 {
         best = swap_within(
-            view, setup, skip, v, place, from, edges, out, into, best, meter,
+            view, setup, skip, v, place, from, edges, out, into, kept, best, meter,
         );
     }
     best

@@ -27,7 +27,35 @@ fn view_of_three(alloc: Global, route: &[u32]) -> Result<View, AllocError>
     })
 }
 
-/// Instance B: customers 1 to 3 stand 30, 60 and 90 from the depot, on one line.
+/// Moves inside vehicle 1.
+fn shift(place: u32, length: u32, at: u32) -> Move {
+    Move::Shift {
+        vehicle: 1,
+        place,
+        length,
+        to: 1,
+        at,
+    }
+}
+
+fn swap(place: u32, at: u32) -> Move {
+    Move::Swap {
+        vehicle: 1,
+        place,
+        other: 1,
+        at,
+    }
+}
+
+fn reverse(first: u32, last: u32) -> Move {
+    Move::Reverse {
+        vehicle: 1,
+        first,
+        last,
+    }
+}
+
+/// Customers 1 to 3 stand 30, 60 and 90 from the depot, on one line: of the route 2, 1, 3 each move saves 60 or nothing.
 #[test]
 fn the_best_moves_of_three_customers(rt: HostRuntime) -> Result<(), Fail> {
     let call = Box::new(
@@ -41,28 +69,27 @@ fn the_best_moves_of_three_customers(rt: HostRuntime) -> Result<(), Fail> {
     let setup = Setup::new(3, 1, registry, Vec::new(rt.alloc()), cost, 9).expect(&rt, "setup");
     plans_are_tested();
     let view = view_of_three(rt.alloc(), &[2, 1, 3])?;
-    let first = Move::Shift {
-        vehicle: 1,
-        place: 1,
-        length: 1,
-        to: 1,
-        at: 2,
-    };
-    let second = Move::Shift {
-        vehicle: 1,
-        place: 1,
-        length: 1,
-        to: 1,
-        at: 3,
-    };
-    assert_eq!(&rt;
-        best_move(rt.alloc(), &view, &setup, 1, 1, &[])?,
-        Some((first, 60))
-    );
-    assert_eq!(&rt;
-        best_move(rt.alloc(), &view, &setup, 1, 1, &[first])?,
-        Some((second, 60))
-    );
+    let tied = [
+        shift(1, 1, 2),
+        shift(1, 1, 3),
+        shift(1, 2, 2),
+        shift(2, 1, 1),
+        shift(2, 1, 3),
+        shift(2, 2, 1),
+        shift(3, 1, 1),
+        shift(3, 1, 2),
+        swap(1, 2),
+        swap(2, 3),
+        reverse(1, 2),
+        reverse(2, 3),
+    ];
+    for k in 0..tied.len() {
+        assert_eq!(&rt;
+            best_move(rt.alloc(), &view, &setup, 1, 1, &tied[..k])?,
+            Some((tied[k], 60))
+        );
+    }
+    assert_eq!(&rt; best_move(rt.alloc(), &view, &setup, 1, 1, &tied)?, None);
     let sorted = view_of_three(rt.alloc(), &[1, 2, 3])?;
     assert_eq!(&rt; best_move(rt.alloc(), &sorted, &setup, 1, 1, &[])?, None);
     Ok(())

@@ -1,6 +1,7 @@
-use Rattle.std.proofs.Common.{◌≡◌, ◌+◌, ◌-◌, arith, refl}
+use Rattle.std.proofs.Common.{◌≡◌, ◌+◌, ◌-◌, arith, refl, ◌∙◌, ap, List, ℕ, take, drop}
 use Rattle.dimension_core.specs.Setup.{setting}
 use Rattle.neighbourhood.proofs.Between.{between_same, swap_between}
+use Rattle.neighbourhood.proofs.Keeping.{kept_as, kept_front, kept_back}
 use Rattle.neighbourhood.proofs.allowed.allows_swap.Goals as goal
 
 pub allows_between-requires-clause-between : goal.allows_between-requires-clause-between
@@ -19,3 +20,39 @@ allows_between-requires-clause-between g c =
     (rw (c.front_of-front.ensures, c.part-there.ensures, c.back_of-rest.ensures, c.customers-route.ensures, c.customers-other.ensures, e2, e3) refl)
     (rw (c.front_of-before.ensures, c.part-here.ensures, c.back_of-after.ensures, c.customers-route.ensures, c.customers-other.ensures, e1, e4) refl)
     (swap_between law (setting c.args.setup.now).customers c.args.view.now.routes c.args.v c.args.place c.args.w c.args.at c.requires.possible c.requires.apart)
+
+pub allows_between-requires-clause-v_ahead : goal.allows_between-requires-clause-v_ahead
+allows_between-requires-clause-v_ahead g c =
+    let f = (c.requires.laws.possible.swap (setting c.args.setup.now).customers c.args.view.now.routes c.args.v c.args.place c.args.w c.args.at).0 c.requires.possible in
+    let low = f.place.low in
+    let high = f.place.high in
+    let at = f.at.low in
+    let end = f.at.high in
+    kept_front (setting c.args.setup.now) _ _ _ _ (c.args.place - 1) (kept_as _ _ _ _ _ _ c.v_kept.view_is c.requires.v_kept).ahead (omega arith) (c.front_of-front.ensures ∙ ap (λ (xs : List ℕ). take (c.args.place - 1) xs) c.customers-route.ensures)
+
+pub allows_between-requires-clause-v_behind : goal.allows_between-requires-clause-v_behind
+allows_between-requires-clause-v_behind g c =
+    let f = (c.requires.laws.possible.swap (setting c.args.setup.now).customers c.args.view.now.routes c.args.v c.args.place c.args.w c.args.at).0 c.requires.possible in
+    let low = f.place.low in
+    let high = f.place.high in
+    let at = f.at.low in
+    let end = f.at.high in
+    kept_back (setting c.args.setup.now) _ _ _ _ (c.args.place) (kept_as _ _ _ _ _ _ c.v_kept.view_is c.requires.v_kept).behind (omega arith) (c.back_of-rest.ensures ∙ ap (λ (xs : List ℕ). drop (c.args.place) xs) c.customers-route.ensures)
+
+pub allows_between-requires-clause-w_ahead : goal.allows_between-requires-clause-w_ahead
+allows_between-requires-clause-w_ahead g c =
+    let f = (c.requires.laws.possible.swap (setting c.args.setup.now).customers c.args.view.now.routes c.args.v c.args.place c.args.w c.args.at).0 c.requires.possible in
+    let low = f.place.low in
+    let high = f.place.high in
+    let at = f.at.low in
+    let end = f.at.high in
+    kept_front (setting c.args.setup.now) _ _ _ _ (c.args.at - 1) (kept_as _ _ _ _ _ _ c.w_kept.view_is c.requires.w_kept).ahead (omega arith) (c.front_of-before.ensures ∙ ap (λ (xs : List ℕ). take (c.args.at - 1) xs) c.customers-other.ensures)
+
+pub allows_between-requires-clause-w_behind : goal.allows_between-requires-clause-w_behind
+allows_between-requires-clause-w_behind g c =
+    let f = (c.requires.laws.possible.swap (setting c.args.setup.now).customers c.args.view.now.routes c.args.v c.args.place c.args.w c.args.at).0 c.requires.possible in
+    let low = f.place.low in
+    let high = f.place.high in
+    let at = f.at.low in
+    let end = f.at.high in
+    kept_back (setting c.args.setup.now) _ _ _ _ (c.args.at) (kept_as _ _ _ _ _ _ c.w_kept.view_is c.requires.w_kept).behind (omega arith) (c.back_of-after.ensures ∙ ap (λ (xs : List ℕ). drop (c.args.at) xs) c.customers-other.ensures)

@@ -1,6 +1,7 @@
-use Rattle.std.proofs.Common.{◌≡◌, ◌+◌, ◌-◌, arith, refl}
+use Rattle.std.proofs.Common.{◌≡◌, ◌+◌, ◌-◌, arith, refl, ◌∙◌, ap, List, ℕ, take, drop}
 use Rattle.dimension_core.specs.Setup.{setting}
 use Rattle.neighbourhood.proofs.Inside.{inside_same, swap_inside}
+use Rattle.neighbourhood.proofs.Keeping.{kept_as, kept_front, kept_back}
 use Rattle.neighbourhood.proofs.allowed.allows_swap_inside.Goals as goal
 
 pub allows_inside-requires-clause-inside : goal.allows_inside-requires-clause-inside
@@ -13,3 +14,19 @@ allows_inside-requires-clause-inside g c =
     inside_same law _ _ _ _ _ _
     (rw (c.front_of-front.ensures, c.part-there.ensures, c.part-between.ensures, c.part-here.ensures, c.back_of-back.ensures, c.customers-route.ensures, e1, e2, e3) refl)
     (swap_inside law s.customers c.args.view.now.routes c.args.v c.args.place c.args.at c.requires.possible c.requires.order)
+
+pub allows_inside-requires-clause-ahead : goal.allows_inside-requires-clause-ahead
+allows_inside-requires-clause-ahead g c =
+    let f = (c.requires.laws.possible.swap (setting c.args.setup.now).customers c.args.view.now.routes c.args.v c.args.place c.args.v c.args.at).0 c.requires.possible in
+    let low = f.place.low in
+    let high = f.place.high in
+    let end = f.at.high in
+    kept_front (setting c.args.setup.now) _ _ _ _ (c.args.place - 1) (kept_as _ _ _ _ _ _ c.kept.view_is c.requires.kept).ahead (omega arith) (c.front_of-front.ensures ∙ ap (λ (xs : List ℕ). take (c.args.place - 1) xs) c.customers-route.ensures)
+
+pub allows_inside-requires-clause-behind : goal.allows_inside-requires-clause-behind
+allows_inside-requires-clause-behind g c =
+    let f = (c.requires.laws.possible.swap (setting c.args.setup.now).customers c.args.view.now.routes c.args.v c.args.place c.args.v c.args.at).0 c.requires.possible in
+    let low = f.place.low in
+    let high = f.place.high in
+    let end = f.at.high in
+    kept_back (setting c.args.setup.now) _ _ _ _ (c.args.at) (kept_as _ _ _ _ _ _ c.kept.view_is c.requires.kept).behind (omega arith) (c.back_of-back.ensures ∙ ap (λ (xs : List ℕ). drop (c.args.at) xs) c.customers-route.ensures)

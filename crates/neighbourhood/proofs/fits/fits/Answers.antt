@@ -2,20 +2,25 @@ use Rattle.std.proofs.Common.{◌++◌, arith, below_more, refl}
 use Rattle.std.proofs.lemmas.Grind.{common_steps}
 use Rattle.dimension_core.specs.Setup.{setting}
 use Rattle.neighbourhood.specs.Ways.{way_of}
-use Rattle.neighbourhood.proofs.Carried.{fits_by_return, some_from, nothing_fits, empty_from}
+use Rattle.neighbourhood.proofs.Carried.{nothing_fits, empty_from}
+use Rattle.neighbourhood.proofs.Keeping.{ahead_here}
+use Rattle.neighbourhood.proofs.Meeting.{fits_by_meeting}
 use Rattle.neighbourhood.proofs.fits.fits.Goals as goal
 
-pub returns-then-not-is_some : goal.returns-then-not-is_some
-returns-then-not-is_some g c =
-    let some = some_from c.requires.laws (c.args.front.now ++ (way_of c.args.turned c.args.first.now ++ (c.args.second.now ++ (c.args.third.now ++ c.args.back.now)))) _ c.is_nothing.ensures c.if-is_nothing.false in
-    let fits = fits_by_return c.requires.laws (setting c.args.setup.now) _ _ _ _ _ _ _ c.registry.ensures.value c.dimensions-dimension-items.ensures.value c.loop-k-test.true c.dimension-item.is some c.return_of-end.ensures in
-    (λ no. absurd cc, λ all. let is = fits.1 (all c.loop-k.k (grind (arith, common_steps))) in cc)
+pub meets-fits-requires-clause-ahead : goal.meets-fits-requires-clause-ahead
+meets-fits-requires-clause-ahead g c =
+    ahead_here (setting c.args.setup.now) _ _ c.loop-k.k _ _ _ _ c.registry.ensures.value c.dimensions-dimension-items.ensures.value c.loop-k-test.true c.dimension-item.is
+    (rw c.at.ensures (c.requires.ahead.each c.loop-k.k (grind (arith, common_steps))))
+
+pub returns-then-not-fits : goal.returns-then-not-fits
+returns-then-not-fits g c =
+    let fits = fits_by_meeting (setting c.args.setup.now) _ _ _ _ _ _ c.registry.ensures.value c.dimensions-dimension-items.ensures.value c.loop-k-test.true c.dimension-item.is in
+    (λ no. absurd cc, λ all. let is = c.meets-fits.ensures.1 (fits.1 (all c.loop-k.k (grind (arith, common_steps)))) in cc)
 
 pub loop-k-preserved : goal.loop-k-preserved
 loop-k-preserved g c =
-    let some = some_from c.requires.laws (c.args.front.now ++ (way_of c.args.turned c.args.first.now ++ (c.args.second.now ++ (c.args.third.now ++ c.args.back.now)))) _ c.is_nothing.ensures c.if-is_nothing.false in
-    let fits = fits_by_return c.requires.laws (setting c.args.setup.now) _ _ _ _ _ _ _ c.registry.ensures.value c.dimensions-dimension-items.ensures.value c.loop-k-test.true c.dimension-item.is some c.return_of-end.ensures in
-    below_more _ _ c.loop-k.invariant (fits.0 cc)
+    let fits = fits_by_meeting (setting c.args.setup.now) _ _ _ _ _ _ c.registry.ensures.value c.dimensions-dimension-items.ensures.value c.loop-k-test.true c.dimension-item.is in
+    below_more _ _ c.loop-k.invariant (fits.0 (c.meets-fits.ensures.0 cc))
 
 pub returns-then-is_nothing : goal.returns-then-is_nothing
 returns-then-is_nothing g c =

@@ -1,4 +1,4 @@
-use Rattle.std.proofs.Common.{◌≡◌, ℕ, ◌+◌, ◌-◌, ◌*◌, [], ◌∷◌, List, length, refl, sym, ap, ◌∙◌, zero, suc, slice_index_or, subst, arith, rules, true, None, Some, IfOk, Option}
+use Rattle.std.proofs.Common.{◌≡◌, ℕ, ◌+◌, ◌-◌, ◌*◌, [], ◌∷◌, List, refl, sym, ap, ◌∙◌, zero, suc, slice_index_or, arith, rules, true, None, Some, Option}
 use borrow.Pointer.Called.{post_made}
 use Rattle.callback_store.specs.Closures.{pairs_of_function}
 use Rattle.callback_store.specs.Boxed.{post_of_closure}
@@ -6,7 +6,6 @@ use Rattle.dimension_core.specs.Setting.{Setting}
 use Rattle.dimension_core.specs.Setup.{setting}
 use Rattle.plan_core.specs.Laws.{PlansAreTested}
 use Rattle.plan_core.specs.Tested.{is_plan}
-use Rattle.pin_core.specs.View.{ViewState}
 use Rattle.neighbourhood.specs.View.{IsViewOf}
 use Rattle.neighbourhood.proofs.tests.the_best_moves_of_three_customers.OwnLists.{own-1, at-1-1}
 use Rattle.neighbourhood.proofs.tests.the_best_moves_of_three_customers.Goals as goal
