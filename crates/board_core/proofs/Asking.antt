@@ -1,11 +1,10 @@
 -- Why a session may not audit a board.
-use Rattle.std.proofs.Common.{◌≡◌, ℕ, Bool, true, false, Some, None, refl, sym, ap, ◌∙◌}
-use Rattle.std.specs.Prelude.{not, cond, if◌then◌else◌}
+use Rattle.std.proofs.Common.{◌≡◌, ℕ, Bool, true, false, Some, None, sym, ap, ◌∙◌}
+use Rattle.std.specs.Prelude.{not, cond}
 use Rattle.policy_core.specs.State.{is_session}
 use Rattle.policy_core.specs.Access.{has_access}
 use Rattle.permission_core.specs.declared.objects.Operation.TheVariants as operations
 use Rattle.permission_core.specs.declared.objects.Object.TheVariants as objects
-use Rattle.board_rules.specs.declared.reply.AskFault.{AskFault}
 use Rattle.board_rules.specs.declared.reply.AskFault.TheVariants.{NoSession, NoAccess}
 use Rattle.board_rules.specs.Questions.{audit_fault}
 use Rattle.board_rules.specs.State.{BoardState}

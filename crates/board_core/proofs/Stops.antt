@@ -1,6 +1,6 @@
 -- The places of a plan that is held, and the early values there.
-use Rattle.std.proofs.Common.{◌≡◌, ℕ, ◌+◌, ◌-◌, ◌<◌, ◌≤◌, List, length, take, refl, sym, ap, ◌∙◌, subst, arith, slice_index, inl, inr}
-use Rattle.std.specs.Prelude.{slice_set, ◌==◌, cond, if◌then◌else◌}
+use Rattle.std.proofs.Common.{◌≡◌, ℕ, ◌+◌, ◌<◌, ◌≤◌, List, length, take, sym, ap, ◌∙◌, subst, arith, slice_index, inl, inr}
+use Rattle.std.specs.Prelude.{slice_set, cond}
 use Rattle.std.proofs.lemmas.Bool.{cases_eq, ne_eqb}
 use Rattle.std.proofs.lemmas.List.{get_or-set_same, get_or-set_other, get_or-take, length-take-le}
 use Rattle.dimension_core.specs.Cumuls.{IsEarly, table_of}

@@ -1,4 +1,4 @@
-use Rattle.std.proofs.Common.{◌≡◌, ◌+◌, ◌-◌, ◌≤◌, ◌<◌, ℕ, length, sym, ap, ◌∙◌, subst, arith, length-set}
+use Rattle.std.proofs.Common.{◌≡◌, ◌+◌, ◌-◌, ◌≤◌, ◌<◌, ℕ, length, ap, ◌∙◌, subst, arith, length-set}
 use Rattle.dimension_core.specs.Setup.{setting}
 use Rattle.board_core.proofs.Stops.{IsEarlyAt, has_early, early_more, row_taken}
 use Rattle.board_core.proofs.listing.placed_row.Goals as goal

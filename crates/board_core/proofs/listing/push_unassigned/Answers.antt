@@ -1,4 +1,4 @@
-use Rattle.std.proofs.Common.{◌≡◌, ◌+◌, ◌<◌, ℕ, length, sym, ◌∙◌, arith, subst}
+use Rattle.std.proofs.Common.{◌≡◌, ◌<◌, ℕ, length, sym, ◌∙◌, arith, subst}
 use Rattle.dimension_core.specs.Setup.{setting}
 use Rattle.board_rules.specs.Listing.{unassigned_spots}
 use Rattle.board_core.specs.Shown.{Grows}

@@ -1,4 +1,4 @@
-use Rattle.std.proofs.Common.{◌≡◌, true, sym, ap, ◌∙◌, subst}
+use Rattle.std.proofs.Common.{sym, ap, ◌∙◌, subst}
 use Rattle.policy_core.specs.State.{PolicyState, is_session}
 use Rattle.board_rules.specs.History.{state_after}
 use Rattle.board_state.specs.Held.{Holds}
