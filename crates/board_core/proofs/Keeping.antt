@@ -1,5 +1,5 @@
 -- A core keeps its history with one call more, and what it holds is ready to be judged on.
-use Rattle.std.proofs.Common.{◌≡◌, ℕ, zero, suc, Some, ◌+◌, ◌-◌, ◌<◌, ◌≤◌, Bool, true, List, [], ◌∷◌, ◌++◌, length, refl, sym, ap, ◌∙◌, subst, arith, inl, inr, length-append, length-set}
+use Rattle.std.proofs.Common.{◌≡◌, ℕ, zero, suc, Some, ◌+◌, ◌-◌, ◌<◌, ◌≤◌, true, List, [], ◌∷◌, ◌++◌, length, refl, sym, ap, ◌∙◌, subst, arith, inl, inr, length-append, length-set}
 use Rattle.std.specs.Prelude.{◌==◌, slice_get, slice_index, slice_set, replicate, cond, if◌then◌else◌}
 use Rattle.std.proofs.lemmas.Bool.{and_parts, leb-true, cases_eq, eq-eqb, ne_eqb, eqb-true}
 use Rattle.std.proofs.lemmas.List.{length-replicate, get_or-set_same, get_or-set_other}
@@ -16,7 +16,7 @@ use Rattle.board_rules.specs.State.{BoardState}
 use Rattle.board_rules.specs.Step.{after}
 use Rattle.board_state.specs.Changes.{Tries}
 use Rattle.board_state.specs.Held.{HeldState, Holds, IsOpening, IsReady}
-use Rattle.board_core.specs.Kept.{CoreState, IsKept, history_of}
+use Rattle.board_core.specs.Kept.{CoreState, IsKept}
 
 -- what is held of a good state, with room for one commit more, may be judged on
 pub ready : (s : Setting) (held : HeldState) (state : BoardState) → Holds s held state → IsGood s state → length state.commits < 16777216 → IsReady s held

@@ -11,4 +11,5 @@ pub use Rattle.board_rules.specs.Good
 pub mod Kept
 pub mod Alone
 pub mod Prepared
+pub mod Shown
 pub mod Boards

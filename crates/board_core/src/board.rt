@@ -1,21 +1,30 @@
 //! A board: a setup and the core that was opened with it.
-ghost use Rattle.std.specs.Prelude.{◌≡◌, ◌≤◌, ◌↔◌, ◌∷◌, ◌++◌, [], true, false, length, IfOk, OnErr, IsErrOf};
+ghost use Rattle.std.specs.Prelude.{◌≡◌, ◌≤◌, ◌↔◌, ◌∷◌, ◌++◌, [], true, false, length, Some, None, IfOk, OnOk, IfErr, OnErr, IsErrOf};
+ghost use Rattle.std.specs.Result.{result_err};
 ghost use Rattle.dimension_core.specs.Setup.{setting};
+ghost use Rattle.plan_core.specs.Plan.{route_at};
+ghost use Rattle.pin_core.specs.Pins.{pin_of, front_of};
 ghost use Rattle.board_core.specs.Kept.{IsKept, entry_of};
 ghost use Rattle.board_core.specs.Alone.{IsKept-prop};
 ghost use Rattle.board_core.specs.Prepared.{Makes};
 ghost use Rattle.board_rules.specs.declared.reply.Fault.{Fault};
+ghost use Rattle.board_rules.specs.declared.reply.AskFault.{AskFault};
 ghost use Rattle.board_rules.specs.Good.{state_of};
-ghost use Rattle.board_rules.specs.History.{is_turn, IsLegal};
-ghost use Rattle.board_rules.specs.Questions.{check_of};
+ghost use Rattle.board_rules.specs.History.{is_turn, turns_of, IsLegal};
+ghost use Rattle.board_rules.specs.Listing.{IsListing};
+ghost use Rattle.board_rules.specs.Questions.{MayAsk, list_fault, audit_fault, review_fault, review_of, check_of};
 ghost use Rattle.board_state.specs.Work.{WorksAtMost, call_asks, call_probes, reply_asks};
 
 use crate::body::Core;
 use crate::prepared::Prepared;
-use board_rules::{Event, Fault, Reply};
+use board_rules::{
+    AskFault, Entry, Event, Fault, Reply, Review, Row, legal_histories_leave_good_states,
+};
 use callback_store::Meter;
 use dimension_core::Setup;
+use plan_core::Route;
 use rbac_core::{Object, Operation};
+use separation_core::Name;
 use std::alloc::{AllocError, Global};
 use std::sync::Arc;
 
@@ -86,12 +95,35 @@ impl Board {
         self.core.settle(prepared)
     }
 
-    /// How many commits there were.
-    pub fn version(&self) -> u32
-        ensures version { result ≡ length (state_of (history self.now)).commits }
-        ensures legal { IsLegal (history self.now) }
+    /// The rows of the whole plan that the session may read: by vehicle and place, and then the unassigned customers by number, with
+    /// `view` on the customer and, where it is placed, on its vehicle. A row of a placed customer has the early value of each dimension.
+    /// Faults, in order: `NoSession`, `NoMemory`.
+    pub fn list(&self, session: u32) -> Result<Vec<Row>, AskFault>
+        ensures rows { IfOk result (λ rows. IsListing (history self.now).opening.setting (state_of (history self.now)) session rows.items) }
+        ensures asked { OnOk result (list_fault (state_of (history self.now)) session ≡ None) }
+        ensures fault { IfErr result (MayAsk (list_fault (state_of (history self.now)) session)) }
+        ensures no_session { IsErrOf result AskFault.NoSession ↔ (list_fault (state_of (history self.now)) session ≡ Some AskFault.NoSession) }
     {
-        self.core.version()
+        self.core.list(&self.setup, session)
+    }
+
+    /// The journal, lent to a session that may `audit` the board. Faults, in order: `NoSession`, `NoAccess`. It takes no memory.
+    pub fn audit(&self, session: u32) -> Result<&[Entry], AskFault>
+        ensures entries { IfOk result (λ entries. entries.now ≡ (history self.now).entries) }
+        ensures asked { result_err result ≡ audit_fault (state_of (history self.now)) session }
+    {
+        self.core.audit(session)
+    }
+
+    /// The names that a review shows, for a session that may `audit` the board. Faults, in order: `NoSession`, `NoAccess`, then `NoRole`,
+    /// `NoUser` or `NotThere` where there is no such role, user or session to review, `NoMemory`.
+    pub fn review(&self, session: u32, which: Review) -> Result<Vec<Name>, AskFault>
+        ensures names { IfOk result (λ names. names.items ≡ review_of (state_of (history self.now)).policy which) }
+        ensures asked { OnOk result (review_fault (state_of (history self.now)) session which ≡ None) }
+        ensures fault { IfErr result (MayAsk (review_fault (state_of (history self.now)) session which)) }
+        ensures barred { (f : AskFault) → audit_fault (state_of (history self.now)) session ≡ Some f → IsErrOf result f }
+    {
+        self.core.review(session, which)
     }
 
     /// CheckAccess: false for a session or an object that is not there.
@@ -101,11 +133,12 @@ impl Board {
         self.core.check(session, operation, object)
     }
 
-    /// How many entries the journal has.
-    pub fn events(&self) -> usize
-        ensures { result ≡ length (history self.now).entries }
+    /// How many commits there were.
+    pub fn version(&self) -> u32
+        ensures version { result ≡ length (state_of (history self.now)).commits }
+        ensures legal { IsLegal (history self.now) }
     {
-        self.core.events()
+        self.core.version()
     }
 
     /// The setup.
@@ -113,5 +146,57 @@ impl Board {
         ensures { setting result.now.value ≡ (history self.now).opening.setting }
     {
         &self.setup
+    }
+
+    /// How many desks there are: 1 to 64.
+    pub fn desks(&self) -> u32
+        ensures { result ≡ (history self.now).opening.desks }
+    {
+        self.core.desks()
+    }
+
+    /// The desk's last turn, 0 before its first. The desk is 1 to `desks()`.
+    pub fn turns(&self, desk: u32) -> u32
+        requires low { 1 ≤ desk }
+        requires high { desk ≤ (history self.now).opening.desks }
+        ensures { result ≡ turns_of desk (history self.now).entries }
+    {
+        self.core.turns(desk)
+    }
+
+    /// How many entries the journal has.
+    pub fn events(&self) -> usize
+        ensures { result ≡ length (history self.now).entries }
+    {
+        self.core.events()
+    }
+
+    /// The route of a vehicle, which is 1 to the fleet's size.
+    pub fn route(&self, vehicle: u32) -> &Arc<Route>
+        requires low { 1 ≤ vehicle }
+        requires high { vehicle ≤ (history self.now).opening.setting.vehicles }
+        ensures { result.now.value ≡ route_at (state_of (history self.now)).routes vehicle }
+    {
+        self.core.route(vehicle)
+    }
+
+    /// The vehicle to which a customer is pinned, if any. The customer is 1 to the number of customers.
+    pub fn pinned(&self, customer: u32) -> Option<u32>
+        requires low { 1 ≤ customer }
+        requires high { customer ≤ (history self.now).opening.setting.customers }
+        ensures { result ≡ pin_of (state_of (history self.now)).pins customer }
+    {
+        legal_histories_leave_good_states();
+        self.core.pinned(customer)
+    }
+
+    /// How many stops at the front of a vehicle's route are frozen. The vehicle is 1 to the fleet's size.
+    pub fn frozen(&self, vehicle: u32) -> u32
+        requires low { 1 ≤ vehicle }
+        requires high { vehicle ≤ (history self.now).opening.setting.vehicles }
+        ensures { result ≡ front_of (state_of (history self.now)).pins vehicle }
+    {
+        legal_histories_leave_good_states();
+        self.core.frozen(vehicle)
     }
 }

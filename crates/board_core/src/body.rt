@@ -3,8 +3,7 @@ ghost use Rattle.std.specs.Prelude.{◌≡◌, ◌≤◌, ◌<◌, ◌↔◌, �
 ghost use Rattle.dimension_core.specs.Setup.{setting};
 ghost use Rattle.dimension_core.specs.Setting.{Setting};
 ghost use Rattle.board_rules.specs.declared.reply.Fault.{Fault};
-ghost use Rattle.board_rules.specs.History.{is_turn, state_after, turns_of};
-ghost use Rattle.board_rules.specs.Questions.{check_of};
+ghost use Rattle.board_rules.specs.History.{is_turn, state_after};
 ghost use Rattle.board_state.specs.Work.{WorksAtMost, call_asks, call_probes, reply_asks};
 ghost use Rattle.board_core.specs.Kept.{IsKept, history_of, entry_of};
 ghost use Rattle.board_core.specs.Prepared.{Makes};
@@ -16,7 +15,6 @@ use board_rules::{
 use board_state::State;
 use callback_store::Meter;
 use dimension_core::Setup;
-use rbac_core::{Object, Operation};
 use std::alloc::{AllocError, Global};
 use std::marker::Model;
 use std::snapshot::Snapshot;
@@ -24,9 +22,9 @@ use std::snapshot::Snapshot;
 /// All of a board but its setup, which is lent to each call.
 #[derive(Drop)]
 pub struct Core {
-    state: State,
-    journal: Vec<Entry>,
-    turns: Vec<u32>,
+    pub(crate) state: State,
+    pub(crate) journal: Vec<Entry>,
+    pub(crate) turns: Vec<u32>,
 }
 
 impl Model for Core {
@@ -53,13 +51,6 @@ impl Core {
             journal: Vec::new(alloc),
             turns,
         })
-    }
-
-    /// The journal: each call that was answered, in order, with its reply.
-    pub fn journal(&self) -> &[Entry]
-        ensures { result.now ≡ self.now.journal }
-    {
-        self.journal.as_slice()
     }
 
     /// Whether the desk is there and the turn is its last plus one.
@@ -191,36 +182,6 @@ impl Core {
             Ok(prepared) => Ok(self.settle(prepared)),
             Err(fault) => Err(fault),
         }
-    }
-
-    /// How many commits there were.
-    pub fn version(&self) -> u32
-        ensures { (s : Setting) → IsKept s self.now → result ≡ length (state_after s self.now.journal).commits }
-    {
-        self.state.plan().version()
-    }
-
-    /// CheckAccess: false for a session or an object that is not there.
-    pub fn check(&self, session: u32, operation: Operation, object: Object) -> bool
-        ensures { (s : Setting) → IsKept s self.now → result ≡ check_of (state_after s self.now.journal) session operation object }
-    {
-        self.state.check(session, operation, object)
-    }
-
-    /// The desk's last turn, 0 before its first.
-    pub fn turns(&self, desk: u32) -> u32
-        requires low { 1 ≤ desk }
-        requires high { desk ≤ length self.now.turns }
-        ensures { (s : Setting) → IsKept s self.now → result ≡ turns_of desk self.now.journal }
-    {
-        self.turns[desk as usize - 1]
-    }
-
-    /// How many entries the journal has.
-    pub fn events(&self) -> usize
-        ensures { result ≡ length self.now.journal }
-    {
-        self.journal.len()
     }
 }
 

@@ -3,7 +3,11 @@
 
 mod board;
 mod body;
+mod listing;
 mod prepared;
+mod questions;
+mod readers;
+mod reviews;
 
 pub use board::Board;
 pub use board_rules::{

@@ -27,10 +27,6 @@ fn name(text: &[u8]) -> Result<Name, Fail> {
     Ok(Name::new(text).ok_or("not a name")?)
 }
 
-fn row(alloc: Global, vehicle: u32, place: u32, customer: u32, early: &[u64]) -> Result<Row, Fail> {
-    Ok(Row::new(vehicle, place, customer, Vec::from_slice(alloc, early)?))
-}
-
 #[test]
 fn each_call_is_read_and_written(rt: HostRuntime) -> Result<(), Fail> {
     let calls: [(&[u8], &str); 35] = [
@@ -244,9 +240,9 @@ fn listings_have_their_texts(rt: HostRuntime) -> Result<(), Fail> {
         list_json(alloc, rows.as_slice())?.as_str(),
         "{\"rows\":[]}"
     );
-    rows.push(row(alloc, 1, 1, 1, &[0, 28])?)?;
-    rows.push(row(alloc, 1, 3, 3, &[7, 140])?)?;
-    rows.push(row(alloc, 0, 0, 4, &[])?)?;
+    rows.push(Row::new(1, 1, 1, &[0, 28]))?;
+    rows.push(Row::new(1, 3, 3, &[7, 140]))?;
+    rows.push(Row::new(0, 0, 4, &[]))?;
     let text = "row 1 1 1 0 28\n\
         row 1 3 3 7 140\n\
         row 0 0 4\n\
@@ -308,7 +304,7 @@ fn reviews_and_checks_have_their_texts(rt: HostRuntime) -> Result<(), Fail> {
 fn lines_of_listings_stand_alone(rt: HostRuntime) -> Result<(), Fail> {
     let alloc = rt.alloc();
     let mut text = String::new(alloc);
-    push_row(&mut text, &row(alloc, 2, 1, 7, &[12345])?)?;
+    push_row(&mut text, &Row::new(2, 1, 7, &[12345]))?;
     push_entry(
         &mut text,
         10,

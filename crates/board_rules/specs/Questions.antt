@@ -1,5 +1,5 @@
 -- Questions, which change nothing: why one is not answered, the first reason that holds, and the answers.
-use Rattle.std.specs.Prelude.{ℕ, Bool, not, if◌then◌else◌, List, Option, Some, None}
+use Rattle.std.specs.Prelude.{◌≡◌, ℕ, Bool, not, if◌then◌else◌, List, Option, Some, None, ⊤}
 use Rattle.std.specs.Option.{option_or}
 use Rattle.policy_core.specs.State.{PolicyState, is_session, is_user, is_role}
 use Rattle.policy_core.specs.Access.{has_access}
@@ -9,10 +9,15 @@ use Rattle.permission_core.specs.declared.objects.Operation.TheVariants as opera
 use Rattle.permission_core.specs.declared.objects.Object.{Object}
 use Rattle.permission_core.specs.declared.objects.Object.TheVariants as objects
 use Rattle.board_rules.specs.declared.reply.AskFault.{AskFault}
-use Rattle.board_rules.specs.declared.reply.AskFault.TheVariants.{NoSession, NoAccess, NoUser, NoRole, NotThere}
+use Rattle.board_rules.specs.declared.reply.AskFault.TheVariants.{NoSession, NoAccess, NoUser, NoRole, NotThere, NoMemory}
 use Rattle.board_rules.specs.declared.review.Review.{Review}
 use Rattle.board_rules.specs.declared.review.Review.TheVariants.{Users, Roles, Active}
 use Rattle.board_rules.specs.State.{BoardState}
+
+-- A fault is the one that is due, or want of memory, which may come at any time.
+abbrev pub MayAsk : Option AskFault → AskFault → Type 0
+MayAsk expected NoMemory = ⊤
+MayAsk expected fault = expected ≡ Some fault
 
 -- a listing needs a session that exists
 unfoldable pub list_fault : BoardState → ℕ → Option AskFault

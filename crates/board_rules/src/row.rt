@@ -1,37 +1,46 @@
-ghost use Rattle.std.specs.Prelude.{◌≡◌};
+ghost use Rattle.std.specs.Prelude.{◌≡◌, ◌≤◌, length};
 
 use std::marker::Model;
 
-/// One line of a listing: where a customer stands, and when it is reached at the earliest.
+/// One line of a listing: where a customer stands, and when it is reached at the earliest. It is kept in place, so that no row takes
+/// memory of its own.
 #[derive(Debug, Drop)]
 pub struct Row {
     vehicle: u32,
     place: u32,
     customer: u32,
-    early: Vec<u64>,
+    dimensions: u32,
+    early: [u64; 8],
 }
 
 impl Model for Row {
+    ghost use Rattle.std.specs.Prelude.{◌≤◌, take};
     ghost use Rattle.board_rules.specs.Listing.{RowShown};
 
     ghost Value = { RowShown };
 
-    ghost view = { λ r. record { vehicle = r.vehicle; place = r.place; customer = r.customer; early = r.early.items } };
+    ghost view = { λ r. record { vehicle = r.vehicle; place = r.place; customer = r.customer; early = take r.dimensions r.early } };
+
+    ghost invariant = { λ r. r.dimensions ≤ 8 };
 }
 
 impl Row {
-    /// The row of a customer with its early values, one for each dimension of the setup.
-    pub fn new(vehicle: u32, place: u32, customer: u32, early: Vec<u64>) -> Row
+    /// The row of a customer with its early values, one for each dimension of the setup, of which there are 8 at most.
+    pub fn new(vehicle: u32, place: u32, customer: u32, early: &[u64]) -> Row
+        requires { length early.now ≤ 8 }
         ensures vehicle { result.vehicle ≡ vehicle }
         ensures place { result.place ≡ place }
         ensures customer { result.customer ≡ customer }
-        ensures early { result.early ≡ early.items }
+        ensures early { result.early ≡ early.now }
     {
+        let mut kept = [0; 8];
+        kept[..early.len()].copy_from_slice(early);
         Row {
             vehicle,
             place,
             customer,
-            early,
+            dimensions: early.len() as u32,
+            early: kept,
         }
     }
 
@@ -60,6 +69,6 @@ impl Row {
     pub fn early(&self) -> &[u64]
         ensures { result.now ≡ self.now.early }
     {
-        self.early.as_slice()
+        &self.early[..self.dimensions as usize]
     }
 }

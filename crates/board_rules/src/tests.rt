@@ -12,7 +12,7 @@ use std::test::Fail;
 
 #[test]
 fn a_row_gives_what_it_was_made_of(rt: HostRuntime) -> Result<(), Fail> {
-    let row = Row::new(1, 2, 2, vec![in rt.alloc(); 4u64, 84]?);
+    let row = Row::new(1, 2, 2, &[4, 84]);
     assert_eq!(rt; row.vehicle(), 1);
     assert_eq!(rt; row.place(), 2);
     assert_eq!(rt; row.customer(), 2);

@@ -167,13 +167,9 @@ impl<R> Front<R> for Small {
         if self.version == 0 {
             return Ok(rows);
         }
-        let mut early = Vec::new(self.alloc);
-        if early.push(0u64).is_err() || early.push(28).is_err() {
-            return Err(AskFault::NoMemory);
-        }
         let (vehicle, place, customer) = self.last;
         if rows
-            .push(Row::new(vehicle, place, customer, early))
+            .push(Row::new(vehicle, place, customer, &[0, 28]))
             .is_err()
         {
             return Err(AskFault::NoMemory);

@@ -1,4 +1,4 @@
-use Rattle.std.proofs.Common.{sym, ap, subst}
+use Rattle.std.proofs.Common.{sym, subst}
 use Rattle.board_rules.specs.History.{state_after}
 use Rattle.board_state.specs.Held.{Holds}
 use Rattle.board_core.specs.Kept.{CoreState}

@@ -1,8 +1,8 @@
-use Rattle.std.proofs.Common.{◌≡◌, ◌<◌, ℕ, length, arith, sym, ap, subst, ◌∙◌}
+use Rattle.std.proofs.Common.{arith, sym, ap, subst, ◌∙◌}
 use Rattle.dimension_core.specs.Setup.{setting}
 use Rattle.board_rules.specs.History.{state_after}
 use Rattle.board_state.specs.Changes.{Tries}
-use Rattle.board_state.specs.Held.{HeldState, IsReady}
+use Rattle.board_state.specs.Held.{IsReady}
 use Rattle.board_core.specs.Kept.{CoreState, history_of}
 use Rattle.board_core.proofs.Keeping.{ready, kept_same}
 use Rattle.board_core.proofs.body.Core.judge.Goals as goal

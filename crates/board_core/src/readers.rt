@@ -1,0 +1,88 @@
+//! What stands of a board, for the crates above: no reader asks for rights or takes memory.
+ghost use Rattle.std.specs.Prelude.{◌≡◌, ◌≤◌, length};
+ghost use Rattle.dimension_core.specs.Setting.{Setting};
+ghost use Rattle.plan_core.specs.Plan.{route_at};
+ghost use Rattle.pin_core.specs.Pins.{pin_of, front_of};
+ghost use Rattle.board_rules.specs.History.{state_after, turns_of};
+ghost use Rattle.board_rules.specs.Questions.{check_of};
+ghost use Rattle.board_core.specs.Kept.{IsKept};
+
+use crate::body::Core;
+use board_rules::Entry;
+use plan_core::Route;
+use rbac_core::{Object, Operation};
+use std::sync::Arc;
+
+impl Core {
+    /// The journal: each call that was answered, in order, with its reply.
+    pub fn journal(&self) -> &[Entry]
+        ensures { result.now ≡ self.now.journal }
+    {
+        self.journal.as_slice()
+    }
+
+    /// How many entries the journal has.
+    pub fn events(&self) -> usize
+        ensures { result ≡ length self.now.journal }
+    {
+        self.journal.len()
+    }
+
+    /// How many desks there are: 1 to 64.
+    pub fn desks(&self) -> u32
+        requires { length self.now.turns ≤ 64 }
+        ensures { result ≡ length self.now.turns }
+    {
+        self.turns.len() as u32
+    }
+
+    /// The desk's last turn, 0 before its first.
+    pub fn turns(&self, desk: u32) -> u32
+        requires low { 1 ≤ desk }
+        requires high { desk ≤ length self.now.turns }
+        ensures { (s : Setting) → IsKept s self.now → result ≡ turns_of desk self.now.journal }
+    {
+        self.turns[desk as usize - 1]
+    }
+
+    /// How many commits there were.
+    pub fn version(&self) -> u32
+        ensures { (s : Setting) → IsKept s self.now → result ≡ length (state_after s self.now.journal).commits }
+    {
+        self.state.plan().version()
+    }
+
+    /// CheckAccess: false for a session or an object that is not there.
+    pub fn check(&self, session: u32, operation: Operation, object: Object) -> bool
+        ensures { (s : Setting) → IsKept s self.now → result ≡ check_of (state_after s self.now.journal) session operation object }
+    {
+        self.state.check(session, operation, object)
+    }
+
+    /// The route of a vehicle, which is 1 to the fleet's size.
+    pub fn route(&self, vehicle: u32) -> &Arc<Route>
+        requires low { 1 ≤ vehicle }
+        requires high { vehicle ≤ length self.now.held.plan.routes }
+        ensures { (s : Setting) → IsKept s self.now → result.now.value ≡ route_at (state_after s self.now.journal).routes vehicle }
+    {
+        self.state.plan().route(vehicle)
+    }
+
+    /// The vehicle to which a customer is pinned, if any. The customer is 1 to the number of customers.
+    pub fn pinned(&self, customer: u32) -> Option<u32>
+        requires low { 1 ≤ customer }
+        requires high { customer ≤ length self.now.held.pins.pins }
+        ensures { (s : Setting) → IsKept s self.now → result ≡ pin_of (state_after s self.now.journal).pins customer }
+    {
+        self.state.pins().pinned(customer)
+    }
+
+    /// How many stops at the front of a vehicle's route are frozen. The vehicle is 1 to the fleet's size.
+    pub fn frozen(&self, vehicle: u32) -> u32
+        requires low { 1 ≤ vehicle }
+        requires high { vehicle ≤ length self.now.held.pins.fronts }
+        ensures { (s : Setting) → IsKept s self.now → result ≡ front_of (state_after s self.now.journal).pins vehicle }
+    {
+        self.state.pins().frozen(vehicle)
+    }
+}
