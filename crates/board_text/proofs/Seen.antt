@@ -1,26 +1,30 @@
 -- Runs of a board's front, as runs of what is seen of it.
 use Rattle.std.proofs.Common.{◌≡◌, ℕ, ◌+◌, ◌∙◌, List, [], ◌∷◌, ◌++◌, length, Option, Result, Ok, Err, refl, ap, sym, subst, inl, inr, append_assoc}
-use Rattle.std.specs.List.{flat_map}
+use Rattle.std.specs.List.{flat_map, AllByRecursion}
 use Rattle.std.specs.Io.KnownBytes.{Consumes}
-use Rattle.insertion_board.specs.Boards.{history}
-use Rattle.insertion_board.specs.History.{History}
-use Rattle.board_text.specs.declared.board_front.BoardFront.{BoardFront}
-use Rattle.board_text.specs.Reading.{read_of}
-use Rattle.board_text.specs.Replies.{ended}
-use Rattle.board_text.specs.Answers.{written}
+use Rattle.board_rules.specs.History.{History}
+use Rattle.board_core.specs.Boards.{history}
+use Rattle.board_lines.specs.Reading.{read_of}
+use Rattle.board_lines.specs.Replies.{ended}
+use Rattle.board_lines.specs.declared.command.Command.{Command}
+use Rattle.board_lines.specs.declared.command.Command.TheVariants as commands
+use Rattle.board_lines.specs.declared.command.LineFault.{LineFault}
+use Rattle.line_engine.specs.Answers.{Answer, Outcome, written}
+use Rattle.line_engine.specs.Fronts.{Gives}
+use Rattle.line_engine.specs.Running.{Runs, Reaches, Ends, StandsAt, Answered, IsUnwritten, Stopped, IsLine, HasNoEnd, body, last_line}
+use Rattle.line_engine.specs.TextLines.{lines_of}
+use Rattle.line_engine.specs.declared.run_fault.RunFault.{RunFault}
+use Rattle.line_engine.specs.declared.run_fault.RunFault.TheVariants as runs
 use Rattle.board_text.specs.BoardSteps.{DeskState, desk_state, IsBoardStep}
 use Rattle.board_text.specs.BoardRuns.{IsAnswered, IsNear, IsStopped}
-use Rattle.board_text.specs.Fronts.{Gives}
-use Rattle.board_text.specs.Running.{Runs, Reaches, Ends, StandsAt, Answered, IsUnwritten, Stopped, body, last_line}
-use Rattle.board_text.specs.TextLines.{lines_of}
-use Rattle.board_text.specs.declared.command.Command.{Command}
-use Rattle.board_text.specs.declared.command.Command.TheVariants as commands
-use Rattle.board_text.specs.declared.command.LineFault.{LineFault}
-use Rattle.board_text.specs.declared.answer.Answer.{Answer}
-use Rattle.board_text.specs.declared.answer.Outcome.{Outcome}
-use Rattle.board_text.specs.declared.run_fault.RunFault.{RunFault}
-use Rattle.board_text.specs.declared.run_fault.RunFault.TheVariants as runs
-use Rattle.board_text.proofs.CutLines.{cut_lines, full_lines}
+use Rattle.board_text.specs.declared.board_front.BoardFront.{BoardFront}
+
+-- a text of lines with their ends, and of what stands behind the last, has these lines
+abbrev pub TextsHaveTheirLines : Type 0
+TextsHaveTheirLines = (lines : List (List ℕ)) (rest : List ℕ) → AllByRecursion IsLine lines → HasNoEnd rest → lines_of (flat_map ended lines ++ rest) ≡ lines ++ last_line rest
+
+abbrev pub WholeTextsHaveTheirLines : Type 0
+WholeTextsHaveTheirLines = (lines : List (List ℕ)) → AllByRecursion IsLine lines → lines_of (flat_map ended lines) ≡ lines
 
 -- what is seen of a board's front
 abbrev pub seen : {i j : Type 0} {held : i → Type 0} {holds : j → Type 0} {calls : _} {asks : _} → BoardFront i j held holds calls asks → DeskState
@@ -40,6 +44,10 @@ gives_seen step see old new (Err fault) outcome h = (h.0, ap see h.1)
 gives_seen step see old new (Ok commands.Skip) outcome h = (h.0, ap see h.1)
 gives_seen step see old new (Ok (commands.Submit call)) outcome h = h
 gives_seen step see old new (Ok (commands.List session)) outcome h = h
+gives_seen step see old new (Ok (commands.Json session)) outcome h = h
+gives_seen step see old new (Ok (commands.Audit session)) outcome h = h
+gives_seen step see old new (Ok (commands.Check session operation object)) outcome h = h
+gives_seen step see old new (Ok (commands.Review session which)) outcome h = h
 
 runs_seen : {F S : Type 0} (step : S → Command → Answer → S → Type 0) (see : F → S) (old new : F) (lines : List (List ℕ)) (outcomes : List Outcome) → Runs (λ o c a n. step (see o) c a (see n)) old lines outcomes new → Runs step (see old) lines outcomes (see new)
 runs_seen step see old new [] [] h = ap see h
@@ -47,8 +55,8 @@ runs_seen step see old new [] (o ∷ os) h = absurd h
 runs_seen step see old new (l ∷ ls) [] h = absurd h
 runs_seen step see old new (l ∷ ls) (o ∷ os) h = (see h.0, gives_seen step see old h.0 (read_of (body l)) o h.1, runs_seen step see h.0 new ls os h.2)
 
-pub answered_seen : {F : Type 0} (see : F → DeskState) (old new : F) (left_old left_new was now : Option (List ℕ)) (n r : ℕ) → Answered (λ o c a n. IsBoardStep (see o) c a (see n)) old new left_old left_new was now n r → IsAnswered (see old) (see new) left_old left_new was now n r
-answered_seen see old new left_old left_new was now n r h =
+pub answered_seen : TextsHaveTheirLines → {F : Type 0} (see : F → DeskState) (old new : F) (left_old left_new was now : Option (List ℕ)) (n r : ℕ) → Answered (λ o c a n. IsBoardStep (see o) c a (see n)) old new left_old left_new was now n r → IsAnswered (see old) (see new) left_old left_new was now n r
+answered_seen cut_lines see old new left_old left_new was now n r h =
     let lines : lines_of h.bytes ≡ h.lines ++ last_line h.rest = ap lines_of h.cut.whole ∙ cut_lines h.lines h.rest h.cut.each h.cut.partial.plain in
     record {
       bytes = h.bytes;
@@ -92,9 +100,9 @@ lines_stopped see fault old mid new left_old left_new was now bytes more out lef
   text = subst (λ (l : List ℕ). Reaches fault was now l) text w;
 }
 
-unwritten_stopped : {F : Type 0} (see : F → DeskState) (fault : RunFault) (old new : F) (left_old left_new was now : Option (List ℕ)) (bytes more out : List ℕ)
+unwritten_stopped : TextsHaveTheirLines → {F : Type 0} (see : F → DeskState) (fault : RunFault) (old new : F) (left_old left_new was now : Option (List ℕ)) (bytes more out : List ℕ)
     → Consumes left_old left_new (bytes ++ more) → Reaches fault was now out → IsUnwritten (λ o c a n. IsBoardStep (see o) c a (see n)) fault old new left_new out bytes more → IsStopped fault (see old) (see new) left_old left_new was now
-unwritten_stopped see fault old new left_old left_new was now bytes more out g w u =
+unwritten_stopped cut_lines see fault old new left_old left_new was now bytes more out g w u =
     let cut = u.6 in
     let lines : lines_of bytes ≡ u.3 ++ last_line u.4 = ap lines_of cut.whole ∙ cut_lines u.3 u.4 cut.each cut.partial.plain in
     record {
@@ -109,13 +117,13 @@ unwritten_stopped see fault old new left_old left_new was now bytes more out g w
       text = subst (λ (l : List ℕ). Reaches fault was now l) u.8 w;
     }
 
-pub stopped_seen : {F : Type 0} (see : F → DeskState) (refuses : F → F → Type 0) → ((a b : F) → refuses a b → see b ≡ see a) → (fault : RunFault) (old new : F) (left_old left_new was now : Option (List ℕ)) → Stopped (λ o c a n. IsBoardStep (see o) c a (see n)) refuses fault old new left_old left_new was now → IsStopped fault (see old) (see new) left_old left_new was now
-stopped_seen see refuses same fault old new left_old left_new was now h = elim h.5 [
+pub stopped_seen : TextsHaveTheirLines → WholeTextsHaveTheirLines → {F : Type 0} (see : F → DeskState) (refuses : F → F → Type 0) → ((a b : F) → refuses a b → see b ≡ see a) → (fault : RunFault) (old new : F) (left_old left_new was now : Option (List ℕ)) → Stopped (λ o c a n. IsBoardStep (see o) c a (see n)) refuses fault old new left_old left_new was now → IsStopped fault (see old) (see new) left_old left_new was now
+stopped_seen cut_lines full_lines see refuses same fault old new left_old left_new was now h = elim h.5 [
   | inl k ↦
       let p = k.6 in
       lines_stopped see fault old new new left_old left_new was now h.0 h.1 h.2 k.2 p.lines p.outcomes h.3 p.cut.whole (full_lines p.lines p.cut.each) p.run (inl refl) p.text h.4
   | inr r ↦ elim r [
-    | inl u ↦ unwritten_stopped see fault old new left_old left_new was now h.0 h.1 h.2 h.3 h.4 u
+    | inl u ↦ unwritten_stopped cut_lines see fault old new left_old left_new was now h.0 h.1 h.2 h.3 h.4 u
     | inr b ↦ lines_stopped see fault old b.mid new left_old left_new was now h.0 h.1 h.2 b.left b.lines b.outcomes h.3 b.whole (full_lines b.lines b.each) b.run (ends_near see refuses same fault b.mid new (0 + length b.lines) b.left b.end) b.text h.4
   ]
 ]

@@ -2,15 +2,14 @@
 use Rattle.std.specs.Prelude.{◌≡◌, ℕ, ◌⊎◌, List, [], ◌++◌, Option, count_by}
 use Rattle.std.specs.List.{flat_map}
 use Rattle.std.specs.Io.KnownBytes.{Appends, Consumes, IsAtEnd}
-use Rattle.board_text.specs.Reading.{read_of}
-use Rattle.board_text.specs.Replies.{ended}
-use Rattle.board_text.specs.Answers.{written, has_reply, is_refusal}
-use Rattle.board_text.specs.Fronts.{Gives}
+use Rattle.board_lines.specs.Reading.{read_of}
+use Rattle.board_lines.specs.Replies.{ended}
+use Rattle.line_engine.specs.Answers.{Outcome, written, has_reply, is_refusal}
+use Rattle.line_engine.specs.Fronts.{Gives}
+use Rattle.line_engine.specs.Running.{Runs, Reaches, body}
+use Rattle.line_engine.specs.TextLines.{lines_of}
+use Rattle.line_engine.specs.declared.run_fault.RunFault.{RunFault}
 use Rattle.board_text.specs.BoardSteps.{DeskState, IsBoardStep}
-use Rattle.board_text.specs.Running.{Runs, Reaches, body}
-use Rattle.board_text.specs.TextLines.{lines_of}
-use Rattle.board_text.specs.declared.answer.Outcome.{Outcome}
-use Rattle.board_text.specs.declared.run_fault.RunFault.{RunFault}
 
 -- The lines of a text have these outcomes on a board, one after another.
 abbrev pub AreOutcomes : DeskState → List ℕ → List Outcome → DeskState → Type 0

@@ -11,7 +11,7 @@ use crate::head::{Parts, read_parts};
 use crate::network::Network;
 use crate::pair::standard_pair;
 use crate::stop::{Stop, stopped};
-use board_text::{BoardFront, Counts, run_board_lines};
+use insertion_text::{BoardFront, Counts, run_board_lines};
 use callback_store::{Registry, Transit, Unary};
 use dimension_core::Setup;
 use insertion_board::Board;

@@ -1,0 +1,21 @@
+use Rattle.std.proofs.Common.{◌≡◌, refl, sym, ap, ◌∙◌, subst, List, ◌++◌, string_bytes}
+use Rattle.std.specs.Result.{result_err}
+use Rattle.dimension_core.specs.Setup.{setting}
+use Rattle.board_rules.specs.declared.call.Entry.{Entry}
+use Rattle.board_lines.specs.Listings.{audit_text}
+use Rattle.board_text.proofs.Asked.{refused, due_may, same_front, audited}
+use Rattle.board_text.proofs.Seen.{seen}
+use Rattle.board_text.proofs.board_front.BoardFrontFront.audit.Goals as goal
+
+pub returns-in-Ok-clause-ok : goal.returns-in-Ok-clause-ok
+returns-in-Ok-clause-ok g c =
+    let board = c.args.self.now.board in
+    let asked = sym (c.audit.ensures.asked (setting board.setup.value) board.kept) ∙ ap result_err c.in-Ok.is in
+    let same = c.in-Ok.ensures.entries in
+    audited seen c.args.self.now c.args.session board.core.journal c.put_journal.result asked refl (ap (λ (es : List Entry). string_bytes c.args.text.now ++ audit_text es) same) c.put_journal.ensures.ok
+
+pub returns-in-Err-clause-err : goal.returns-in-Err-clause-err
+returns-in-Err-clause-err g c =
+    let board = c.args.self.now.board in
+    let due = sym (c.audit.ensures.asked (setting board.setup.value) board.kept) ∙ ap result_err c.in-Err.is in
+    refused seen _ c.args.self.now _ _ _ (due_may _ _ due) (same_front c.args.self.now) (λ fault e. (e, refl))

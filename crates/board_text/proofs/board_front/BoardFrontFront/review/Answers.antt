@@ -1,0 +1,16 @@
+use Rattle.std.proofs.Common.{refl}
+use Rattle.std.proofs.lemmas.Result.{IfErr-weaker}
+use Rattle.dimension_core.specs.Setup.{setting}
+use Rattle.board_text.proofs.Asked.{refused, both, same_front}
+use Rattle.board_text.proofs.Seen.{seen}
+use Rattle.board_text.proofs.board_front.BoardFrontFront.review.Goals as goal
+
+pub returns-clause-ok : goal.returns-clause-ok
+returns-clause-ok g c =
+    let board = c.args.self.now.board in
+    both _ _ c.review.result (c.review.ensures.asked (setting board.setup.value) board.kept) (c.review.ensures.names (setting board.setup.value) board.kept) (λ names asked are. ((asked, are), refl))
+
+pub returns-clause-err : goal.returns-clause-err
+returns-clause-err g c =
+    let board = c.args.self.now.board in
+    IfErr-weaker c.review.result _ _ (λ fault may. refused seen _ c.args.self.now _ _ fault may (same_front c.args.self.now) (λ due e. (e, refl))) (c.review.ensures.fault (setting board.setup.value) board.kept)
