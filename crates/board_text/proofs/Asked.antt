@@ -42,11 +42,11 @@ both P Q (Err e) x p f = tt
 
 -- what want of memory leaves is the same
 pub same_front : {i j : Type 0} {held : i → Type 0} {holds : j → Type 0} {calls : _} {asks : _} (a : BoardFront i j held holds calls asks) → (history a.board ≡ history a.board) × (a.desk ≡ a.desk) × (a.turn ≡ a.turn)
-same_front a = (refl, (refl, refl))
+same_front a = (refl, refl, refl)
 
 -- the journal's text was put behind a text
-pub audited : {F E : Type 0} (see : F → DeskState) (front : F) (session : ℕ) (entries : List Entry) {old new put : List ℕ} (r : Result (Unit {0}) E)
+pub audited : {F E : Type 0} (see : F → DeskState) (front : F) (session : ℕ) (entries : List Entry) (old new put : List ℕ) (r : Result (Unit {0}) E)
     → audit_fault (state_of (see front).history) session ≡ None → entries ≡ (see front).history.entries → old ++ put ≡ old ++ audit_text entries → OnOk r (new ≡ old ++ put)
     → OnOk r ((es : List Entry) × IsBoardStep (see front) (commands.Audit session) (Audited es) (see front) × (new ≡ old ++ audit_text es))
-audited see front session entries (Ok u) asked are put told = (entries, ((asked, are), refl), told ∙ put)
-audited see front session entries (Err e) asked are put told = tt
+audited see front session entries old new put (Ok u) asked are p told = (entries, ((asked, are), refl), told ∙ p)
+audited see front session entries old new put (Err e) asked are p told = tt
