@@ -5,15 +5,14 @@ use Rattle.std.specs.Io.KnownBytes.{Appends, Keeps}
 use Rattle.solomon_reader.specs.Checks.{Fault, fault}
 use Rattle.solomon_reader.specs.Instances.{Plain}
 use Rattle.solomon_reader.specs.Reading.{read_of}
-use Rattle.board_text.specs.Replies.{ended}
-use Rattle.board_text.specs.Answers.{written, is_refusal}
-use Rattle.board_text.specs.declared.answer.Outcome.{Outcome}
+use Rattle.board_lines.specs.Replies.{ended}
+use Rattle.line_engine.specs.Answers.{Outcome, written, is_refusal}
 use Rattle.board_text.specs.BoardRuns.{AreOutcomes, IsAnswered, IsStopped}
 use Rattle.board_text.specs.BoardSteps.{DeskState}
-use Rattle.board_text.specs.Running.{Reaches}
-use Rattle.board_text.specs.declared.run_fault.Counts.{Counts}
-use Rattle.board_text.specs.declared.run_fault.RunFault.{RunFault}
-use Rattle.board_text.specs.declared.run_fault.RunFault.TheVariants as runs
+use Rattle.line_engine.specs.Running.{Reaches}
+use Rattle.line_engine.specs.declared.run_fault.Counts.{Counts}
+use Rattle.line_engine.specs.declared.run_fault.RunFault.{RunFault}
+use Rattle.line_engine.specs.declared.run_fault.RunFault.TheVariants as runs
 use Rattle.dispatch.specs.Head.{Halves, halves}
 use Rattle.dispatch.specs.Network.{Sites}
 use Rattle.dispatch.specs.Standard.{AreSitesOf, opened}
