@@ -2,6 +2,7 @@
 #![tactic(auto)]
 
 mod form;
+mod help;
 mod parse;
 
 pub use form::{OptionFault, Options};

@@ -1,22 +1,22 @@
 -- From the parts of the input and what came of its board to all bytes.
-use Rattle.std.proofs.Common.{◌≡◌, ◌∙◌, ℕ, ◌≤◌, true, false, List, [], ◌++◌, length, Option, Some, None, Result, Ok, Err, refl, sym, ap, subst, append_assoc, append-nil, inl, inr}
-use Rattle.std.specs.Prelude.{◌==◌, IfOk, IfErr, IfSome, count_by, if◌then◌else◌}
+use Rattle.std.proofs.Common.{◌≡◌, ◌∙◌, ℕ, ◌≤◌, Bool, true, false, eqb, List, [], ◌++◌, length, Option, Some, None, Result, Ok, Err, refl, sym, ap, subst, append_assoc, append-nil, inl, inr}
+use Rattle.std.specs.Prelude.{◌⊎◌, ◌==◌, IfOk, IfErr, IfSome, count_by, if◌then◌else◌}
 use Rattle.std.specs.Io.KnownBytes.{Keeps, Consumes, IsAtEnd}
 use Rattle.std.specs.Fmt.{option_append}
 use Rattle.solomon_reader.specs.Checks.{Fault, fault}
 use Rattle.solomon_reader.specs.Instances.{Plain}
 use Rattle.solomon_reader.specs.Reading.{read_of}
-use Rattle.insertion_text.specs.Answers.{is_refusal}
-use Rattle.insertion_text.specs.BoardRuns.{AreOutcomes}
-use Rattle.insertion_text.specs.declared.run_fault.Counts.{Counts}
-use Rattle.insertion_text.specs.declared.run_fault.RunFault.{RunFault}
-use Rattle.insertion_text.specs.declared.run_fault.RunFault.TheVariants as runs
+use Rattle.line_engine.specs.Answers.{is_refusal}
+use Rattle.board_text.specs.BoardRuns.{AreOutcomes}
+use Rattle.line_engine.specs.declared.run_fault.Counts.{Counts}
+use Rattle.line_engine.specs.declared.run_fault.RunFault.{RunFault}
+use Rattle.line_engine.specs.declared.run_fault.RunFault.TheVariants as runs
 use Rattle.solomon_reader.specs.Reading.{Fails}
 use Rattle.solomon_reader.specs.declared.fault.ReadFault.{ReadFault}
 use Rattle.solomon_reader.specs.declared.fault.ReadFault.TheVariants as reads
 use Rattle.dispatch.specs.Head.{Halves, halves, AreRead}
-use Rattle.dispatch.specs.Stops.{IsStopOf, IsUnread}
-use Rattle.dispatch.specs.Joined.{IsRun, IsCutOff, IsUnfinished, IsDone, IsBrokenOff, Ended, IsEnd, Says, IsJoined}
+use Rattle.dispatch.specs.Stops.{IsStopOf, IsUnread, end_status}
+use Rattle.dispatch.specs.Joined.{IsRun, IsCutOff, IsUnfinished, IsDone, IsBrokenOff, Ended, IsEnd, Says, IsJoined, IsScripted}
 use Rattle.dispatch.specs.Standard.{opened}
 use Rattle.dispatch.specs.declared.stop.Stop.{Stop}
 use Rattle.dispatch.specs.declared.stop.Stop.TheVariants as stops
@@ -114,26 +114,51 @@ if_known (Some bytes) P f = f bytes refl
 
 -- ---- the status
 
-quiet : (r : Result Plain Fault) (h : Halves) (was now : Option (List ℕ)) → Keeps was now → Says r h was now 3
-quiet (Err fault) h was now k = (refl, k)
-quiet (Ok i) h was now k = inr (refl, inl k)
+abbrev chosen : Bool → ℕ
+chosen b = if b then 0 else 1
 
-broke : (r : Result Plain Fault) (fault : RunFault) (i : Plain) (h : Halves) (was now : Option (List ℕ)) → r ≡ Ok i → IsBrokenOff fault i h.script was now → Says r h was now 3
-broke r fault i h was now e b = subst (λ (x : Result Plain Fault). Says x h was now 3) (sym e) (inr (refl, inr (fault, b)))
+some_chosen : (b : Bool) → (chosen b ≡ 0) ⊎ ((chosen b ≡ 1) ⊎ (chosen b ≡ 3))
+some_chosen true = inl refl
+some_chosen false = inr (inl refl)
 
-ended_says : (stop : Stop) (h : Halves) (was now : Option (List ℕ)) → Ended h was now stop → Says (read_of h.instance) h was now 3
-ended_says (stops.Instance kind line) h was now e = quiet (read_of h.instance) h was now e.1
-ended_says stops.Open h was now e = quiet (read_of h.instance) h was now e
+some_status : (r : Result Counts Stop) → (end_status r ≡ 0) ⊎ ((end_status r ≡ 1) ⊎ (end_status r ≡ 3))
+some_status (Ok counts) = some_chosen (eqb counts.refused 0)
+some_status (Err stop) = inr (inr refl)
+
+pub status_among : (r : Result Counts Stop) (status : ℕ) → status ≡ end_status r → (status ≡ 0) ⊎ ((status ≡ 1) ⊎ (status ≡ 3))
+status_among r status s = subst (λ (n : ℕ). (n ≡ 0) ⊎ ((n ≡ 1) ⊎ (n ≡ 3))) (sym s) (some_status r)
+
+quiet : (r : Result Plain Fault) (script : List ℕ) (was now : Option (List ℕ)) → Keeps was now → Says r script was now 3
+quiet (Err fault) script was now k = (refl, k)
+quiet (Ok i) script was now k = inr (refl, inl k)
+
+-- nothing came of the instance
+pub quiet_known : (r : Result Plain Fault) (known was : Option (List ℕ)) → IfSome known (λ script. Says r script was was 3)
+quiet_known r None was = tt
+quiet_known r (Some script) was = quiet r script was was (keeps was)
+
+broke : (r : Result Plain Fault) (fault : RunFault) (i : Plain) (script : List ℕ) (was now : Option (List ℕ)) → r ≡ Ok i → IsBrokenOff fault i script was now → Says r script was now 3
+broke r fault i script was now e b = subst (λ (x : Result Plain Fault). Says x script was now 3) (sym e) (inr (refl, inr (fault, b)))
+
+ended_says : (stop : Stop) (h : Halves) (was now : Option (List ℕ)) → Ended h was now stop → Says (read_of h.instance) h.script was now 3
+ended_says (stops.Instance kind line) h was now e = quiet (read_of h.instance) h.script was now e.1
+ended_says stops.Open h was now e = quiet (read_of h.instance) h.script was now e
 ended_says (stops.Run f) h was now e = elim e [
-  | inl k ↦ quiet (read_of h.instance) h was now k.1
-  | inr b ↦ broke (read_of h.instance) f b.0 h was now b.1 b.2
+  | inl k ↦ quiet (read_of h.instance) h.script was now k.1
+  | inr b ↦ broke (read_of h.instance) f b.0 h.script was now b.1 b.2
 ]
 
-pub done_says : (counts : Counts) (status : ℕ) (known was now : Option (List ℕ)) → status ≡ (if counts.refused == 0 then 0 else 1) → IfSome known (λ bytes. IsEnd (halves bytes) was now (Ok counts)) → IfSome known (λ bytes. IsJoined bytes was now status)
-done_says counts status None was now s e = tt
-done_says counts status (Some bytes) was now s e =
-    subst (λ (r : Result Plain Fault). Says r (halves bytes) was now status) (sym e.1) (inl (e.2, subst (λ (n : ℕ). IsDone e.0 (halves bytes).script was now n) (sym s) e.3))
+-- by what came of the joined input
+pub joined_by : (r : Result Counts Stop) (status : ℕ) (known was now : Option (List ℕ)) → status ≡ end_status r → IfSome known (λ bytes. IsEnd (halves bytes) was now r) → IfSome known (λ bytes. IsJoined bytes was now status)
+joined_by r status None was now s e = tt
+joined_by (Ok counts) status (Some bytes) was now s e =
+    subst (λ (n : ℕ). IsJoined bytes was now n) (sym s) (subst (λ (r : Result Plain Fault). Says r (halves bytes).script was now (end_status (Ok counts))) (sym e.1) (inl e.3), inr e.2)
+joined_by (Err stop) status (Some bytes) was now s e = subst (λ (n : ℕ). IsJoined bytes was now n) (sym s) (ended_says stop (halves bytes) was now e, inl refl)
 
-pub stop_says : (stop : Stop) (status : ℕ) (known was now : Option (List ℕ)) → status ≡ 3 → IfSome known (λ bytes. IsEnd (halves bytes) was now (Err stop)) → IfSome known (λ bytes. IsJoined bytes was now status)
-stop_says stop status None was now s e = tt
-stop_says stop status (Some bytes) was now s e = subst (λ (n : ℕ). IsJoined bytes was now n) (sym s) (ended_says stop (halves bytes) was now e)
+-- by what came of an instance's board
+pub scripted_by : (r : Result Counts Stop) (status : ℕ) (i : Plain) (left now_left was now : Option (List ℕ)) → status ≡ end_status r → IfOk r (λ counts. IsRun i left now_left was now counts) → IfErr r (λ stop. IsUnfinished i left now_left was now stop) → IfSome left (λ script. Says (Ok i) script was now status)
+scripted_by r status i None now_left was now s ok err = tt
+scripted_by (Ok counts) status i (Some script) now_left was now s ok err = subst (λ (n : ℕ). Says (Ok i) script was now n) (sym s) (inl (done i script (Some script) now_left was now counts refl ok))
+scripted_by (Err (stops.Instance kind line)) status i (Some script) now_left was now s ok err = absurd err
+scripted_by (Err stops.Open) status i (Some script) now_left was now s ok err = subst (λ (n : ℕ). Says (Ok i) script was now n) (sym s) (inr (refl, inl err.1))
+scripted_by (Err (stops.Run fault)) status i (Some script) now_left was now s ok err = subst (λ (n : ℕ). Says (Ok i) script was now n) (sym s) (inr (refl, inr (fault, cut_off fault i script (Some script) now_left was now refl err)))

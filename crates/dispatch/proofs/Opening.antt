@@ -3,7 +3,7 @@ use Rattle.std.proofs.Common.{◌≡◌, ◌∙◌, ℕ, ◌-◌, Bool, true, fa
 use Rattle.callback_store.specs.Tables.{Table, node_values, pair_values}
 use Rattle.dimension_core.specs.Cumuls.{Bounds}
 use Rattle.dimension_core.specs.Setting.{Setting}
-use Rattle.insertion_board.specs.History.{History}
+use Rattle.board_rules.specs.History.{History}
 use Rattle.travel_table.specs.Travel.{travel_at}
 use Rattle.dispatch.specs.Network.{Sites, demand_at, time_between}
 use Rattle.dispatch.specs.Pair.{load_bounds, time_bounds}

@@ -1,19 +1,18 @@
--- What the joined form writes, and the status that it ends with, by the bytes that it reads.
+-- What the program writes, and the status that it ends with, by the bytes that it reads.
 use Rattle.std.specs.Prelude.{◌≡◌, ℕ, ◌==◌, ◌≤◌, ◌⊎◌, List, [], ◌++◌, length, count_by, Option, Result, Ok, Err, if◌then◌else◌}
 use Rattle.std.specs.List.{flat_map}
 use Rattle.std.specs.Io.KnownBytes.{Appends, Keeps}
 use Rattle.solomon_reader.specs.Checks.{Fault, fault}
 use Rattle.solomon_reader.specs.Instances.{Plain}
 use Rattle.solomon_reader.specs.Reading.{read_of}
-use Rattle.insertion_text.specs.Replies.{ended}
-use Rattle.insertion_text.specs.Answers.{written, is_refusal}
-use Rattle.insertion_text.specs.BoardRuns.{AreOutcomes, IsAnswered, IsStopped}
-use Rattle.insertion_text.specs.BoardSteps.{DeskState}
-use Rattle.insertion_text.specs.Running.{Reaches}
-use Rattle.insertion_text.specs.declared.answer.Outcome.{Outcome}
-use Rattle.insertion_text.specs.declared.run_fault.Counts.{Counts}
-use Rattle.insertion_text.specs.declared.run_fault.RunFault.{RunFault}
-use Rattle.insertion_text.specs.declared.run_fault.RunFault.TheVariants as runs
+use Rattle.board_lines.specs.Replies.{ended}
+use Rattle.line_engine.specs.Answers.{Outcome, written, is_refusal}
+use Rattle.board_text.specs.BoardRuns.{AreOutcomes, IsAnswered, IsStopped}
+use Rattle.board_text.specs.BoardSteps.{DeskState}
+use Rattle.line_engine.specs.Running.{Reaches}
+use Rattle.line_engine.specs.declared.run_fault.Counts.{Counts}
+use Rattle.line_engine.specs.declared.run_fault.RunFault.{RunFault}
+use Rattle.line_engine.specs.declared.run_fault.RunFault.TheVariants as runs
 use Rattle.dispatch.specs.Head.{Halves, halves}
 use Rattle.dispatch.specs.Network.{Sites}
 use Rattle.dispatch.specs.Standard.{AreSitesOf, opened}
@@ -77,11 +76,16 @@ abbrev pub IsEnd : Halves → Option (List ℕ) → Option (List ℕ) → Result
 IsEnd h was now (Ok counts) = (i : Plain) × (read_of h.instance ≡ Ok i) × (length h.instance ≤ 16777216) × IsDone i h.script was now (if counts.refused == 0 then 0 else 1)
 IsEnd h was now (Err stop) = Ended h was now stop
 
--- By what stands before the mark. No instance: nothing is written, and 3. An instance of at most 16,777,216 bytes: the replies to the script behind the
--- mark, and 0 or 1. Or 3, and nothing or the replies to a front of the script, or a front of those.
-abbrev pub Says : Result Plain Fault → Halves → Option (List ℕ) → Option (List ℕ) → ℕ → Type 0
-Says (Err fault) h was now status = (status ≡ 3) × Keeps was now
-Says (Ok i) h was now status = ((length h.instance ≤ 16777216) × IsDone i h.script was now status) ⊎ ((status ≡ 3) × (Keeps was now ⊎ ((fault : RunFault) × IsBrokenOff fault i h.script was now)))
+-- By what the instance's bytes say. No instance: nothing is written, and 3. An instance: the replies to the script, and 0 or 1. Or 3, and
+-- nothing or the replies to a front of the script, or a front of those.
+abbrev pub Says : Result Plain Fault → List ℕ → Option (List ℕ) → Option (List ℕ) → ℕ → Type 0
+Says (Err fault) script was now status = (status ≡ 3) × Keeps was now
+Says (Ok i) script was now status = IsDone i script was now status ⊎ ((status ≡ 3) × (Keeps was now ⊎ ((fault : RunFault) × IsBrokenOff fault i script was now)))
 
+-- an instance and a script, each in bytes of its own
+abbrev pub IsScripted : List ℕ → List ℕ → Option (List ℕ) → Option (List ℕ) → ℕ → Type 0
+IsScripted instance script was now status = Says (read_of instance) script was now status
+
+-- The instance before the mark and the script behind it; where more than 16,777,216 bytes stand before it, the status is 3.
 abbrev pub IsJoined : List ℕ → Option (List ℕ) → Option (List ℕ) → ℕ → Type 0
-IsJoined bytes was now status = Says (read_of (halves bytes).instance) (halves bytes) was now status
+IsJoined bytes was now status = IsScripted (halves bytes).instance (halves bytes).script was now status × ((status ≡ 3) ⊎ (length (halves bytes).instance ≤ 16777216))

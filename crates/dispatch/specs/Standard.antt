@@ -4,7 +4,7 @@ use Rattle.callback_store.specs.Tables.{Table, node_values, pair_values}
 use Rattle.dimension_core.specs.Setting.{Setting}
 use Rattle.solomon_reader.specs.Instances.{Plain}
 use Rattle.travel_table.specs.Travel.{travel_at}
-use Rattle.insertion_text.specs.BoardSteps.{DeskState}
+use Rattle.board_text.specs.BoardSteps.{DeskState}
 use Rattle.dispatch.specs.Network.{Sites, IsNetwork, demand_at, time_between}
 use Rattle.dispatch.specs.Pair.{load_bounds, time_bounds}
 
