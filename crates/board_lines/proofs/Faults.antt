@@ -14,7 +14,7 @@ use Rattle.board_lines.specs.declared.word.Word.{Word}
 use Rattle.board_lines.specs.Table.{Kinds, nothing, object, range, names, number, name, operation, row_of, word_of}
 use Rattle.board_lines.specs.Arguments.{a_number, a_name, an_operation, ◌>>=◌, number_arg, name_arg, operation_arg, one_arg, pair_arg, number_then, counted, is_counted, each_read, arguments_of}
 use Rattle.board_lines.specs.Reading.{command_of, named_by, after_session, is_comment, words_read}
-use Rattle.board_lines.specs.Checks.{Check, check, IsFirstFailing, is_operation, number_check, name_check, object_checks, argument_checks, named_checks, word_checks, line_checks, FaultsAreFirst}
+use Rattle.board_lines.specs.Checks.{Check, check, IsFirstFault, is_operation, number_check, name_check, object_checks, argument_checks, named_checks, word_checks, line_checks, FaultsAreFirst}
 
 -- ---- what failed, and the first check that fails
 
@@ -36,17 +36,17 @@ none_bad f e = absurd (cc)
 some_same : (e f : LineFault) → ◌≡◌ {A = Option LineFault} (Some e) (Some f) → e ≡ f
 some_same e f h = cc
 
-here : (c : Check) (cs : List Check) (f : LineFault) → c.holds ≡ false → c.fault ≡ f → IsFirstFailing (c ∷ cs) f
+here : (c : Check) (cs : List Check) (f : LineFault) → c.holds ≡ false → c.fault ≡ f → IsFirstFault (c ∷ cs) f
 here c cs f h e = record { before = []; behind = cs; whole = rw (← h, ← e) refl; earlier = tt }
 
-later : (c : Check) (cs : List Check) (f : LineFault) → c.holds ≡ true → IsFirstFailing cs f → IsFirstFailing (c ∷ cs) f
+later : (c : Check) (cs : List Check) (f : LineFault) → c.holds ≡ true → IsFirstFault cs f → IsFirstFault (c ∷ cs) f
 later c cs f h p = record { before = c ∷ p.before; behind = p.behind; whole = ap (λ (l : List Check). c ∷ l) p.whole; earlier = (h, p.earlier) }
 
-split : (c : Check) (cs : List Check) (f : LineFault) (b : Bool) → c.holds ≡ b → cond b (first_fault cs) (Some c.fault) ≡ Some f → (first_fault cs ≡ Some f → IsFirstFailing cs f) → IsFirstFailing (c ∷ cs) f
+split : (c : Check) (cs : List Check) (f : LineFault) (b : Bool) → c.holds ≡ b → cond b (first_fault cs) (Some c.fault) ≡ Some f → (first_fault cs ≡ Some f → IsFirstFault cs f) → IsFirstFault (c ∷ cs) f
 split c cs f true h e again = later c cs f h (again e)
 split c cs f false h e again = here c cs f h (some_same c.fault f e)
 
-first_is : (cs : List Check) (f : LineFault) → first_fault cs ≡ Some f → IsFirstFailing cs f
+first_is : (cs : List Check) (f : LineFault) → first_fault cs ≡ Some f → IsFirstFault cs f
 first_is [] f e = none_bad f e
 first_is (c ∷ cs) f e = split c cs f c.holds refl e (first_is cs f)
 
@@ -54,7 +54,7 @@ found : (before behind : List Check) (f : LineFault) → AllByRecursion (λ c. c
 found [] behind f h = refl
 found (c ∷ before) behind f h = rw h.0 (found before behind f h.1)
 
-is_first : (cs : List Check) (f : LineFault) → IsFirstFailing cs f → first_fault cs ≡ Some f
+is_first : (cs : List Check) (f : LineFault) → IsFirstFault cs f → first_fault cs ≡ Some f
 is_first cs f p = ap first_fault p.whole ∙ found p.before p.behind f p.earlier
 
 -- ---- steps

@@ -19,7 +19,7 @@ abbrev pub check : LineFault → Bool → Check
 check f b = record { fault = f; holds = b }
 
 -- the first check that fails has that fault: every earlier one holds
-pub record IsFirstFailing (checks : List Check) (fault : LineFault) : Type 0 where
+pub record IsFirstFault (checks : List Check) (fault : LineFault) : Type 0 where
   pub before : List Check
   pub behind : List Check
   pub whole : checks ≡ before ++ check fault false ∷ behind
@@ -80,4 +80,4 @@ line_checks (first ∷ rest) = if is_comment first then [] else (number_check fi
 
 -- A line is read as a fault exactly where that fault is the first check's that fails.
 abbrev pub FaultsAreFirst : Type 0
-FaultsAreFirst = (line : List ℕ) → (fault : LineFault) → IsFirstFailing (line_checks (words line)) fault ↔ (read_of line ≡ Err fault)
+FaultsAreFirst = (line : List ℕ) → (fault : LineFault) → IsFirstFault (line_checks (words line)) fault ↔ (read_of line ≡ Err fault)
