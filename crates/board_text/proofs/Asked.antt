@@ -40,8 +40,12 @@ pub both : {A E X : Type 0} (P Q : A → Type 0) (r : Result A E) → OnOk r X �
 both P Q (Ok a) x p f = f a x p
 both P Q (Err e) x p f = tt
 
--- what want of memory leaves is the same
-pub same_front : {i j : Type 0} {held : i → Type 0} {holds : j → Type 0} {calls : _} {asks : _} (a : BoardFront i j held holds calls asks) → (history a.board ≡ history a.board) × (a.desk ≡ a.desk) × (a.turn ≡ a.turn)
+-- what want of memory leaves
+abbrev pub stays : {i j : Type 0} {held : i → Type 0} {holds : j → Type 0} {calls : _} {asks : _} → BoardFront i j held holds calls asks → BoardFront i j held holds calls asks → Type 0
+stays old new = (history new.board ≡ history old.board) × (new.desk ≡ old.desk) × (new.turn ≡ old.turn)
+
+-- a front stays as it is
+pub same_front : {i j : Type 0} {held : i → Type 0} {holds : j → Type 0} {calls : _} {asks : _} (a : BoardFront i j held holds calls asks) → stays a a
 same_front a = (refl, refl, refl)
 
 -- the journal's text was put behind a text

@@ -114,9 +114,11 @@ fn plan(alloc: Global, root: Name) -> Result<Outcome, Stop> {
             ensures { result ≡ slice_index travel.items (i * 4 + j) }
         { travel[i as usize * 4 + j as usize] },
     )?;
+    let demands = Unary::new(4, left);
+    let travels = Transit::new(4, road);
     let mut registry = Registry::new(alloc);
-    let load = registry.register_unary(Unary::new(4, left))?;
-    let way = registry.register(Transit::new(4, road))?;
+    let load = registry.register_unary(demands)?;
+    let way = registry.register(travels)?;
 
     // one dimension: the load, without slack, empty at the start, at most 7 anywhere
     let any = Range { lo: 0, hi: 7 };

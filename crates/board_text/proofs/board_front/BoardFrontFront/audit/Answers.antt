@@ -7,7 +7,7 @@ use Rattle.board_rules.specs.Questions.{audit_fault}
 use Rattle.board_core.specs.Boards.{history}
 use Rattle.board_lines.specs.declared.command.Command.TheVariants as commands
 use Rattle.board_lines.specs.Listings.{audit_text}
-use Rattle.board_text.proofs.Asked.{refused, due_may, same_front, audited}
+use Rattle.board_text.proofs.Asked.{refused, stays, due_may, same_front, audited}
 use Rattle.board_text.proofs.Seen.{seen}
 use Rattle.board_text.proofs.board_front.BoardFrontFront.audit.Goals as goal
 
@@ -22,4 +22,4 @@ pub returns-in-Err-clause-err : goal.returns-in-Err-clause-err
 returns-in-Err-clause-err g c =
     let board = c.args.self.now.board in
     let due = sym (c.audit.ensures.asked (setting board.setup.value) board.kept) ∙ ap result_err c.in-Err.is in
-    refused seen _ c.args.self.now (commands.Audit c.args.session) (audit_fault (state_of (history board)) c.args.session) _ (due_may _ _ due) (same_front c.args.self.now) (λ fault e. (e, refl))
+    refused seen stays c.args.self.now (commands.Audit c.args.session) (audit_fault (state_of (history board)) c.args.session) _ (due_may _ _ due) (same_front c.args.self.now) (λ fault e. (e, refl))
