@@ -1,4 +1,4 @@
-use Rattle.std.proofs.Common.{add-zero, ◌≡◌, ℕ, ◌+◌, ◌-◌, ◌*◌, ◌<◌, ◌≤◌, ◌∙◌, sym, ap, subst, arith, inl, inr, List, [], ◌∷◌, ◌++◌, length, slice_index, length-append, Bool, take, suc}
+use Rattle.std.proofs.Common.{add-zero, ◌≡◌, ℕ, ◌+◌, ◌-◌, ◌*◌, ◌<◌, ◌≤◌, ◌∙◌, sym, ap, subst, arith, inl, inr, List, [], ◌∷◌, ◌++◌, length, slice_index, length-append, Bool, true, false, if◌then◌else◌, take, suc}
 use Rattle.std.proofs.lemmas.Bool.{cases_lt}
 use Rattle.std.proofs.lemmas.List.{get_or_push, get_or_append_left, take_more}
 use Rattle.std.proofs.lemmas.Nat.{same_from_place}
@@ -6,6 +6,13 @@ use Rattle.callback_store.specs.Tables.{Table}
 use Rattle.plan_core.specs.Cost.{way}
 use Rattle.neighbourhood.proofs.Ways.{way_append, last_take}
 use Rattle.neighbourhood.specs.Ways.{hop, hop_by, along, AreHops, AreSums}
+
+-- a row lies inside its table
+pub row_fits : (a n w : ℕ) → a < n → a * w + w ≤ n * w
+row_fits a n w h =
+    let parts : n ≡ a + 1 + (n - a - 1) = omega arith in
+    let all : n * w ≡ (a + 1 + (n - a - 1)) * w = ap (λ (k : ℕ). k * w) parts in
+    omega arith
 
 pushed_before : (cells : List ℕ) (x k : ℕ) → k < length cells → slice_index (cells ++ x ∷ []) k ≡ slice_index cells k
 pushed_before cells x k h = get_or_append_left cells (x ∷ []) 0 k h
@@ -34,6 +41,16 @@ hops_none turned t from to = record { counted = omega arith; hops = λ a b k bel
 
 pub hops_at : (turned : Bool) (t : Table) (from to cells : List ℕ) (n m : ℕ) → n ≡ m → AreHops turned t from to n cells → AreHops turned t from to m cells
 hops_at turned t from to cells n m e h = subst (λ (k : ℕ). AreHops turned t from to k cells) e h
+
+-- a way between two stops that follow one another, as it is driven or driven back
+pub steps_by : (turned : Bool) (t : Table) (S cells : List ℕ) (i j : ℕ) → AreHops false t S S (length S * length S) cells → i + 1 ≡ j → j < length S
+    → (if turned then slice_index cells ((i + 1) * length S + i) else slice_index cells (i * length S + (i + 1))) ≡ hop_by turned t (slice_index S i) (slice_index S j)
+steps_by true t S cells i j all e h =
+    let fits = row_fits (i + 1) (length S) (length S) (omega arith) in
+    all.hops (i + 1) i (omega arith) (omega arith) ∙ ap (λ (k : ℕ). hop t (slice_index S k) (slice_index S i)) e
+steps_by false t S cells i j all e h =
+    let fits = row_fits i (length S) (length S) (omega arith) in
+    all.hops i (i + 1) (omega arith) (omega arith) ∙ ap (λ (k : ℕ). hop t (slice_index S i) (slice_index S k)) e
 
 -- one edge more
 pub edges_more : (t : Table) (stops edges : List ℕ) (x : ℕ) → ((k : ℕ) → k < length edges → slice_index edges k ≡ hop t (slice_index stops k) (slice_index stops (k + 1)))

@@ -10,6 +10,7 @@ use Rattle.neighbourhood.specs.Ways.{hop, hop_by, turned, stops, AreStops, AreHo
 use Rattle.neighbourhood.specs.Savings.{shift_lost, shift_gained, swap_lost, swap_gained, next_lost, next_gained, cross_lost, cross_gained, reverse_lost, reverse_gained}
 use Rattle.neighbourhood.specs.Search.{IsSaving}
 use Rattle.neighbourhood.specs.Laws.{Laws}
+use Rattle.neighbourhood.proofs.Cells.{row_fits}
 use Rattle.neighbourhood.proofs.Costs.{AreAround, shift_saves, shift_inside_saves, swap_saves, swap_inside_saves, swap_next_saves, cross_saves, reverse_saves}
 
 -- the way to a stop from the one before it
@@ -23,12 +24,6 @@ edge_at t stops edges k e low high =
 -- a row of a table: the ways from one stop to others, or back to it
 abbrev pub IsRow : Bool → Table → List ℕ → List ℕ → ℕ → List ℕ → Type 0
 IsRow turned t from to a cells = (k : ℕ) → k < length to → slice_index cells k ≡ hop_by turned t (slice_index from a) (slice_index to k)
-
-row_fits : (a n w : ℕ) → a < n → a * w + w ≤ n * w
-row_fits a n w h =
-    let parts : n ≡ a + 1 + (n - a - 1) = omega arith in
-    let all : n * w ≡ (a + 1 + (n - a - 1)) * w = ap (λ (k : ℕ). k * w) parts in
-    omega arith
 
 -- a row lies inside its table
 pub row_room : (turned : Bool) (t : Table) (from to cells : List ℕ) (a : ℕ) → AreHops turned t from to (length from * length to) cells → a < length from

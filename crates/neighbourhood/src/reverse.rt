@@ -48,7 +48,7 @@ fn reverse_row(
     requires before { end ≤ length before.now }
     requires here { end < length here.now }
     requires short { length here.now ≤ 1002 }
-    requires small { All (λ x. x ≤ 1002000000000) sums.now × All (λ x. x ≤ 1002000000000) back_sums.now }
+    requires small { All (λ x. x ≤ 2 ^ 42) sums.now × All (λ x. x ≤ 2 ^ 42) back_sums.now }
     requires fixed { (lost < 2 ^ 50) × (gained < 2 ^ 50) }
     requires possible { (last : ℕ) → first < last → last < end → is_possible (setting setup.now).customers view.now.routes (Reverse v first last) ≡ true }
     requires saving { (last : ℕ) → first < last → last < end → IsSaving (setting setup.now) view.now (Reverse v first last) (lost + slice_index sums.now last + slice_index edges.now last) (gained + slice_index before.now last + slice_index back_sums.now last + slice_index here.now (last + 1)) }
@@ -99,7 +99,7 @@ fn reverse_from(
     requires edges { AreEdges (table_at (setting setup.now).tables (setting setup.now).cost) from.now edges.now }
     requires sums { AreSums false (table_at (setting setup.now).tables (setting setup.now).cost) from.now (length from.now) sums.now }
     requires back_sums { AreSums true (table_at (setting setup.now).tables (setting setup.now).cost) from.now (length from.now) back_sums.now }
-    requires small { All (λ x. x ≤ 1002000000000) sums.now × All (λ x. x ≤ 1002000000000) back_sums.now }
+    requires small { All (λ x. x ≤ 2 ^ 42) sums.now × All (λ x. x ≤ 2 ^ 42) back_sums.now }
     requires out { AreHops false (table_at (setting setup.now).tables (setting setup.now).cost) from.now from.now (length from.now * length from.now) out.now }
     requires best { IsBestSoFar (setting setup.now) view.now skip.now v v (3 ∷ v ∷ first ∷ (first + 1) ∷ []) best }
     ensures { IsBestSoFar (setting setup.now) view.now skip.now v v (3 ∷ v ∷ first ∷ (length from.now - 1) ∷ []) result }
@@ -151,7 +151,7 @@ pub(crate) fn best_reverse(
     requires edges { AreEdges (table_at (setting setup.now).tables (setting setup.now).cost) from.now edges.now }
     requires sums { AreSums false (table_at (setting setup.now).tables (setting setup.now).cost) from.now (length from.now) sums.now }
     requires back_sums { AreSums true (table_at (setting setup.now).tables (setting setup.now).cost) from.now (length from.now) back_sums.now }
-    requires small { All (λ x. x ≤ 1002000000000) sums.now × All (λ x. x ≤ 1002000000000) back_sums.now }
+    requires small { All (λ x. x ≤ 2 ^ 42) sums.now × All (λ x. x ≤ 2 ^ 42) back_sums.now }
     requires out { AreHops false (table_at (setting setup.now).tables (setting setup.now).cost) from.now from.now (length from.now * length from.now) out.now }
     requires best { IsBestSoFar (setting setup.now) view.now skip.now v v (3 ∷ []) best }
     ensures { IsBestSoFar (setting setup.now) view.now skip.now v v (4 ∷ []) result }

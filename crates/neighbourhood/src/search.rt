@@ -12,7 +12,7 @@ use crate::laws::laws_below;
 use crate::reverse::best_reverse;
 use crate::shift::{best_shift, best_shift_inside};
 use crate::swap::{best_swap, best_swap_inside};
-use crate::table::{edges_of, sums_of, table_of};
+use crate::table::{edges_in, edges_of, sums_in, table_of, turned_of};
 use callback_store::Meter;
 use dimension_core::Setup;
 use move_core::Move;
@@ -34,11 +34,11 @@ fn best_inside(
 {
     let mut meter = Meter::new();
     let from = stops_of(alloc, view, setup, v)?;
-    let edges = edges_of(alloc, setup, &from, &mut meter)?;
-    let sums = sums_of(alloc, setup, false, &from, &mut meter)?;
-    let back_sums = sums_of(alloc, setup, true, &from, &mut meter)?;
     let out = table_of(alloc, setup, false, &from, &from, &mut meter)?;
-    let into = table_of(alloc, setup, true, &from, &from, &mut meter)?;
+    let into = turned_of(alloc, setup, &from, &out)?;
+    let edges = edges_in(alloc, setup, &from, &out)?;
+    let sums = sums_in(alloc, setup, false, &from, &out)?;
+    let back_sums = sums_in(alloc, setup, true, &from, &out)?;
     let kept = kept_alone(alloc, view, setup, v, &mut meter)?;
     let shifted = best_shift_inside(
         view, setup, skip, v, &from, &edges, &out, &into, &kept, None, &mut meter,
