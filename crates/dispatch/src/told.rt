@@ -4,7 +4,7 @@ ghost use Rattle.std.specs.Prelude.{◌≡◌, ◌⊎◌};
 ghost use Rattle.command_line.specs.CommandLine.{status_of};
 
 use crate::stop::{Stop, stopped};
-use board_text::RunFault;
+use insertion_text::RunFault;
 use command_line::{OptionFault, status};
 use std::io::{self, Write};
 

@@ -1,0 +1,13 @@
+mod Early
+mod Histories
+mod Inserts
+mod Keeping
+mod Listed
+mod Listings
+mod Outs
+mod Places
+mod Proposals
+mod Replies
+mod Spanning
+mod Stamps
+mod Steps

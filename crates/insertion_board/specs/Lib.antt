@@ -1,0 +1,10 @@
+pub mod State
+pub mod Moves
+pub mod Rules
+pub mod Step
+pub mod History
+pub mod Listing
+pub mod Shown
+pub mod Kept
+pub mod Alone
+pub mod Boards

@@ -1,0 +1,62 @@
+-- Replies are handed to the writer as a run goes on.
+use Rattle.std.proofs.Common.{◌≡◌, ℕ, inl, inr, List, [], ◌++◌, length, Option, sym, ap, subst, ◌∙◌, append_assoc}
+use Rattle.std.specs.Io.KnownBytes.{Appends}
+use Rattle.std.proofs.lemmas.List.{append-nil}
+use Rattle.insertion_text.specs.declared.command.Command.{Command}
+use Rattle.insertion_text.specs.declared.answer.Answer.{Answer}
+use Rattle.insertion_text.specs.declared.run_fault.RunFault.{RunFault}
+use Rattle.insertion_text.specs.declared.run_fault.RunFault.TheVariants as runs
+use Rattle.insertion_text.specs.Running.{AppendsFront, Reaches, MayBeWrite, Grows, Progress, BrokenWithin}
+use Rattle.insertion_text.proofs.Bytes.{Appends-then}
+use Rattle.insertion_text.proofs.Runs.{Broken-write, Progress-broken, feed_line, part_broken, nil_of}
+
+pub AppendsFront-then : (a b c : Option (List ℕ)) (x y : List ℕ) → Appends a b x → AppendsFront b c y → AppendsFront a c (x ++ y)
+AppendsFront-then a b c x y p q = (x ++ q.0, q.1, ap (λ (l : List ℕ). x ++ l) q.2 ∙ sym (append_assoc x q.0 q.1), Appends-then a b c x q.0 p q.3)
+
+pub Reaches-then : (fault : RunFault) (a b c : Option (List ℕ)) (x y : List ℕ) → Appends a b x → Reaches fault b c y → Reaches fault a c (x ++ y)
+Reaches-then runs.Write a b c x y p q = AppendsFront-then a b c x y p q
+Reaches-then runs.Read a b c x y p q = Appends-then a b c x y p q
+Reaches-then runs.LongLine a b c x y p q = Appends-then a b c x y p q
+Reaches-then runs.NoMemory a b c x y p q = Appends-then a b c x y p q
+
+-- what is held behind what was sent, as it grows
+pub sent_more : (sent was held out : List ℕ) → held ≡ was ++ out → (sent ++ was) ++ out ≡ sent ++ held
+sent_more sent was held out e = append_assoc sent was out ∙ ap (λ (l : List ℕ). sent ++ l) (sym e)
+
+-- all that was held was sent
+pub sent_all : (sent held now : List ℕ) → now ≡ [] → (sent ++ held) ++ now ≡ sent ++ held
+sent_all sent held now e = ap (λ (l : List ℕ). (sent ++ held) ++ l) e ∙ append-nil (sent ++ held)
+
+pub part_taken : {S : Type 0} (step : S → Command → Answer → S → Type 0) (a b c : S) (sent was held partial done rest used end : List ℕ) (s0 s1 s2 n0 n1 n2 r0 r1 r2 : ℕ)
+    → Progress step a b (sent ++ was) (partial ++ done) rest s0 s1 n0 n1 r0 r1 → Grows was held (λ out. Progress step b c out (rest ++ used) end s1 s2 n1 n2 r1 r2)
+    → Progress step a c (sent ++ held) (partial ++ (done ++ used)) end s0 s2 n0 n2 r0 r2
+part_taken step a b c sent was held partial done rest used end s0 s1 s2 n0 n1 n2 r0 r1 r2 p q =
+    subst (λ (l : List ℕ). Progress step a c l (partial ++ (done ++ used)) end s0 s2 n0 n2 r0 r2) (sent_more sent was held q.0 q.1)
+    (feed_line step a b c (sent ++ was) q.0 partial done used rest end s0 s1 s2 n0 n1 n2 r0 r1 r2 p q.2)
+
+pub part_stopped : {S : Type 0} (step : S → Command → Answer → S → Type 0) (refuses : S → S → Type 0) (fault last : RunFault) (a b c : S) (sent was held partial piece done left rest : List ℕ) (s0 s1 n0 n1 r0 r1 : ℕ)
+    → piece ≡ done ++ left → Progress step a b (sent ++ was) (partial ++ done) rest s0 s1 n0 n1 r0 r1 → Grows was held (λ out. BrokenWithin step refuses fault b c out s1 rest left) → MayBeWrite fault last
+    → BrokenWithin step refuses last a c (sent ++ held) s0 partial piece
+part_stopped step refuses fault last a b c sent was held partial piece done left rest s0 s1 n0 n1 r0 r1 e p q m =
+    let whole : BrokenWithin step refuses fault a c (sent ++ held) s0 partial piece =
+    subst (λ (l : List ℕ). BrokenWithin step refuses fault a c l s0 partial piece) (sent_more sent was held q.0 q.1) (part_broken step refuses fault a b c (sent ++ was) q.0 partial piece done left rest s0 s1 n0 n1 r0 r1 e p q.2) in
+    elim m [
+      | inl same ↦ subst (λ (f : RunFault). BrokenWithin step refuses f a c (sent ++ held) s0 partial piece) (sym same) whole
+      | inr write ↦ subst (λ (f : RunFault). BrokenWithin step refuses f a c (sent ++ held) s0 partial piece) (sym write) (whole.0, whole.1, whole.2, Broken-write step refuses fault a c (sent ++ held) s0 (partial ++ whole.0) whole.3)
+    ]
+
+pub part_unwritten : {S : Type 0} (step : S → Command → Answer → S → Type 0) (refuses : S → S → Type 0) (a b : S) (out partial piece done left rest : List ℕ) (s0 s1 n0 n1 r0 r1 : ℕ)
+    → piece ≡ done ++ left → Progress step a b out (partial ++ done) rest s0 s1 n0 n1 r0 r1 → BrokenWithin step refuses runs.Write a b out s0 partial piece
+part_unwritten step refuses a b out partial piece done left rest s0 s1 n0 n1 r0 r1 e p =
+    (done, left, e, Progress-broken step refuses a b out (partial ++ done) rest s0 s1 n0 n1 r0 r1 p)
+
+-- bytes behind others
+pub behind : (piece done left used after : List ℕ) → piece ≡ done ++ left → left ≡ used ++ after → piece ≡ (done ++ used) ++ after
+behind piece done left used after e f = e ∙ ap (λ (l : List ℕ). done ++ l) f ∙ sym (append_assoc done used after)
+
+pub whole_piece : (piece done left : List ℕ) → piece ≡ done ++ left → length left ≡ 0 → done ≡ piece
+whole_piece piece done left e n = sym (e ∙ ap (λ (l : List ℕ). done ++ l) (nil_of left n) ∙ append-nil done)
+
+-- what was held first was nothing
+pub nil_first : (was out now : List ℕ) → was ≡ [] → now ≡ was ++ out → now ≡ out
+nil_first was out now e f = f ∙ ap (λ (l : List ℕ). l ++ out) e

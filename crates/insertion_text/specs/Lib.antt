@@ -1,0 +1,10 @@
+pub mod Reading
+pub mod Spelling
+pub mod Replies
+pub mod Answers
+pub mod Fronts
+pub mod Running
+pub mod TextLines
+pub mod Grammar
+pub mod BoardSteps
+pub mod BoardRuns

@@ -1,0 +1,34 @@
+//! Runs over a board.
+
+ghost use Rattle.std.specs.Prelude.{IfOk, IfErr};
+ghost use Rattle.insertion_text.specs.BoardSteps.{desk_state};
+ghost use Rattle.insertion_text.specs.BoardRuns.{IsAnswered, IsStopped};
+ghost use Rattle.insertion_board.specs.Boards.{history};
+
+use crate::board_front::BoardFront;
+use crate::engine::run_lines;
+use crate::run_fault::{Counts, RunFault};
+use std::alloc::Global;
+use std::io::{Read, Write};
+
+/// Answers the lines of a reader on a desk of a board, as `run_lines` has it.
+///
+/// What is written is the texts of a legal history's replies: each line is read, and its call is journaled with the reply that
+/// the board's rules give it. At a fault that holds for a front of the input, of whole lines; at `Write` a front of the texts
+/// was written, and at any other fault all of them.
+pub fn run_board_lines<R, I: Read, W: Write>(
+    rt: &R,
+    alloc: Global,
+    front: &mut BoardFront,
+    reader: &mut I,
+    writer: &mut W,
+) -> Result<Counts, RunFault>
+    ensures ok { IfOk result (λ counts. IsAnswered (desk_state (history front.old.board) front.old.desk front.old.turn)
+        (desk_state (history front.new.board) front.new.desk front.new.turn) (I.remaining reader.old)
+        (I.remaining reader.new) (W.contents writer.old) (W.contents writer.new) counts.lines counts.refused) }
+    ensures err { IfErr result (λ e. IsStopped e (desk_state (history front.old.board) front.old.desk front.old.turn)
+        (desk_state (history front.new.board) front.new.desk front.new.turn) (I.remaining reader.old)
+        (I.remaining reader.new) (W.contents writer.old) (W.contents writer.new)) }
+{
+    run_lines(rt, alloc, front, reader, writer)
+}

@@ -1,0 +1,329 @@
+//! The engine of lines.
+
+ghost use Rattle.std.specs.Prelude.{◌≡◌, ◌<◌, ◌⊎◌, ◌∷◌, [], ◌++◌, List, ℕ, Some, IfSome, MatchOption, length, OnOk, OnErr, IfOk, IfErr};
+ghost use Rattle.std.specs.Io.KnownBytes.{Appends};
+ghost use Rattle.insertion_text.specs.Answers.{IsTold, IsToldOutcome};
+ghost use Rattle.insertion_text.specs.Reading.{read_of};
+ghost use Rattle.insertion_text.specs.Fronts.{Gives};
+ghost use Rattle.insertion_text.specs.Running.{body, Grows, Served, ServeBroken, Progress, Broken, IsLine, HasNoEnd, BrokenWithin, Finished, Reaches, Answered, Stopped};
+ghost use Rattle.insertion_text.specs.declared.command.Command.{Command};
+
+use crate::answer::{Answer, Outcome, Rows};
+use crate::command::Command;
+use crate::front::Front;
+use crate::outbox::Outbox;
+use crate::reading::read_words;
+use crate::run_fault::{Counts, RunFault};
+use insertion_board::{AskFault, Call, Fault};
+use std::alloc::{AllocError, Global};
+use std::io::{Read, Write};
+use text_words::keep_all_words;
+
+/// Memory ran out.
+#[derive(Clone, Copy, Drop)]
+struct OutOfMemory;
+
+impl From<AllocError> for OutOfMemory {
+    fn from(_e: AllocError) -> OutOfMemory {
+        OutOfMemory
+    }
+}
+
+fn submit<R, F: Front<R>>(rt: &R, front: &mut F, call: Call) -> Result<Answer, OutOfMemory>
+    requires { F.ready front.old }
+    ensures ready { F.ready front.new }
+    ensures ok { IfOk result (λ answer. F.step front.old (Command.Submit call) answer front.new) }
+    ensures told { IfOk result IsTold }
+    ensures err { OnErr result (F.refuses front.old front.new) }
+{
+    match front.submit(rt, call) {
+        Ok(reply) => Ok(Answer::Replied(reply)),
+        Err(Fault::NoMemory) => Err(OutOfMemory),
+        Err(fault) => Ok(Answer::Faulted(fault)),
+    }
+}
+
+fn list<R, F: Front<R>>(rt: &R, front: &mut F, session: u32) -> Result<Answer, OutOfMemory>
+    requires { F.ready front.old }
+    ensures ready { F.ready front.new }
+    ensures ok { IfOk result (λ answer. F.step front.old (Command.List session) answer front.new) }
+    ensures told { IfOk result IsTold }
+    ensures err { OnErr result (F.refuses front.old front.new) }
+{
+    match front.list(rt, session) {
+        Ok(rows) => Ok(Answer::Listed(Rows::new(rows))),
+        Err(AskFault::NoMemory) => Err(OutOfMemory),
+        Err(fault) => Ok(Answer::Refused(fault)),
+    }
+}
+
+/// The words of the line in work, in a buffer that is kept from line to line.
+type Words<'a> = Vec<&'a [u8]>;
+
+/// Asks the front what a line says.
+fn answer<'a, R, F: Front<R>>(
+    rt: &R,
+    front: &mut F,
+    words: &mut Words<'a>,
+    line: &'a [u8],
+) -> Result<Outcome, OutOfMemory>
+    requires { F.ready front.old }
+    ensures ready { F.ready front.new }
+    ensures ok { IfOk result (λ outcome. Gives F.step front.old (read_of (body line.now)) outcome front.new) }
+    ensures told { IfOk result IsToldOutcome }
+    ensures err { OnErr result ((front.new ≡ front.old) ⊎ F.refuses front.old front.new) }
+{
+    let text = line.strip_suffix(b"\r".as_slice()).unwrap_or(line);
+    keep_all_words(words, text)?;
+    match read_words(words.as_slice()) {
+        Ok(Command::Skip) => Ok(Outcome::Nothing),
+        Ok(Command::Submit(call)) => Ok(Outcome::Said(submit(rt, front, call)?)),
+        Ok(Command::List { session }) => Ok(Outcome::Said(list(rt, front, session)?)),
+        Err(fault) => Ok(Outcome::Bad(fault)),
+    }
+}
+
+/// Answers a line and holds the text of it.
+fn serve<'a, R, F: Front<R>>(
+    rt: &R,
+    front: &mut F,
+    outbox: &mut Outbox,
+    words: &mut Words<'a>,
+    line: &'a [u8],
+) -> Result<(), RunFault>
+    requires seen { outbox.old.tally.seen < 4294967296 }
+    requires ready { F.ready front.old }
+    ensures ready { F.ready front.new }
+    ensures ok { OnOk result (Grows outbox.old.held.items outbox.new.held.items (λ out. Served F.step front.old front.new out line.now
+        outbox.old.tally.seen outbox.new.tally.seen outbox.old.tally.lines outbox.new.tally.lines
+        outbox.old.tally.refused outbox.new.tally.refused)) }
+    ensures held { OnErr result (outbox.new.held.items ≡ outbox.old.held.items) }
+    ensures err { IfErr result (λ e. ServeBroken F.step F.refuses e front.old front.new line.now) }
+{
+    let Ok(outcome) = answer(rt, front, words, line) else {
+        return Err(RunFault::NoMemory);
+    };
+    outbox.put(&outcome)?;
+    Ok(())
+}
+
+/// How many bytes a line may have.
+const MOST_BYTES: usize = 4096;
+
+/// What stands before the first line end, and what stands after it, if there is one.
+#[inline(always)]
+fn next_line(piece: &[u8]) -> (&[u8], Option<&[u8]>)
+    ensures plain { HasNoEnd result.0.now }
+    ensures parts { MatchOption result.1 (piece.now ≡ result.0.now) (λ rest. piece.now ≡ result.0.now ++ 10 ∷ rest.now) }
+    ensures shorter { IfSome result.1 (λ rest. length rest.now < length piece.now) }
+{
+    for (i, byte) in piece.iter().enumerate() {
+        if *byte == b'\n' {
+            return (&piece[..i], Some(&piece[i + 1..]));
+        }
+    }
+    (piece, None)
+}
+
+/// Puts what has come of a line behind what had come of it.
+fn keep(partial: &mut Vec<u8>, more: &[u8]) -> Result<(), RunFault>
+    requires line { IsLine partial.old.items }
+    requires plain { HasNoEnd more.now }
+    ensures ok { OnOk result ((partial.new.items ≡ partial.old.items ++ more.now) × IsLine partial.new.items) }
+    ensures err { IfErr result (λ e. (e ≡ RunFault.NoMemory) ⊎ ((e ≡ RunFault.LongLine) × (4096 < length (partial.old.items ++ more.now)))) }
+{
+    if more.len() > MOST_BYTES - partial.len() {
+        return Err(RunFault::LongLine);
+    }
+    partial.extend_from_slice(more)?;
+    Ok(())
+}
+
+/// Answers the line that ends behind these bytes.
+fn take_line<'a, R, F: Front<R>>(
+    rt: &R,
+    alloc: Global,
+    front: &mut F,
+    outbox: &mut Outbox,
+    partial: &mut Vec<u8>,
+    words: &mut Words<'a>,
+    more: &'a [u8],
+) -> Result<(), RunFault>
+    requires line { IsLine partial.old.items }
+    requires plain { HasNoEnd more.now }
+    requires ready { F.ready front.old }
+    ensures ready { F.ready front.new }
+    ensures ok { OnOk result (Grows outbox.old.held.items outbox.new.held.items (λ out. Progress F.step front.old front.new out
+        (partial.old.items ++ (more.now ++ 10 ∷ [])) partial.new.items outbox.old.tally.seen outbox.new.tally.seen
+        outbox.old.tally.lines outbox.new.tally.lines outbox.old.tally.refused outbox.new.tally.refused)) }
+    ensures err { IfErr result (λ e. Grows outbox.old.held.items outbox.new.held.items (λ out. Broken F.step F.refuses e front.old front.new
+        out outbox.old.tally.seen (partial.old.items ++ (more.now ++ 10 ∷ [])))) }
+{
+    if outbox.tally.is_full() {
+        return Err(RunFault::Read);
+    }
+    if partial.is_empty() && more.len() <= MOST_BYTES {
+        serve(rt, front, outbox, words, more)?;
+        return Ok(());
+    }
+    keep(partial, more)?;
+    serve(rt, front, outbox, &mut Vec::new(alloc), partial.as_slice())?;
+    partial.clear();
+    Ok(())
+}
+
+/// Takes the next bytes, and answers each line that is whole now, until the replies that are held are to be handed on:
+/// what is then left of the bytes.
+fn feed<'a, R, F: Front<R>>(
+    rt: &R,
+    alloc: Global,
+    front: &mut F,
+    outbox: &mut Outbox,
+    partial: &mut Vec<u8>,
+    piece: &'a [u8],
+) -> Result<&'a [u8], RunFault>
+    requires line { IsLine partial.old.items }
+    requires ready { F.ready front.old }
+    ensures ready { F.ready front.new }
+    ensures ok { IfOk result (λ left. (used : List ℕ) × (piece.now ≡ used ++ left.now)
+        × Grows outbox.old.held.items outbox.new.held.items (λ out. Progress F.step front.old front.new out
+        (partial.old.items ++ used) partial.new.items outbox.old.tally.seen outbox.new.tally.seen
+        outbox.old.tally.lines outbox.new.tally.lines outbox.old.tally.refused outbox.new.tally.refused)) }
+    ensures shorter { 0 < length piece.now → IfOk result (λ left. length left.now < length piece.now) }
+    ensures err { IfErr result (λ e. Grows outbox.old.held.items outbox.new.held.items (λ out. BrokenWithin F.step F.refuses e
+        front.old front.new out outbox.old.tally.seen partial.old.items piece.now)) }
+{
+    let mut words = Vec::with_capacity(alloc, MANY_WORDS)?;
+    let mut left = piece;
+    'lines: loop {
+        let (line, after) = next_line(left);
+        let Some(after) = after else {
+            keep(partial, line)?;
+            return Ok(b"".as_slice());
+        };
+        take_line(rt, alloc, front, outbox, partial, &mut words, line)?;
+        if outbox.is_full() {
+            return Ok(after);
+        }
+        left = after;
+    }
+}
+
+/// How many words most lines have at most.
+const MANY_WORDS: usize = 8;
+
+/// Takes the next bytes, answers each line that is whole now, and hands on replies that are many.
+fn take_piece<R, F: Front<R>, W: Write>(
+    rt: &R,
+    alloc: Global,
+    front: &mut F,
+    outbox: &mut Outbox,
+    partial: &mut Vec<u8>,
+    writer: &mut W,
+    piece: &[u8],
+) -> Result<(), RunFault>
+    requires line { IsLine partial.old.items }
+    requires ready { F.ready front.old }
+    requires none { outbox.old.held.items ≡ [] }
+    ensures ready { F.ready front.new }
+    ensures ok { OnOk result ((sent : List ℕ) × Appends (W.contents writer.old) (W.contents writer.new) sent × Progress F.step front.old front.new
+        (sent ++ outbox.new.held.items) (partial.old.items ++ piece.now) partial.new.items outbox.old.tally.seen outbox.new.tally.seen
+        outbox.old.tally.lines outbox.new.tally.lines outbox.old.tally.refused outbox.new.tally.refused) }
+    ensures err { IfErr result (λ e. (out : List ℕ) × Reaches e (W.contents writer.old) (W.contents writer.new) out
+        × BrokenWithin F.step F.refuses e front.old front.new out outbox.old.tally.seen partial.old.items piece.now) }
+{
+    let mut left = piece;
+    'parts: while !left.is_empty() {
+        match feed(rt, alloc, front, outbox, partial, left) {
+            Ok(after) => left = after,
+            Err(fault) => return Err(outbox.close(writer, fault)),
+        }
+        if outbox.is_full() {
+            outbox.hand_on(writer)?;
+        }
+    }
+    Ok(())
+}
+
+/// Answers what stands behind the last line end, if anything does.
+fn finish<R, F: Front<R>>(
+    rt: &R,
+    alloc: Global,
+    front: &mut F,
+    outbox: &mut Outbox,
+    partial: &[u8],
+) -> Result<(), RunFault>
+    requires line { IsLine partial.now }
+    requires ready { F.ready front.old }
+    ensures ready { F.ready front.new }
+    ensures ok { OnOk result (Grows outbox.old.held.items outbox.new.held.items (λ out. Finished F.step front.old front.new out
+        partial.now outbox.old.tally.lines outbox.new.tally.lines outbox.old.tally.refused outbox.new.tally.refused)) }
+    ensures err { IfErr result (λ e. Grows outbox.old.held.items outbox.new.held.items (λ out. Broken F.step F.refuses e
+        front.old front.new out outbox.old.tally.seen partial.now)) }
+{
+    if partial.is_empty() {
+        return Ok(());
+    }
+    if outbox.tally.is_full() {
+        return Err(RunFault::Read);
+    }
+    serve(rt, front, outbox, &mut Vec::new(alloc), partial)?;
+    Ok(())
+}
+
+/// How many bytes are read at a time.
+const CHUNK_BYTES: usize = 65_536;
+
+/// Reads lines to the end of the input, has the front answer each, and writes the replies, in order.
+///
+/// A line ends at a line feed or at the end of the input, and one carriage return before that end is dropped. Replies are
+/// gathered; before each read, and at the end, they are written and the writer is flushed. An error of the reader or the
+/// writer ends the run at once, also `Interrupted`; so does a write that takes no byte.
+///
+/// At a fault other than `Write`, the replies to all earlier lines were written in full; at `Write` a front of them was,
+/// and the front stands after the calls of all lines that were answered, whether their replies were written or not. At
+/// `NoMemory` it may have taken the call of the line in work, whose reply is then not written.
+pub fn run_lines<R, F: Front<R>, I: Read, W: Write>(
+    rt: &R,
+    alloc: Global,
+    front: &mut F,
+    reader: &mut I,
+    writer: &mut W,
+) -> Result<Counts, RunFault>
+    requires { F.ready front.old }
+    ensures ready { F.ready front.new }
+    ensures ok { IfOk result (λ counts. Answered F.step front.old front.new (I.remaining reader.old)
+        (I.remaining reader.new) (W.contents writer.old) (W.contents writer.new) counts.lines counts.refused) }
+    ensures err { IfErr result (λ e. Stopped F.step F.refuses e front.old front.new (I.remaining reader.old)
+        (I.remaining reader.new) (W.contents writer.old) (W.contents writer.new)) }
+{
+    let mut partial = Vec::new(alloc);
+    let mut outbox = Outbox::new(alloc)?;
+    let mut chunk = [0u8; CHUNK_BYTES];
+    'reads: for _ in 0..u64::MAX {
+        outbox.flush(writer)?;
+        let Ok(count) = reader.read(&mut chunk) else {
+            return Err(RunFault::Read);
+        };
+        if count == 0 {
+            if let Err(fault) = finish(rt, alloc, front, &mut outbox, partial.as_slice()) {
+                return Err(outbox.close(writer, fault));
+            }
+            outbox.flush(writer)?;
+            return Ok(Counts {
+                lines: outbox.tally.lines,
+                refused: outbox.tally.refused,
+            });
+        }
+        take_piece(
+            rt,
+            alloc,
+            front,
+            &mut outbox,
+            &mut partial,
+            writer,
+            &chunk[..count],
+        )?;
+    }
+    Err(outbox.close(writer, RunFault::Read))
+}
