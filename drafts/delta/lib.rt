@@ -1,0 +1,16 @@
+//! The board: calls are judged, journaled and answered, and questions are answered from what is held.
+#![tactic(auto)]
+
+mod board;
+mod body;
+mod prepared;
+
+pub use board::Board;
+pub use board_rules::{
+    AskFault, Call, Delta, Denial, Entry, Event, Fault, Refusal, Reply, Review, Row,
+};
+pub use body::Core;
+pub use prepared::Prepared;
+
+#[cfg(test)]
+mod delta_tests;
