@@ -1,5 +1,5 @@
 -- A core keeps its history with one call more, and what it holds is ready to be judged on.
-use Rattle.std.proofs.Common.{◌≡◌, ℕ, zero, suc, Some, ◌+◌, ◌-◌, ◌<◌, ◌≤◌, true, List, [], ◌∷◌, ◌++◌, length, refl, sym, ap, ◌∙◌, subst, arith, inl, inr, length-append, length-set}
+use Rattle.std.proofs.Common.{◌≡◌, ℕ, zero, suc, Some, ◌+◌, ◌-◌, ◌<◌, ◌≤◌, true, List, [], ◌∷◌, ◌++◌, length, refl, sym, ap, ◌∙◌, subst, arith, inl, inr, length-set}
 use Rattle.std.specs.Prelude.{◌==◌, slice_get, slice_index, slice_set, replicate, cond, if◌then◌else◌}
 use Rattle.std.proofs.lemmas.Bool.{and_parts, leb-true, cases_eq, eq-eqb, ne_eqb, eqb-true}
 use Rattle.std.proofs.lemmas.List.{length-replicate, get_or-set_same, get_or-set_other}
@@ -13,10 +13,11 @@ use Rattle.board_rules.specs.declared.call.Entry.{Entry}
 use Rattle.board_rules.specs.Good.{IsGood}
 use Rattle.board_rules.specs.History.{Opening, state_after, turns_of, is_turn, IsNext, IsLegal}
 use Rattle.board_rules.specs.State.{BoardState}
-use Rattle.board_rules.specs.Step.{after}
-use Rattle.board_state.specs.Changes.{Tries}
+use Rattle.board_rules.specs.Step.{IsReply, after}
+use Rattle.board_state.specs.Changes.{Tries, WillHold}
 use Rattle.board_state.specs.Held.{HeldState, Holds, IsOpening, IsReady}
 use Rattle.board_core.specs.Kept.{CoreState, IsKept}
+use Rattle.board_core.specs.Prepared.{PreparedState, Makes}
 
 -- what is held of a good state, with room for one commit more, may be judged on
 pub ready : (s : Setting) (held : HeldState) (state : BoardState) → Holds s held state → IsGood s state → length state.commits < 16777216 → IsReady s held
@@ -47,14 +48,19 @@ holds_tried s old new state tries holds = subst (λ (h : HeldState). Holds s h s
   cache = holds.cache;
 })
 
+-- a journal with no more entries and no greater capacity than it may have
+pub room_within : (n capacity most : ℕ) → n ≤ most → capacity ≤ most → n + (capacity - n) ≤ most
+room_within n capacity most few small = omega arith
+
 -- the same journal and turns over what is held of the same state
-pub kept_same : (s : Setting) (old new : CoreState) → IsKept s old → new.journal ≡ old.journal → new.turns ≡ old.turns → Tries old.held new.held → IsKept s new
-kept_same s old new kept journal turns tries =
+pub kept_same : (s : Setting) (old new : CoreState) → IsKept s old → new.journal ≡ old.journal → new.turns ≡ old.turns → Tries old.held new.held
+    → length new.journal + new.room ≤ s.max_events → IsKept s new
+kept_same s old new kept journal turns tries room =
     let same : new ≡ record old { held = new.held; room = new.room } = λ i. record { held = new.held; journal = journal i; turns = turns i; room = new.room } in
     subst (λ (c : CoreState). IsKept s c) (sym same) (record {
       legal = kept.legal;
       held = holds_tried s old.held new.held (state_after s old.journal) tries kept.held;
-      full = kept.full;
+      room = subst (λ (es : List Entry). length es + new.room ≤ s.max_events) journal room;
       turns = kept.turns;
       some_desk = kept.some_desk;
       few_desks = kept.few_desks;
@@ -67,8 +73,8 @@ pub kept_after : (s : Setting) (core new : CoreState) (e : Entry)
     → ((desk : ℕ) (es : List Entry) (x : Entry) → turns_of desk (es ++ x ∷ []) ≡ turns_of desk es + (if x.desk == desk then 1 else 0))
     → IsKept s core → length core.journal < s.max_events → IsNext (record { setting = s; desks = length core.turns }) core.journal e
     → new.journal ≡ core.journal ++ e ∷ [] → new.turns ≡ slice_set core.turns (e.desk - 1) e.turn
-    → Holds s new.held (after (state_after s core.journal) e.call e.reply) → IsKept s new
-kept_after s core new e legal_more state_more turns_more kept space next journal turns holds =
+    → Holds s new.held (after (state_after s core.journal) e.call e.reply) → length new.journal + new.room ≤ s.max_events → IsKept s new
+kept_after s core new e legal_more state_more turns_more kept space next journal turns holds room =
     let o : Opening = record { setting = s; desks = length core.turns } in
     let same_desks : length new.turns ≡ length core.turns = ap length turns ∙ length-set core.turns (e.desk - 1) e.turn in
     let low = next.desk_low in
@@ -77,7 +83,7 @@ kept_after s core new e legal_more state_more turns_more kept space next journal
       legal = subst (λ (n : ℕ). IsLegal (record { opening = record { setting = s; desks = n }; entries = new.journal })) (sym same_desks)
           (subst (λ (es : List Entry). IsLegal (record { opening = o; entries = es })) (sym journal) (legal_more o core.journal e kept.legal next));
       held = subst (λ (x : BoardState). Holds s new.held x) (sym (ap (state_after s) journal ∙ state_more s core.journal e)) holds;
-      full = omega (arith, ap length journal, length-append core.journal (e ∷ []));
+      room = room;
       turns = λ desk from to.
           let there : desk ≤ length core.turns = omega arith in
           let old : slice_index core.turns (desk - 1) ≡ turns_of desk core.journal = kept.turns desk from there in
@@ -108,15 +114,36 @@ turn_due n es desk turn h =
     let two = and_parts _ _ one.0 in
     (leb-true 1 desk two.0, leb-true desk n two.1, eqb-true turn (turns_of desk es + 1) one.1)
 
+-- a judged event that has its turn, over a core with the same journal and turns
+pub makes_of : (s : Setting) (old new : CoreState) (p : PreparedState) → p.of ≡ new → new.journal ≡ old.journal → new.turns ≡ old.turns
+    → is_turn (length old.turns) old.journal p.entry.desk p.entry.turn ≡ true → length old.journal < s.max_events
+    → ∥ IsReply s (state_after s old.journal) p.entry.call p.entry.reply ∥₁
+    → WillHold s new.held p.judged.change (after (state_after s old.journal) p.entry.call p.entry.reply) → Makes s p
+makes_of s old new p of same_journal same_turns turn space reply will =
+    let due = turn_due (length old.turns) old.journal p.entry.desk p.entry.turn turn in
+    let journal : p.of.journal ≡ old.journal = ap (λ (x : CoreState). x.journal) of ∙ same_journal in
+    let turns : p.of.turns ≡ old.turns = ap (λ (x : CoreState). x.turns) of ∙ same_turns in
+    record {
+      next = record {
+        desk_low = due.0;
+        desk_high = subst (λ (ts : List ℕ). p.entry.desk ≤ length ts) (sym turns) due.1;
+        turn = subst (λ (es : List Entry). p.entry.turn ≡ turns_of p.entry.desk es + 1) (sym journal) due.2;
+        reply = subst (λ (es : List Entry). ∥ IsReply s (state_after s es) p.entry.call p.entry.reply ∥₁) (sym journal) reply;
+      };
+      will = subst (λ (es : List Entry). WillHold s p.of.held p.judged.change (after (state_after s es) p.entry.call p.entry.reply)) (sym journal)
+          (subst (λ (x : CoreState). WillHold s x.held p.judged.change (after (state_after s old.journal) p.entry.call p.entry.reply)) (sym of) will);
+      space = subst (λ (es : List Entry). length es < s.max_events) (sym journal) space;
+    }
+
 -- a core that was just opened
-pub kept_opened : (s : Setting) (core : CoreState) (desks : ℕ) → IsOpening s core.held → core.journal ≡ [] → core.turns ≡ replicate desks 0 → 1 ≤ desks → desks ≤ 64 → IsKept s core
+pub kept_opened : (s : Setting) (core : CoreState) (desks : ℕ) → IsOpening s core.held → core.journal ≡ [] → core.turns ≡ replicate desks 0 → core.room ≡ 0 → 1 ≤ desks → desks ≤ 64 → IsKept s core
 unfolding IsOpening
-kept_opened s core desks opening journal turns low high =
+kept_opened s core desks opening journal turns room low high =
     let many : length core.turns ≡ desks = ap length turns ∙ length-replicate desks 0 in
     record {
       legal = λ k e at. let none : slice_get (let es : List Entry = [] in es) k ≡ Some e = subst (λ (es : List Entry). slice_get es k ≡ Some e) journal at in absurd cc;
       held = subst (λ (es : List Entry). Holds s core.held (state_after s es)) (sym journal) opening;
-      full = subst (λ (es : List Entry). length es ≤ s.max_events) (sym journal) (omega arith);
+      room = subst (λ (es : List Entry). length es + core.room ≤ s.max_events) (sym journal) (omega (arith, room));
       turns = λ desk from to. ap (λ xs. slice_index xs (desk - 1)) turns ∙ (zeros desks (desk - 1) ∙ sym (ap (turns_of desk) journal));
       some_desk = subst (λ (n : ℕ). 1 ≤ n) (sym many) low;
       few_desks = subst (λ (n : ℕ). n ≤ 64) (sym many) high;

@@ -1,5 +1,5 @@
 -- What a board's core holds, and what it keeps of its history.
-use Rattle.std.specs.Prelude.{◌≡◌, ℕ, ◌-◌, ◌≤◌, List, length, slice_index}
+use Rattle.std.specs.Prelude.{◌≡◌, ℕ, ◌+◌, ◌-◌, ◌≤◌, List, length, slice_index}
 use Rattle.dimension_core.specs.Setting.{Setting}
 use Rattle.board_rules.specs.declared.call.Entry.{Entry}
 use Rattle.board_rules.specs.declared.call.Event.{Event}
@@ -18,11 +18,12 @@ pub record CoreState : Type 0 where
 abbrev pub history_of : Setting → CoreState → History
 history_of s core = record { opening = record { setting = s; desks = length core.turns }; entries = core.journal }
 
--- The core's history is legal, what it holds stands for the state after it, and its rows have the numbers of its entries.
+-- The core's history is legal, what it holds stands for the state after it, its rows have the numbers of its entries, and the journal has
+-- room for no more entries than it may have.
 pub record IsKept (s : Setting) (core : CoreState) : Type 0 where
   pub legal : IsLegal (history_of s core)
   pub held : Holds s core.held (state_after s core.journal)
-  pub full : length core.journal ≤ s.max_events
+  pub room : length core.journal + core.room ≤ s.max_events
   pub turns : (desk : ℕ) → 1 ≤ desk → desk ≤ length core.turns → slice_index core.turns (desk - 1) ≡ turns_of desk core.journal
   pub some_desk : 1 ≤ length core.turns
   pub few_desks : length core.turns ≤ 64

@@ -1,5 +1,5 @@
 //! The data of a board: what is held of its state, its journal and the turns of its desks.
-ghost use Rattle.std.specs.Prelude.{◌≡◌, ◌≤◌, ◌<◌, ◌↔◌, ℕ, ◌∷◌, ◌++◌, [], true, false, length, vec_len, vec_capacity, IfOk, OnErr, IsErrOf};
+ghost use Rattle.std.specs.Prelude.{◌≡◌, ◌≤◌, ◌<◌, ◌↔◌, ℕ, ◌∷◌, ◌++◌, [], true, false, length, vec_len, vec_capacity, IfOk, OnOk, OnErr, IsErrOf};
 ghost use Rattle.dimension_core.specs.Setup.{setting};
 ghost use Rattle.dimension_core.specs.Setting.{Setting};
 ghost use Rattle.board_rules.specs.declared.reply.Fault.{Fault};
@@ -20,11 +20,21 @@ use std::marker::Model;
 use std::snapshot::Snapshot;
 
 /// All of a board but its setup, which is lent to each call.
-#[derive(Drop)]
 pub struct Core {
     pub(crate) state: State,
     pub(crate) journal: Vec<Entry>,
     pub(crate) turns: Vec<u32>,
+}
+
+// By hand, since a derived drop is written out, down to each list, at every place where a value is dropped.
+impl Drop for Core {
+    fn drop(self) {
+        let Core {
+            state: _,
+            journal: _,
+            turns: _,
+        } = self;
+    }
 }
 
 impl Model for Core {
@@ -124,9 +134,9 @@ impl Core {
             (call_probes (state_after (setting setup.now) self.old.journal).pins (state_after (setting setup.now) self.old.journal).routes event.call) }
     {
         legal_histories_leave_good_states();
-        let _few = setup.max_events();
+        let most = setup.max_events();
         let alloc = *self.journal.allocator();
-        self.journal.reserve(1)?;
+        make_room(&mut self.journal, most)?;
         let judged = self.state.prepare(alloc, setup, &event.call, meter)?;
         let Event { desk, turn, call } = event;
         Ok(Prepared {
@@ -185,10 +195,25 @@ impl Core {
     }
 }
 
+/// Makes room for one entry more: the journal doubles, from 16 entries on, and never has room for more than `most`.
+fn make_room(journal: &mut Vec<Entry>, most: u32) -> Result<(), AllocError>
+    requires { vec_len journal.old < most }
+    ensures items { journal.new.items ≡ journal.old.items }
+    ensures room { OnOk result (vec_len journal.new < vec_capacity journal.new) }
+    ensures most { vec_capacity journal.old ≤ most → vec_capacity journal.new ≤ most }
+{
+    let len = journal.len();
+    if len < journal.capacity() {
+        return Ok(());
+    }
+    journal.reserve_exact(len.max(16).min(most as usize - len))
+}
+
 /// Puts an entry at the end, where there is room for it.
 fn record(journal: &mut Vec<Entry>, desk: u32, turn: u32, call: Call, reply: Reply)
     requires { vec_len journal.old < vec_capacity journal.old }
-    ensures { journal.new.items ≡ journal.old.items ++ record { desk = desk; turn = turn; call = call; reply = reply } ∷ [] }
+    ensures items { journal.new.items ≡ journal.old.items ++ record { desk = desk; turn = turn; call = call; reply = reply } ∷ [] }
+    ensures capacity { vec_capacity journal.new ≡ vec_capacity journal.old }
 {
     journal.push_reserved(Entry {
         desk,

@@ -23,13 +23,25 @@ use std::alloc::{AllocError, Global};
 use std::marker::Model;
 
 /// The policy, its compiled permissions, the plan, its pins and freezes, and the ranges along its routes.
-#[derive(Drop)]
 pub struct State {
     pub(crate) policy: Twin,
     pub(crate) tables: Tables,
     pub(crate) plan: Plan,
     pub(crate) pins: Pins,
     pub(crate) cache: Cache,
+}
+
+// By hand, since a derived drop is written out, down to each list, at every place where a value is dropped.
+impl Drop for State {
+    fn drop(self) {
+        let State {
+            policy: _,
+            tables: _,
+            plan: _,
+            pins: _,
+            cache: _,
+        } = self;
+    }
 }
 
 impl Model for State {

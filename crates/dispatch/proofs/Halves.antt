@@ -10,8 +10,8 @@ use Rattle.std.proofs.lemmas.List.{length-append, length-take, length-drop, take
 use Rattle.std.proofs.Math.Seq.{take-length}
 use Rattle.std.proofs.lemmas.List.Elements.{All-append}
 use Rattle.std.proofs.lemmas.List.Splits.{slice_split_at, slice_split_none, length-slice_split, join_with_byte-slice_split}
-use Rattle.insertion_text.specs.Replies.{ended}
-use Rattle.insertion_text.specs.Running.{HasNoEnd}
+use Rattle.board_lines.specs.Replies.{ended}
+use Rattle.line_engine.specs.Running.{HasNoEnd}
 use Rattle.std.proofs.KnownBytes.{Consumes-nil, Consumes-trans}
 use Rattle.dispatch.specs.Head.{mark, ends_instance, Halves, with_line, halves_of, halves, IsBefore, IsHead, IsMarked, Took}
 

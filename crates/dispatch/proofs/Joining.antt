@@ -6,11 +6,11 @@ use Rattle.std.specs.Fmt.{option_append}
 use Rattle.solomon_reader.specs.Checks.{Fault, fault}
 use Rattle.solomon_reader.specs.Instances.{Plain}
 use Rattle.solomon_reader.specs.Reading.{read_of}
-use Rattle.insertion_text.specs.Answers.{is_refusal}
-use Rattle.insertion_text.specs.BoardRuns.{AreOutcomes}
-use Rattle.insertion_text.specs.declared.run_fault.Counts.{Counts}
-use Rattle.insertion_text.specs.declared.run_fault.RunFault.{RunFault}
-use Rattle.insertion_text.specs.declared.run_fault.RunFault.TheVariants as runs
+use Rattle.line_engine.specs.Answers.{is_refusal}
+use Rattle.board_text.specs.BoardRuns.{AreOutcomes}
+use Rattle.line_engine.specs.declared.run_fault.Counts.{Counts}
+use Rattle.line_engine.specs.declared.run_fault.RunFault.{RunFault}
+use Rattle.line_engine.specs.declared.run_fault.RunFault.TheVariants as runs
 use Rattle.solomon_reader.specs.Reading.{Fails}
 use Rattle.solomon_reader.specs.declared.fault.ReadFault.{ReadFault}
 use Rattle.solomon_reader.specs.declared.fault.ReadFault.TheVariants as reads

@@ -4,7 +4,7 @@ use Rattle.callback_store.specs.Tables.{Table, node_values, pair_values}
 use Rattle.dimension_core.specs.Setting.{Setting}
 use Rattle.solomon_reader.specs.Instances.{Plain}
 use Rattle.travel_table.specs.Travel.{travel_at}
-use Rattle.insertion_text.specs.BoardSteps.{DeskState}
+use Rattle.board_text.specs.BoardSteps.{DeskState}
 use Rattle.dispatch.specs.Network.{Sites, IsNetwork, demand_at, time_between}
 use Rattle.dispatch.specs.Pair.{load_bounds, time_bounds}
 
@@ -34,5 +34,9 @@ standard_setting s = record {
 }
 
 -- desk 1 of a board with that one desk, before its first turn
+abbrev pub opened_on : Setting → DeskState
+opened_on s = record { history = record { opening = record { setting = s; desks = 1 }; entries = [] }; desk = 1; turn = 1 }
+
+-- the desk of the standard board
 abbrev pub opened : Sites → DeskState
-opened s = record { history = record { opening = record { setting = standard_setting s; desks = 1 }; entries = [] }; desk = 1; turn = 1 }
+opened s = opened_on (standard_setting s)

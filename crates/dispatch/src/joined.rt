@@ -7,7 +7,7 @@ ghost use Rattle.dispatch.specs.Joined.{IsEnd, IsJoined};
 use crate::head::{Parts, read_parts};
 use crate::standard::run_board;
 use crate::stop::{Stop, ended};
-use insertion_text::Counts;
+use board_text::Counts;
 use solomon_reader::read;
 use std::alloc::Global;
 use std::io::{Read, Write};

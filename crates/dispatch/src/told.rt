@@ -4,8 +4,8 @@ ghost use Rattle.std.specs.Prelude.{◌≡◌, ◌⊎◌};
 ghost use Rattle.command_line.specs.CommandLine.{status_of};
 
 use crate::stop::{Stop, stopped};
+use board_text::RunFault;
 use command_line::{OptionFault, status};
-use insertion_text::RunFault;
 use std::io::{self, Write};
 
 /// Writes a text and flushes it.

@@ -18,11 +18,21 @@ use std::snapshot::Snapshot;
 
 /// For each session and operation a row of bits, one for each object, so that CheckAccess is a
 /// look-up of the session and a test of one word.
-#[derive(Drop)]
 pub struct Tables {
     customers: u32,
     vehicles: u32,
     rows: IndexMap<u32, SessionRows>,
+}
+
+// By hand, since a derived drop is written out, down to each list, at every place where a value is dropped.
+impl Drop for Tables {
+    fn drop(self) {
+        let Tables {
+            customers: _,
+            vehicles: _,
+            rows: _,
+        } = self;
+    }
 }
 
 impl Model for Tables {

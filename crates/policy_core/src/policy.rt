@@ -21,7 +21,6 @@ use std::marker::Model;
 
 /// Users, roles, permissions, sessions, and the sets of roles that exclude one another, over a
 /// fleet of vehicles and its customers. Contracts see the lists and numbers that they are.
-#[derive(Drop)]
 pub struct Policy {
     pub(crate) customers: u32,
     pub(crate) vehicles: u32,
@@ -34,6 +33,25 @@ pub struct Policy {
     pub(crate) counting: Counting,
     pub(crate) sessions: IndexMap<u32, Session>,
     pub(crate) last: u32,
+}
+
+// By hand, since a derived drop is written out, down to each list, at every place where a value is dropped.
+impl Drop for Policy {
+    fn drop(self) {
+        let Policy {
+            customers: _,
+            vehicles: _,
+            users: _,
+            roles: _,
+            order: _,
+            grants: _,
+            ssd: _,
+            dsd: _,
+            counting: _,
+            sessions: _,
+            last: _,
+        } = self;
+    }
 }
 
 impl Model for Policy {

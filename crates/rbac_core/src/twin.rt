@@ -28,11 +28,21 @@ enum Lag {
 /// was tried and given up.
 ///
 /// Contracts see the policy, and the state that `settle` would bring.
-#[derive(Drop)]
 pub struct Twin {
     policy: Policy,
     spare: Policy,
     lag: Lag,
+}
+
+// By hand, since a derived drop is written out, down to each list, at every place where a value is dropped.
+impl Drop for Twin {
+    fn drop(self) {
+        let Twin {
+            policy: _,
+            spare: _,
+            lag: _,
+        } = self;
+    }
 }
 
 impl Model for Twin {

@@ -1,10 +1,10 @@
-use Rattle.std.proofs.Common.{arith, sym, ap, subst, ◌∙◌}
+use Rattle.std.proofs.Common.{◌+◌, ◌<◌, ◌≤◌, length, vec_capacity, arith, refl, sym, ap, subst, ◌∙◌}
 use Rattle.dimension_core.specs.Setup.{setting}
 use Rattle.board_rules.specs.History.{state_after}
 use Rattle.board_state.specs.Changes.{Tries}
-use Rattle.board_state.specs.Held.{IsReady}
+use Rattle.board_state.specs.Held.{Holds, IsReady}
 use Rattle.board_core.specs.Kept.{CoreState, history_of}
-use Rattle.board_core.proofs.Keeping.{ready, kept_same}
+use Rattle.board_core.proofs.Keeping.{ready, kept_same, room_within, makes_of}
 use Rattle.board_core.proofs.body.Core.judge.Goals as goal
 
 pub prepare-requires : goal.prepare-requires
@@ -14,18 +14,51 @@ prepare-requires g c =
     let kept = c.requires.kept in
     let good = c.legal_histories_leave_good_states.ensures.good (history_of s core) kept.legal in
     let few = c.legal_histories_leave_good_states.ensures.commits (history_of s core) kept.legal in
-    let most = c.max_events-few.ensures.sound.few_events in
+    let most = c.max_events-most.ensures.sound.few_events in
     subst (λ (x : CoreState). IsReady s x.held) (sym c.self.view_is)
     (ready s core.held (state_after s core.journal) kept.held good (omega (arith, few, most, c.requires.space)))
 
+pub returns-in_err-make_room-clause-kept : goal.returns-in_err-make_room-clause-kept
+returns-in_err-make_room-clause-kept g c =
+    let s = setting c.args.setup.now in
+    let held = subst (λ (x : CoreState). length x.journal + x.room ≤ s.max_events) (sym c.self.view_is) c.requires.kept.room in
+    let before = subst (λ (x : CoreState). length x.journal < s.max_events) (sym c.self.view_is) c.requires.space in
+    let few : vec_capacity c.make_room.new.journal ≤ s.max_events =
+    omega (arith, c.max_events-most.ensures.value, c.make_room.ensures.most (omega (arith, held, c.max_events-most.ensures.value))) in
+    kept_same s c.args.self.now _ c.requires.kept
+    (c.make_room.ensures.items ∙ ap (λ (x : CoreState). x.journal) c.self.view_is) (ap (λ (x : CoreState). x.turns) c.self.view_is)
+    (subst (λ (x : CoreState). Tries x.held c.self.inside.state) c.self.view_is refl)
+    (room_within (length c.make_room.new.journal.items) (vec_capacity c.make_room.new.journal) s.max_events (omega (arith, before, ap length c.make_room.ensures.items)) few)
+
 pub returns-in_err-judged-clause-kept : goal.returns-in_err-judged-clause-kept
 returns-in_err-judged-clause-kept g c =
-    kept_same (setting c.args.setup.now) c.args.self.now _ c.requires.kept
-    (c.reserve.ensures.items ∙ ap (λ (x : CoreState). x.journal) c.self.view_is) (ap (λ (x : CoreState). x.turns) c.self.view_is)
+    let s = setting c.args.setup.now in
+    let held = subst (λ (x : CoreState). length x.journal + x.room ≤ s.max_events) (sym c.self.view_is) c.requires.kept.room in
+    let before = subst (λ (x : CoreState). length x.journal < s.max_events) (sym c.self.view_is) c.requires.space in
+    let few : vec_capacity c.make_room.new.journal ≤ s.max_events =
+    omega (arith, c.max_events-most.ensures.value, c.make_room.ensures.most (omega (arith, held, c.max_events-most.ensures.value))) in
+    kept_same s c.args.self.now _ c.requires.kept
+    (c.make_room.ensures.items ∙ ap (λ (x : CoreState). x.journal) c.self.view_is) (ap (λ (x : CoreState). x.turns) c.self.view_is)
     (subst (λ (x : CoreState). Tries x.held c.prepare.new.self) c.self.view_is c.prepare.ensures.kept)
+    (room_within (length c.make_room.new.journal.items) (vec_capacity c.make_room.new.journal) s.max_events (omega (arith, before, ap length c.make_room.ensures.items)) few)
 
 pub returns-clause-kept : goal.returns-clause-kept
 returns-clause-kept g c =
-    kept_same (setting c.args.setup.now) c.args.self.now _ c.requires.kept
-    (c.reserve.ensures.items ∙ ap (λ (x : CoreState). x.journal) c.self.view_is) (ap (λ (x : CoreState). x.turns) c.self.view_is)
+    let s = setting c.args.setup.now in
+    let held = subst (λ (x : CoreState). length x.journal + x.room ≤ s.max_events) (sym c.self.view_is) c.requires.kept.room in
+    let before = subst (λ (x : CoreState). length x.journal < s.max_events) (sym c.self.view_is) c.requires.space in
+    let few : vec_capacity c.make_room.new.journal ≤ s.max_events =
+    omega (arith, c.max_events-most.ensures.value, c.make_room.ensures.most (omega (arith, held, c.max_events-most.ensures.value))) in
+    kept_same s c.args.self.now _ c.requires.kept
+    (c.make_room.ensures.items ∙ ap (λ (x : CoreState). x.journal) c.self.view_is) (ap (λ (x : CoreState). x.turns) c.self.view_is)
     (subst (λ (x : CoreState). Tries x.held c.prepare.new.self) c.self.view_is c.prepare.ensures.kept)
+    (room_within (length c.make_room.new.journal.items) (vec_capacity c.make_room.new.journal) s.max_events (omega (arith, before, ap length c.make_room.ensures.items)) few)
+
+pub returns-clause-makes : goal.returns-clause-makes
+returns-clause-makes g c =
+    let s = setting c.args.setup.now in
+    let state = state_after s c.args.self.now.journal in
+    let holds : Holds s c.self.inside.state state = subst (λ (x : CoreState). Holds s x.held state) (sym c.self.view_is) c.requires.kept.held in
+    makes_of s c.args.self.now _ _ c.of.ensures
+    (c.make_room.ensures.items ∙ ap (λ (x : CoreState). x.journal) c.self.view_is) (ap (λ (x : CoreState). x.turns) c.self.view_is)
+    c.requires.turn c.requires.space (c.in_ok-judged.ensures.reply state holds) (c.in_ok-judged.ensures.change state holds)

@@ -1,4 +1,4 @@
-use Rattle.std.proofs.Common.{◌≡◌, refl, sym, ◌∙◌, arith, length, subst, ap, ◌≤◌}
+use Rattle.std.proofs.Common.{◌≡◌, ◌+◌, refl, sym, ◌∙◌, arith, length, subst, ap, ◌≤◌}
 use Rattle.dimension_core.specs.Setup.{setting}
 use Rattle.board_core.specs.Kept.{CoreState}
 use Rattle.board_core.proofs.body.Core.prepare.Goals as goal
@@ -24,8 +24,8 @@ pub returns-then-len-max_events-clause-full : goal.returns-then-len-max_events-c
 returns-then-len-max_events-clause-full g c =
     let test = c.is_turn.ensures (setting c.args.setup.now) c.requires in
     let there = sym test ∙ c.if-not-is_turn.false in
-    let kept = subst (λ (core : CoreState). length core.journal ≤ (setting c.args.setup.now).max_events) (sym c.self.view_is) c.requires.full in
-    let full : length c.self.inside.journal.items ≡ (setting c.args.setup.now).max_events = omega (arith, c.max_events.ensures.value) in
+    let kept = subst (λ (core : CoreState). length core.journal + core.room ≤ (setting c.args.setup.now).max_events) (sym c.self.view_is) c.requires.room in
+    let full : length c.self.inside.journal.items ≡ (setting c.args.setup.now).max_events = omega (arith, kept, c.max_events.ensures.value) in
     ((λ e. (there, ap (λ (core : CoreState). length core.journal) (sym c.self.view_is) ∙ full)), (λ h. refl))
 
 pub judge-requires-clause-turn : goal.judge-requires-clause-turn

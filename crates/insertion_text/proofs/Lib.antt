@@ -1,9 +1,0 @@
-pub mod Bytes
-pub mod CutLines
-pub mod Grammars
-pub mod Reread
-pub mod Runs
-pub mod Seen
-pub mod Sending
-pub mod WholeRuns
-pub mod WordLaws

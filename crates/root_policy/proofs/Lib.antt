@@ -1,5 +1,0 @@
-pub mod AccessLaws
-pub mod OperationLaws
-pub mod PermissionLaws
-pub mod PolicyLaws
-pub mod RowLaws

@@ -1,3 +1,0 @@
-pub mod Access
-pub mod OperationSet
-pub mod Policy
