@@ -128,12 +128,12 @@ impl Policy {
     pub fn copy(&self) -> Result<Policy, AllocError>
         ensures { IfOk result (λ policy. policy ≡ self.now) }
     {
-        let users = copy_users(&self.users)?;
-        let roles = copy_roles(&self.roles)?;
         let order = self.order.copy()?;
         let grants = self.grants.copy()?;
         let ssd = self.ssd.copy()?;
         let dsd = self.dsd.copy()?;
+        let users = copy_users(&self.users)?;
+        let roles = copy_roles(&self.roles)?;
         let sessions = copy_sessions(&self.sessions)?;
         Ok(Policy {
             customers: self.customers,
