@@ -1,21 +1,19 @@
 -- The setting that a board was opened with is the standard one.
-use Rattle.std.proofs.Common.{◌≡◌, ◌∙◌, ℕ, ◌-◌, Bool, true, false, List, [], ◌∷◌, ◌++◌, length, refl, ap, subst, Option}
+use Rattle.std.proofs.Common.{◌≡◌, ◌∙◌, ℕ, ◌-◌, Bool, true, false, List, [], ◌∷◌, ◌++◌, length, refl, ap}
 use Rattle.callback_store.specs.Tables.{Table, node_values, pair_values}
 use Rattle.dimension_core.specs.Cumuls.{Bounds}
 use Rattle.dimension_core.specs.Setting.{Setting}
+use Rattle.board_rules.specs.History.{History}
 use Rattle.travel_table.specs.Travel.{travel_at}
 use Rattle.dispatch.specs.Network.{Sites, demand_at, time_between}
 use Rattle.dispatch.specs.Pair.{load_bounds, time_bounds}
-use Rattle.board_text.specs.BoardRuns.{IsAnswered, IsStopped}
-use Rattle.line_engine.specs.declared.run_fault.Counts.{Counts}
-use Rattle.solomon_reader.specs.Instances.{Plain}
-use Rattle.dispatch.specs.Joined.{IsRun, IsRunOn, IsUnfinished, IsUnfinishedOn}
-use Rattle.dispatch.specs.Standard.{AreSitesOf, standard_setting, opened_on}
-use Rattle.dispatch.specs.declared.stop.Stop.{Stop}
-use Rattle.dispatch.specs.declared.stop.Stop.TheVariants as stops
+use Rattle.dispatch.specs.Standard.{standard_setting}
 
 abbrev table : ℕ → Bool → List ℕ → Table
 table n paired entries = record { size = n; paired = paired; entries = entries }
+
+abbrev pub opening : Setting → History
+opening s = record { opening = record { setting = s; desks = 1 }; entries = [] }
 
 pub table_by : (t : Table) (n : ℕ) (paired : Bool) (entries : List ℕ) → t.size ≡ n → t.paired ≡ paired → t.entries ≡ entries → t ≡ record { size = n; paired = paired; entries = entries }
 table_by t n paired entries p q r =
@@ -47,25 +45,3 @@ standard_by s net set size vehicles cost demand way ts0 ts1 ts2 ts3 a b c pair w
     let second : way ≡ 1 = j ∙ ap (λ (ts : List Table). length ts) u1 in
     let third : cost ≡ 2 = k ∙ ap (λ (ts : List Table). length ts) u2 in
     rw (whole, u3, d, first, second, third, ta, tb, tc, v, n, e) refl
-
--- a whole run on a board with the standard setting
-pub run_of : (i : Plain) (s : Sites) (t : Setting) (left_old left_new was now : Option (List ℕ)) (counts : Counts) → AreSitesOf i s → t ≡ standard_setting s
-    → IsRunOn t left_old left_new was now counts → IsRun i left_old left_new was now counts
-run_of i s t left_old left_new was now counts of e r = record {
-  sites = s;
-  of = of;
-  new = r.new;
-  answered = subst (λ (x : Setting). IsAnswered (opened_on x) r.new left_old left_new was now counts.lines counts.refused) e r.answered;
-}
-
--- and one that came to no end
-pub unfinished_of : (i : Plain) (s : Sites) (t : Setting) (left_old left_new was now : Option (List ℕ)) (stop : Stop) → AreSitesOf i s → t ≡ standard_setting s
-    → IsUnfinishedOn t left_old left_new was now stop → IsUnfinished i left_old left_new was now stop
-unfinished_of i s t left_old left_new was now (stops.Instance kind line) of e h = absurd h
-unfinished_of i s t left_old left_new was now stops.Open of e h = h
-unfinished_of i s t left_old left_new was now (stops.Run fault) of e h = record {
-  sites = s;
-  of = of;
-  new = h.new;
-  stopped = subst (λ (x : Setting). IsStopped fault (opened_on x) h.new left_old left_new was now) e h.stopped;
-}

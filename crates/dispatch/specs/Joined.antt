@@ -15,28 +15,11 @@ use Rattle.line_engine.specs.declared.run_fault.RunFault.{RunFault}
 use Rattle.line_engine.specs.declared.run_fault.RunFault.TheVariants as runs
 use Rattle.dispatch.specs.Head.{Halves, halves}
 use Rattle.dispatch.specs.Network.{Sites}
-use Rattle.dimension_core.specs.Setting.{Setting}
-use Rattle.dispatch.specs.Standard.{AreSitesOf, opened_on, opened}
+use Rattle.dispatch.specs.Standard.{AreSitesOf, opened}
 use Rattle.dispatch.specs.declared.stop.Stop.{Stop}
 use Rattle.dispatch.specs.declared.stop.Stop.TheVariants as stops
 
 -- ---- a board over a reader and a writer
-
--- the whole script was answered on a board that was opened so
-pub record IsRunOn (s : Setting) (left_old left_new was now : Option (List ℕ)) (counts : Counts) : Type 0 where
-  pub new : DeskState
-  pub answered : IsAnswered (opened_on s) new left_old left_new was now counts.lines counts.refused
-
--- the board was opened so, and the run on it ended early
-pub record IsCutOn (s : Setting) (left_old left_new was now : Option (List ℕ)) (fault : RunFault) : Type 0 where
-  pub new : DeskState
-  pub stopped : IsStopped fault (opened_on s) new left_old left_new was now
-
--- why no more came of it
-abbrev pub IsUnfinishedOn : Setting → Option (List ℕ) → Option (List ℕ) → Option (List ℕ) → Option (List ℕ) → Stop → Type 0
-IsUnfinishedOn s left_old left_new was now (stops.Instance kind line) = ⊥
-IsUnfinishedOn s left_old left_new was now stops.Open = Keeps left_old left_new × Keeps was now
-IsUnfinishedOn s left_old left_new was now (stops.Run fault) = IsCutOn s left_old left_new was now fault
 
 -- the whole script was answered on the board of the instance
 pub record IsRun (i : Plain) (left_old left_new was now : Option (List ℕ)) (counts : Counts) : Type 0 where

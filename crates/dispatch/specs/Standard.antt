@@ -34,9 +34,5 @@ standard_setting s = record {
 }
 
 -- desk 1 of a board with that one desk, before its first turn
-abbrev pub opened_on : Setting → DeskState
-opened_on s = record { history = record { opening = record { setting = s; desks = 1 }; entries = [] }; desk = 1; turn = 1 }
-
--- the desk of the standard board
 abbrev pub opened : Sites → DeskState
-opened s = opened_on (standard_setting s)
+opened s = record { history = record { opening = record { setting = standard_setting s; desks = 1 }; entries = [] }; desk = 1; turn = 1 }

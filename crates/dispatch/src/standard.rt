@@ -4,8 +4,7 @@ ghost use Rattle.std.specs.Prelude.{◌≡◌, ◌<◌, length, IfOk, IfErr};
 ghost use Rattle.solomon_reader.specs.Instances.{view, IsSound};
 ghost use Rattle.travel_table.specs.Travel.{travel_at};
 ghost use Rattle.dispatch.specs.Network.{demand_at, time_between};
-ghost use Rattle.dimension_core.specs.Setup.{setting};
-ghost use Rattle.dispatch.specs.Joined.{IsRun, IsRunOn, IsUnfinished, IsUnfinishedOn};
+ghost use Rattle.dispatch.specs.Joined.{IsRun, IsUnfinished};
 
 use crate::network::Network;
 use crate::pair::standard_pair;
@@ -79,21 +78,7 @@ pub(crate) fn run_board<R, I: Read, W: Write>(
         cost,
         MAX_EVENTS,
     )?;
-    run_on(rt, alloc, Arc::new(alloc, setup)?, script, writer)
-}
-
-/// Opens a board over the setup, with one desk, and answers the lines of a script on it.
-fn run_on<R, I: Read, W: Write>(
-    rt: &R,
-    alloc: Global,
-    setup: Arc<Setup>,
-    script: &mut I,
-    writer: &mut W,
-) -> Result<Counts, Stop>
-    ensures ok { IfOk result (IsRunOn (setting setup.value) (I.remaining script.old) (I.remaining script.new) (W.contents writer.old) (W.contents writer.new)) }
-    ensures err { IfErr result (IsUnfinishedOn (setting setup.value) (I.remaining script.old) (I.remaining script.new) (W.contents writer.old) (W.contents writer.new)) }
-{
-    let board = Board::new(alloc, setup, 1)?;
+    let board = Board::new(alloc, Arc::new(alloc, setup)?, 1)?;
     let mut front = BoardFront {
         board,
         desk: 1,
