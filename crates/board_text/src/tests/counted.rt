@@ -1,7 +1,7 @@
 //! A board of four customers and two vehicles over callbacks that count how often they are called.
 ghost use Rattle.std.specs.Prelude.{◌≡◌, ◌+◌, ◌*◌, ◌<◌, slice_index, length};
 
-use super::scripts::{listed, managed, moved, pinned};
+use super::scripts::{LISTED, SCRIPTS, listing, script};
 use callback_store::{Meter, Registry, Transit, TransitId, Unary};
 use dimension_core::{Dimension, Range, Setup};
 use std::alloc::{AllocError, Global};
@@ -78,10 +78,13 @@ fn four_customers(rt: HostRuntime) -> Result<(), Fail> {
     let setup = Setup::new(4, 2, registry, dimensions, time, 100).expect(&rt, "setup");
     let setup = Arc::new(alloc, setup)?;
     let mut meter = Meter::new();
-    moved(&rt, alloc, &setup, &mut meter);
-    pinned(&rt, alloc, &setup, &mut meter);
-    managed(&rt, alloc, &setup, &mut meter);
-    listed(&rt, alloc, &setup, &mut meter);
+    for texts in SCRIPTS {
+        script(&rt, alloc, &setup, &mut meter, texts);
+    }
+    for (texts, rows) in LISTED {
+        let board = script(&rt, alloc, &setup, &mut meter, texts);
+        assert_eq!(rt; listing(&rt, alloc, &board, 1).as_str(), rows);
+    }
     assert_eq!(rt; calls.load(Ordering::SeqCst), meter.asks);
     assert_eq!(rt; meter.walks, 0);
     Ok(())

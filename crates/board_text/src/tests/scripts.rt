@@ -1,7 +1,7 @@
 //! Scripts on a board of four customers and two vehicles: each line with the reply that it must get, as text.
 use board_core::Board;
 use board_lines::{Command, list_text, read_line, reply_text};
-use board_rules::{AskFault, Event};
+use board_rules::Event;
 use callback_store::Meter;
 use dimension_core::Setup;
 use std::alloc::Global;
@@ -67,7 +67,7 @@ fn apply(rt: &impl Abort, alloc: Global, board: &mut Board, meter: &mut Meter, t
 }
 
 /// A board of its own, after two texts.
-fn script(
+pub(crate) fn script(
     rt: &impl Abort,
     alloc: Global,
     setup: &Arc<Setup>,
@@ -82,46 +82,37 @@ fn script(
     board
 }
 
-/// Moves.
-pub(crate) fn moved(rt: &impl Abort, alloc: Global, setup: &Arc<Setup>, meter: &mut Meter) {
-    for text in [REMOVED, REARRANGED, BASES] {
-        script(rt, alloc, setup, meter, [ON_ONE_VEHICLE, text]);
-    }
-    script(rt, alloc, setup, meter, [ON_TWO_VEHICLES, TAILS]);
-    script(rt, alloc, setup, meter, [ACCESS_BEFORE_BOUNDS, ""]);
-}
-
-/// Pins and freezes.
-pub(crate) fn pinned(rt: &impl Abort, alloc: Global, setup: &Arc<Setup>, meter: &mut Meter) {
-    for text in [A_PIN_HOLDS, A_FRONT_IS_FROZEN, A_PIN_IS_OVERRIDDEN] {
-        script(rt, alloc, setup, meter, [ON_TWO_VEHICLES, text]);
-    }
-    script(rt, alloc, setup, meter, [ON_ONE_VEHICLE, TWO_PINS]);
-}
-
-/// The policy.
-pub(crate) fn managed(rt: &impl Abort, alloc: Global, setup: &Arc<Setup>, meter: &mut Meter) {
-    for text in [SSD, DSD, PAIRS, INHERITED, NOBODY] {
-        script(rt, alloc, setup, meter, [text, ""]);
-    }
-}
-
 /// The text of a listing.
-fn listing(rt: &impl Abort, alloc: Global, board: &Board, session: u32) -> String {
+pub(crate) fn listing(rt: &impl Abort, alloc: Global, board: &Board, session: u32) -> String {
     let rows = board.list(session).expect(rt, "a listing");
     list_text(alloc, rows.as_slice()).expect(rt, "memory")
 }
 
-/// A row is listed where the session may view its customer and its vehicle.
-pub(crate) fn listed(rt: &impl Abort, alloc: Global, setup: &Arc<Setup>, meter: &mut Meter) {
-    let board = script(rt, alloc, setup, meter, [ON_ONE_VEHICLE, VIEWS]);
-    assert_eq!(rt; listing(rt, alloc, &board, 1).as_str(), ALL_LISTED);
-    let board = script(rt, alloc, setup, meter, [ON_ONE_VEHICLE, FEW_VIEWS]);
-    assert_eq!(rt; listing(rt, alloc, &board, 1).as_str(), FEW_LISTED);
-    assert_eq!(rt; board.list(9).err(), Some(AskFault::NoSession));
-}
-
 // ---- the texts: a call on each line, its reply, and how many asks it may make at most, where this is told
+
+/// Two texts for a board each.
+pub(crate) const SCRIPTS: [[&str; 2]; 14] = [
+    [ON_ONE_VEHICLE, REMOVED],
+    [ON_ONE_VEHICLE, REARRANGED],
+    [ON_ONE_VEHICLE, BASES],
+    [ON_TWO_VEHICLES, TAILS],
+    [ACCESS_BEFORE_BOUNDS, ""],
+    [ON_TWO_VEHICLES, A_PIN_HOLDS],
+    [ON_TWO_VEHICLES, A_FRONT_IS_FROZEN],
+    [ON_TWO_VEHICLES, A_PIN_IS_OVERRIDDEN],
+    [ON_ONE_VEHICLE, TWO_PINS],
+    [SSD, ""],
+    [DSD, ""],
+    [PAIRS, ""],
+    [INHERITED, ""],
+    [NOBODY, ""],
+];
+
+/// Two texts for a board each, and the listing of session 1 after them: a row where the session may view its customer and its vehicle.
+pub(crate) const LISTED: [([&str; 2], &str); 2] = [
+    ([ON_ONE_VEHICLE, VIEWS], ALL_LISTED),
+    ([ON_ONE_VEHICLE, FEW_VIEWS], FEW_LISTED),
+];
 
 const VIEWS: &str = "\
 1 grant root view vehicle 1 2 => done\n\
