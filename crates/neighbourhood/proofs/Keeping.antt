@@ -34,6 +34,10 @@ cells_none P w = record { counted = omega arith; each = λ k place below within.
 pub cells_at : (P : ℕ → ℕ → Option Range → Type 0) (w n m : ℕ) (cells : List (Option Range)) → n ≡ m → AreCells P w n cells → AreCells P w m cells
 cells_at P w n m cells e h = subst (λ (k : ℕ). AreCells P w k cells) e h
 
+-- a whole row of a table
+pub cells_row : (P : ℕ → ℕ → Option Range → Type 0) (w k i : ℕ) (cells : List (Option Range)) → i + 1 ≡ w → AreCells P w (k * w + (i + 1)) cells → AreCells P w ((k + 1) * w) cells
+cells_row P w k i cells e all = cells_at P w (k * w + (i + 1)) ((k + 1) * w) cells (omega arith) all
+
 -- a dimension of a setting, by its place
 pub here_ahead : (s : Setting) (v : ℕ) (front : List ℕ) (k : ℕ) (ts : List Table) (ds : List Bounds) (d : Bounds) (o : Option Range)
     → ts ≡ s.tables → ds ≡ s.dimensions → k < length ds → d ≡ slice_index_or ds k d → IsSpan o (Reaches (table_of ts d) d v front) → IsAhead s v front k o

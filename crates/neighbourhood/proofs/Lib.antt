@@ -13,5 +13,6 @@ pub mod Allowing
 pub mod Between
 pub mod Inside
 pub mod Cells
+pub mod Possible
 pub mod Tabled
 pub mod Rows

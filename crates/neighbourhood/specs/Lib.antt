@@ -6,3 +6,4 @@ pub mod Between
 pub mod Kept
 pub mod Savings
 pub mod Laws
+pub mod Sides

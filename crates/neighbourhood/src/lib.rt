@@ -12,6 +12,7 @@ mod reverse;
 mod round;
 mod search;
 mod shift;
+mod sides;
 mod swap;
 mod table;
 

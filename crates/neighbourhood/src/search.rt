@@ -1,23 +1,61 @@
 //! The best move.
 ghost use Rattle.std.specs.Prelude.{◌≡◌, ◌≢◌, ◌≤◌, IfOk, MatchOption};
+ghost use Rattle.callback_store.specs.Tables.{table_at};
 ghost use Rattle.dimension_core.specs.Setup.{setting};
 ghost use Rattle.neighbourhood.specs.View.{IsViewOf};
 ghost use Rattle.neighbourhood.specs.Best.{IsBest, IsIdle};
+ghost use Rattle.neighbourhood.specs.Kept.{AreKept};
 ghost use Rattle.neighbourhood.specs.Laws.{Laws};
+ghost use Rattle.neighbourhood.specs.Sides.{IsSide, AreTwoWays, IsAlong};
+ghost use Rattle.neighbourhood.specs.Ways.{AreStops};
 
 use crate::cross::best_cross;
 use crate::hops::stops_of;
-use crate::kept::{kept_alone, kept_between};
+use crate::kept::{Kept, kept_alone};
 use crate::laws::laws_below;
 use crate::reverse::best_reverse;
 use crate::shift::{best_shift, best_shift_inside};
+use crate::sides::{Along, Side, Ways, along_of, side_of, ways_among, ways_between};
 use crate::swap::{best_swap, best_swap_inside};
-use crate::table::{edges_in, edges_of, sums_in, table_of, turned_of};
 use callback_store::Meter;
 use dimension_core::Setup;
 use move_core::Move;
 use pin_core::View;
 use std::alloc::{AllocError, Global};
+
+/// The best move inside a vehicle, by what is gathered of it.
+fn best_of_one(
+    view: &View,
+    setup: &Setup,
+    v: u32,
+    skip: &[Move],
+    from: &[u32],
+    ways: &Ways,
+    along: &Along,
+    kept: &Kept,
+    meter: &mut Meter,
+) -> Option<(Move, u64)>
+    requires laws { Laws }
+    requires view { IsViewOf (setting setup.now) view.now }
+    requires from { AreStops (setting setup.now).customers view.now.routes v from.now }
+    requires ways { AreTwoWays (table_at (setting setup.now).tables (setting setup.now).cost) from.now from.now ways.now }
+    requires along { IsAlong (table_at (setting setup.now).tables (setting setup.now).cost) from.now along.now }
+    requires kept { AreKept (setting setup.now) view.now.routes v v kept.now }
+    ensures { MatchOption result (IsIdle (setting setup.now) view.now skip.now v v) (λ p. IsBest (setting setup.now) view.now skip.now v v p.0 p.1) }
+{
+    let edges = &along.edges;
+    let (out, into) = (&ways.out, &ways.into);
+    let shifted = best_shift_inside(
+        view, setup, skip, v, from, edges, out, into, kept, None, meter,
+    );
+    let swapped = best_swap_inside(
+        view, setup, skip, v, from, edges, out, into, kept, shifted, meter,
+    );
+    let (sums, back_sums) = (&along.sums, &along.back_sums);
+    best_reverse(
+        view, setup, skip, v, from, edges, sums, back_sums, out, kept, swapped, meter,
+    )
+}
 
 /// The best move inside a vehicle.
 fn best_inside(
@@ -34,22 +72,47 @@ fn best_inside(
 {
     let mut meter = Meter::new();
     let from = stops_of(alloc, view, setup, v)?;
-    let out = table_of(alloc, setup, false, &from, &from, &mut meter)?;
-    let into = turned_of(alloc, setup, &from, &out)?;
-    let edges = edges_in(alloc, setup, &from, &out)?;
-    let sums = sums_in(alloc, setup, false, &from, &out)?;
-    let back_sums = sums_in(alloc, setup, true, &from, &out)?;
+    let ways = ways_among(alloc, setup, &from, &mut meter)?;
+    let along = along_of(alloc, setup, &from, &ways.out)?;
     let kept = kept_alone(alloc, view, setup, v, &mut meter)?;
-    let shifted = best_shift_inside(
-        view, setup, skip, v, &from, &edges, &out, &into, &kept, None, &mut meter,
+    Ok(best_of_one(
+        view, setup, v, skip, &from, &ways, &along, &kept, &mut meter,
+    ))
+}
+
+/// The best move between two vehicles, by what is gathered of them.
+fn best_of_two(
+    view: &View,
+    setup: &Setup,
+    v: u32,
+    w: u32,
+    skip: &[Move],
+    from: &Side,
+    to: &Side,
+    ways: &Ways,
+    meter: &mut Meter,
+) -> Option<(Move, u64)>
+    requires laws { Laws }
+    requires view { IsViewOf (setting setup.now) view.now }
+    requires apart { v ≢ w }
+    requires from { IsSide (setting setup.now) view.now.routes v w from.now }
+    requires to { IsSide (setting setup.now) view.now.routes w v to.now }
+    requires ways { AreTwoWays (table_at (setting setup.now).tables (setting setup.now).cost) from.now.stops to.now.stops ways.now }
+    ensures { MatchOption result (IsIdle (setting setup.now) view.now skip.now v w) (λ p. IsBest (setting setup.now) view.now skip.now v w p.0 p.1) }
+{
+    let (a, b) = (&from.stops, &to.stops);
+    let (a_edges, b_edges) = (&from.edges, &to.edges);
+    let (out, into) = (&ways.out, &ways.into);
+    let (v_kept, w_kept) = (&from.kept, &to.kept);
+    let shifted = best_shift(
+        view, setup, skip, v, w, a, b, a_edges, b_edges, out, into, v_kept, w_kept, None, meter,
     );
-    let swapped = best_swap_inside(
-        view, setup, skip, v, &from, &edges, &out, &into, &kept, shifted, &mut meter,
+    let swapped = best_swap(
+        view, setup, skip, v, w, a, b, a_edges, b_edges, out, into, v_kept, w_kept, shifted, meter,
     );
-    let reversed = best_reverse(
-        view, setup, skip, v, &from, &edges, &sums, &back_sums, &out, &kept, swapped, &mut meter,
-    );
-    Ok(reversed)
+    best_cross(
+        view, setup, skip, v, w, a, b, a_edges, b_edges, out, into, v_kept, w_kept, swapped, meter,
+    )
 }
 
 /// The best move between two vehicles.
@@ -69,66 +132,10 @@ fn best_between(
     ensures { IfOk result (λ best. MatchOption best (IsIdle (setting setup.now) view.now skip.now v w) (λ p. IsBest (setting setup.now) view.now skip.now v w p.0 p.1)) }
 {
     let mut meter = Meter::new();
-    let from = stops_of(alloc, view, setup, v)?;
-    let to = stops_of(alloc, view, setup, w)?;
-    let from_edges = edges_of(alloc, setup, &from, &mut meter)?;
-    let to_edges = edges_of(alloc, setup, &to, &mut meter)?;
-    let out = table_of(alloc, setup, false, &from, &to, &mut meter)?;
-    let into = table_of(alloc, setup, true, &from, &to, &mut meter)?;
-    let v_kept = kept_between(alloc, view, setup, v, w, &mut meter)?;
-    let w_kept = kept_between(alloc, view, setup, w, v, &mut meter)?;
-    let shifted = best_shift(
-        view,
-        setup,
-        skip,
-        v,
-        w,
-        &from,
-        &to,
-        &from_edges,
-        &to_edges,
-        &out,
-        &into,
-        &v_kept,
-        &w_kept,
-        None,
-        &mut meter,
-    );
-    let swapped = best_swap(
-        view,
-        setup,
-        skip,
-        v,
-        w,
-        &from,
-        &to,
-        &from_edges,
-        &to_edges,
-        &out,
-        &into,
-        &v_kept,
-        &w_kept,
-        shifted,
-        &mut meter,
-    );
-    let crossed = best_cross(
-        view,
-        setup,
-        skip,
-        v,
-        w,
-        &from,
-        &to,
-        &from_edges,
-        &to_edges,
-        &out,
-        &into,
-        &v_kept,
-        &w_kept,
-        swapped,
-        &mut meter,
-    );
-    Ok(crossed)
+    let from = side_of(alloc, view, setup, v, w, &mut meter)?;
+    let to = side_of(alloc, view, setup, w, v, &mut meter)?;
+    let ways = ways_between(alloc, setup, &from.stops, &to.stops, &mut meter)?;
+    Ok(best_of_two(view, setup, v, w, skip, &from, &to, &ways, &mut meter))
 }
 
 /// The best move near two vehicles, or inside one, and what it saves; none where no move counts: of the shifts of at most three

@@ -4,6 +4,7 @@ use Rattle.dimension_core.specs.Setup.{setting}
 use Rattle.plan_core.specs.Plan.{route_at}
 use Rattle.move_core.specs.declared.moves.Move.TheVariants.{Cross}
 use Rattle.neighbourhood.specs.Search.{IsBestSoFar}
+use Rattle.neighbourhood.proofs.Possible.{cross_can}
 use Rattle.neighbourhood.proofs.Tabled.{row_of, row_room, cross_by, cross_tabled}
 use Rattle.neighbourhood.proofs.Orders.{cross_none}
 use Rattle.neighbourhood.proofs.cross.cross_over.Goals.{then-last, else-last}
@@ -11,6 +12,23 @@ use Rattle.neighbourhood.proofs.cross.cross_over.Goals as goal
 
 pub row-next-requires : goal.row-next-requires
 row-next-requires g c = record { high = row_room true (table_at (setting c.args.setup.now).tables (setting c.args.setup.now).cost) c.args.from.now c.args.to.now c.args.into.now (c.args.keep + 1) c.requires.into (let p = c.requires.keep in omega arith) }
+
+pub cross_row-requires-clause-possible : goal.cross_row-requires-clause-possible
+cross_row-requires-clause-possible g c =
+    let r = c.requires in
+    let sized = r.from.sized in
+    let wide = r.to.sized in
+    let fit = r.keep in
+    λ l h.
+    let few : l + 1 < length c.args.to.now = elim c.if-last.branch [
+      | then-last w ↦ let e = w.end-is in omega arith
+      | else-last w ↦ let e = w.end-is in omega arith
+    ] in
+    let some : (c.args.keep < length (route_at c.args.view.now.routes c.args.v)) ⊎ (l < length (route_at c.args.view.now.routes c.args.w)) = elim c.if-last.branch [
+      | then-last w ↦ let e = w.end-is in inr (omega arith)
+      | else-last w ↦ let o = w.if-last.false in inl (omega arith)
+    ] in
+    cross_can r.laws (setting c.args.setup.now).customers c.args.view.now.routes c.args.v c.args.keep c.args.w l c.args.from.now c.args.to.now r.from r.to r.apart fit few some
 
 pub cross_row-requires-clause-saving : goal.cross_row-requires-clause-saving
 cross_row-requires-clause-saving g c =
@@ -30,14 +48,7 @@ cross_row-requires-clause-saving g c =
       | then-last w ↦ let e = w.end-is in inr (omega arith)
       | else-last w ↦ let o = w.if-last.false in inl (omega arith)
     ] in
-    let can = (r.laws.possible.cross s.customers c.args.view.now.routes c.args.v c.args.keep c.args.w l).1 (record {
-      vehicle = record { low = r.from.low; high = r.from.high };
-      other = record { low = r.to.low; high = r.to.high };
-      apart = r.apart;
-      kept = omega arith;
-      kept_other = omega arith;
-      some = some;
-    }) in
+    let can = cross_can r.laws s.customers c.args.view.now.routes c.args.v c.args.keep c.args.w l c.args.from.now c.args.to.now r.from r.to r.apart fit few some in
     let saving = cross_by r.laws s c.args.view.now c.args.v c.args.keep c.args.w l c.args.from.now c.args.to.now r.view.plan r.from r.to can in
     rw (f) (cross_tabled s c.args.view.now (Cross c.args.v c.args.keep c.args.w l) t c.args.from.now c.args.to.now c.args.from_edges.now c.args.to_edges.now
     c.row-here.result.now c.row-next.result.now c.args.keep l saving fit few r.from_edges r.to_edges

@@ -1,9 +1,10 @@
-use Rattle.std.proofs.Common.{◌≡◌, ◌+◌, ◌*◌, ◌++◌, [], ◌∷◌, refl, sym, subst, arith, length, List, Option, ap}
+use Rattle.std.proofs.Common.{◌≡◌, ℕ, ◌+◌, ◌*◌, ◌++◌, [], ◌∷◌, refl, sym, subst, arith, length, List, Option, ap, take}
 use Rattle.std.proofs.lemmas.Grind.{common_steps}
 use Rattle.dimension_core.specs.declared.range.Range.{Range}
 use Rattle.dimension_core.specs.Cumuls.{table_of}
 use Rattle.dimension_core.specs.Setup.{setting}
-use Rattle.neighbourhood.proofs.Keeping.{at_place, node_known, vehicle_known, served_here, AheadCells, ahead_first, ahead_more, span_on}
+use Rattle.neighbourhood.specs.Kept.{IsAhead}
+use Rattle.neighbourhood.proofs.Keeping.{cells_at, cells_row, at_place, node_known, vehicle_known, served_here, AheadCells, ahead_first, ahead_more, span_on}
 use Rattle.neighbourhood.proofs.kept.spans_ahead.Goals as goal
 
 pub loop-customer-init : goal.loop-customer-init
@@ -67,4 +68,24 @@ loop-customer-preserved g c =
       span = next;
       from = c.requires.laws.spans.last c.args.route.now c.loop-customer.customer-index h;
       known = node_known s c.loop-dimension.dimension-index _ c.dimension-item.result dims.sound (omega arith) same (c.requires.known c.loop-customer.customer-index 0 h);
+    }
+
+pub loop-dimension-preserved : goal.loop-dimension-preserved
+loop-dimension-preserved g c =
+    let last = c.loop-customer-test.false in
+    let end = c.loop-customer.auto.customer-index-end in
+    cells_row (λ k place span. IsAhead (setting c.args.setup.now) c.args.vehicle (take place c.args.route.now) k span) (length c.args.route.now + 1) c.loop-dimension.dimension-index c.loop-customer.customer-index
+    c.loop-customer.cells.items (omega arith) c.loop-customer.invariant.cells
+
+pub returns : goal.returns
+returns g c =
+    let few = ap length c.dimensions-dimension-items.ensures.value in
+    let last = c.loop-dimension-test.false in
+    let end = c.loop-dimension.auto.dimension-index-end in
+    let all : c.loop-dimension.dimension-index ≡ length (setting c.args.setup.now).dimensions = omega arith in
+    record {
+      width = refl;
+      cells = cells_at (λ k place span. IsAhead (setting c.args.setup.now) c.args.vehicle (take place c.args.route.now) k span) (length c.args.route.now + 1)
+          (c.loop-dimension.dimension-index * (length c.args.route.now + 1)) (length (setting c.args.setup.now).dimensions * (length c.args.route.now + 1)) c.loop-dimension.cells.items
+          (ap (λ (n : ℕ). n * (length c.args.route.now + 1)) all) c.loop-dimension.invariant;
     }

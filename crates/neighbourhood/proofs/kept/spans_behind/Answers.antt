@@ -1,9 +1,10 @@
-use Rattle.std.proofs.Common.{◌≡◌, ◌+◌, ◌-◌, ◌*◌, ◌++◌, [], ◌∷◌, sym, subst, arith, length, List, Option, ap}
+use Rattle.std.proofs.Common.{◌≡◌, ℕ, ◌+◌, ◌-◌, ◌*◌, ◌++◌, [], ◌∷◌, refl, sym, subst, arith, length, List, Option, ap, drop}
 use Rattle.std.proofs.lemmas.Grind.{common_steps}
 use Rattle.dimension_core.specs.declared.range.Range.{Range}
 use Rattle.dimension_core.specs.Cumuls.{table_of}
 use Rattle.dimension_core.specs.Setup.{setting}
-use Rattle.neighbourhood.proofs.Keeping.{at_place, node_known, vehicle_known, served_here, BehindCells, behind_first, behind_more, tail_none, tail_on}
+use Rattle.neighbourhood.specs.Kept.{IsBehind}
+use Rattle.neighbourhood.proofs.Keeping.{cells_at, cells_row, at_place, node_known, vehicle_known, served_here, BehindCells, behind_first, behind_more, tail_none, tail_on}
 use Rattle.neighbourhood.proofs.kept.spans_behind.Goals as goal
 
 pub loop-k-init : goal.loop-k-init
@@ -67,4 +68,24 @@ loop-k-preserved g c =
           (behind_more s c.args.vehicle c.args.route.now c.loop-dimension.dimension-index c.loop-k.k _ c.loop-k.cells.items c.dimension-item.result c.span_before-span.result h c.loop-k.invariant.cells same next);
       tail = next;
       known = node_known s c.loop-dimension.dimension-index _ c.dimension-item.result dims.sound (omega arith) same (c.requires.known (length c.args.route.now - 1 - c.loop-k.k) 0 (omega arith));
+    }
+
+pub loop-dimension-preserved : goal.loop-dimension-preserved
+loop-dimension-preserved g c =
+    let last = c.loop-k-test.false in
+    let end = c.loop-k.auto.k-end in
+    cells_row (λ k place span. IsBehind (setting c.args.setup.now) c.args.vehicle (drop (length c.args.route.now - place) c.args.route.now) k span) (length c.args.route.now + 1) c.loop-dimension.dimension-index c.loop-k.k
+    c.loop-k.cells.items (omega arith) c.loop-k.invariant.cells
+
+pub returns : goal.returns
+returns g c =
+    let few = ap length c.dimensions-dimension-items.ensures.value in
+    let last = c.loop-dimension-test.false in
+    let end = c.loop-dimension.auto.dimension-index-end in
+    let all : c.loop-dimension.dimension-index ≡ length (setting c.args.setup.now).dimensions = omega arith in
+    record {
+      width = refl;
+      cells = cells_at (λ k place span. IsBehind (setting c.args.setup.now) c.args.vehicle (drop (length c.args.route.now - place) c.args.route.now) k span) (length c.args.route.now + 1)
+          (c.loop-dimension.dimension-index * (length c.args.route.now + 1)) (length (setting c.args.setup.now).dimensions * (length c.args.route.now + 1)) c.loop-dimension.cells.items
+          (ap (λ (n : ℕ). n * (length c.args.route.now + 1)) all) c.loop-dimension.invariant;
     }

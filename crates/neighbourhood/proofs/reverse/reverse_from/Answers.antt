@@ -2,8 +2,15 @@ use Rattle.std.proofs.Common.{◌-◌, arith, false}
 use Rattle.callback_store.specs.Tables.{table_at}
 use Rattle.dimension_core.specs.Setup.{setting}
 use Rattle.move_core.specs.declared.moves.Move.TheVariants.{Reverse}
+use Rattle.neighbourhood.proofs.Possible.{reverse_can}
 use Rattle.neighbourhood.proofs.Tabled.{row_of, reverse_by, reverse_tabled}
 use Rattle.neighbourhood.proofs.reverse.reverse_from.Goals as goal
+
+pub reverse_row-requires-clause-possible : goal.reverse_row-requires-clause-possible
+reverse_row-requires-clause-possible g c =
+    let r = c.requires in
+    let fit = r.first.1 in
+    λ last l h. reverse_can r.laws (setting c.args.setup.now).customers c.args.view.now.routes c.args.v c.args.first last c.args.from.now r.from r.first.0 l (omega arith)
 
 pub reverse_row-requires-clause-saving : goal.reverse_row-requires-clause-saving
 reverse_row-requires-clause-saving g c =
@@ -15,12 +22,7 @@ reverse_row-requires-clause-saving g c =
     let fit = r.first.1 in
     let f = c.from.ensures in
     λ last l h.
-    let can = (r.laws.possible.reverse s.customers c.args.view.now.routes c.args.v c.args.first last).1 (record {
-      vehicle = record { low = r.from.low; high = r.from.high };
-      low = low;
-      order = l;
-      high = omega arith;
-    }) in
+    let can = reverse_can r.laws s.customers c.args.view.now.routes c.args.v c.args.first last c.args.from.now r.from low l (omega arith) in
     let saving = reverse_by r.laws s c.args.view.now c.args.v c.args.first last c.args.from.now r.view.plan r.from can in
     rw (f) (reverse_tabled s c.args.view.now (Reverse c.args.v c.args.first last) t c.args.from.now c.args.edges.now c.args.sums.now c.args.back_sums.now
     c.row-before.result.now c.row-here.result.now c.args.first last saving low l (omega arith) r.edges r.sums r.back_sums

@@ -2,8 +2,17 @@ use Rattle.std.proofs.Common.{◌+◌, ◌-◌, arith, true, false}
 use Rattle.callback_store.specs.Tables.{table_at}
 use Rattle.dimension_core.specs.Setup.{setting}
 use Rattle.move_core.specs.declared.moves.Move.TheVariants.{Shift}
+use Rattle.neighbourhood.proofs.Possible.{shift_can}
 use Rattle.neighbourhood.proofs.Tabled.{row_of, shift_by, shift_tabled}
 use Rattle.neighbourhood.proofs.shift.shift_over.Goals as goal
+
+pub shift_row-requires-clause-possible : goal.shift_row-requires-clause-possible
+shift_row-requires-clause-possible g c =
+    let r = c.requires in
+    let wide = r.to.sized in
+    λ at l h.
+    shift_can r.laws (setting c.args.setup.now).customers c.args.view.now.routes c.args.v c.args.place c.args.count c.args.w at c.args.from.now c.args.to.now r.from r.to r.apart
+    r.place.0 r.count.0 r.place.1 l (omega arith)
 
 pub shift_row-requires-clause-saving : goal.shift_row-requires-clause-saving
 shift_row-requires-clause-saving g c =
@@ -18,10 +27,7 @@ shift_row-requires-clause-saving g c =
     let f = c.from.ensures in
     let f2 = c.from-2.ensures in
     λ at l h.
-    let can = (r.laws.possible.shift s.customers c.args.view.now.routes c.args.v c.args.place c.args.count c.args.w at).1 (record {
-      from = record { vehicle = record { low = r.from.low; high = r.from.high }; some = some; low = low; high = omega arith };
-      onto = record { vehicle = record { low = r.to.low; high = r.to.high }; low = l; inside = λ e. absurd (r.apart e); outside = λ e. omega arith };
-    }) in
+    let can = shift_can r.laws s.customers c.args.view.now.routes c.args.v c.args.place c.args.count c.args.w at c.args.from.now c.args.to.now r.from r.to r.apart low some fit l (omega arith) in
     let saving = shift_by r.laws s c.args.view.now c.args.v c.args.place c.args.count c.args.w at c.args.from.now c.args.to.now r.view.plan r.apart r.from r.to can in
     rw (f, f2) (shift_tabled s c.args.view.now (Shift c.args.v c.args.place c.args.count c.args.w at) t c.args.from.now c.args.to.now c.args.from_edges.now c.args.to_edges.now c.row-comes.result.now c.row-goes.result.now
     c.args.place c.args.count 0 at c.hop-gained.result saving low some fit l (omega arith) r.from_edges r.to_edges

@@ -7,8 +7,25 @@ use Rattle.neighbourhood.specs.Best.{Counts, cost_after, cost_before}
 use Rattle.neighbourhood.proofs.Costs.{around_before, around_after}
 use Rattle.neighbourhood.proofs.Firsts.{best_kept}
 use Rattle.neighbourhood.proofs.Shifts.{shift_next}
+use Rattle.neighbourhood.proofs.Possible.{shift_inside_can}
 use Rattle.neighbourhood.proofs.Tabled.{row_of, shift_inside_by, shift_tabled}
 use Rattle.neighbourhood.proofs.shift.shift_within.Goals as goal
+
+pub shift_row-forwards-requires-clause-possible : goal.shift_row-forwards-requires-clause-possible
+shift_row-forwards-requires-clause-possible g c =
+    let r = c.requires in
+    let fit = r.place.1 in
+    λ at l h.
+    shift_inside_can r.laws (setting c.args.setup.now).customers c.args.view.now.routes c.args.v c.args.place c.args.count at c.args.from.now r.from
+    r.place.0 r.count.0 fit l (omega arith) (λ e. omega arith)
+
+pub shift_row-requires-clause-possible : goal.shift_row-requires-clause-possible
+shift_row-requires-clause-possible g c =
+    let r = c.requires in
+    let fit = r.place.1 in
+    λ at l h.
+    shift_inside_can r.laws (setting c.args.setup.now).customers c.args.view.now.routes c.args.v c.args.place c.args.count at c.args.from.now r.from
+    r.place.0 r.count.0 fit (omega arith) (omega arith) (λ e. omega arith)
 
 pub shift_row-forwards-requires-clause-saving : goal.shift_row-forwards-requires-clause-saving
 shift_row-forwards-requires-clause-saving g c =
@@ -22,10 +39,7 @@ shift_row-forwards-requires-clause-saving g c =
     let f = c.from.ensures in
     let f2 = c.from-2.ensures in
     λ at l h.
-    let can = (r.laws.possible.shift s.customers c.args.view.now.routes c.args.v c.args.place c.args.count c.args.v at).1 (record {
-      from = record { vehicle = record { low = r.from.low; high = r.from.high }; some = some; low = low; high = omega arith };
-      onto = record { vehicle = record { low = r.from.low; high = r.from.high }; low = l; inside = λ e. (omega arith, λ e. omega arith); outside = λ o. absurd (o refl) };
-    }) in
+    let can = shift_inside_can r.laws s.customers c.args.view.now.routes c.args.v c.args.place c.args.count at c.args.from.now r.from low some fit l (omega arith) (λ e. omega arith) in
     let saving = shift_inside_by r.laws s c.args.view.now c.args.v c.args.place c.args.count 0 at c.args.from.now r.view.plan r.from can
     (around_before (route_at c.args.view.now.routes c.args.v) c.args.place c.args.count at low (omega arith) h) in
     rw (f, f2) (shift_tabled s c.args.view.now (Shift c.args.v c.args.place c.args.count c.args.v at) t c.args.from.now c.args.from.now c.args.edges.now c.args.edges.now c.row-comes.result.now c.row-goes.result.now
@@ -46,10 +60,7 @@ shift_row-requires-clause-saving g c =
     let f = c.from.ensures in
     let f2 = c.from-2.ensures in
     λ at l h.
-    let can = (r.laws.possible.shift s.customers c.args.view.now.routes c.args.v c.args.place c.args.count c.args.v at).1 (record {
-      from = record { vehicle = record { low = r.from.low; high = r.from.high }; some = some; low = low; high = omega arith };
-      onto = record { vehicle = record { low = r.from.low; high = r.from.high }; low = omega arith; inside = λ e. (omega arith, λ e. omega arith); outside = λ o. absurd (o refl) };
-    }) in
+    let can = shift_inside_can r.laws s.customers c.args.view.now.routes c.args.v c.args.place c.args.count at c.args.from.now r.from low some fit (omega arith) (omega arith) (λ e. omega arith) in
     let saving = shift_inside_by r.laws s c.args.view.now c.args.v c.args.place c.args.count c.args.count at c.args.from.now r.view.plan r.from can
     (around_after (route_at c.args.view.now.routes c.args.v) c.args.place c.args.count at low (omega arith) (omega arith)) in
     rw (f, f2) (shift_tabled s c.args.view.now (Shift c.args.v c.args.place c.args.count c.args.v at) t c.args.from.now c.args.from.now c.args.edges.now c.args.edges.now c.row-comes.result.now c.row-goes.result.now

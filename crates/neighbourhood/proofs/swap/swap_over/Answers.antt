@@ -2,6 +2,7 @@ use Rattle.std.proofs.Common.{◌+◌, ◌-◌, arith, true, false}
 use Rattle.callback_store.specs.Tables.{table_at}
 use Rattle.dimension_core.specs.Setup.{setting}
 use Rattle.move_core.specs.declared.moves.Move.TheVariants.{Swap}
+use Rattle.neighbourhood.proofs.Possible.{swap_can}
 use Rattle.neighbourhood.proofs.Tabled.{row_of, row_room, swap_by, swap_tabled}
 use Rattle.neighbourhood.proofs.swap.swap_over.Goals as goal
 
@@ -10,6 +11,14 @@ row-next-requires g c = record { high = row_room true (table_at (setting c.args.
 
 pub row-back-requires : goal.row-back-requires
 row-back-requires g c = record { high = row_room true (table_at (setting c.args.setup.now).tables (setting c.args.setup.now).cost) c.args.from.now c.args.to.now c.args.into.now c.args.place c.requires.into (let p = c.requires.place.1 in omega arith) }
+
+pub swap_row-requires-clause-possible : goal.swap_row-requires-clause-possible
+swap_row-requires-clause-possible g c =
+    let r = c.requires in
+    let wide = r.to.sized in
+    λ at l h.
+    swap_can r.laws (setting c.args.setup.now).customers c.args.view.now.routes c.args.v c.args.place c.args.w at c.args.from.now c.args.to.now r.from r.to (λ e. absurd (r.apart e))
+    r.place.0 r.place.1 l (omega arith)
 
 pub swap_row-requires-clause-saving : goal.swap_row-requires-clause-saving
 swap_row-requires-clause-saving g c =
@@ -23,13 +32,7 @@ swap_row-requires-clause-saving g c =
     let f = c.from.ensures in
     let f2 = c.from-2.ensures in
     λ at l h.
-    let can = (r.laws.possible.swap s.customers c.args.view.now.routes c.args.v c.args.place c.args.w at).1 (record {
-      vehicle = record { low = r.from.low; high = r.from.high };
-      other = record { low = r.to.low; high = r.to.high };
-      place = record { low = low; high = omega arith };
-      at = record { low = l; high = omega arith };
-      apart = λ e. absurd (r.apart e);
-    }) in
+    let can = swap_can r.laws s.customers c.args.view.now.routes c.args.v c.args.place c.args.w at c.args.from.now c.args.to.now r.from r.to (λ e. absurd (r.apart e)) low fit l (omega arith) in
     let saving = swap_by r.laws s c.args.view.now c.args.v c.args.place c.args.w at c.args.from.now c.args.to.now r.view.plan r.apart r.from r.to can in
     rw (f, f2) (swap_tabled s c.args.view.now (Swap c.args.v c.args.place c.args.w at) t c.args.from.now c.args.to.now c.args.from_edges.now c.args.to_edges.now
     c.row-before.result.now c.row-here.result.now c.row-next.result.now c.row-back.result.now

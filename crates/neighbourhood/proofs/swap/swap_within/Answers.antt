@@ -3,6 +3,7 @@ use Rattle.callback_store.specs.Tables.{table_at}
 use Rattle.dimension_core.specs.Setup.{setting}
 use Rattle.move_core.specs.declared.moves.Move.TheVariants.{Swap}
 use Rattle.neighbourhood.specs.Search.{IsBestSoFar}
+use Rattle.neighbourhood.proofs.Possible.{swap_can}
 use Rattle.neighbourhood.proofs.Tabled.{row_of, row_room, swap_inside_by, swap_tabled}
 use Rattle.neighbourhood.proofs.swap.swap_within.Goals as goal
 
@@ -16,6 +17,13 @@ returns-then-index-from g c =
     let e : c.args.place + 1 ≡ length c.args.from.now - 1 = omega arith in
     subst (λ (k : ℕ). IsBestSoFar (setting c.args.setup.now) c.args.view.now c.args.skip.now c.args.v c.args.v (2 ∷ c.args.v ∷ c.args.place ∷ c.args.v ∷ k ∷ []) c.args.best) e c.requires.best
 
+pub swap_row-requires-clause-possible : goal.swap_row-requires-clause-possible
+swap_row-requires-clause-possible g c =
+    let r = c.requires in
+    λ at l h.
+    swap_can r.laws (setting c.args.setup.now).customers c.args.view.now.routes c.args.v c.args.place c.args.v at c.args.from.now c.args.from.now r.from r.from (λ e k. omega arith)
+    r.place.0 r.place.1 (omega arith) (omega arith)
+
 pub swap_row-requires-clause-saving : goal.swap_row-requires-clause-saving
 swap_row-requires-clause-saving g c =
     let r = c.requires in
@@ -27,13 +35,7 @@ swap_row-requires-clause-saving g c =
     let f = c.from.ensures in
     let f2 = c.from-2.ensures in
     λ at l h.
-    let can = (r.laws.possible.swap s.customers c.args.view.now.routes c.args.v c.args.place c.args.v at).1 (record {
-      vehicle = record { low = r.from.low; high = r.from.high };
-      other = record { low = r.from.low; high = r.from.high };
-      place = record { low = low; high = omega arith };
-      at = record { low = omega arith; high = omega arith };
-      apart = λ e k. omega arith;
-    }) in
+    let can = swap_can r.laws s.customers c.args.view.now.routes c.args.v c.args.place c.args.v at c.args.from.now c.args.from.now r.from r.from (λ e k. omega arith) low fit (omega arith) (omega arith) in
     let saving = swap_inside_by r.laws s c.args.view.now c.args.v c.args.place at c.args.from.now r.view.plan r.from can (omega arith) in
     rw (f, f2) (swap_tabled s c.args.view.now (Swap c.args.v c.args.place c.args.v at) t c.args.from.now c.args.from.now c.args.edges.now c.args.edges.now
     c.row-before.result.now c.row-here.result.now c.row-next.result.now c.row-back.result.now

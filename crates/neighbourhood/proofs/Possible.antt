@@ -1,0 +1,59 @@
+-- Moves whose numbers are in range, by the stops of their vehicles.
+use Rattle.std.proofs.Common.{◌≡◌, ◌≢◌, ℕ, ◌+◌, ◌<◌, ◌≤◌, ◌⊎◌, refl, arith, List, length, true}
+use Rattle.plan_core.specs.Plan.{route_at}
+use Rattle.move_core.specs.declared.moves.Move.TheVariants.{Shift, Swap, Reverse, Cross}
+use Rattle.move_core.specs.Moves.{is_possible}
+use Rattle.neighbourhood.specs.Ways.{AreStops}
+use Rattle.neighbourhood.specs.Laws.{Laws}
+
+module _ (law : Laws) (n : ℕ) (routes : List (List ℕ)) where
+  pub shift_can : (v p m w at : ℕ) (from to : List ℕ) → AreStops n routes v from → AreStops n routes w to → v ≢ w
+      → 1 ≤ p → 1 ≤ m → p + m < length from → 1 ≤ at → at < length to → is_possible n routes (Shift v p m w at) ≡ true
+  shift_can v p m w at from to a b apart low some fit l h =
+      let sized = a.sized in
+      let wide = b.sized in
+      (law.possible.shift n routes v p m w at).1 (record {
+        from = record { vehicle = record { low = a.low; high = a.high }; some = some; low = low; high = omega arith };
+        onto = record { vehicle = record { low = b.low; high = b.high }; low = l; inside = λ e. absurd (apart e); outside = λ e. omega arith };
+      })
+
+  pub shift_inside_can : (v p m at : ℕ) (from : List ℕ) → AreStops n routes v from
+      → 1 ≤ p → 1 ≤ m → p + m < length from → 1 ≤ at → at + m < length from → at ≢ p → is_possible n routes (Shift v p m v at) ≡ true
+  shift_inside_can v p m at from a low some fit l h moves =
+      let sized = a.sized in
+      (law.possible.shift n routes v p m v at).1 (record {
+        from = record { vehicle = record { low = a.low; high = a.high }; some = some; low = low; high = omega arith };
+        onto = record { vehicle = record { low = a.low; high = a.high }; low = l; inside = λ e. (omega arith, moves); outside = λ o. absurd (o refl) };
+      })
+
+  pub swap_can : (v p w q : ℕ) (from to : List ℕ) → AreStops n routes v from → AreStops n routes w to → (v ≡ w → p ≢ q)
+      → 1 ≤ p → p + 1 < length from → 1 ≤ q → q + 1 < length to → is_possible n routes (Swap v p w q) ≡ true
+  swap_can v p w q from to a b apart lp hp lq hq =
+      let sized = a.sized in
+      let wide = b.sized in
+      (law.possible.swap n routes v p w q).1 (record {
+        vehicle = record { low = a.low; high = a.high };
+        other = record { low = b.low; high = b.high };
+        place = record { low = lp; high = omega arith };
+        at = record { low = lq; high = omega arith };
+        apart = apart;
+      })
+
+  pub reverse_can : (v i j : ℕ) (from : List ℕ) → AreStops n routes v from → 1 ≤ i → i < j → j + 1 < length from → is_possible n routes (Reverse v i j) ≡ true
+  reverse_can v i j from a low order h =
+      let sized = a.sized in
+      (law.possible.reverse n routes v i j).1 (record { vehicle = record { low = a.low; high = a.high }; low = low; order = order; high = omega arith })
+
+  pub cross_can : (v k w l : ℕ) (from to : List ℕ) → AreStops n routes v from → AreStops n routes w to → v ≢ w
+      → k + 1 < length from → l + 1 < length to → (k < length (route_at routes v)) ⊎ (l < length (route_at routes w)) → is_possible n routes (Cross v k w l) ≡ true
+  cross_can v k w l from to a b apart hk hl some =
+      let sized = a.sized in
+      let wide = b.sized in
+      (law.possible.cross n routes v k w l).1 (record {
+        vehicle = record { low = a.low; high = a.high };
+        other = record { low = b.low; high = b.high };
+        apart = apart;
+        kept = omega arith;
+        kept_other = omega arith;
+        some = some;
+      })

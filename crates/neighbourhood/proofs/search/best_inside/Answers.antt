@@ -1,9 +1,0 @@
-use Rattle.std.proofs.Common.{refl}
-use Rattle.dimension_core.specs.Setup.{setting}
-use Rattle.neighbourhood.proofs.Orders.{best_of_all, no_crosses}
-use Rattle.neighbourhood.proofs.search.best_inside.Goals as goal
-
-pub returns : goal.returns
-returns g c =
-    best_of_all c.requires.laws (setting c.args.setup.now) c.args.view.now c.args.skip.now c.args.v c.args.v c.best_reverse-reversed.result
-    (no_crosses c.requires.laws (setting c.args.setup.now) c.args.view.now c.args.skip.now c.args.v c.args.v c.best_reverse-reversed.result refl c.best_reverse-reversed.ensures)

@@ -1,0 +1,142 @@
+//! What is gathered before a search: the stops of the vehicles, the ways between them, and the cumuls along their routes. Each group is
+//! made by one function, so that a search owns few values.
+ghost use Rattle.std.specs.Prelude.{◌≡◌, ◌≤◌, ◌*◌, ◌∷◌, ℕ, false, List, length, All, IfOk};
+ghost use Rattle.callback_store.specs.Tables.{table_at};
+ghost use Rattle.dimension_core.specs.Setup.{setting};
+ghost use Rattle.neighbourhood.specs.Laws.{Laws};
+ghost use Rattle.neighbourhood.specs.Sides.{IsSide, AreTwoWays, IsAlong};
+ghost use Rattle.neighbourhood.specs.View.{IsViewOf};
+ghost use Rattle.neighbourhood.specs.Ways.{AreHops};
+
+use crate::hops::stops_of;
+use crate::kept::{Kept, kept_between};
+use crate::table::{edges_in, edges_of, sums_in, table_of, turned_of};
+use callback_store::Meter;
+use dimension_core::Setup;
+use pin_core::View;
+use std::alloc::{AllocError, Global};
+use std::marker::Model;
+
+/// A vehicle beside another one: its stops, the ways from each to the next, and what is kept.
+#[derive(Drop)]
+pub(crate) struct Side {
+    pub(crate) stops: Vec<u32>,
+    pub(crate) edges: Vec<u32>,
+    pub(crate) kept: Kept,
+}
+
+impl Model for Side {
+    ghost use Rattle.neighbourhood.specs.Sides.{SideState};
+
+    ghost Value = { SideState };
+
+    ghost view = { λ a. record { stops = a.stops.items; edges = a.edges.items; kept = a.kept } };
+}
+
+/// The ways from some stops to others, and back.
+#[derive(Drop)]
+pub(crate) struct Ways {
+    pub(crate) out: Vec<u32>,
+    pub(crate) into: Vec<u32>,
+}
+
+impl Model for Ways {
+    ghost use Rattle.neighbourhood.specs.Sides.{TwoWays};
+
+    ghost Value = { TwoWays };
+
+    ghost view = { λ a. record { out = a.out.items; into = a.into.items } };
+}
+
+/// The ways along the stops of a vehicle: from each to the next, and those over the first ones, as they are driven and driven back.
+#[derive(Drop)]
+pub(crate) struct Along {
+    pub(crate) edges: Vec<u32>,
+    pub(crate) sums: Vec<u64>,
+    pub(crate) back_sums: Vec<u64>,
+}
+
+impl Model for Along {
+    ghost use Rattle.neighbourhood.specs.Sides.{AlongState};
+
+    ghost Value = { AlongState };
+
+    ghost view = { λ a. record { edges = a.edges.items; sums = a.sums.items; back_sums = a.back_sums.items } };
+}
+
+/// A vehicle beside another one.
+pub(crate) fn side_of(
+    alloc: Global,
+    view: &View,
+    setup: &Setup,
+    v: u32,
+    w: u32,
+    meter: &mut Meter,
+) -> Result<Side, AllocError>
+    requires laws { Laws }
+    requires view { IsViewOf (setting setup.now) view.now }
+    requires v { (1 ≤ v) × (v ≤ (setting setup.now).vehicles) }
+    requires w { (1 ≤ w) × (w ≤ (setting setup.now).vehicles) }
+    ensures { IfOk result (λ side. IsSide (setting setup.now) view.now.routes v w side) }
+{
+    let stops = stops_of(alloc, view, setup, v)?;
+    let edges = edges_of(alloc, setup, &stops, meter)?;
+    let kept = kept_between(alloc, view, setup, v, w, meter)?;
+    Ok(Side { stops, edges, kept })
+}
+
+/// The ways from some stops to others, and back.
+pub(crate) fn ways_between(
+    alloc: Global,
+    setup: &Setup,
+    from: &[u32],
+    to: &[u32],
+    meter: &mut Meter,
+) -> Result<Ways, AllocError>
+    requires from { All (λ c. c ≤ (setting setup.now).customers) from.now }
+    requires to { All (λ c. c ≤ (setting setup.now).customers) to.now }
+    requires short { (length from.now ≤ 1002) × (length to.now ≤ 1002) }
+    ensures { IfOk result (λ ways. AreTwoWays (table_at (setting setup.now).tables (setting setup.now).cost) from.now to.now ways) }
+{
+    let out = table_of(alloc, setup, false, from, to, meter)?;
+    let into = table_of(alloc, setup, true, from, to, meter)?;
+    Ok(Ways { out, into })
+}
+
+/// The ways between some stops, each asked once.
+pub(crate) fn ways_among(
+    alloc: Global,
+    setup: &Setup,
+    stops: &[u32],
+    meter: &mut Meter,
+) -> Result<Ways, AllocError>
+    requires known { All (λ c. c ≤ (setting setup.now).customers) stops.now }
+    requires short { length stops.now ≤ 1002 }
+    ensures { IfOk result (λ ways. AreTwoWays (table_at (setting setup.now).tables (setting setup.now).cost) stops.now stops.now ways) }
+{
+    let out = table_of(alloc, setup, false, stops, stops, meter)?;
+    let into = turned_of(alloc, setup, stops, &out)?;
+    Ok(Ways { out, into })
+}
+
+/// The ways along some stops, by the ways between them all.
+pub(crate) fn along_of(
+    alloc: Global,
+    setup: &Setup,
+    stops: &[u32],
+    cells: &[u32],
+) -> Result<Along, AllocError>
+    requires cells { AreHops false (table_at (setting setup.now).tables (setting setup.now).cost) stops.now stops.now (length stops.now * length stops.now) cells.now }
+    requires depot { (rest : List ℕ) × (stops.now ≡ 0 ∷ rest) }
+    requires short { length stops.now ≤ 1002 }
+    ensures { IfOk result (λ along. IsAlong (table_at (setting setup.now).tables (setting setup.now).cost) stops.now along) }
+{
+    let edges = edges_in(alloc, setup, stops, cells)?;
+    let sums = sums_in(alloc, setup, false, stops, cells)?;
+    let back_sums = sums_in(alloc, setup, true, stops, cells)?;
+    Ok(Along {
+        edges,
+        sums,
+        back_sums,
+    })
+}
