@@ -78,7 +78,11 @@ pub struct Outcome {
 
 /// Hands a call in as a turn of desk 1.
 fn submit(board: &mut Board, turn: u32, call: Call, meter: &mut Meter) -> Result<Reply, Fault> {
-    let event = Event { desk: 1, turn, call };
+    let event = Event {
+        desk: 1,
+        turn,
+        call,
+    };
     board.core.apply(&board.setup, event, meter)
 }
 
@@ -99,7 +103,9 @@ fn grant(root: Name, operation: Operation, range: ObjectRange) -> Call {
 fn plan(alloc: Global, root: Name) -> Result<Outcome, Stop> {
     // what is loaded at each node, and how far it is from each to each
     let demand = vec![in alloc; 0u64, 4, 3, 3]?;
-    let travel = vec![in alloc; 0u64, 10, 20, 30, 10, 0, 10, 20, 20, 10, 0, 10, 30, 20, 10, 0]?;
+    let travel = vec![in alloc;
+        0u64, 10, 20, 30, 10, 0, 10, 20, 20, 10, 0, 10, 30, 20, 10, 0,
+    ]?;
     let left = Box::new(
         alloc,
         move |i: u32| -> u64
@@ -132,10 +138,20 @@ fn plan(alloc: Global, root: Name) -> Result<Outcome, Stop> {
     let mut meter = Meter::new();
     let vans = ObjectRange::Vehicles { first: 1, last: 2 };
     let all = ObjectRange::Customers { first: 1, last: 3 };
-    submit(&mut board, 1, grant(root, Operation::Move, vans), &mut meter)?;
+    submit(
+        &mut board,
+        1,
+        grant(root, Operation::Move, vans),
+        &mut meter,
+    )?;
     submit(&mut board, 2, grant(root, Operation::Move, all), &mut meter)?;
     submit(&mut board, 3, grant(root, Operation::View, all), &mut meter)?;
-    submit(&mut board, 4, grant(root, Operation::View, vans), &mut meter)?;
+    submit(
+        &mut board,
+        4,
+        grant(root, Operation::View, vans),
+        &mut meter,
+    )?;
     let mv = Move::Insert {
         customer: 1,
         vehicle: 1,
