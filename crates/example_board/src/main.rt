@@ -3,7 +3,8 @@
 
 ghost use Rattle.std.specs.Prelude.{◌≡◌, ◌<◌, ◌+◌, ◌*◌, slice_index, length};
 
-use board_core::{AskFault, Board, Call, Event, Fault, Reply};
+use board_core::Board;
+use board_rules::{AskFault, Call, Event, Fault, Reply};
 use callback_store::{Meter, RegisterFault, Registry, Transit, Unary};
 use dimension_core::{Dimension, DimensionFault, Range, Setup, SetupFault};
 use move_core::Move;
@@ -18,6 +19,8 @@ use std::sync::Arc;
 pub enum Stop {
     /// The setup is refused.
     Setup,
+    /// A move was denied, or a command refused.
+    Refused,
     /// The board took a call no more.
     Board(Fault),
     /// A question was not answered.
@@ -76,14 +79,18 @@ pub struct Outcome {
     pub asks: u64,
 }
 
-/// Hands a call in as a turn of desk 1.
-fn submit(board: &mut Board, turn: u32, call: Call, meter: &mut Meter) -> Result<Reply, Fault> {
+/// Hands a call in as a turn of desk 1; whether it was done or committed, and neither denied nor refused.
+fn submit(board: &mut Board, turn: u32, call: Call, meter: &mut Meter) -> Result<bool, Fault> {
     let event = Event {
         desk: 1,
         turn,
         call,
     };
-    board.core.apply(&board.setup, event, meter)
+    match board.core.apply(&board.setup, event, meter) {
+        Ok(Reply::Done | Reply::Session(_) | Reply::Committed(_)) => Ok(true),
+        Ok(Reply::Denied(_) | Reply::Refused(_)) => Ok(false),
+        Err(fault) => Err(fault),
+    }
 }
 
 /// Session 1's call that grants an operation to the role `root`.
@@ -99,7 +106,31 @@ fn grant(root: Name, operation: Operation, range: ObjectRange) -> Call {
     }
 }
 
-/// Two vans with room for 7, a depot and three customers along a road. Plans customer 1 on van 1, and lists.
+/// Grants what it takes, plans customer 1 on van 1, and counts the rows of a listing. The turns of a desk count from 1.
+fn play(board: &mut Board, root: Name, meter: &mut Meter) -> Result<usize, Stop> {
+    let vans = ObjectRange::Vehicles { first: 1, last: 2 };
+    let all = ObjectRange::Customers { first: 1, last: 3 };
+    let may_move = submit(board, 1, grant(root, Operation::Move, vans), meter)?
+        && submit(board, 2, grant(root, Operation::Move, all), meter)?;
+    let may_view = submit(board, 3, grant(root, Operation::View, all), meter)?
+        && submit(board, 4, grant(root, Operation::View, vans), meter)?;
+    let mv = Move::Insert {
+        customer: 1,
+        vehicle: 1,
+        place: 1,
+    };
+    let call = Call::Propose {
+        session: 1,
+        base: 0,
+        mv,
+    };
+    if !may_move || !may_view || !submit(board, 5, call, meter)? {
+        return Err(Stop::Refused);
+    }
+    Ok(board.list(1)?.len())
+}
+
+/// Opens a board of two vans with room for 7, a depot and three customers along a road.
 fn plan(alloc: Global, root: Name) -> Result<Outcome, Stop> {
     // what is loaded at each node, and how far it is from each to each
     let demand = vec![in alloc; 0u64, 4, 3, 3]?;
@@ -133,40 +164,13 @@ fn plan(alloc: Global, root: Name) -> Result<Outcome, Stop> {
     let loads = Dimension::new(&registry, load, 0, caps, true, ranges)?;
     let setup = Setup::new(3, 2, registry, vec![in alloc; loads]?, way, 1000)?;
 
-    // a board with one desk, whose turns count from 1
+    // a board with one desk
     let mut board = Board::new(alloc, Arc::new(alloc, setup)?, 1)?;
     let mut meter = Meter::new();
-    let vans = ObjectRange::Vehicles { first: 1, last: 2 };
-    let all = ObjectRange::Customers { first: 1, last: 3 };
-    submit(
-        &mut board,
-        1,
-        grant(root, Operation::Move, vans),
-        &mut meter,
-    )?;
-    submit(&mut board, 2, grant(root, Operation::Move, all), &mut meter)?;
-    submit(&mut board, 3, grant(root, Operation::View, all), &mut meter)?;
-    submit(
-        &mut board,
-        4,
-        grant(root, Operation::View, vans),
-        &mut meter,
-    )?;
-    let mv = Move::Insert {
-        customer: 1,
-        vehicle: 1,
-        place: 1,
-    };
-    let call = Call::Propose {
-        session: 1,
-        base: 0,
-        mv,
-    };
-    submit(&mut board, 5, call, &mut meter)?;
-    let rows = board.list(1)?;
+    let rows = play(&mut board, root, &mut meter)?;
     Ok(Outcome {
         version: board.version(),
-        rows: rows.len(),
+        rows,
         asks: meter.asks,
     })
 }

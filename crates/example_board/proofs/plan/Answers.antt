@@ -6,7 +6,7 @@ use Rattle.example_board.proofs.plan.OwnLists.{own-1, at-1-1, own-2, at-2-1}
 use Rattle.example_board.proofs.plan.Goals as goal
 
 pub new-demands-requires-clause-table : goal.new-demands-requires-clause-table
-new-demands-requires-clause-table g c =
+new-demands-requires-clause-table c =
     let m = c.into_dyn_box.ensures.1 in (
       0 ∷ 4 ∷ 3 ∷ 3 ∷ [],
       record {
@@ -18,7 +18,7 @@ new-demands-requires-clause-table g c =
     )
 
 pub new-travels-requires-clause-table : goal.new-travels-requires-clause-table
-new-travels-requires-clause-table g c =
+new-travels-requires-clause-table c =
     let m = c.into_dyn_box-2.ensures.1 in (
       0 ∷ 10 ∷ 20 ∷ 30 ∷ 10 ∷ 0 ∷ 10 ∷ 20 ∷ 20 ∷ 10 ∷ 0 ∷ 10 ∷ 30 ∷ 20 ∷ 10 ∷ 0 ∷ [],
       record {
