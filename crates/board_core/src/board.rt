@@ -78,6 +78,12 @@ impl Board {
         ensures makes { IfOk result (Makes (history self.old).opening.setting) }
         ensures out_of_turn { IsErrOf result Fault.OutOfTurn ↔ (is_turn (history self.old).opening.desks (history self.old).entries event.desk event.turn ≡ false) }
         ensures full { IsErrOf result Fault.Full ↔ ((is_turn (history self.old).opening.desks (history self.old).entries event.desk event.turn ≡ true) × (length (history self.old).entries ≡ (history self.old).opening.setting.max_events)) }
+        ensures work { IfOk result (λ prepared. WorksAtMost meter.old meter.new
+            (reply_asks (call_asks (history self.old).opening.setting (state_of (history self.old)).routes event.call) prepared.entry.reply)
+            (call_probes (state_of (history self.old)).pins (state_of (history self.old)).routes event.call)) }
+        ensures most { WorksAtMost meter.old meter.new
+            (call_asks (history self.old).opening.setting (state_of (history self.old)).routes event.call)
+            (call_probes (state_of (history self.old)).pins (state_of (history self.old)).routes event.call) }
     {
         self.core.prepare(&self.setup, event, meter)
     }
