@@ -14,8 +14,8 @@ Status:
   3  a file or an instance is at fault, or a board could not be opened or run on
 
 What ends a run early is told on standard error:
-  dispatch: cannot read PATH             the file is not there, may not be read, is a folder, fails
-                                         while it is read, or has too many bytes for an instance
+  dispatch: cannot read PATH             the file is not there or may not be read; of an INSTANCE also
+                                         a folder, one that fails while it is read, or is too long
   dispatch: instance fault KIND line N   `dispatch check --help` has the format
   dispatch: open fault                   memory ran out before the script
   dispatch: run fault KIND               read, write, long-line or no-memory, at some line";
@@ -88,10 +88,11 @@ Lines of a script, SESSION COMMAND ARGUMENTS:
   OBJECT     board, vehicle V, customer C
   RANGE      board, vehicle FIRST LAST, customer FIRST LAST, both ends included
 
-  Words are parted by spaces and tabs, and are in small letters. Blank lines, and lines that begin
-  with #, are skipped. A name is 1 to 32 letters, digits, _, - and dots; a number 1 to 10 digits, at
-  most 4294967295. Session 1 is there at first: its user and role are root, which may administer the
-  policy and nothing else until it grants itself more.
+  Words are parted by spaces and tabs; commands, operations and the kinds of objects are in small
+  letters, and names keep theirs. Blank lines, and lines that begin with #, are skipped. A name is 1
+  to 32 letters, digits, _, - and dots; a number 1 to 10 digits, at most 4294967295. Session 1 is
+  there at first: its user and role are root, which may administer the policy and nothing else until
+  it grants itself more.
 
 Replies:
   A listing has a line `row V P C LOAD TIME` for each planned customer and `row 0 0 C` for the others,
