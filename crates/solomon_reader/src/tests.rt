@@ -1,5 +1,6 @@
 use super::*;
 use std::alloc::{AllocError, Global};
+use std::process::Abort;
 use std::test::Fail;
 
 /// An instance with a depot and four customers: lines 2, 6 and 9 are blank.
@@ -77,9 +78,7 @@ fn node(x: u32, y: u32, demand: u32, due: u32) -> Node {
     }
 }
 
-/// Whether the text is read as the instance.
-fn is_whole(alloc: Global, text: &[u8]) -> Result<bool, ReadFault> {
-    let read = read(alloc, text)?;
+fn is_instance(read: &Instance) -> bool {
     let nodes = [
         node(0, 0, 0, 100),
         node(2, 2, 4, 50),
@@ -87,48 +86,102 @@ fn is_whole(alloc: Global, text: &[u8]) -> Result<bool, ReadFault> {
         node(10, 10, 3, 14),
         node(3, 4, 5, 50),
     ];
-    Ok(
-        read.name.as_str() == "A"
-            && read.vehicles == 2
-            && read.capacity == 10
-            && read.nodes.as_slice() == nodes.as_slice(),
-    )
+    read.name.as_str() == "A"
+        && read.vehicles == 2
+        && read.capacity == 10
+        && read.nodes.as_slice() == nodes.as_slice()
 }
 
-fn fault_in(alloc: Global, text: &[u8]) -> Option<(Kind, usize)> {
+/// Whether the text is read as the instance.
+fn is_whole(alloc: Global, text: &[u8]) -> Result<bool, ReadFault> {
+    Ok(is_instance(&read(alloc, text)?))
+}
+
+/// The same of the changed text.
+fn changed_is_whole(
+    alloc: Global,
+    number: usize,
+    line: &str,
+    end: &str,
+) -> Result<bool, ReadFault> {
+    let text = changed(alloc, number, line, end)?;
+    is_whole(alloc, &text)
+}
+
+/// The same of the text with such line ends and no last line feed.
+fn unended_is_whole(alloc: Global, end: &str) -> Result<bool, ReadFault> {
+    let text = changed(alloc, 0, "", end)?;
+    is_whole(alloc, text.strip_suffix(b"\n".as_slice()).unwrap_or(&[]))
+}
+
+/// Whether that line 1, with that end, is read as that name.
+fn is_name(alloc: Global, name: &str, end: &str) -> Result<bool, ReadFault> {
+    let text = changed(alloc, 1, name, end)?;
+    Ok(read(alloc, &text)?.name.as_str() == name)
+}
+
+/// How many nodes are read.
+fn nodes_in(alloc: Global, text: &[u8]) -> Result<usize, ReadFault> {
+    Ok(read(alloc, text)?.nodes.len())
+}
+
+fn nodes_to(alloc: Global, last: u32) -> Result<usize, ReadFault> {
+    let text = long(alloc, last)?;
+    nodes_in(alloc, text.as_bytes())
+}
+
+fn nodes_in_front(alloc: Global, lines: usize) -> Result<usize, ReadFault> {
+    let text = front(alloc, lines)?;
+    nodes_in(alloc, &text)
+}
+
+type Found = Option<(Kind, usize)>;
+
+fn fault_in(alloc: Global, text: &[u8]) -> Found {
     match read(alloc, text) {
         Err(ReadFault::At(kind, line)) => Some((kind, line)),
         _ => None,
     }
 }
 
+fn fault_to(alloc: Global, last: u32) -> Result<Found, AllocError> {
+    let text = long(alloc, last)?;
+    Ok(fault_in(alloc, text.as_bytes()))
+}
+
+fn fault_in_front(alloc: Global, lines: usize) -> Result<Found, AllocError> {
+    let text = front(alloc, lines)?;
+    Ok(fault_in(alloc, &text))
+}
+
+fn fault_in_changed(alloc: Global, number: usize, line: &str) -> Result<Found, AllocError> {
+    let text = changed(alloc, number, line, "\n")?;
+    Ok(fault_in(alloc, &text))
+}
+
+fn fault_without(alloc: Global, number: usize) -> Result<Found, AllocError> {
+    let text = without(alloc, number)?;
+    Ok(fault_in(alloc, &text))
+}
+
 #[test]
 fn the_instance_is_read_with_either_line_end(rt: HostRuntime) -> Result<(), Fail> {
-    let alloc = rt.alloc();
-    let text = changed(alloc, 0, "", "\n")?;
-    assert!(rt; is_whole(alloc, &text)?);
-    let text = changed(alloc, 0, "", "\r\n")?;
-    assert!(rt; is_whole(alloc, &text)?);
-    let text = changed(alloc, 0, "", " \t\r\n")?;
-    assert!(rt; is_whole(alloc, &text)?);
+    for end in ["\n", "\r\n", " \t\r\n"] {
+        assert!(rt; changed_is_whole(rt.alloc(), 0, "", end)?);
+    }
     Ok(())
 }
 
 #[test]
 fn the_last_line_needs_no_end(rt: HostRuntime) -> Result<(), Fail> {
-    let alloc = rt.alloc();
-    let text = changed(alloc, 0, "", "\n")?;
-    let text = text.strip_suffix(b"\n".as_slice()).unwrap_or(&[]);
-    assert!(rt; is_whole(alloc, text)?);
-    let text = changed(alloc, 0, "", "\r\n")?;
-    let text = text.strip_suffix(b"\n".as_slice()).unwrap_or(&[]);
-    assert!(rt; is_whole(alloc, text)?);
+    for end in ["\n", "\r\n"] {
+        assert!(rt; unended_is_whole(rt.alloc(), end)?);
+    }
     Ok(())
 }
 
 #[test]
 fn forms_that_mean_the_same(rt: HostRuntime) -> Result<(), Fail> {
-    let alloc = rt.alloc();
     let forms = [
         (1, " \tA\t "),
         (2, " \t "),
@@ -143,10 +196,17 @@ fn forms_that_mean_the_same(rt: HostRuntime) -> Result<(), Fail> {
         (14, "4 3 4 5 0 50 0.000000000"),
     ];
     for (line, form) in forms {
-        let text = changed(alloc, line, form, "\n")?;
-        assert!(rt; is_whole(alloc, &text)?, "{form}");
+        assert!(rt; changed_is_whole(rt.alloc(), line, form, "\n")?, "{form}");
     }
     Ok(())
+}
+
+fn compare_count(rt: &impl Abort, got: usize, wanted: usize) {
+    assert_eq!(rt; got, wanted);
+}
+
+fn compare_fault(rt: &impl Abort, got: Found, kind: Kind, line: usize, form: &str) {
+    assert_eq!(rt; got, Some((kind, line)), "{form}");
 }
 
 #[test]
@@ -189,29 +249,31 @@ fn each_check_answers_its_fault(rt: HostRuntime) -> Result<(), Fail> {
         (10, "0 0 0 1 0 100 0", Kind::Depot),
     ];
     for (line, form, kind) in faults {
-        let text = changed(alloc, line, form, "\n")?;
-        assert_eq!(rt; fault_in(alloc, &text), Some((kind, line)), "{form}");
+        compare_fault(&rt, fault_in_changed(alloc, line, form)?, kind, line, form);
     }
-    let text = without(alloc, 12)?;
-    assert_eq!(rt; fault_in(alloc, &text), Some((Kind::Order, 12)));
-    let text = without(alloc, 1)?;
-    assert_eq!(rt; fault_in(alloc, &text), Some((Kind::Vehicle, 3)));
+    compare_fault(&rt, fault_without(alloc, 12)?, Kind::Order, 12, "");
+    compare_fault(&rt, fault_without(alloc, 1)?, Kind::Vehicle, 3, "");
     Ok(())
+}
+
+/// So many `x`, a space and `~`.
+fn name_of(alloc: Global, count: u32) -> Result<String, AllocError> {
+    let mut name = String::new(alloc);
+    for _ in 0..count {
+        name.push('x')?;
+    }
+    name.push_str(" ~")?;
+    Ok(name)
 }
 
 #[test]
 fn a_name_has_at_most_64_bytes(rt: HostRuntime) -> Result<(), Fail> {
     let alloc = rt.alloc();
-    let mut name = String::new(alloc);
-    for _ in 0..63 {
-        name.push('x')?;
-    }
-    name.push_str(" ~")?;
-    let text = changed(alloc, 1, &name, "\n")?;
-    assert_eq!(rt; fault_in(alloc, &text), Some((Kind::Name, 1)));
-    let shorter = name.strip_prefix("x").unwrap_or("");
-    let text = changed(alloc, 1, shorter, " \n")?;
-    assert_eq!(rt; read(alloc, &text)?.name.as_str(), shorter);
+    let name = name_of(alloc, 63)?;
+    let long = fault_in_changed(alloc, 1, &name)?;
+    let short = is_name(alloc, name.strip_prefix("x").unwrap_or(""), " \n")?;
+    compare_fault(&rt, long, Kind::Name, 1, &name);
+    assert!(rt; short);
     Ok(())
 }
 
@@ -232,11 +294,10 @@ fn a_text_cut_after_a_line(rt: HostRuntime) -> Result<(), Fail> {
         (10, Kind::End, 11),
     ];
     for (lines, kind, line) in cuts {
-        let text = front(alloc, lines)?;
-        assert_eq!(rt; fault_in(alloc, &text), Some((kind, line)));
+        compare_fault(&rt, fault_in_front(alloc, lines)?, kind, line, "");
     }
-    assert_eq!(rt; read(alloc, &front(alloc, 13)?)?.nodes.len(), 4);
-    assert_eq!(rt; fault_in(alloc, b"\n\r"), Some((Kind::Name, 3)));
+    compare_count(&rt, nodes_in_front(alloc, 13)?, 4);
+    compare_fault(&rt, fault_in(alloc, b"\n\r"), Kind::Name, 3, "");
     Ok(())
 }
 
@@ -259,57 +320,69 @@ fn a_text_cut_at_each_byte(rt: HostRuntime) -> Result<(), Fail> {
 
 #[test]
 fn at_most_1001_nodes(rt: HostRuntime) -> Result<(), Fail> {
-    let alloc = rt.alloc();
-    let text = long(alloc, 1000)?;
-    assert_eq!(rt; read(alloc, text.as_bytes())?.nodes.len(), 1001);
-    let text = long(alloc, 1001)?;
-    assert_eq!(rt; fault_in(alloc, text.as_bytes()), Some((Kind::Count, 1011)));
+    compare_count(&rt, nodes_to(rt.alloc(), 1000)?, 1001);
+    compare_fault(&rt, fault_to(rt.alloc(), 1001)?, Kind::Count, 1011, "");
+    Ok(())
+}
+
+fn compare_fleet(rt: &impl Abort, read: &Instance, name: &str, vehicles: u32, capacity: u32) {
+    assert_eq!(rt; read.name.as_str(), name);
+    compare_count(rt, read.vehicles as usize, vehicles as usize);
+    compare_count(rt, read.capacity as usize, capacity as usize);
+}
+
+fn compare_last(rt: &impl Abort, nodes: &[Node], count: usize, last: Node) {
+    compare_count(rt, nodes.len(), count);
+    assert_eq!(rt; nodes.last(), Some(&last));
+}
+
+#[test]
+fn a_layout_of_solomon(rt: HostRuntime) -> Result<(), Fail> {
+    let solomon =
+        "C101\n\nVEHICLE\nNUMBER     CAPACITY\n  25         200\n\nCUSTOMER\nCUST NO.   XCOORD.    YCOORD.    DEMAND   READY TIME   DUE DATE   SERVICE   TIME\n \n    0      40         50          0          0       1236          0   \n    1      45         68         10        912        967         90   \n    2      45         70         30        825        870         90   \n";
+    let last = Node {
+        x: 45,
+        y: 70,
+        demand: 30,
+        ready: 825,
+        due: 870,
+        service: 90,
+    };
+    let read = read(rt.alloc(), solomon.as_bytes())?;
+    compare_fleet(&rt, &read, "C101", 25, 200);
+    compare_last(&rt, &read.nodes, 3, last);
     Ok(())
 }
 
 #[test]
-fn published_layouts(rt: HostRuntime) -> Result<(), Fail> {
-    let alloc = rt.alloc();
-    let solomon =
-        "C101\n\nVEHICLE\nNUMBER     CAPACITY\n  25         200\n\nCUSTOMER\nCUST NO.   XCOORD.    YCOORD.    DEMAND   READY TIME   DUE DATE   SERVICE   TIME\n \n    0      40         50          0          0       1236          0   \n    1      45         68         10        912        967         90   \n    2      45         70         30        825        870         90   \n";
-    let read_solomon = read(alloc, solomon.as_bytes())?;
-    assert_eq!(rt; read_solomon.name.as_str(), "C101");
-    assert_eq!(rt; read_solomon.vehicles, 25);
-    assert_eq!(rt; read_solomon.capacity, 200);
-    assert_eq!(rt; read_solomon.nodes.len(), 3);
-    assert_eq!(rt;
-        read_solomon.nodes[2],
-        Node {
-            x: 45,
-            y: 70,
-            demand: 30,
-            ready: 825,
-            due: 870,
-            service: 90
-        }
-    );
+fn a_layout_of_homberger(rt: HostRuntime) -> Result<(), Fail> {
     let homberger =
         "c1_2_1\r\n\r\nVEHICLE\r\nNUMBER     CAPACITY\r\n  50          200\r\n\r\nCUSTOMER\r\nCUST NO.  XCOORD.   YCOORD.    DEMAND   READY TIME  DUE DATE   SERVICE TIME\r\n\r\n    0      70         70          0          0       1351          0 \r\n    1      33         78         20        750        809         90 \r\n\r\n";
-    let read_homberger = read(alloc, homberger.as_bytes())?;
-    assert_eq!(rt; read_homberger.name.as_str(), "c1_2_1");
-    assert_eq!(rt; read_homberger.vehicles, 50);
-    assert_eq!(rt; read_homberger.nodes.len(), 2);
-    assert_eq!(rt;
-        read_homberger.nodes[1],
-        Node {
-            x: 33,
-            y: 78,
-            demand: 20,
-            ready: 750,
-            due: 809,
-            service: 90
-        }
-    );
+    let last = Node {
+        x: 33,
+        y: 78,
+        demand: 20,
+        ready: 750,
+        due: 809,
+        service: 90,
+    };
+    let read = read(rt.alloc(), homberger.as_bytes())?;
+    compare_fleet(&rt, &read, "c1_2_1", 50, 200);
+    compare_last(&rt, &read.nodes, 2, last);
     Ok(())
+}
+
+fn kind_is_text(alloc: Global, kind: Kind, text: &str) -> Result<bool, Fail> {
+    Ok(format!(in alloc; "{kind}")?.as_str() == text)
+}
+
+fn fault_is_text(alloc: Global, fault: ReadFault, text: &str) -> Result<bool, Fail> {
+    Ok(format!(in alloc; "{fault}")?.as_str() == text)
 }
 
 #[test]
 fn faults_in_words(rt: HostRuntime) -> Result<(), Fail> {
+    let alloc = rt.alloc();
     let kinds = [
         (Kind::Name, "name"),
         (Kind::Vehicle, "vehicle"),
@@ -325,15 +398,10 @@ fn faults_in_words(rt: HostRuntime) -> Result<(), Fail> {
         (Kind::End, "end"),
     ];
     for (kind, text) in kinds {
-        assert_eq!(rt; format!(in rt.alloc(); "{kind}")?.as_str(), text);
+        assert!(rt; kind_is_text(alloc, kind, text)?, "{text}");
     }
-    assert_eq!(rt;
-        format!(in rt.alloc(); "{}", ReadFault::At(Kind::Count, 1011))?.as_str(),
-        "count line 1011"
-    );
-    assert_eq!(rt;
-        format!(in rt.alloc(); "{}", ReadFault::NoMemory)?.as_str(),
-        "out of memory"
-    );
+    let count = ReadFault::At(Kind::Count, 1011);
+    assert!(rt; fault_is_text(alloc, count, "count line 1011")?);
+    assert!(rt; fault_is_text(alloc, ReadFault::NoMemory, "out of memory")?);
     Ok(())
 }
