@@ -24,8 +24,16 @@ impl State {
         ensures reply { result ≡ judged.reply }
     {
         let Judged { reply, change, .. } = judged;
-        self.put(change);
+        self.enact(change);
         reply
+    }
+
+    /// Puts a change in place: what is held stands then for the state to which the change leads.
+    pub(crate) fn enact(&mut self, change: Change)
+        requires { IsSettleable self.old change }
+        ensures { (s : Setting) (next : BoardState) → WillHold s self.old change next → Holds s self.new next }
+    {
+        self.put(change);
     }
 
     /// Puts a change in place.
