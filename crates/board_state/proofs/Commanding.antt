@@ -87,8 +87,7 @@ pub refused_call : {E : Type 0} (p : PolicyState) (policy : Tried) (tables : Tab
     → IfOk result (λ r. r.0 ≡ policy_reply p session command) × IfOk result (λ r. PolicyWillBe policy tables r.1 (policy_after p session command))
 refused_call p policy tables session command e (Err x) says now compiled sizes due reply change = (tt, tt)
 refused_call p policy tables session command e (Ok r) says now compiled sizes due reply change =
-    let said = says due in
-    (
+    let said = says due in (
       reply ∙ sym said.0,
       subst (λ (x : Change). PolicyWillBe policy tables x (policy_after p session command)) (sym change) (record {
         ready = tt;
