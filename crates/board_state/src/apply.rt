@@ -1,17 +1,19 @@
 //! Calls, judged and put in place at once.
-ghost use Rattle.std.specs.Prelude.{◌≡◌, IfOk, OnErr};
+ghost use Rattle.std.specs.Prelude.{◌≡◌, IfOk, OnErr, MatchResult};
+ghost use Rattle.std.specs.Result.{result_err};
+ghost use Rattle.dimension_core.specs.Setting.{Setting};
 ghost use Rattle.dimension_core.specs.Setup.{setting};
 ghost use Rattle.board_rules.specs.State.{BoardState};
-ghost use Rattle.board_rules.specs.Step.{IsReply, after};
+ghost use Rattle.board_rules.specs.Step.{IsReply, after, refused_by};
 ghost use Rattle.board_rules.specs.declared.call.Call.TheVariants.{Propose};
 ghost use Rattle.board_state.specs.Held.{Holds, IsReady};
-ghost use Rattle.board_state.specs.Changes.{Tries};
+ghost use Rattle.board_state.specs.Changes.{Tries, WillHold, IsSettleable};
 ghost use Rattle.board_state.specs.Work.{WorksAtMost, call_asks, call_probes, reply_asks};
 
 use crate::change::Change;
 use crate::state::State;
 use crate::stop::Stop;
-use board_rules::{Call, Reply, verdicts_by_agreeing_facts};
+use board_rules::{Call, Refusal, Reply, verdicts_by_agreeing_facts};
 use callback_store::Meter;
 use dimension_core::Setup;
 use move_core::{Move, moves_name_vehicles};
@@ -36,11 +38,53 @@ impl State {
         ensures work { IfOk result (λ reply. WorksAtMost meter.old meter.new (reply_asks (call_asks (setting setup.now) self.old.plan.routes call.now) reply) (call_probes self.old.pins self.old.plan.routes call.now)) }
         ensures most { WorksAtMost meter.old meter.new (call_asks (setting setup.now) self.old.plan.routes call.now) (call_probes self.old.pins self.old.plan.routes call.now) }
     {
+        self.agrees();
         match call {
             Call::Propose { session, base, mv } => {
                 self.apply_proposal(alloc, setup, *session, *base, mv, meter)
             }
-            _ => self.apply_judged(alloc, setup, call, meter),
+            Call::Pin { session, customer } => {
+                let judged = self.judge_pin(setup, *session, *customer, meter);
+                Ok(self.finish(judged))
+            }
+            Call::Unpin { session, customer } => {
+                let judged = self.judge_unpin(setup, *session, *customer, meter);
+                Ok(self.finish(judged))
+            }
+            Call::Freeze {
+                session,
+                vehicle,
+                length,
+            } => {
+                let judged = self.judge_freeze(setup, *session, *vehicle, *length, meter);
+                Ok(self.finish(judged))
+            }
+            Call::Thaw {
+                session,
+                vehicle,
+                length,
+            } => {
+                let judged = self.judge_thaw(setup, *session, *vehicle, *length, meter);
+                Ok(self.finish(judged))
+            }
+            Call::Policy { .. } => self.apply_judged(alloc, setup, call, meter),
+        }
+    }
+
+    /// Puts a call on pins in place that was judged so, and gives its reply. It is written out for each call, so that none makes room for
+    /// the changes of the others.
+    #[inline(always)]
+    fn finish(&mut self, judged: Result<Change, Refusal>) -> Reply
+        requires { IfOk judged (IsSettleable self.old) }
+        ensures reply { result ≡ refused_by (result_err judged) }
+        ensures holds { (s : Setting) (next : BoardState) → MatchResult judged (λ change. WillHold s self.old change next) (λ refusal. Holds s self.old next) → Holds s self.new next }
+    {
+        match judged {
+            Ok(change) => {
+                self.enact(change);
+                Reply::Done
+            }
+            Err(refusal) => Reply::Refused(refusal),
         }
     }
 
