@@ -2,4 +2,5 @@ pub mod Keeping
 pub mod Listings
 pub mod Marks
 pub mod Stops
+pub mod Taking
 pub mod Asking

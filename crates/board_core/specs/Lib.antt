@@ -9,6 +9,7 @@ pub use Rattle.board_rules.specs.Delta
 pub use Rattle.board_rules.specs.Questions
 pub use Rattle.board_rules.specs.Good
 pub mod Kept
+pub mod Taking
 pub mod Alone
 pub mod Prepared
 pub mod Shown

@@ -1,5 +1,5 @@
 //! The data of a board: what is held of its state, its journal and the turns of its desks.
-ghost use Rattle.std.specs.Prelude.{◌≡◌, ◌≤◌, ◌<◌, ◌↔◌, ℕ, ◌∷◌, ◌++◌, [], true, false, length, vec_len, vec_capacity, IfOk, OnOk, OnErr, IsErrOf};
+ghost use Rattle.std.specs.Prelude.{◌≡◌, ◌≤◌, ◌<◌, ◌↔◌, ◌∷◌, ◌++◌, [], true, false, length, vec_len, vec_capacity, IfOk, OnOk, IsErrOf, MatchOption};
 ghost use Rattle.dimension_core.specs.Setup.{setting};
 ghost use Rattle.dimension_core.specs.Setting.{Setting};
 ghost use Rattle.board_rules.specs.declared.reply.Fault.{Fault};
@@ -7,6 +7,7 @@ ghost use Rattle.board_rules.specs.History.{is_turn, state_after};
 ghost use Rattle.board_state.specs.Work.{WorksAtMost, call_asks, call_probes, reply_asks};
 ghost use Rattle.board_core.specs.Kept.{IsKept, history_of, entry_of};
 ghost use Rattle.board_core.specs.Prepared.{Makes};
+ghost use Rattle.board_core.specs.Taking.{IsTaken, IsDue};
 
 use crate::prepared::Prepared;
 use board_rules::{
@@ -74,6 +75,20 @@ impl Core {
         u64::from(turn) == u64::from(last) + 1
     }
 
+    /// Why an event of a desk is not taken, but for want of memory: `OutOfTurn`, or `Full`.
+    pub(crate) fn due_fault(&self, setup: &Setup, desk: u32, turn: u32) -> Option<Fault>
+        requires { IsKept (setting setup.now) self.now }
+        ensures { MatchOption result (IsTaken (setting setup.now) self.now desk turn) (IsDue (setting setup.now) self.now desk turn) }
+    {
+        if !self.is_turn(desk, turn) {
+            return Some(Fault::OutOfTurn);
+        }
+        if self.journal.len() >= setup.max_events() as usize {
+            return Some(Fault::Full);
+        }
+        None
+    }
+
     /// Judges an event, with every growth that it needs. Faults, in order: `OutOfTurn`, `Full`, `NoMemory`. Nothing that the history
     /// tells changes.
     pub fn prepare(
@@ -98,11 +113,8 @@ impl Core {
             (call_asks (setting setup.now) (state_after (setting setup.now) self.old.journal).routes event.call)
             (call_probes (state_after (setting setup.now) self.old.journal).pins (state_after (setting setup.now) self.old.journal).routes event.call) }
     {
-        if !self.is_turn(event.desk, event.turn) {
-            return Err(Fault::OutOfTurn);
-        }
-        if self.journal.len() >= setup.max_events() as usize {
-            return Err(Fault::Full);
+        if let Some(fault) = self.due_fault(setup, event.desk, event.turn) {
+            return Err(fault);
         }
         match self.judge(setup, event, meter) {
             Ok(prepared) => Ok(prepared),
@@ -118,8 +130,7 @@ impl Core {
         meter: &mut Meter,
     ) -> Result<Prepared, AllocError>
         requires kept { IsKept (setting setup.now) self.old }
-        requires turn { is_turn (length self.old.turns) self.old.journal event.desk event.turn ≡ true }
-        requires space { length self.old.journal < (setting setup.now).max_events }
+        requires taken { IsTaken (setting setup.now) self.old event.desk event.turn }
         ensures kept { IsKept (setting setup.now) self.new }
         ensures journal { self.new.journal ≡ self.old.journal }
         ensures turns { self.new.turns ≡ self.old.turns }
@@ -171,32 +182,10 @@ impl Core {
         record(&mut self.journal, desk, turn, call, reply);
         answer
     }
-
-    /// Judges an event, and journals it with its reply: `prepare`, and then `settle`.
-    pub fn apply(&mut self, setup: &Setup, event: Event, meter: &mut Meter) -> Result<Reply, Fault>
-        requires { IsKept (setting setup.now) self.old }
-        ensures kept { IsKept (setting setup.now) self.new }
-        ensures ok { IfOk result (λ reply. self.new.journal ≡ self.old.journal ++ entry_of event reply ∷ []) }
-        ensures desks { length self.new.turns ≡ length self.old.turns }
-        ensures err { OnErr result (self.new.journal ≡ self.old.journal) }
-        ensures out_of_turn { IsErrOf result Fault.OutOfTurn ↔ (is_turn (length self.old.turns) self.old.journal event.desk event.turn ≡ false) }
-        ensures full { IsErrOf result Fault.Full ↔ ((is_turn (length self.old.turns) self.old.journal event.desk event.turn ≡ true) × (length self.old.journal ≡ (setting setup.now).max_events)) }
-        ensures work { IfOk result (λ reply. WorksAtMost meter.old meter.new
-            (reply_asks (call_asks (setting setup.now) (state_after (setting setup.now) self.old.journal).routes event.call) reply)
-            (call_probes (state_after (setting setup.now) self.old.journal).pins (state_after (setting setup.now) self.old.journal).routes event.call)) }
-        ensures most { WorksAtMost meter.old meter.new
-            (call_asks (setting setup.now) (state_after (setting setup.now) self.old.journal).routes event.call)
-            (call_probes (state_after (setting setup.now) self.old.journal).pins (state_after (setting setup.now) self.old.journal).routes event.call) }
-    {
-        match self.prepare(setup, event, meter) {
-            Ok(prepared) => Ok(self.settle(prepared)),
-            Err(fault) => Err(fault),
-        }
-    }
 }
 
 /// Makes room for one entry more: the journal doubles, from 16 entries on, and never has room for more than `most`.
-fn make_room(journal: &mut Vec<Entry>, most: u32) -> Result<(), AllocError>
+pub(crate) fn make_room(journal: &mut Vec<Entry>, most: u32) -> Result<(), AllocError>
     requires { vec_len journal.old < most }
     ensures items { journal.new.items ≡ journal.old.items }
     ensures room { OnOk result (vec_len journal.new < vec_capacity journal.new) }
@@ -210,7 +199,7 @@ fn make_room(journal: &mut Vec<Entry>, most: u32) -> Result<(), AllocError>
 }
 
 /// Puts an entry at the end, where there is room for it.
-fn record(journal: &mut Vec<Entry>, desk: u32, turn: u32, call: Call, reply: Reply)
+pub(crate) fn record(journal: &mut Vec<Entry>, desk: u32, turn: u32, call: Call, reply: Reply)
     requires { vec_len journal.old < vec_capacity journal.old }
     ensures items { journal.new.items ≡ journal.old.items ++ record { desk = desk; turn = turn; call = call; reply = reply } ∷ [] }
     ensures capacity { vec_capacity journal.new ≡ vec_capacity journal.old }
@@ -224,7 +213,7 @@ fn record(journal: &mut Vec<Entry>, desk: u32, turn: u32, call: Call, reply: Rep
 }
 
 /// The same reply.
-fn copy_of(reply: &Reply) -> Reply
+pub(crate) fn copy_of(reply: &Reply) -> Reply
     ensures { result ≡ reply.now }
 {
     *reply

@@ -1,6 +1,7 @@
 //! The board: calls are judged, journaled and answered, and questions are answered from what is held.
 #![tactic(auto)]
 
+mod apply;
 mod board;
 mod body;
 mod listing;

@@ -1,5 +1,6 @@
 -- Policy commands: what the compiled permissions and the spare policy say of the step.
-use Rattle.std.proofs.Common.{◌≡◌, ℕ, ◌↔◌, Bool, true, false, Option, Some, None, Ok, Err, refl, sym, ap, ◌∙◌, subst}
+use Rattle.std.proofs.Common.{◌≡◌, ℕ, ◌↔◌, Bool, true, false, Option, Some, None, Result, Ok, Err, refl, sym, ap, ◌∙◌, subst}
+use Rattle.std.specs.Result.{IfOk}
 use Rattle.std.specs.Option.{option_or}
 use Rattle.std.proofs.Math.Logic.{∥∥₁_elim}
 use Rattle.std.proofs.Math.Bool.{Bool-set}
@@ -14,10 +15,15 @@ use Rattle.policy_core.specs.declared.refusal.Refusal.{Refusal}
 use Rattle.policy_core.specs.declared.refusal.Refusal.TheVariants.{NoSession, NoAccess, NoUser, NoRole, NoSet, BadObject, Already, NotThere, NotAuthorized, Cycle, InSet, Number, Ssd, Dsd, Full, NoMemory}
 use Rattle.rbac_core.specs.declared.command.Command.{Command}
 use Rattle.rbac_core.specs.Step.{guard, guard_by, refusal_of, after, outcome_of, step, answered}
+use Rattle.rbac_core.specs.Tried.{Tried}
 use Rattle.permission_table.specs.Tables.{TablesState, allows}
-use Rattle.permission_table.specs.Compiled.{AreCompiled}
+use Rattle.permission_table.specs.Compiled.{AreCompiled, HasSizes}
+use Rattle.board_rules.specs.declared.reply.Reply.{Reply}
 use Rattle.board_rules.specs.declared.reply.Reply.TheVariants.{Refused}
 use Rattle.board_rules.specs.Policies.{board_refusal, reply_of, policy_reply, policy_after}
+use Rattle.board_state.specs.declared.change.Change.{Change}
+use Rattle.board_state.specs.declared.change.Change.TheVariants.{Nothing}
+use Rattle.board_state.specs.Changes.{PolicyWillBe}
 
 -- the tables say what the test says
 pub allows_access : (t : TablesState) (p : PolicyState) → ∥ AreCompiled t p ∥₁ → (session : ℕ) (operation : Operation) (object : Object)
@@ -72,3 +78,21 @@ says_other (Ssd set) o h other = h
 says_other (Dsd set) o h other = h
 says_other Full o h other = h
 says_other NoMemory o h other = absurd (other refl)
+
+-- what a refused command answers, and that it changes nothing
+pub refused_call : {E : Type 0} (p : PolicyState) (policy : Tried) (tables : TablesState) (session : ℕ) (command : Command) (e : Refusal) (result : Result (Reply × Change) E)
+    → (((o : Option Refusal) → Says e o → o ≡ Some e) → (policy_reply p session command ≡ Refused (board_refusal e)) × (policy_after p session command ≡ p))
+    → policy.now ≡ p → ∥ AreCompiled tables p ∥₁ → HasSizes p tables
+    → IfOk result (λ _. (o : Option Refusal) → Says e o → o ≡ Some e) → IfOk result (λ r. r.0 ≡ Refused (board_refusal e)) → IfOk result (λ r. r.1 ≡ Nothing)
+    → IfOk result (λ r. r.0 ≡ policy_reply p session command) × IfOk result (λ r. PolicyWillBe policy tables r.1 (policy_after p session command))
+refused_call p policy tables session command e (Err x) says now compiled sizes due reply change = (tt, tt)
+refused_call p policy tables session command e (Ok r) says now compiled sizes due reply change =
+    let said = says due in (
+      reply ∙ sym said.0,
+      subst (λ (x : Change). PolicyWillBe policy tables x (policy_after p session command)) (sym change) (record {
+        ready = tt;
+        made = now ∙ sym said.1;
+        compiled = subst (λ (q : PolicyState). ∥ AreCompiled tables q ∥₁) (sym said.1) compiled;
+        sizes = subst (λ (q : PolicyState). HasSizes q tables) (sym said.1) sizes;
+      }),
+    )

@@ -1,7 +1,7 @@
 -- New routes that are in bounds keep a plan feasible.
 use Rattle.std.specs.declared.sync.Arc.{Arc}
-use Rattle.std.proofs.Common.{◌≡◌, ℕ, ◌-◌, ◌<◌, ◌≤◌, inl, inr, List, [], ◌∷◌, length, get_or, Some, All, sym, ap, ◌∙◌, subst, arith, length-set}
-use Rattle.std.specs.Prelude.{slice_get, slice_index_or, slice_set}
+use Rattle.std.proofs.Common.{◌≡◌, ℕ, ◌-◌, ◌<◌, ◌≤◌, Bool, true, false, None, refl, inl, inr, List, [], ◌∷◌, length, get_or, Some, All, sym, ap, ◌∙◌, subst, arith, length-set}
+use Rattle.std.specs.Prelude.{slice_get, slice_index_or, slice_set, if◌then◌else◌}
 use Rattle.std.specs.Option.{option_map}
 use Rattle.std.proofs.lemmas.Option.{slice_get-get_or, slice_get-map}
 use Rattle.std.proofs.lemmas.Bool.{cases_eq}
@@ -42,3 +42,8 @@ short_routes customers limit changes routes few plan apart law k d below =
     slice_get-map (λ e. (e.0, e.1.value)) changes k ∙ ap (option_map (λ e. (e.0, e.1.value))) (slice_get-get_or changes k d below) in
     let short = law customers (changes_of changes) routes k (c.0, c.1.value) plan apart at in
     omega (arith, short, few)
+
+-- new routes are the effect of a move that is possible alone
+pub has_effect : (possible : Bool) (changes : Changes) → (if possible then Some changes else None) ≡ Some changes → possible ≡ true
+has_effect true changes h = refl
+has_effect false changes h = let none : None ≡ Some changes = h in absurd cc

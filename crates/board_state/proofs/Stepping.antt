@@ -39,7 +39,7 @@ use Rattle.board_state.specs.declared.change.Commit.{Commit}
 use Rattle.board_state.specs.declared.change.Change.{Change}
 use Rattle.board_state.specs.declared.change.Change.TheVariants.{Nothing, Replace, Pin, Unpin, Front, Command}
 use Rattle.board_state.specs.Held.{HeldState, Holds, IsReady, held_basis}
-use Rattle.board_state.specs.Changes.{Tries, WillHold, WillCompile, WillKeep, PinsWillBe, PolicyWillBe, policy_made, plan_after, pins_after}
+use Rattle.board_state.specs.Changes.{Tries, WillHold, WillCompile, WillKeep, IsSettleable, PinsWillBe, PolicyWillBe, policy_made, plan_after, pins_after}
 use Rattle.board_state.proofs.Commanding.{allows_access}
 
 module _ (s : Setting) (held : HeldState) (state : BoardState) (holds : Holds s held state) where
@@ -161,6 +161,20 @@ pins_call s held state call (Ok made) reply change old next holds done none said
 pins_call s held state call (Err e) reply change old next holds done none said is will same =
     subst (λ (x : Change). WillHold s held x (after state call reply)) (sym is)
     (subst (λ (b : BoardState). WillHold s held Nothing b) (sym (ap (after state call) said ∙ none e)) (stays s held state holds))
+
+-- the same, said of the judged change itself
+pub pins_made : (s : Setting) (held : HeldState) (state : BoardState) (call : Call) (judged : Result Change Refusal) (reply : Reply) (old next : PinState) → Holds s held state
+    → after state call Done ≡ record state { pins = next } → ((e : Refusal) → after state call (Refused e) ≡ state)
+    → reply ≡ refused_by (result_err judged) → IfOk judged (λ made. PinsWillBe held made old) → old ≡ next
+    → MatchResult judged (λ made. WillHold s held made (after state call reply)) (λ e. Holds s held (after state call reply))
+pins_made s held state call (Ok made) reply old next holds done none said will same =
+    subst (λ (b : BoardState). WillHold s held made b) (sym (ap (after state call) said ∙ done)) (pins_will s held state holds made old next will same)
+pins_made s held state call (Err e) reply old next holds done none said will same =
+    subst (λ (b : BoardState). Holds s held b) (sym (ap (after state call) said ∙ none e)) holds
+
+pub pins_ready : (held : HeldState) (judged : Result Change Refusal) (next : PinState) → IfOk judged (λ made. PinsWillBe held made next) → IfOk judged (IsSettleable held)
+pins_ready held (Ok made) next will = will.ready
+pins_ready held (Err e) next will = tt
 
 -- what is held once a change is in place
 pub holds_from : (s : Setting) (old new : HeldState) (change : Change) (next : BoardState) → new.policy.now ≡ policy_made old.policy change

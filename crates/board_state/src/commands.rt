@@ -1,5 +1,5 @@
 //! Policy commands: tried on the spare policy, with the rows of the sessions whose access they change.
-ghost use Rattle.std.specs.Prelude.{◌≡◌, ℕ, Option, None, Some, Ok, IfOk, IfSome};
+ghost use Rattle.std.specs.Prelude.{◌≡◌, ℕ, Option, None, Some, Ok, IfOk};
 ghost use Rattle.policy_core.specs.Commands.{Says};
 ghost use Rattle.policy_core.specs.declared.refusal.Refusal.{Refusal as PolicyRefusal};
 ghost use Rattle.rbac_core.specs.Step.{guard, guard_by, refusal_of, after};
@@ -8,6 +8,8 @@ ghost use Rattle.permission_table.specs.Compiled.{AreCompiled, HasSizes};
 ghost use Rattle.permission_core.specs.declared.objects.Operation.TheVariants as operations;
 ghost use Rattle.permission_core.specs.declared.objects.Object.TheVariants as objects;
 ghost use Rattle.board_rules.specs.Policies.{board_refusal, reply_of, policy_reply, policy_after};
+ghost use Rattle.board_rules.specs.declared.reply.Reply.TheVariants.{Refused};
+ghost use Rattle.board_state.specs.declared.change.Change.TheVariants.{Nothing};
 ghost use Rattle.board_state.specs.Changes.{PolicyWillBe, Tries};
 ghost use Rattle.board_state.specs.Work.{WorksAtMost};
 
@@ -53,7 +55,7 @@ impl State {
         ensures work { WorksAtMost meter.old meter.new 0 1 }
     {
         if let Some(refusal) = self.command_guard(session, command, meter) {
-            return Ok((Reply::Refused(board_refusal(refusal)), Change::Nothing));
+            return refused(refusal);
         }
         try_command(alloc, &mut self.policy, &mut self.tables, command)
     }
@@ -78,10 +80,7 @@ fn try_command(
             let change = compile(alloc, policy, tables, command)?;
             Ok((reply_to(outcome), change))
         }
-        Err(refusal) => match due_refusal(refusal) {
-            Some(due) => Ok((Reply::Refused(due), Change::Nothing)),
-            None => Err(AllocError),
-        },
+        Err(refusal) => refused(refusal),
     }
 }
 
@@ -109,37 +108,16 @@ fn compile(
     Ok(Change::Command(rows, command))
 }
 
-/// A refusal of the policy as one of the board, unless it is want of memory.
-fn due_refusal(refusal: PolicyRefusal) -> Option<Refusal>
-    ensures due { IfSome result (λ r. (o : Option PolicyRefusal) → Says refusal o → o ≡ Some refusal) }
-    ensures value { IfSome result (λ r. r ≡ board_refusal refusal) }
+/// The answer where the policy refuses a command so, unless that is want of memory.
+#[tactic(auto, using(crate::proofs::Commanding::says_other))]
+fn refused(refusal: PolicyRefusal) -> Result<(Reply, Change), AllocError>
+    ensures due { IfOk result (λ _. (o : Option PolicyRefusal) → Says refusal o → o ≡ Some refusal) }
+    ensures reply { IfOk result (λ r. r.0 ≡ Refused (board_refusal refusal)) }
+    ensures change { IfOk result (λ r. r.1 ≡ Nothing) }
 {
-    match refusal {
-        PolicyRefusal::NoMemory => None,
-        _ => Some(board_refusal(refusal)),
-    }
-}
-
-/// A refusal of the policy as one of the board.
-fn board_refusal(refusal: PolicyRefusal) -> Refusal
-    ensures { result ≡ board_refusal refusal }
-{
-    match refusal {
-        PolicyRefusal::NoSession => Refusal::NoSession,
-        PolicyRefusal::NoAccess => Refusal::NoAccess,
-        PolicyRefusal::NoUser => Refusal::NoUser,
-        PolicyRefusal::NoRole => Refusal::NoRole,
-        PolicyRefusal::NoSet => Refusal::NoSet,
-        PolicyRefusal::BadObject => Refusal::BadObject,
-        PolicyRefusal::Already => Refusal::Already,
-        PolicyRefusal::NotThere => Refusal::NotThere,
-        PolicyRefusal::NotAuthorized => Refusal::NotAuthorized,
-        PolicyRefusal::Cycle => Refusal::Cycle,
-        PolicyRefusal::InSet => Refusal::InSet,
-        PolicyRefusal::Number => Refusal::Number,
-        PolicyRefusal::Ssd(set) => Refusal::Ssd(set),
-        PolicyRefusal::Dsd(set) => Refusal::Dsd(set),
-        PolicyRefusal::Full | PolicyRefusal::NoMemory => Refusal::Full,
+    match Refusal::of_policy(refusal) {
+        Ok(due) => Ok((Reply::Refused(due), Change::Nothing)),
+        Err(error) => Err(error),
     }
 }
 

@@ -1,6 +1,7 @@
 //! What is held of a board's state: how a call is judged by it, and how what was judged is put in place.
 #![tactic(auto)]
 
+mod apply;
 mod change;
 mod commands;
 mod delta;

@@ -52,7 +52,7 @@ impl State {
     }
 
     /// A law: what is held answers the rules as the state for which it stands does.
-    fn agrees(&self)
+    pub(crate) fn agrees(&self)
         ensures { (s : Setting) (state : BoardState) → Holds s self.now state → length self.now.plan.routes ≡ s.vehicles → (session : ℕ) → Agree s (held_basis self.now session) (basis_of state session) }
     {
         changes_by_stamps();
@@ -60,7 +60,7 @@ impl State {
     }
 
     /// The reply to a call, and what it changes.
-    fn judge(
+    pub(crate) fn judge(
         &mut self,
         alloc: Global,
         setup: &Setup,

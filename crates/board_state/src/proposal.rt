@@ -57,7 +57,9 @@ impl State {
         self.judge_move(alloc, setup, session, base, mv, meter)
     }
 
-    /// The rules from the effect of the move on.
+    /// The rules from the effect of the move on. It is kept out of line, so that a proposal that an earlier rule denies pays nothing for the
+    /// room that new routes take on the stack.
+    #[inline(never)]
     fn judge_move(
         &self,
         alloc: Global,
@@ -164,11 +166,12 @@ impl State {
         plans_are_judged_by_new_routes();
         routes_are_known();
         let _sound = self.plan.customers();
-        match mv.new_routes(alloc, &self.plan) {
+        match mv.routes(alloc, &self.plan) {
             Ok(changes) => Ok(changes),
-            Err(_) => Err(AllocError),
+            Err(error) => Err(error),
         }
     }
+
     /// The routes of the vehicles that the move names, as they are.
     fn former_routes(&self, mv: &Move) -> Result<(Arc<Route>, Option<Arc<Route>>), AllocError>
         requires { list_all (is_one_of (length self.now.plan.routes)) (named_by mv.now) ≡ true }

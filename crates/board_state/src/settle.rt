@@ -24,11 +24,21 @@ impl State {
         ensures reply { result ≡ judged.reply }
     {
         let Judged { reply, change, .. } = judged;
-        self.put(change);
+        self.enact(change);
         reply
     }
 
+    /// Puts a change in place: what is held stands then for the state to which the change leads.
+    #[inline(always)]
+    pub(crate) fn enact(&mut self, change: Change)
+        requires { IsSettleable self.old change }
+        ensures { (s : Setting) (next : BoardState) → WillHold s self.old change next → Holds s self.new next }
+    {
+        self.put(change);
+    }
+
     /// Puts a change in place.
+    #[inline(always)]
     fn put(&mut self, change: Change)
         requires { IsSettleable self.old change }
         ensures policy { self.new.policy.now ≡ policy_made self.old.policy change }
@@ -53,6 +63,7 @@ impl State {
     }
 
     /// Gives the named vehicles their new routes and ranges, and takes away the pins of customers that left their vehicle.
+    #[inline(always)]
     fn replace(&mut self, commit: Commit)
         requires { IsCommittable self.old commit }
         ensures policy { self.new.policy ≡ self.old.policy }

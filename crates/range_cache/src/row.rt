@@ -62,7 +62,8 @@ impl Row {
     /// on. It stops at the first dimension in which the new route is out of bounds.
     ///
     /// It asks the callback of a dimension at most once for each customer behind the common front and once for the return, and not at all
-    /// where the new route is empty.
+    /// where the new route is empty. It is kept out of line, so that its loops have the registers to themselves.
+    #[inline(never)]
     pub(crate) fn changed(
         &self,
         alloc: Global,

@@ -1,14 +1,11 @@
 use Rattle.std.proofs.Common.{◌≡◌, ℕ, Option, Some, None, Ok, sym, ap, subst, ◌∙◌, refl}
 use Rattle.policy_core.specs.State.{PolicyState}
-use Rattle.policy_core.specs.Commands.{Says}
 use Rattle.rbac_core.specs.declared.command.Outcome.{Outcome}
 use Rattle.rbac_core.specs.Step.{after, refusal_of}
-use Rattle.permission_table.specs.Compiled.{AreCompiled, HasSizes}
-use Rattle.board_rules.specs.declared.reply.Reply.TheVariants.{Refused}
+use Rattle.permission_table.specs.Compiled.{AreCompiled}
 use Rattle.board_rules.specs.Policies.{reply_of}
 use Rattle.board_state.specs.Changes.{PolicyWillBe}
-use Rattle.board_state.specs.declared.change.Change.TheVariants.{Nothing}
-use Rattle.board_state.proofs.Commanding.{carried, refused}
+use Rattle.board_state.proofs.Commanding.{carried, refused, refused_call}
 use Rattle.board_state.proofs.commands.try_command.Goals as goal
 
 pub compile-requires-clause-compiled : goal.compile-requires-clause-compiled
@@ -26,18 +23,18 @@ returns-in_ok-change-in-Ok-clause-change c session free =
     (ap (λ (p : PolicyState). after p c.args.command.now) c.prepare.ensures.now ∙ sym (carried c.args.policy.now.now session c.args.command.now free c.in-Ok.ensures.allowed).1)
     c.in_ok-change-in-Ok.ensures.change
 
-pub returns-in-Some-clause-reply : goal.returns-in-Some-clause-reply
-returns-in-Some-clause-reply c session free =
-    let due = c.in-Some.ensures.due (refusal_of c.args.policy.now.now c.args.command.now) c.in-Err.ensures.refused in
-    ap (λ r. Refused r) c.in-Some.ensures.value ∙ sym (refused c.args.policy.now.now session c.args.command.now c.in-Err.refusal free due).0
+pub returns-in-Err-clause-reply : goal.returns-in-Err-clause-reply
+returns-in-Err-clause-reply c session free =
+    let p = c.args.policy.now.now in
+    let e = c.in-Err.refusal in
+    (refused_call p c.prepare.new.self c.args.tables.now session c.args.command.now e c.refused.result
+    (λ due. refused p session c.args.command.now e free (due (refusal_of p c.args.command.now) c.in-Err.ensures.refused))
+    c.in-Err.ensures.now c.requires.compiled c.requires.sizes c.refused.ensures.due c.refused.ensures.reply c.refused.ensures.change).0
 
-pub returns-in-Some-clause-change : goal.returns-in-Some-clause-change
-returns-in-Some-clause-change c session free =
-    let due = c.in-Some.ensures.due (refusal_of c.args.policy.now.now c.args.command.now) c.in-Err.ensures.refused in
-    let said = refused c.args.policy.now.now session c.args.command.now c.in-Err.refusal free due in
-    record {
-      ready = tt;
-      made = c.in-Err.ensures.now ∙ sym said.1;
-      compiled = subst (λ (p : PolicyState). ∥ AreCompiled c.args.tables.now p ∥₁) (sym said.1) c.requires.compiled;
-      sizes = subst (λ (p : PolicyState). HasSizes p c.args.tables.now) (sym said.1) c.requires.sizes;
-    }
+pub returns-in-Err-clause-change : goal.returns-in-Err-clause-change
+returns-in-Err-clause-change c session free =
+    let p = c.args.policy.now.now in
+    let e = c.in-Err.refusal in
+    (refused_call p c.prepare.new.self c.args.tables.now session c.args.command.now e c.refused.result
+    (λ due. refused p session c.args.command.now e free (due (refusal_of p c.args.command.now) c.in-Err.ensures.refused))
+    c.in-Err.ensures.now c.requires.compiled c.requires.sizes c.refused.ensures.due c.refused.ensures.reply c.refused.ensures.change).1

@@ -16,13 +16,13 @@ prepare-requires g c =
     let few = c.legal_histories_leave_good_states.ensures.commits (history_of s core) kept.legal in
     let most = c.max_events-most.ensures.sound.few_events in
     subst (λ (x : CoreState). IsReady s x.held) (sym c.self.view_is)
-    (ready s core.held (state_after s core.journal) kept.held good (omega (arith, few, most, c.requires.space)))
+    (ready s core.held (state_after s core.journal) kept.held good (omega (arith, few, most, c.requires.taken.space)))
 
 pub returns-in_err-make_room-clause-kept : goal.returns-in_err-make_room-clause-kept
 returns-in_err-make_room-clause-kept g c =
     let s = setting c.args.setup.now in
     let held = subst (λ (x : CoreState). length x.journal + x.room ≤ s.max_events) (sym c.self.view_is) c.requires.kept.room in
-    let before = subst (λ (x : CoreState). length x.journal < s.max_events) (sym c.self.view_is) c.requires.space in
+    let before = subst (λ (x : CoreState). length x.journal < s.max_events) (sym c.self.view_is) c.requires.taken.space in
     let few : vec_capacity c.make_room.new.journal ≤ s.max_events =
     omega (arith, c.max_events-most.ensures.value, c.make_room.ensures.most (omega (arith, held, c.max_events-most.ensures.value))) in
     kept_same s c.args.self.now _ c.requires.kept
@@ -34,7 +34,7 @@ pub returns-in_err-judged-clause-kept : goal.returns-in_err-judged-clause-kept
 returns-in_err-judged-clause-kept g c =
     let s = setting c.args.setup.now in
     let held = subst (λ (x : CoreState). length x.journal + x.room ≤ s.max_events) (sym c.self.view_is) c.requires.kept.room in
-    let before = subst (λ (x : CoreState). length x.journal < s.max_events) (sym c.self.view_is) c.requires.space in
+    let before = subst (λ (x : CoreState). length x.journal < s.max_events) (sym c.self.view_is) c.requires.taken.space in
     let few : vec_capacity c.make_room.new.journal ≤ s.max_events =
     omega (arith, c.max_events-most.ensures.value, c.make_room.ensures.most (omega (arith, held, c.max_events-most.ensures.value))) in
     kept_same s c.args.self.now _ c.requires.kept
@@ -46,7 +46,7 @@ pub returns-clause-kept : goal.returns-clause-kept
 returns-clause-kept g c =
     let s = setting c.args.setup.now in
     let held = subst (λ (x : CoreState). length x.journal + x.room ≤ s.max_events) (sym c.self.view_is) c.requires.kept.room in
-    let before = subst (λ (x : CoreState). length x.journal < s.max_events) (sym c.self.view_is) c.requires.space in
+    let before = subst (λ (x : CoreState). length x.journal < s.max_events) (sym c.self.view_is) c.requires.taken.space in
     let few : vec_capacity c.make_room.new.journal ≤ s.max_events =
     omega (arith, c.max_events-most.ensures.value, c.make_room.ensures.most (omega (arith, held, c.max_events-most.ensures.value))) in
     kept_same s c.args.self.now _ c.requires.kept
@@ -61,4 +61,4 @@ returns-clause-makes g c =
     let holds : Holds s c.self.inside.state state = subst (λ (x : CoreState). Holds s x.held state) (sym c.self.view_is) c.requires.kept.held in
     makes_of s c.args.self.now _ _ c.of.ensures
     (c.make_room.ensures.items ∙ ap (λ (x : CoreState). x.journal) c.self.view_is) (ap (λ (x : CoreState). x.turns) c.self.view_is)
-    c.requires.turn c.requires.space (c.in_ok-judged.ensures.reply state holds) (c.in_ok-judged.ensures.change state holds)
+    c.requires.taken.due c.requires.taken.space (c.in_ok-judged.ensures.reply state holds) (c.in_ok-judged.ensures.change state holds)

@@ -8,12 +8,11 @@ use Rattle.policy_core.specs.Access.{has_access}
 use Rattle.rbac_core.specs.Step.{guard, guard_by}
 use Rattle.permission_table.specs.Tables.{allows}
 use Rattle.permission_table.specs.Compiled.{AreCompiled, HasSizes}
-use Rattle.board_rules.specs.declared.reply.Reply.TheVariants.{Refused}
 use Rattle.std.specs.Result.{IfOk}
 use Rattle.board_rules.specs.Policies.{policy_reply, policy_after}
 use Rattle.board_state.specs.Changes.{PolicyWillBe}
 use Rattle.board_state.specs.Held.{HeldState}
-use Rattle.board_state.proofs.Commanding.{allows_access, guarded}
+use Rattle.board_state.proofs.Commanding.{allows_access, guarded, refused_call}
 use Rattle.board_state.proofs.state.State.judge_command.Goals as goal
 
 pub try_command-requires-clause-compiled : goal.try_command-requires-clause-compiled
@@ -26,7 +25,8 @@ returns-in-Some-clause-reply c =
     let held = a.self.now in
     let p = held.policy.now in
     let same = ap (λ b. guard_by b p a.session a.command.now) (sym (allows_access held.tables p c.requires.compiled a.session operations.Admin objects.Board)) in
-    ap (λ r. Refused r) c.board_refusal.ensures ∙ sym (guarded p a.session a.command.now c.in-Some.refusal (same ∙ sym c.in-Some.ensures.refused)).0
+    (refused_call p held.policy held.tables a.session a.command.now c.in-Some.refusal c.refused.result (λ _. guarded p a.session a.command.now c.in-Some.refusal (same ∙ sym c.in-Some.ensures.refused))
+    refl c.requires.compiled c.requires.sizes c.refused.ensures.due c.refused.ensures.reply c.refused.ensures.change).0
 
 pub returns-in-Some-clause-change : goal.returns-in-Some-clause-change
 returns-in-Some-clause-change c =
@@ -34,13 +34,8 @@ returns-in-Some-clause-change c =
     let held = a.self.now in
     let p = held.policy.now in
     let same = ap (λ b. guard_by b p a.session a.command.now) (sym (allows_access held.tables p c.requires.compiled a.session operations.Admin objects.Board)) in
-    let said = guarded p a.session a.command.now c.in-Some.refusal (same ∙ sym c.in-Some.ensures.refused) in
-    record {
-      ready = tt;
-      made = sym said.1;
-      compiled = subst (λ (q : PolicyState). ∥ AreCompiled held.tables q ∥₁) (sym said.1) c.requires.compiled;
-      sizes = subst (λ (q : PolicyState). HasSizes q held.tables) (sym said.1) c.requires.sizes;
-    }
+    (refused_call p held.policy held.tables a.session a.command.now c.in-Some.refusal c.refused.result (λ _. guarded p a.session a.command.now c.in-Some.refusal (same ∙ sym c.in-Some.ensures.refused))
+    refl c.requires.compiled c.requires.sizes c.refused.ensures.due c.refused.ensures.reply c.refused.ensures.change).1
 
 pub returns-clause-reply : goal.returns-clause-reply
 returns-clause-reply c =

@@ -1,0 +1,77 @@
+//! Events, judged and journaled at once.
+ghost use Rattle.std.specs.Prelude.{◌≡◌, ◌↔◌, ◌∷◌, ◌++◌, [], true, false, length, IfOk, OnErr, IsErrOf};
+ghost use Rattle.dimension_core.specs.Setup.{setting};
+ghost use Rattle.board_rules.specs.declared.reply.Fault.{Fault};
+ghost use Rattle.board_rules.specs.History.{is_turn, state_after};
+ghost use Rattle.board_state.specs.Work.{WorksAtMost, call_asks, call_probes, reply_asks};
+ghost use Rattle.board_core.specs.Kept.{IsKept, entry_of};
+ghost use Rattle.board_core.specs.Taking.{IsTaken};
+
+use crate::body::{Core, copy_of, make_room, record};
+use board_rules::{
+    Event, Fault, Reply, histories_grow_by_entries, legal_histories_leave_good_states,
+};
+use callback_store::Meter;
+use dimension_core::Setup;
+use std::alloc::AllocError;
+
+impl Core {
+    /// Judges an event, and journals it with its reply, as `prepare` and then `settle` do. Nothing stands between the two, so no judged event
+    /// is made and moved. Faults, in order: `OutOfTurn`, `Full`, `NoMemory`.
+    pub fn apply(&mut self, setup: &Setup, event: Event, meter: &mut Meter) -> Result<Reply, Fault>
+        requires { IsKept (setting setup.now) self.old }
+        ensures kept { IsKept (setting setup.now) self.new }
+        ensures ok { IfOk result (λ reply. self.new.journal ≡ self.old.journal ++ entry_of event reply ∷ []) }
+        ensures desks { length self.new.turns ≡ length self.old.turns }
+        ensures err { OnErr result (self.new.journal ≡ self.old.journal) }
+        ensures out_of_turn { IsErrOf result Fault.OutOfTurn ↔ (is_turn (length self.old.turns) self.old.journal event.desk event.turn ≡ false) }
+        ensures full { IsErrOf result Fault.Full ↔ ((is_turn (length self.old.turns) self.old.journal event.desk event.turn ≡ true) × (length self.old.journal ≡ (setting setup.now).max_events)) }
+        ensures work { IfOk result (λ reply. WorksAtMost meter.old meter.new
+            (reply_asks (call_asks (setting setup.now) (state_after (setting setup.now) self.old.journal).routes event.call) reply)
+            (call_probes (state_after (setting setup.now) self.old.journal).pins (state_after (setting setup.now) self.old.journal).routes event.call)) }
+        ensures most { WorksAtMost meter.old meter.new
+            (call_asks (setting setup.now) (state_after (setting setup.now) self.old.journal).routes event.call)
+            (call_probes (state_after (setting setup.now) self.old.journal).pins (state_after (setting setup.now) self.old.journal).routes event.call) }
+    {
+        if let Some(fault) = self.due_fault(setup, event.desk, event.turn) {
+            return Err(fault);
+        }
+        match self.carry_out(setup, event, meter) {
+            Ok(reply) => Ok(reply),
+            Err(_) => Err(Fault::NoMemory),
+        }
+    }
+
+    /// The same for an event that has its turn, where the journal may have one entry more.
+    fn carry_out(
+        &mut self,
+        setup: &Setup,
+        event: Event,
+        meter: &mut Meter,
+    ) -> Result<Reply, AllocError>
+        requires kept { IsKept (setting setup.now) self.old }
+        requires taken { IsTaken (setting setup.now) self.old event.desk event.turn }
+        ensures kept { IsKept (setting setup.now) self.new }
+        ensures ok { IfOk result (λ reply. self.new.journal ≡ self.old.journal ++ entry_of event reply ∷ []) }
+        ensures desks { length self.new.turns ≡ length self.old.turns }
+        ensures err { OnErr result (self.new.journal ≡ self.old.journal) }
+        ensures work { IfOk result (λ reply. WorksAtMost meter.old meter.new
+            (reply_asks (call_asks (setting setup.now) (state_after (setting setup.now) self.old.journal).routes event.call) reply)
+            (call_probes (state_after (setting setup.now) self.old.journal).pins (state_after (setting setup.now) self.old.journal).routes event.call)) }
+        ensures most { WorksAtMost meter.old meter.new
+            (call_asks (setting setup.now) (state_after (setting setup.now) self.old.journal).routes event.call)
+            (call_probes (state_after (setting setup.now) self.old.journal).pins (state_after (setting setup.now) self.old.journal).routes event.call) }
+    {
+        legal_histories_leave_good_states();
+        histories_grow_by_entries();
+        let most = setup.max_events();
+        let alloc = *self.journal.allocator();
+        make_room(&mut self.journal, most)?;
+        let reply = self.state.apply(alloc, setup, &event.call, meter)?;
+        let Event { desk, turn, call } = event;
+        self.turns[desk as usize - 1] = turn;
+        let answer = copy_of(&reply);
+        record(&mut self.journal, desk, turn, call, reply);
+        Ok(answer)
+    }
+}

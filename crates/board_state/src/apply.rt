@@ -1,0 +1,146 @@
+//! Calls, judged and put in place at once.
+ghost use Rattle.std.specs.Prelude.{◌≡◌, IfOk, OnErr, MatchResult};
+ghost use Rattle.std.specs.Result.{result_err};
+ghost use Rattle.dimension_core.specs.Setting.{Setting};
+ghost use Rattle.dimension_core.specs.Setup.{setting};
+ghost use Rattle.board_rules.specs.State.{BoardState};
+ghost use Rattle.board_rules.specs.Step.{IsReply, after, refused_by};
+ghost use Rattle.board_rules.specs.declared.call.Call.TheVariants.{Propose};
+ghost use Rattle.board_state.specs.Held.{Holds, IsReady};
+ghost use Rattle.board_state.specs.Changes.{Tries, WillHold, IsSettleable};
+ghost use Rattle.board_state.specs.Work.{WorksAtMost, call_asks, call_probes, reply_asks};
+
+use crate::change::Change;
+use crate::state::State;
+use crate::stop::Stop;
+use board_rules::{Call, Refusal, Reply, verdicts_by_agreeing_facts};
+use callback_store::Meter;
+use dimension_core::Setup;
+use move_core::{Move, moves_name_vehicles};
+use plan_core::stamps_by_one_more;
+use std::alloc::{AllocError, Global};
+
+impl State {
+    /// Judges a call and puts it in place, as `prepare` and then `settle` do. Nothing stands between the two, so no judged call is made
+    /// and moved. Where a growth was refused, nothing changes that a contract sees but what is tried on the spare policy and for how many
+    /// rows there is room.
+    pub fn apply(
+        &mut self,
+        alloc: Global,
+        setup: &Setup,
+        call: &Call,
+        meter: &mut Meter,
+    ) -> Result<Reply, AllocError>
+        requires { IsReady (setting setup.now) self.old }
+        ensures reply { (state : BoardState) → Holds (setting setup.now) self.old state → IfOk result (λ reply. ∥ IsReply (setting setup.now) state call.now reply ∥₁) }
+        ensures holds { (state : BoardState) → Holds (setting setup.now) self.old state → IfOk result (λ reply. Holds (setting setup.now) self.new (after state call.now reply)) }
+        ensures err { OnErr result (Tries self.old self.new) }
+        ensures work { IfOk result (λ reply. WorksAtMost meter.old meter.new (reply_asks (call_asks (setting setup.now) self.old.plan.routes call.now) reply) (call_probes self.old.pins self.old.plan.routes call.now)) }
+        ensures most { WorksAtMost meter.old meter.new (call_asks (setting setup.now) self.old.plan.routes call.now) (call_probes self.old.pins self.old.plan.routes call.now) }
+    {
+        self.agrees();
+        match call {
+            Call::Propose { session, base, mv } => {
+                self.apply_proposal(alloc, setup, *session, *base, mv, meter)
+            }
+            Call::Pin { session, customer } => {
+                let judged = self.judge_pin(setup, *session, *customer, meter);
+                Ok(self.finish(judged))
+            }
+            Call::Unpin { session, customer } => {
+                let judged = self.judge_unpin(setup, *session, *customer, meter);
+                Ok(self.finish(judged))
+            }
+            Call::Freeze {
+                session,
+                vehicle,
+                length,
+            } => {
+                let judged = self.judge_freeze(setup, *session, *vehicle, *length, meter);
+                Ok(self.finish(judged))
+            }
+            Call::Thaw {
+                session,
+                vehicle,
+                length,
+            } => {
+                let judged = self.judge_thaw(setup, *session, *vehicle, *length, meter);
+                Ok(self.finish(judged))
+            }
+            Call::Policy { .. } => self.apply_judged(alloc, setup, call, meter),
+        }
+    }
+
+    /// Puts a call on pins in place that was judged so, and gives its reply. It is written out for each call, so that none makes room for
+    /// the changes of the others.
+    #[inline(always)]
+    fn finish(&mut self, judged: Result<Change, Refusal>) -> Reply
+        requires { IfOk judged (IsSettleable self.old) }
+        ensures reply { result ≡ refused_by (result_err judged) }
+        ensures holds { (s : Setting) (next : BoardState) → MatchResult judged (λ change. WillHold s self.old change next) (λ refusal. Holds s self.old next) → Holds s self.new next }
+    {
+        match judged {
+            Ok(change) => {
+                self.enact(change);
+                Reply::Done
+            }
+            Err(refusal) => Reply::Refused(refusal),
+        }
+    }
+
+    /// The same for a proposal. The new routes go from the judgement to the plan without a change that could be of another kind.
+    fn apply_proposal(
+        &mut self,
+        alloc: Global,
+        setup: &Setup,
+        session: u32,
+        base: u32,
+        mv: &Move,
+        meter: &mut Meter,
+    ) -> Result<Reply, AllocError>
+        requires { IsReady (setting setup.now) self.old }
+        ensures reply { (state : BoardState) → Holds (setting setup.now) self.old state → IfOk result (λ reply. ∥ IsReply (setting setup.now) state (Propose session base mv.now) reply ∥₁) }
+        ensures holds { (state : BoardState) → Holds (setting setup.now) self.old state → IfOk result (λ reply. Holds (setting setup.now) self.new (after state (Propose session base mv.now) reply)) }
+        ensures err { OnErr result (self.new ≡ self.old) }
+        ensures work { IfOk result (λ reply. WorksAtMost meter.old meter.new (reply_asks (call_asks (setting setup.now) self.old.plan.routes (Propose session base mv.now)) reply) (call_probes self.old.pins self.old.plan.routes (Propose session base mv.now))) }
+        ensures most { WorksAtMost meter.old meter.new (call_asks (setting setup.now) self.old.plan.routes (Propose session base mv.now)) (call_probes self.old.pins self.old.plan.routes (Propose session base mv.now)) }
+    {
+        self.agrees();
+        verdicts_by_agreeing_facts();
+        moves_name_vehicles();
+        stamps_by_one_more();
+        let version = self.plan.version();
+        match self.judge_proposal(alloc, setup, session, base, mv, meter) {
+            Ok(commit) => {
+                self.enact(Change::Replace(commit));
+                Ok(Reply::Committed(version + 1))
+            }
+            Err(Stop::Denied(denial)) => Ok(Reply::Denied(denial)),
+            Err(Stop::NoMemory) => Err(AllocError),
+        }
+    }
+
+    /// The same for any call, by the change that it makes.
+    fn apply_judged(
+        &mut self,
+        alloc: Global,
+        setup: &Setup,
+        call: &Call,
+        meter: &mut Meter,
+    ) -> Result<Reply, AllocError>
+        requires { IsReady (setting setup.now) self.old }
+        ensures reply { (state : BoardState) → Holds (setting setup.now) self.old state → IfOk result (λ reply. ∥ IsReply (setting setup.now) state call.now reply ∥₁) }
+        ensures holds { (state : BoardState) → Holds (setting setup.now) self.old state → IfOk result (λ reply. Holds (setting setup.now) self.new (after state call.now reply)) }
+        ensures err { OnErr result (Tries self.old self.new) }
+        ensures work { IfOk result (λ reply. WorksAtMost meter.old meter.new (reply_asks (call_asks (setting setup.now) self.old.plan.routes call.now) reply) (call_probes self.old.pins self.old.plan.routes call.now)) }
+        ensures most { WorksAtMost meter.old meter.new (call_asks (setting setup.now) self.old.plan.routes call.now) (call_probes self.old.pins self.old.plan.routes call.now) }
+    {
+        match self.judge(alloc, setup, call, meter) {
+            Ok((reply, change)) => {
+                self.enact(change);
+                Ok(reply)
+            }
+            Err(error) => Err(error),
+        }
+    }
+}
