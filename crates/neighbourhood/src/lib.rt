@@ -20,4 +20,8 @@ pub use round::draw;
 pub use search::best_move;
 
 #[cfg(test)]
+mod plain;
+#[cfg(test)]
 mod tests;
+#[cfg(test)]
+mod views;
