@@ -5,6 +5,7 @@ mod allowed;
 mod best;
 mod cross;
 mod fits;
+mod gains;
 mod hops;
 mod kept;
 mod laws;
