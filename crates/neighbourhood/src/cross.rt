@@ -12,7 +12,7 @@ ghost use Rattle.neighbourhood.specs.Ways.{AreStops, AreEdges, AreHops};
 
 use crate::allowed::first_free;
 use crate::best::better;
-use crate::gains::{first_gain, wanted};
+use crate::gains::{first_gain, may_gain, wanted};
 use crate::kept::Kept;
 use crate::table::row;
 use callback_store::Meter;
@@ -57,6 +57,10 @@ fn cross_row(
     requires best { IsBestSoFar (setting setup.now) view.now skip.now v w (4 ∷ v ∷ keep ∷ w ∷ first ∷ []) best }
     ensures { IsBestSoFar (setting setup.now) view.now skip.now v w (4 ∷ v ∷ keep ∷ w ∷ end ∷ []) result }
 {
+    let least = wanted(0, best);
+    if !may_gain(lost, least, edges, next, here, first as usize, end as usize) {
+        return best;
+    }
     let mut best = best;
     let mut keep_other = first;
     'row: while keep_other < end {

@@ -12,7 +12,7 @@ ghost use Rattle.neighbourhood.specs.Ways.{AreStops, AreEdges, AreHops, AreSums}
 
 use crate::allowed::first_free;
 use crate::best::better;
-use crate::gains::{first_reverse_gain, wanted};
+use crate::gains::{first_reverse_gain, may_reverse_gain, wanted};
 use crate::kept::Kept;
 use crate::table::row;
 use callback_store::Meter;
@@ -57,6 +57,20 @@ fn reverse_row(
     requires best { IsBestSoFar (setting setup.now) view.now skip.now v v (3 ∷ v ∷ first ∷ (first + 1) ∷ []) best }
     ensures { IsBestSoFar (setting setup.now) view.now skip.now v v (3 ∷ v ∷ first ∷ end ∷ []) result }
 {
+    let least = wanted(gained, best);
+    if !may_reverse_gain(
+        lost,
+        least,
+        edges,
+        sums,
+        back_sums,
+        before,
+        here,
+        first as usize + 1,
+        end as usize,
+    ) {
+        return best;
+    }
     let mut best = best;
     let mut last = first + 1;
     'row: while last < end {

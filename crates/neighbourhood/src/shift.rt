@@ -13,7 +13,7 @@ ghost use Rattle.neighbourhood.specs.Ways.{AreStops, AreEdges, AreHops};
 
 use crate::allowed::{first_free, may_leave};
 use crate::best::better;
-use crate::gains::{first_gain, wanted};
+use crate::gains::{first_gain, may_gain, wanted};
 use crate::hops::hop;
 use crate::kept::Kept;
 use crate::table::row;
@@ -63,6 +63,19 @@ fn shift_row(
     requires best { IsBestSoFar (setting setup.now) view.now skip.now v w (1 ∷ v ∷ place ∷ count ∷ w ∷ first ∷ []) best }
     ensures { IsBestSoFar (setting setup.now) view.now skip.now v w (1 ∷ v ∷ place ∷ count ∷ w ∷ end ∷ []) result }
 {
+    let least = wanted(gained, best);
+    let begin = (first + offset) as usize - 1;
+    if !may_gain(
+        lost,
+        least,
+        edges,
+        into,
+        out,
+        begin,
+        (end + offset) as usize - 1,
+    ) {
+        return best;
+    }
     let mut best = best;
     let mut at = first;
     'row: while at < end {

@@ -12,7 +12,7 @@ ghost use Rattle.neighbourhood.specs.Ways.{AreStops, AreEdges, AreHops};
 
 use crate::allowed::{first_free, may_leave};
 use crate::best::better;
-use crate::gains::{first_swap_gain, wanted};
+use crate::gains::{first_swap_gain, may_swap_gain, wanted};
 use crate::kept::Kept;
 use crate::table::row;
 use callback_store::Meter;
@@ -61,6 +61,20 @@ fn swap_row(
     requires best { IsBestSoFar (setting setup.now) view.now skip.now v w (2 ∷ v ∷ place ∷ w ∷ first ∷ []) best }
     ensures { IsBestSoFar (setting setup.now) view.now skip.now v w (2 ∷ v ∷ place ∷ w ∷ end ∷ []) result }
 {
+    let least = wanted(0, best);
+    if !may_swap_gain(
+        lost,
+        least,
+        edges,
+        before,
+        here,
+        next,
+        back,
+        first as usize,
+        end as usize,
+    ) {
+        return best;
+    }
     let mut best = best;
     let mut at = first;
     'row: while at < end {

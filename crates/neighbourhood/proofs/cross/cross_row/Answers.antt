@@ -43,3 +43,14 @@ pub returns : goal.returns
 returns g c =
     let e : c.row.keep_other ≡ c.args.end = let test = c.row-test.false in let high = c.row.invariant.high in omega arith in
     subst (λ (k : ℕ). IsBestSoFar (setting c.args.setup.now) c.args.view.now c.args.skip.now c.args.v c.args.w (4 ∷ c.args.v ∷ c.args.keep ∷ c.args.w ∷ (k) ∷ []) c.row.best) e c.row.invariant.best
+
+pub returns-then-not-may_gain : goal.returns-then-not-may_gain
+returns-then-not-may_gain g c =
+    let order = c.requires.order in
+    crosses_past c.requires.laws (setting c.args.setup.now) c.args.view.now c.args.skip.now c.args.v c.args.w c.args.keep c.args.first c.args.end c.args.best (omega arith)
+    (λ k h l q.
+    let saving = c.requires.saving k l in
+    let none = c.may_gain.ensures c.if-not-may_gain.true k (omega arith) (omega arith) in
+    let most = c.wanted-least.ensures.low in
+    omega arith)
+    c.requires.best

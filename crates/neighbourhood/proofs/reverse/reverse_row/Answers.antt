@@ -43,3 +43,14 @@ pub returns : goal.returns
 returns g c =
     let e : c.row.last ≡ c.args.end = let test = c.row-test.false in let high = c.row.invariant.high in omega arith in
     subst (λ (k : ℕ). IsBestSoFar (setting c.args.setup.now) c.args.view.now c.args.skip.now c.args.v c.args.v (3 ∷ c.args.v ∷ c.args.first ∷ (k) ∷ []) c.row.best) e c.row.invariant.best
+
+pub returns-then-not-may_reverse_gain : goal.returns-then-not-may_reverse_gain
+returns-then-not-may_reverse_gain g c =
+    let order = c.requires.order in
+    reverses_past c.requires.laws (setting c.args.setup.now) c.args.view.now c.args.skip.now c.args.v c.args.v c.args.first (c.args.first + 1) c.args.end c.args.best (omega arith)
+    (λ k h l q.
+    let saving = c.requires.saving k (omega arith) l in
+    let none = c.may_reverse_gain.ensures c.if-not-may_reverse_gain.true k (omega arith) (omega arith) in
+    let most = c.wanted-least.ensures.low in
+    omega arith)
+    c.requires.best

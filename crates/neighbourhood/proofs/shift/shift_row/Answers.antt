@@ -47,3 +47,17 @@ pub returns : goal.returns
 returns g c =
     let e : c.row.at ≡ c.args.end = let test = c.row-test.false in let high = c.row.invariant.high in omega arith in
     subst (λ (k : ℕ). IsBestSoFar (setting c.args.setup.now) c.args.view.now c.args.skip.now c.args.v c.args.w (1 ∷ c.args.v ∷ c.args.place ∷ c.args.count ∷ c.args.w ∷ (k) ∷ []) c.row.best) e c.row.invariant.best
+
+pub returns-then-not-may_gain : goal.returns-then-not-may_gain
+returns-then-not-may_gain g c =
+    let order = c.requires.order in
+    shifts_past c.requires.laws (setting c.args.setup.now) c.args.view.now c.args.skip.now c.args.v c.args.w c.args.place c.args.count c.args.first c.args.end c.args.best (omega arith)
+    (λ k h l q.
+    let saving = c.requires.saving k h l in
+    let none = c.may_gain.ensures c.if-not-may_gain.true (k + c.args.offset - 1) (omega arith) (omega arith) in
+    let most = c.wanted-least.ensures.low in
+    let low = c.requires.low in
+    let z : k + c.args.offset - 1 + 1 ≡ k + c.args.offset = omega arith in
+    let out : slice_index c.args.out.now (k + c.args.offset - 1 + 1) ≡ slice_index c.args.out.now (k + c.args.offset) = ap (λ (n : ℕ). slice_index c.args.out.now n) z in
+    omega arith)
+    c.requires.best

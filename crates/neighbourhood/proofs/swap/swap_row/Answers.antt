@@ -43,3 +43,14 @@ pub returns : goal.returns
 returns g c =
     let e : c.row.at ≡ c.args.end = let test = c.row-test.false in let high = c.row.invariant.high in omega arith in
     subst (λ (k : ℕ). IsBestSoFar (setting c.args.setup.now) c.args.view.now c.args.skip.now c.args.v c.args.w (2 ∷ c.args.v ∷ c.args.place ∷ c.args.w ∷ (k) ∷ []) c.row.best) e c.row.invariant.best
+
+pub returns-then-not-may_swap_gain : goal.returns-then-not-may_swap_gain
+returns-then-not-may_swap_gain g c =
+    let order = c.requires.order in
+    swaps_past c.requires.laws (setting c.args.setup.now) c.args.view.now c.args.skip.now c.args.v c.args.w c.args.place c.args.first c.args.end c.args.best (omega arith)
+    (λ k h l q.
+    let saving = c.requires.saving k h l in
+    let none = c.may_swap_gain.ensures c.if-not-may_swap_gain.true k (omega arith) (omega arith) in
+    let most = c.wanted-least.ensures.low in
+    omega arith)
+    c.requires.best
