@@ -1,4 +1,4 @@
-use Rattle.std.proofs.Common.{◌≡◌, ◌∙◌, ℕ, ◌+◌, ◌-◌, ◌<◌, ◌≤◌, ◌⊎◌, inl, inr, sym, subst, arith, List, [], ◌∷◌, Option, Some, None}
+use Rattle.std.proofs.Common.{◌≡◌, ◌∙◌, ℕ, zero, suc, ◌+◌, ◌-◌, ◌<◌, ◌≤◌, ◌⊎◌, inl, inr, sym, subst, arith, List, [], ◌∷◌, Option, Some, None}
 use Rattle.move_core.specs.declared.moves.Move.{Move}
 use Rattle.neighbourhood.specs.Best.{numbers_of, IsLower}
 use Rattle.neighbourhood.specs.Search.{gain_of, IsBestBelow, IsNext}
@@ -103,3 +103,27 @@ best_taken P cost before x gain bound best low next p e more g = record {
         → IsLower (numbers_of other) (numbers_of x) → ⊥
     first other q s (inl h) k = let u = above best more g other q h in absurd (omega arith)
     first other q s (inr t) k = lower_self (numbers_of x) (subst (λ (z : Move). IsLower (numbers_of z) (numbers_of x)) t k)
+
+-- some moves with numbers one after the other, none of which has P and gains more
+pub best_past : (P : Move → Type 0) (cost : Move → ℕ) (before : ℕ) (M : ℕ → Move) (B : ℕ → List ℕ) (best : Option (Move × ℕ))
+    → ((m : Move) → P m → cost m < before) → ((k : ℕ) → numbers_of (M k) ≡ B k) → ((k : ℕ) → IsNext P (M k) (B (k + 1)))
+    → (n a : ℕ) → ((k : ℕ) → a ≤ k → k < a + n → P (M k) → before - cost (M k) ≤ gain_of best)
+    → IsBestBelow P cost before (B a) best → IsBestBelow P cost before (B (a + n)) best
+best_past P cost before M B best low numbers next zero a worse g =
+    let e : a ≡ a + 0 = omega arith in
+    subst (λ (k : ℕ). IsBestBelow P cost before (B k) best) e g
+best_past P cost before M B best low numbers next (suc n) a worse g =
+    let e : a + 1 + n ≡ a + suc n = omega arith in
+    let here = subst (λ (ns : List ℕ). IsBestBelow P cost before ns best) (sym (numbers a)) g in
+    let one = best_kept P cost before (M a) (B (a + 1)) best low (next a) (worse a (omega arith) (omega arith)) here in
+    subst (λ (k : ℕ). IsBestBelow P cost before (B k) best) e
+    (best_past P cost before M B best low numbers next n (a + 1) (λ k h l. worse k (omega arith) (omega arith)) one)
+
+pub best_up_to : (P : Move → Type 0) (cost : Move → ℕ) (before : ℕ) (M : ℕ → Move) (B : ℕ → List ℕ) (best : Option (Move × ℕ))
+    → ((m : Move) → P m → cost m < before) → ((k : ℕ) → numbers_of (M k) ≡ B k) → ((k : ℕ) → IsNext P (M k) (B (k + 1)))
+    → (a b : ℕ) → a ≤ b → ((k : ℕ) → a ≤ k → k < b → P (M k) → before - cost (M k) ≤ gain_of best)
+    → IsBestBelow P cost before (B a) best → IsBestBelow P cost before (B b) best
+best_up_to P cost before M B best low numbers next a b order worse g =
+    let e : a + (b - a) ≡ b = omega arith in
+    subst (λ (k : ℕ). IsBestBelow P cost before (B k) best) e
+    (best_past P cost before M B best low numbers next (b - a) a (λ k h l. worse k h (omega arith)) g)

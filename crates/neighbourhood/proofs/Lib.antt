@@ -16,3 +16,4 @@ pub mod Cells
 pub mod Possible
 pub mod Tabled
 pub mod Rows
+pub mod Still

@@ -1,4 +1,4 @@
-use Rattle.std.proofs.Common.{◌≡◌, ◌≢◌, ℕ, ◌+◌, ◌<◌, ◌≤◌, ◌⊎◌, inl, inr, refl, sym, subst, arith, List, [], ◌∷◌, length, Option, true}
+use Rattle.std.proofs.Common.{◌≡◌, ◌≢◌, ℕ, ◌+◌, ◌-◌, ◌<◌, ◌≤◌, ◌⊎◌, inl, inr, refl, sym, subst, arith, List, [], ◌∷◌, length, Option, true}
 use Rattle.std.proofs.lemmas.Bool.{cases_order, cases_eq}
 use Rattle.dimension_core.specs.Setting.{Setting}
 use Rattle.plan_core.specs.Plan.{route_at}
@@ -7,9 +7,9 @@ use Rattle.move_core.specs.declared.moves.Move.TheVariants.{Insert, Remove, Shif
 use Rattle.move_core.specs.Moves.{is_possible}
 use Rattle.pin_core.specs.View.{ViewState}
 use Rattle.neighbourhood.specs.Best.{Counts, cost_after, cost_before, numbers_of, IsLower}
-use Rattle.neighbourhood.specs.Search.{IsBestBelow, IsNext}
+use Rattle.neighbourhood.specs.Search.{gain_of, IsBestBelow, IsNext}
 use Rattle.neighbourhood.specs.Laws.{Laws}
-use Rattle.neighbourhood.proofs.Firsts.{best_on}
+use Rattle.neighbourhood.proofs.Firsts.{best_on, best_up_to}
 
 -- the numbers of a shift from v to w, by the lengths of their routes
 pub record AreShift (v w lv lw p n a : ℕ) : Type 0 where
@@ -97,6 +97,15 @@ module _ (law : Laws) where
       split m p' n' a' e (inr (ep, inr (en, inl h))) = absurd (omega arith)
       split m p' n' a' e (inr (ep, inr (en, inr (ew, inl h)))) = here m p' n' a' e ep en (cases_order a' a) h
       split m p' n' a' e (inr (ep, inr (en, inr (ew, inr (ea, h))))) = absurd h
+
+  -- and over some of them, none of which counts and gains more
+  pub shifts_past : (s : Setting) (view : ViewState) (skip : List Move) (v w p n a b : ℕ) (best : Option (Move × ℕ)) → a ≤ b
+      → ((k : ℕ) → a ≤ k → k < b → Counts s view skip v w (Shift v p n w k) → cost_before s view - cost_after s view (Shift v p n w k) ≤ gain_of best)
+      → IsBestBelow (Counts s view skip v w) (cost_after s view) (cost_before s view) (1 ∷ v ∷ p ∷ n ∷ w ∷ a ∷ []) best
+      → IsBestBelow (Counts s view skip v w) (cost_after s view) (cost_before s view) (1 ∷ v ∷ p ∷ n ∷ w ∷ b ∷ []) best
+  shifts_past s view skip v w p n a b best order worse g =
+      best_up_to (Counts s view skip v w) (cost_after s view) (cost_before s view) (λ k. Shift v p n w k) (λ k. 1 ∷ v ∷ p ∷ n ∷ w ∷ k ∷ []) best
+      (λ m q. q.lower) (λ k. refl) (λ k. shift_next s view skip v w p n k) a b order worse g
 
   -- the steps between the loops
   pub to_row : (v lv lw p n w p' n' a' : ℕ) → AreShift v w lv lw p' n' a' → IsLower (p' ∷ n' ∷ w ∷ a' ∷ []) (p ∷ n ∷ w ∷ 1 ∷ []) → IsLower (p' ∷ n' ∷ w ∷ a' ∷ []) (p ∷ n ∷ [])

@@ -3,6 +3,8 @@ ghost use Rattle.std.specs.Prelude.{◌≡◌, ◌≢◌, ◌≤◌, ◌<◌, �
 ghost use Rattle.dimension_core.specs.Setup.{setting};
 ghost use Rattle.move_core.specs.declared.moves.Move.TheVariants.{Shift, Swap, Reverse, Cross};
 ghost use Rattle.move_core.specs.Moves.{is_possible, stretch};
+ghost use Rattle.plan_core.specs.Plan.{route_at};
+ghost use Rattle.pin_core.specs.Pins.{front_of};
 ghost use Rattle.pin_core.specs.View.{pins_of};
 ghost use Rattle.neighbourhood.specs.View.{IsViewOf};
 ghost use Rattle.neighbourhood.specs.Best.{IsNear, IsAllowed};
@@ -58,6 +60,33 @@ fn are_loose(view: &View, customers: &[u32]) -> bool
         }
     }
     true
+}
+
+/// The first place at which a vehicle's route may change: the one after its frozen front.
+pub(crate) fn first_free(view: &View, setup: &Setup, v: u32) -> u32
+    requires laws { Laws }
+    requires view { IsViewOf (setting setup.now) view.now }
+    requires v { (1 ≤ v) × (v ≤ length view.now.routes) }
+    ensures value { result ≡ front_of (pins_of view.now) v + 1 }
+    ensures high { result ≤ length (route_at view.now.routes v) + 1 }
+{
+    let _customers = setup.customers();
+    view.front(v) + 1
+}
+
+/// Whether so many customers from a place on may leave their vehicle: they stand behind its frozen front, and none is pinned.
+pub(crate) fn may_leave(view: &View, setup: &Setup, v: u32, place: u32, count: u32) -> bool
+    requires laws { Laws }
+    requires view { IsViewOf (setting setup.now) view.now }
+    requires v { (1 ≤ v) × (v ≤ length view.now.routes) }
+    requires low { 1 ≤ place }
+    requires high { place + count ≤ length (route_at view.now.routes v) + 1 }
+    ensures { IsTrue result ↔ (front_of (pins_of view.now) v < place) × AreLoose (pins_of view.now) (stretch (route_at view.now.routes v) place count) }
+{
+    if place < first_free(view, setup, v) {
+        return false;
+    }
+    are_loose(view, part(view.customers(v), place, place + count))
 }
 
 /// Whether a move is to be skipped.

@@ -10,7 +10,9 @@ ghost use Rattle.neighbourhood.specs.Laws.{Laws};
 ghost use Rattle.neighbourhood.specs.Search.{IsBestSoFar, IsSaving};
 ghost use Rattle.neighbourhood.specs.Ways.{AreStops, AreEdges, AreHops};
 
+use crate::allowed::first_free;
 use crate::best::better;
+use crate::gains::{first_gain, may_gain, wanted};
 use crate::kept::Kept;
 use crate::table::row;
 use callback_store::Meter;
@@ -18,7 +20,8 @@ use dimension_core::Setup;
 use move_core::Move;
 use pin_core::View;
 
-/// The better of the best so far and the crosses that keep so many customers of one vehicle and fewer than `end` of the other. `here` is
+/// The better of the best so far and the crosses that keep so many customers of one vehicle, and `first` or more of the other
+/// but fewer than `end`. `here` is
 /// the ways from the last one kept, `next` those to the one after it.
 fn cross_row(
     view: &View,
@@ -31,6 +34,7 @@ fn cross_row(
     edges: &[u32],
     here: &[u32],
     next: &[u32],
+    first: u32,
     end: u32,
     v_kept: &Kept,
     w_kept: &Kept,
@@ -42,6 +46,7 @@ fn cross_row(
     requires v_kept { AreKept (setting setup.now) view.now.routes v w v_kept.now }
     requires w_kept { AreKept (setting setup.now) view.now.routes w v w_kept.now }
     requires apart { v ≢ w }
+    requires order { first ≤ end }
     requires edges { end ≤ length edges.now }
     requires here { end < length here.now }
     requires next { end ≤ length next.now }
@@ -49,23 +54,34 @@ fn cross_row(
     requires fixed { lost < 2 ^ 34 }
     requires possible { (l : ℕ) → l < end → is_possible (setting setup.now).customers view.now.routes (Cross v keep w l) ≡ true }
     requires saving { (l : ℕ) → l < end → IsSaving (setting setup.now) view.now (Cross v keep w l) (lost + slice_index edges.now l) (slice_index here.now (l + 1) + slice_index next.now l) }
-    requires best { IsBestSoFar (setting setup.now) view.now skip.now v w (4 ∷ v ∷ keep ∷ w ∷ 0 ∷ []) best }
+    requires best { IsBestSoFar (setting setup.now) view.now skip.now v w (4 ∷ v ∷ keep ∷ w ∷ first ∷ []) best }
     ensures { IsBestSoFar (setting setup.now) view.now skip.now v w (4 ∷ v ∷ keep ∷ w ∷ end ∷ []) result }
 {
+    let least = wanted(0, best);
+    if !may_gain(lost, least, edges, next, here, first as usize, end as usize) {
+        return best;
+    }
     let mut best = best;
-    for keep_other in 0..end {
-        let index = keep_other as usize;
-        let all_lost = lost + u64::from(edges[index]);
-        let all_gained = u64::from(here[index + 1]) + u64::from(next[index]);
+    let mut keep_other = first;
+    'row: while keep_other < end {
+        let from = keep_other as usize;
+        let found = first_gain(lost, wanted(0, best), edges, next, here, from, end as usize);
+        let there = found as u32;
+        if there == end {
+            return best;
+        }
+        let all_lost = lost + u64::from(edges[found]);
+        let all_gained = u64::from(here[found + 1]) + u64::from(next[found]);
         let mv = Move::Cross {
             vehicle: v,
             keep,
             other: w,
-            keep_other,
+            keep_other: there,
         };
         best = better(
             view, setup, skip, v, w, v_kept, w_kept, mv, all_lost, all_gained, best, meter,
         );
+        keep_other = there + 1;
     }
     best
 }
@@ -104,6 +120,10 @@ fn cross_over(
     requires best { IsBestSoFar (setting setup.now) view.now skip.now v w (4 ∷ v ∷ keep ∷ w ∷ 0 ∷ []) best }
     ensures { IsBestSoFar (setting setup.now) view.now skip.now v w (4 ∷ v ∷ keep ∷ w ∷ (length to.now - 1) ∷ []) result }
 {
+    if keep + 1 < first_free(view, setup, v) {
+        return best;
+    }
+    let begin = first_free(view, setup, w) - 1;
     let index = keep as usize;
     let last = index + 2 == from.len();
     let end = if last { to.len() - 2 } else { to.len() - 1 };
@@ -111,8 +131,8 @@ fn cross_over(
     let here = row(out, to.len(), index);
     let next = row(into, to.len(), index + 1);
     cross_row(
-        view, setup, skip, v, w, keep, lost, to_edges, here, next, end as u32, v_kept, w_kept,
-        best, meter,
+        view, setup, skip, v, w, keep, lost, to_edges, here, next, begin, end as u32, v_kept,
+        w_kept, best, meter,
     )
 }
 

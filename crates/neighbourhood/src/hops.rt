@@ -12,6 +12,7 @@ use pin_core::View;
 use std::alloc::{AllocError, Global};
 
 /// What the way from a stop to the next one costs; a vehicle that stays at the depot drives no way.
+#[inline(always)]
 pub(crate) fn hop(setup: &Setup, i: u32, j: u32, meter: &mut Meter) -> u64
     requires from { i ≤ (setting setup.now).customers }
     requires to { j ≤ (setting setup.now).customers }

@@ -5,6 +5,7 @@ mod allowed;
 mod best;
 mod cross;
 mod fits;
+mod gains;
 mod hops;
 mod kept;
 mod laws;
@@ -20,4 +21,8 @@ pub use round::draw;
 pub use search::best_move;
 
 #[cfg(test)]
+mod plain;
+#[cfg(test)]
 mod tests;
+#[cfg(test)]
+mod views;

@@ -10,7 +10,9 @@ ghost use Rattle.neighbourhood.specs.Laws.{Laws};
 ghost use Rattle.neighbourhood.specs.Search.{IsBestSoFar, IsSaving};
 ghost use Rattle.neighbourhood.specs.Ways.{AreStops, AreEdges, AreHops, AreSums};
 
+use crate::allowed::first_free;
 use crate::best::better;
+use crate::gains::{first_reverse_gain, may_reverse_gain, wanted};
 use crate::kept::Kept;
 use crate::table::row;
 use callback_store::Meter;
@@ -55,22 +57,53 @@ fn reverse_row(
     requires best { IsBestSoFar (setting setup.now) view.now skip.now v v (3 ∷ v ∷ first ∷ (first + 1) ∷ []) best }
     ensures { IsBestSoFar (setting setup.now) view.now skip.now v v (3 ∷ v ∷ first ∷ end ∷ []) result }
 {
+    let least = wanted(gained, best);
+    if !may_reverse_gain(
+        lost,
+        least,
+        edges,
+        sums,
+        back_sums,
+        before,
+        here,
+        first as usize + 1,
+        end as usize,
+    ) {
+        return best;
+    }
     let mut best = best;
-    for last in first + 1..end {
-        let index = last as usize;
-        let all_lost = lost + sums[index] + u64::from(edges[index]);
+    let mut last = first + 1;
+    'row: while last < end {
+        let least = wanted(gained, best);
+        let found = first_reverse_gain(
+            lost,
+            least,
+            edges,
+            sums,
+            back_sums,
+            before,
+            here,
+            last as usize,
+            end as usize,
+        );
+        let there = found as u32;
+        if there == end {
+            return best;
+        }
+        let all_lost = lost + sums[found] + u64::from(edges[found]);
         let all_gained = gained
-            + u64::from(before[index])
-            + back_sums[index]
-            + u64::from(here[index + 1]);
+            + u64::from(before[found])
+            + back_sums[found]
+            + u64::from(here[found + 1]);
         let mv = Move::Reverse {
             vehicle: v,
             first,
-            last,
+            last: there,
         };
         best = better(
             view, setup, skip, v, v, kept, kept, mv, all_lost, all_gained, best, meter,
         );
+        last = there + 1;
     }
     best
 }
@@ -104,6 +137,9 @@ fn reverse_from(
     requires best { IsBestSoFar (setting setup.now) view.now skip.now v v (3 ∷ v ∷ first ∷ (first + 1) ∷ []) best }
     ensures { IsBestSoFar (setting setup.now) view.now skip.now v v (3 ∷ v ∷ first ∷ (length from.now - 1) ∷ []) result }
 {
+    if first < first_free(view, setup, v) {
+        return best;
+    }
     let index = first as usize;
     let lost = u64::from(edges[index - 1]) + back_sums[index];
     let gained = sums[index];

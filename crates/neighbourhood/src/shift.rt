@@ -11,7 +11,9 @@ ghost use Rattle.neighbourhood.specs.Laws.{Laws};
 ghost use Rattle.neighbourhood.specs.Search.{IsBestSoFar, IsSaving};
 ghost use Rattle.neighbourhood.specs.Ways.{AreStops, AreEdges, AreHops};
 
+use crate::allowed::{first_free, may_leave};
 use crate::best::better;
+use crate::gains::{first_gain, may_gain, wanted};
 use crate::hops::hop;
 use crate::kept::Kept;
 use crate::table::row;
@@ -61,21 +63,42 @@ fn shift_row(
     requires best { IsBestSoFar (setting setup.now) view.now skip.now v w (1 ∷ v ∷ place ∷ count ∷ w ∷ first ∷ []) best }
     ensures { IsBestSoFar (setting setup.now) view.now skip.now v w (1 ∷ v ∷ place ∷ count ∷ w ∷ end ∷ []) result }
 {
+    let least = wanted(gained, best);
+    let begin = (first + offset) as usize - 1;
+    if !may_gain(
+        lost,
+        least,
+        edges,
+        into,
+        out,
+        begin,
+        (end + offset) as usize - 1,
+    ) {
+        return best;
+    }
     let mut best = best;
-    for at in first..end {
-        let index = (at + offset) as usize;
-        let all_lost = lost + u64::from(edges[index - 1]);
-        let all_gained = gained + u64::from(into[index - 1]) + u64::from(out[index]);
+    let mut at = first;
+    'row: while at < end {
+        let from = (at + offset) as usize - 1;
+        let last = (end + offset) as usize - 1;
+        let found = first_gain(lost, wanted(gained, best), edges, into, out, from, last);
+        let next = (found + 1) as u32 - offset;
+        if next == end {
+            return best;
+        }
+        let all_lost = lost + u64::from(edges[found]);
+        let all_gained = gained + u64::from(into[found]) + u64::from(out[found + 1]);
         let mv = Move::Shift {
             vehicle: v,
             place,
             length: count,
             to: w,
-            at,
+            at: next,
         };
         best = better(
             view, setup, skip, v, w, v_kept, w_kept, mv, all_lost, all_gained, best, meter,
         );
+        at = next + 1;
     }
     best
 }
@@ -116,6 +139,10 @@ fn shift_over(
     requires best { IsBestSoFar (setting setup.now) view.now skip.now v w (1 ∷ v ∷ place ∷ count ∷ w ∷ 1 ∷ []) best }
     ensures { IsBestSoFar (setting setup.now) view.now skip.now v w (1 ∷ v ∷ place ∷ count ∷ w ∷ (length to.now) ∷ []) result }
 {
+    if !may_leave(view, setup, v, place, count) {
+        return best;
+    }
+    let begin = first_free(view, setup, w);
     let first = place as usize;
     let after = first + count as usize;
     let lost = u64::from(from_edges[first - 1]) + u64::from(from_edges[after - 1]);
@@ -136,7 +163,7 @@ fn shift_over(
         comes,
         goes,
         0,
-        1,
+        begin,
         to.len() as u32,
         v_kept,
         w_kept,
@@ -219,6 +246,10 @@ fn shift_within(
     requires best { IsBestSoFar (setting setup.now) view.now skip.now v v (1 ∷ v ∷ place ∷ count ∷ v ∷ 1 ∷ []) best }
     ensures { IsBestSoFar (setting setup.now) view.now skip.now v v (1 ∷ v ∷ place ∷ count ∷ v ∷ (length from.now - count) ∷ []) result }
 {
+    let begin = first_free(view, setup, v);
+    if place < begin {
+        return best;
+    }
     let first = place as usize;
     let after = first + count as usize;
     let lost = u64::from(edges[first - 1]) + u64::from(edges[after - 1]);
@@ -226,8 +257,8 @@ fn shift_within(
     let comes = row(into, from.len(), first);
     let goes = row(out, from.len(), after - 1);
     let forwards = shift_row(
-        view, setup, skip, v, v, place, count, lost, gained, edges, comes, goes, 0, 1, place, kept,
-        kept, best, meter,
+        view, setup, skip, v, v, place, count, lost, gained, edges, comes, goes, 0, begin, place,
+        kept, kept, best, meter,
     );
     shift_row(
         view,

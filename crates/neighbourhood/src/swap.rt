@@ -10,7 +10,9 @@ ghost use Rattle.neighbourhood.specs.Laws.{Laws};
 ghost use Rattle.neighbourhood.specs.Search.{IsBestSoFar, IsSaving};
 ghost use Rattle.neighbourhood.specs.Ways.{AreStops, AreEdges, AreHops};
 
+use crate::allowed::{first_free, may_leave};
 use crate::best::better;
+use crate::gains::{first_swap_gain, may_swap_gain, wanted};
 use crate::kept::Kept;
 use crate::table::row;
 use callback_store::Meter;
@@ -59,23 +61,54 @@ fn swap_row(
     requires best { IsBestSoFar (setting setup.now) view.now skip.now v w (2 ∷ v ∷ place ∷ w ∷ first ∷ []) best }
     ensures { IsBestSoFar (setting setup.now) view.now skip.now v w (2 ∷ v ∷ place ∷ w ∷ end ∷ []) result }
 {
+    let least = wanted(0, best);
+    if !may_swap_gain(
+        lost,
+        least,
+        edges,
+        before,
+        here,
+        next,
+        back,
+        first as usize,
+        end as usize,
+    ) {
+        return best;
+    }
     let mut best = best;
-    for at in first..end {
-        let index = at as usize;
-        let all_lost = lost + u64::from(edges[index - 1]) + u64::from(edges[index]);
-        let all_gained = u64::from(before[index])
-            + u64::from(next[index])
-            + u64::from(back[index - 1])
-            + u64::from(here[index + 1]);
+    let mut at = first;
+    'row: while at < end {
+        let least = wanted(0, best);
+        let found = first_swap_gain(
+            lost,
+            least,
+            edges,
+            before,
+            here,
+            next,
+            back,
+            at as usize,
+            end as usize,
+        );
+        let there = found as u32;
+        if there == end {
+            return best;
+        }
+        let all_lost = lost + u64::from(edges[found - 1]) + u64::from(edges[found]);
+        let all_gained = u64::from(before[found])
+            + u64::from(next[found])
+            + u64::from(back[found - 1])
+            + u64::from(here[found + 1]);
         let mv = Move::Swap {
             vehicle: v,
             place,
             other: w,
-            at,
+            at: there,
         };
         best = better(
             view, setup, skip, v, w, v_kept, w_kept, mv, all_lost, all_gained, best, meter,
         );
+        at = there + 1;
     }
     best
 }
@@ -114,6 +147,10 @@ fn swap_over(
     requires best { IsBestSoFar (setting setup.now) view.now skip.now v w (2 ∷ v ∷ place ∷ w ∷ 1 ∷ []) best }
     ensures { IsBestSoFar (setting setup.now) view.now skip.now v w (2 ∷ v ∷ place ∷ w ∷ (length to.now - 1) ∷ []) result }
 {
+    if !may_leave(view, setup, v, place, 1) {
+        return best;
+    }
+    let begin = first_free(view, setup, w);
     let index = place as usize;
     let lost = u64::from(from_edges[index - 1]) + u64::from(from_edges[index]);
     let before = row(out, to.len(), index - 1);
@@ -133,7 +170,7 @@ fn swap_over(
         here,
         next,
         back,
-        1,
+        begin,
         to.len() as u32 - 1,
         v_kept,
         w_kept,
@@ -257,6 +294,9 @@ fn swap_within(
 {
     let index = place as usize;
     if index + 2 >= from.len() {
+        return best;
+    }
+    if place < first_free(view, setup, v) {
         return best;
     }
     let near = swap_next(

@@ -10,6 +10,7 @@ use dimension_core::Setup;
 use std::alloc::{AllocError, Global};
 
 /// What a way costs, as it is driven or driven back.
+#[inline(always)]
 fn hop_by(setup: &Setup, turned: bool, i: u32, j: u32, meter: &mut Meter) -> u32
     requires from { i ≤ (setting setup.now).customers }
     requires to { j ≤ (setting setup.now).customers }

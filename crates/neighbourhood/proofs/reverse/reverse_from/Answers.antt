@@ -1,8 +1,10 @@
-use Rattle.std.proofs.Common.{◌-◌, arith, false}
+use Rattle.std.proofs.Common.{◌+◌, ◌-◌, arith, false, length}
 use Rattle.callback_store.specs.Tables.{table_at}
 use Rattle.dimension_core.specs.Setup.{setting}
 use Rattle.move_core.specs.declared.moves.Move.TheVariants.{Reverse}
 use Rattle.neighbourhood.proofs.Possible.{reverse_can}
+use Rattle.neighbourhood.proofs.Rows.{reverses_past}
+use Rattle.neighbourhood.proofs.Still.{reverse_free}
 use Rattle.neighbourhood.proofs.Tabled.{row_of, reverse_by, reverse_tabled}
 use Rattle.neighbourhood.proofs.reverse.reverse_from.Goals as goal
 
@@ -28,3 +30,14 @@ reverse_row-requires-clause-saving g c =
     c.row-before.result.now c.row-here.result.now c.args.first last saving low l (omega arith) r.edges r.sums r.back_sums
     (row_of false t c.args.from.now c.args.from.now c.args.out.now c.row-before.result.now (c.args.first - 1) r.out (omega arith) c.row-before.ensures.cells)
     (row_of false t c.args.from.now c.args.from.now c.args.out.now c.row-here.result.now c.args.first r.out (omega arith) c.row-here.ensures.cells))
+
+pub returns-then-first-first_free : goal.returns-then-first-first_free
+returns-then-first-first_free g c =
+    let fit = c.requires.first.1 in
+    let test = c.if-first-first_free.true in
+    let begin = c.first_free.ensures.value in
+    reverses_past c.requires.laws (setting c.args.setup.now) c.args.view.now c.args.skip.now c.args.v c.args.v c.args.first (c.args.first + 1) (length c.args.from.now - 1) c.args.best (omega arith)
+    (λ k l h q.
+    let front = reverse_free c.requires.laws (setting c.args.setup.now) c.args.view.now c.args.skip.now c.requires.view c.args.v c.args.first k q in
+    absurd (omega arith))
+    c.requires.best

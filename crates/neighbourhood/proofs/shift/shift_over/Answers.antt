@@ -1,8 +1,10 @@
-use Rattle.std.proofs.Common.{◌+◌, ◌-◌, arith, true, false}
+use Rattle.std.proofs.Common.{◌+◌, ◌-◌, arith, true, false, length}
 use Rattle.callback_store.specs.Tables.{table_at}
 use Rattle.dimension_core.specs.Setup.{setting}
 use Rattle.move_core.specs.declared.moves.Move.TheVariants.{Shift}
 use Rattle.neighbourhood.proofs.Possible.{shift_can}
+use Rattle.neighbourhood.proofs.Shifts.{shifts_past}
+use Rattle.neighbourhood.proofs.Still.{shift_free}
 use Rattle.neighbourhood.proofs.Tabled.{row_of, shift_by, shift_tabled}
 use Rattle.neighbourhood.proofs.shift.shift_over.Goals as goal
 
@@ -10,9 +12,10 @@ pub shift_row-requires-clause-possible : goal.shift_row-requires-clause-possible
 shift_row-requires-clause-possible g c =
     let r = c.requires in
     let wide = r.to.sized in
+    let begin = c.first_free-begin.ensures.value in
     λ at l h.
     shift_can r.laws (setting c.args.setup.now).customers c.args.view.now.routes c.args.v c.args.place c.args.count c.args.w at c.args.from.now c.args.to.now r.from r.to r.apart
-    r.place.0 r.count.0 r.place.1 l (omega arith)
+    r.place.0 r.count.0 r.place.1 (omega arith) (omega arith)
 
 pub shift_row-requires-clause-saving : goal.shift_row-requires-clause-saving
 shift_row-requires-clause-saving g c =
@@ -26,11 +29,32 @@ shift_row-requires-clause-saving g c =
     let fit = r.place.1 in
     let f = c.from.ensures in
     let f2 = c.from-2.ensures in
+    let begin = c.first_free-begin.ensures.value in
     λ at l h.
-    let can = shift_can r.laws s.customers c.args.view.now.routes c.args.v c.args.place c.args.count c.args.w at c.args.from.now c.args.to.now r.from r.to r.apart low some fit l (omega arith) in
+    let can = shift_can r.laws s.customers c.args.view.now.routes c.args.v c.args.place c.args.count c.args.w at c.args.from.now c.args.to.now r.from r.to r.apart low some fit (omega arith) (omega arith) in
     let saving = shift_by r.laws s c.args.view.now c.args.v c.args.place c.args.count c.args.w at c.args.from.now c.args.to.now r.view.plan r.apart r.from r.to can in
     rw (f, f2) (shift_tabled s c.args.view.now (Shift c.args.v c.args.place c.args.count c.args.w at) t c.args.from.now c.args.to.now c.args.from_edges.now c.args.to_edges.now c.row-comes.result.now c.row-goes.result.now
-    c.args.place c.args.count 0 at c.hop-gained.result saving low some fit l (omega arith) r.from_edges r.to_edges
+    c.args.place c.args.count 0 at c.hop-gained.result saving low some fit (omega arith) (omega arith) r.from_edges r.to_edges
     (row_of true t c.args.from.now c.args.to.now c.args.into.now c.row-comes.result.now c.args.place r.into (omega arith) c.row-comes.ensures.cells)
     (row_of false t c.args.from.now c.args.to.now c.args.out.now c.row-goes.result.now (c.args.place + c.args.count - 1) r.out (omega arith) c.row-goes.ensures.cells)
     c.hop-gained.ensures.value)
+
+pub returns-then-not-may_leave : goal.returns-then-not-may_leave
+returns-then-not-may_leave g c =
+    let wide = c.requires.to.sized in
+    shifts_past c.requires.laws (setting c.args.setup.now) c.args.view.now c.args.skip.now c.args.v c.args.w c.args.place c.args.count 1 (length c.args.to.now) c.args.best (omega arith)
+    (λ k l h q.
+    let free = shift_free c.requires.laws (setting c.args.setup.now) c.args.view.now c.args.skip.now c.requires.view c.args.v c.args.place c.args.count c.args.w k c.requires.apart q in
+    let is = c.may_leave.ensures.1 (free.0, free.2) in
+    absurd cc)
+    c.requires.best
+
+pub shift_row-requires-clause-best : goal.shift_row-requires-clause-best
+shift_row-requires-clause-best g c =
+    let begin = c.first_free-begin.ensures.value in
+    shifts_past c.requires.laws (setting c.args.setup.now) c.args.view.now c.args.skip.now c.args.v c.args.w c.args.place c.args.count 1 c.first_free-begin.result c.args.best (omega arith)
+    (λ k l h q.
+    let free = shift_free c.requires.laws (setting c.args.setup.now) c.args.view.now c.args.skip.now c.requires.view c.args.v c.args.place c.args.count c.args.w k c.requires.apart q in
+    let front = free.1 in
+    absurd (omega arith))
+    c.requires.best

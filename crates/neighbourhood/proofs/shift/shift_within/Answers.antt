@@ -1,4 +1,4 @@
-use Rattle.std.proofs.Common.{◌+◌, ◌-◌, refl, arith, true, false, [], ◌∷◌}
+use Rattle.std.proofs.Common.{◌+◌, ◌-◌, refl, arith, true, false, [], ◌∷◌, length}
 use Rattle.callback_store.specs.Tables.{table_at}
 use Rattle.dimension_core.specs.Setup.{setting}
 use Rattle.plan_core.specs.Plan.{route_at}
@@ -6,7 +6,8 @@ use Rattle.move_core.specs.declared.moves.Move.TheVariants.{Shift}
 use Rattle.neighbourhood.specs.Best.{Counts, cost_after, cost_before}
 use Rattle.neighbourhood.proofs.Costs.{around_before, around_after}
 use Rattle.neighbourhood.proofs.Firsts.{best_kept}
-use Rattle.neighbourhood.proofs.Shifts.{shift_next}
+use Rattle.neighbourhood.proofs.Shifts.{shift_next, shifts_past}
+use Rattle.neighbourhood.proofs.Still.{shift_inside_free}
 use Rattle.neighbourhood.proofs.Possible.{shift_inside_can}
 use Rattle.neighbourhood.proofs.Tabled.{row_of, shift_inside_by, shift_tabled}
 use Rattle.neighbourhood.proofs.shift.shift_within.Goals as goal
@@ -15,9 +16,10 @@ pub shift_row-forwards-requires-clause-possible : goal.shift_row-forwards-requir
 shift_row-forwards-requires-clause-possible g c =
     let r = c.requires in
     let fit = r.place.1 in
+    let begin = c.first_free-begin.ensures.value in
     λ at l h.
     shift_inside_can r.laws (setting c.args.setup.now).customers c.args.view.now.routes c.args.v c.args.place c.args.count at c.args.from.now r.from
-    r.place.0 r.count.0 fit l (omega arith) (λ e. omega arith)
+    r.place.0 r.count.0 fit (omega arith) (omega arith) (λ e. omega arith)
 
 pub shift_row-requires-clause-possible : goal.shift_row-requires-clause-possible
 shift_row-requires-clause-possible g c =
@@ -38,12 +40,13 @@ shift_row-forwards-requires-clause-saving g c =
     let fit = r.place.1 in
     let f = c.from.ensures in
     let f2 = c.from-2.ensures in
+    let begin = c.first_free-begin.ensures.value in
     λ at l h.
-    let can = shift_inside_can r.laws s.customers c.args.view.now.routes c.args.v c.args.place c.args.count at c.args.from.now r.from low some fit l (omega arith) (λ e. omega arith) in
+    let can = shift_inside_can r.laws s.customers c.args.view.now.routes c.args.v c.args.place c.args.count at c.args.from.now r.from low some fit (omega arith) (omega arith) (λ e. omega arith) in
     let saving = shift_inside_by r.laws s c.args.view.now c.args.v c.args.place c.args.count 0 at c.args.from.now r.view.plan r.from can
     (around_before (route_at c.args.view.now.routes c.args.v) c.args.place c.args.count at low (omega arith) h) in
     rw (f, f2) (shift_tabled s c.args.view.now (Shift c.args.v c.args.place c.args.count c.args.v at) t c.args.from.now c.args.from.now c.args.edges.now c.args.edges.now c.row-comes.result.now c.row-goes.result.now
-    c.args.place c.args.count 0 at c.hop-gained.result saving low some fit l (omega arith) r.edges r.edges
+    c.args.place c.args.count 0 at c.hop-gained.result saving low some fit (omega arith) (omega arith) r.edges r.edges
     (row_of true t c.args.from.now c.args.from.now c.args.into.now c.row-comes.result.now c.args.place r.into (omega arith) c.row-comes.ensures.cells)
     (row_of false t c.args.from.now c.args.from.now c.args.out.now c.row-goes.result.now (c.args.place + c.args.count - 1) r.out (omega arith) c.row-goes.ensures.cells)
     c.hop-gained.ensures.value)
@@ -78,3 +81,25 @@ shift_row-requires-clause-best g c =
     (shift_next law s c.args.view.now c.args.skip.now c.args.v c.args.v c.args.place c.args.count c.args.place)
     (λ q. absurd ((((law.possible.shift s.customers c.args.view.now.routes c.args.v c.args.place c.args.count c.args.v c.args.place).0 q.possible).onto.inside refl).1 refl))
     c.shift_row-forwards.ensures
+
+pub returns-then-place-begin : goal.returns-then-place-begin
+returns-then-place-begin g c =
+    let fit = c.requires.place.1 in
+    let begin = c.first_free-begin.ensures.value in
+    let test = c.if-place-begin.true in
+    shifts_past c.requires.laws (setting c.args.setup.now) c.args.view.now c.args.skip.now c.args.v c.args.v c.args.place c.args.count 1 (length c.args.from.now - c.args.count) c.args.best (omega arith)
+    (λ k l h q.
+    let free = shift_inside_free c.requires.laws (setting c.args.setup.now) c.args.view.now c.args.skip.now c.requires.view c.args.v c.args.place c.args.count k q in
+    let front = free.0 in
+    absurd (omega arith))
+    c.requires.best
+
+pub shift_row-forwards-requires-clause-best : goal.shift_row-forwards-requires-clause-best
+shift_row-forwards-requires-clause-best g c =
+    let begin = c.first_free-begin.ensures.value in
+    shifts_past c.requires.laws (setting c.args.setup.now) c.args.view.now c.args.skip.now c.args.v c.args.v c.args.place c.args.count 1 c.first_free-begin.result c.args.best (omega arith)
+    (λ k l h q.
+    let free = shift_inside_free c.requires.laws (setting c.args.setup.now) c.args.view.now c.args.skip.now c.requires.view c.args.v c.args.place c.args.count k q in
+    let front = free.1 in
+    absurd (omega arith))
+    c.requires.best

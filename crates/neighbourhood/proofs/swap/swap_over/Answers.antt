@@ -1,8 +1,10 @@
-use Rattle.std.proofs.Common.{◌+◌, ◌-◌, arith, true, false}
+use Rattle.std.proofs.Common.{◌+◌, ◌-◌, arith, true, false, length}
 use Rattle.callback_store.specs.Tables.{table_at}
 use Rattle.dimension_core.specs.Setup.{setting}
 use Rattle.move_core.specs.declared.moves.Move.TheVariants.{Swap}
 use Rattle.neighbourhood.proofs.Possible.{swap_can}
+use Rattle.neighbourhood.proofs.Rows.{swaps_past}
+use Rattle.neighbourhood.proofs.Still.{swap_free}
 use Rattle.neighbourhood.proofs.Tabled.{row_of, row_room, swap_by, swap_tabled}
 use Rattle.neighbourhood.proofs.swap.swap_over.Goals as goal
 
@@ -16,9 +18,10 @@ pub swap_row-requires-clause-possible : goal.swap_row-requires-clause-possible
 swap_row-requires-clause-possible g c =
     let r = c.requires in
     let wide = r.to.sized in
+    let begin = c.first_free-begin.ensures.value in
     λ at l h.
     swap_can r.laws (setting c.args.setup.now).customers c.args.view.now.routes c.args.v c.args.place c.args.w at c.args.from.now c.args.to.now r.from r.to (λ e. absurd (r.apart e))
-    r.place.0 r.place.1 l (omega arith)
+    r.place.0 r.place.1 (omega arith) (omega arith)
 
 pub swap_row-requires-clause-saving : goal.swap_row-requires-clause-saving
 swap_row-requires-clause-saving g c =
@@ -31,13 +34,34 @@ swap_row-requires-clause-saving g c =
     let fit = r.place.1 in
     let f = c.from.ensures in
     let f2 = c.from-2.ensures in
+    let begin = c.first_free-begin.ensures.value in
     λ at l h.
-    let can = swap_can r.laws s.customers c.args.view.now.routes c.args.v c.args.place c.args.w at c.args.from.now c.args.to.now r.from r.to (λ e. absurd (r.apart e)) low fit l (omega arith) in
+    let can = swap_can r.laws s.customers c.args.view.now.routes c.args.v c.args.place c.args.w at c.args.from.now c.args.to.now r.from r.to (λ e. absurd (r.apart e)) low fit (omega arith) (omega arith) in
     let saving = swap_by r.laws s c.args.view.now c.args.v c.args.place c.args.w at c.args.from.now c.args.to.now r.view.plan r.apart r.from r.to can in
     rw (f, f2) (swap_tabled s c.args.view.now (Swap c.args.v c.args.place c.args.w at) t c.args.from.now c.args.to.now c.args.from_edges.now c.args.to_edges.now
     c.row-before.result.now c.row-here.result.now c.row-next.result.now c.row-back.result.now
-    c.args.place at saving low fit l (omega arith) r.from_edges r.to_edges
+    c.args.place at saving low fit (omega arith) (omega arith) r.from_edges r.to_edges
     (row_of false t c.args.from.now c.args.to.now c.args.out.now c.row-before.result.now (c.args.place - 1) r.out (omega arith) c.row-before.ensures.cells)
     (row_of false t c.args.from.now c.args.to.now c.args.out.now c.row-here.result.now c.args.place r.out (omega arith) c.row-here.ensures.cells)
     (row_of true t c.args.from.now c.args.to.now c.args.into.now c.row-next.result.now (c.args.place + 1) r.into (omega arith) c.row-next.ensures.cells)
     (row_of true t c.args.from.now c.args.to.now c.args.into.now c.row-back.result.now c.args.place r.into (omega arith) c.row-back.ensures.cells))
+
+pub returns-then-not-may_leave : goal.returns-then-not-may_leave
+returns-then-not-may_leave g c =
+    let wide = c.requires.to.sized in
+    swaps_past c.requires.laws (setting c.args.setup.now) c.args.view.now c.args.skip.now c.args.v c.args.w c.args.place 1 (length c.args.to.now - 1) c.args.best (omega arith)
+    (λ k l h q.
+    let free = swap_free c.requires.laws (setting c.args.setup.now) c.args.view.now c.args.skip.now c.requires.view c.args.v c.args.place c.args.w k c.requires.apart q in
+    let is = c.may_leave.ensures.1 (free.0, free.2) in
+    absurd cc)
+    c.requires.best
+
+pub swap_row-requires-clause-best : goal.swap_row-requires-clause-best
+swap_row-requires-clause-best g c =
+    let begin = c.first_free-begin.ensures.value in
+    swaps_past c.requires.laws (setting c.args.setup.now) c.args.view.now c.args.skip.now c.args.v c.args.w c.args.place 1 c.first_free-begin.result c.args.best (omega arith)
+    (λ k l h q.
+    let free = swap_free c.requires.laws (setting c.args.setup.now) c.args.view.now c.args.skip.now c.requires.view c.args.v c.args.place c.args.w k c.requires.apart q in
+    let front = free.1 in
+    absurd (omega arith))
+    c.requires.best

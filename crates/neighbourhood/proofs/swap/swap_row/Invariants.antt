@@ -1,8 +1,15 @@
-use Rattle.std.proofs.Common.{[], ◌∷◌}
+use Rattle.std.proofs.Common.{◌≤◌, ◌+◌, ◌-◌, [], ◌∷◌}
 use Rattle.dimension_core.specs.Setup.{setting}
 use Rattle.neighbourhood.specs.Search.{IsBestSoFar}
 use Rattle.neighbourhood.proofs.swap.swap_row.Given as goal
 
 -- the best of the moves so far
-abbrev pub invariant-loop-at : goal.invariant-loop-at
-invariant-loop-at g l = IsBestSoFar (setting l.setup) l.view l.skip l.v l.w (2 ∷ l.v ∷ l.place ∷ l.w ∷ l.at ∷ []) l.best
+abbrev pub invariant-row : goal.invariant-row
+invariant-row g l = record {
+  low : l.first ≤ l.at;
+  high : l.at ≤ l.end;
+  best : IsBestSoFar (setting l.setup) l.view l.skip l.v l.w (2 ∷ l.v ∷ l.place ∷ l.w ∷ l.at ∷ []) l.best;
+}
+
+abbrev pub decreases-row : goal.decreases-row
+decreases-row g l = l.end - l.at

@@ -4,6 +4,8 @@ use Rattle.dimension_core.specs.Setup.{setting}
 use Rattle.move_core.specs.declared.moves.Move.TheVariants.{Swap}
 use Rattle.neighbourhood.specs.Search.{IsBestSoFar}
 use Rattle.neighbourhood.proofs.Possible.{swap_can}
+use Rattle.neighbourhood.proofs.Rows.{swaps_past}
+use Rattle.neighbourhood.proofs.Still.{swap_inside_free}
 use Rattle.neighbourhood.proofs.Tabled.{row_of, row_room, swap_inside_by, swap_tabled}
 use Rattle.neighbourhood.proofs.swap.swap_within.Goals as goal
 
@@ -44,3 +46,14 @@ swap_row-requires-clause-saving g c =
     (row_of false t c.args.from.now c.args.from.now c.args.out.now c.row-here.result.now c.args.place r.out (omega arith) c.row-here.ensures.cells)
     (row_of true t c.args.from.now c.args.from.now c.args.into.now c.row-next.result.now (c.args.place + 1) r.into (omega arith) c.row-next.ensures.cells)
     (row_of true t c.args.from.now c.args.from.now c.args.into.now c.row-back.result.now c.args.place r.into (omega arith) c.row-back.ensures.cells))
+
+pub returns-then-place-first_free : goal.returns-then-place-first_free
+returns-then-place-first_free g c =
+    let test = c.if-place-first_free.true in
+    let begin = c.first_free.ensures.value in
+    let room = c.if-index-from.false in
+    swaps_past c.requires.laws (setting c.args.setup.now) c.args.view.now c.args.skip.now c.args.v c.args.v c.args.place (c.args.place + 1) (length c.args.from.now - 1) c.args.best (omega arith)
+    (λ k l h q.
+    let front = swap_inside_free c.requires.laws (setting c.args.setup.now) c.args.view.now c.args.skip.now c.requires.view c.args.v c.args.place k (omega arith) q in
+    absurd (omega arith))
+    c.requires.best

@@ -1,0 +1,246 @@
+//! Where a row of candidates first gains more than the best so far.
+ghost use Rattle.std.specs.Prelude.{false, ◌≡◌, ℕ, ◌+◌, ◌-◌, ◌<◌, ◌≤◌, ◌^◌, length, slice_index, All, Option};
+ghost use Rattle.neighbourhood.specs.Search.{gain_of};
+
+use move_core::Move;
+
+/// Rows of fewer candidates are not gone through twice.
+const FEW: usize = 16;
+
+/// What a candidate has to gain over what it gains already, to be better than the best so far. No candidate gains 2 to the power of 60.
+#[inline(always)]
+pub(crate) fn wanted(gained: u64, best: Option<(Move, u64)>) -> u64
+    requires { gained < 2 ^ 50 }
+    ensures low { result ≤ gained + gain_of best }
+    ensures small { result < 2 ^ 61 }
+{
+    match best {
+        None => gained,
+        Some((_, gain)) => gained + gain.min(1_000_000_000_000_000_000),
+    }
+}
+
+/// The first index from one on and before another at which `lost` and the first row's number are more than `wanted`, the second row's
+/// number and the one after the third row's; the other index where there is none.
+#[inline(always)]
+pub(crate) fn first_gain(
+    lost: u64,
+    wanted: u64,
+    edges: &[u32],
+    to: &[u32],
+    on: &[u32],
+    from: usize,
+    end: usize,
+) -> usize
+    requires lost { lost < 2 ^ 50 }
+    requires wanted { wanted < 2 ^ 61 }
+    requires order { from ≤ end }
+    requires edges { end ≤ length edges.now }
+    requires to { end ≤ length to.now }
+    requires on { end < length on.now }
+    ensures low { from ≤ result }
+    ensures high { result ≤ end }
+    ensures none { (k : ℕ) → k < result → from ≤ k → lost + slice_index edges.now k ≤ wanted + slice_index to.now k + slice_index on.now (k + 1) }
+{
+    for k in from..end {
+        let all_gained = wanted + u64::from(to[k]) + u64::from(on[k + 1]);
+        let all_lost = lost + u64::from(edges[k]);
+        if all_gained < all_lost {
+            return k;
+        }
+    }
+    end
+}
+
+/// The same for swaps: they lose two ways of the other row and gain four.
+#[inline(always)]
+pub(crate) fn first_swap_gain(
+    lost: u64,
+    wanted: u64,
+    edges: &[u32],
+    before: &[u32],
+    here: &[u32],
+    next: &[u32],
+    back: &[u32],
+    from: usize,
+    end: usize,
+) -> usize
+    requires lost { lost < 2 ^ 50 }
+    requires wanted { wanted < 2 ^ 61 }
+    requires begin { 1 ≤ from }
+    requires order { from ≤ end }
+    requires edges { end ≤ length edges.now }
+    requires before { end ≤ length before.now }
+    requires here { end < length here.now }
+    requires next { end ≤ length next.now }
+    requires back { end ≤ length back.now }
+    ensures low { from ≤ result }
+    ensures high { result ≤ end }
+    ensures none { (k : ℕ) → k < result → from ≤ k → lost + slice_index edges.now (k - 1) + slice_index edges.now k
+        ≤ wanted + slice_index before.now k + slice_index next.now k + slice_index back.now (k - 1) + slice_index here.now (k + 1) }
+{
+    for k in from..end {
+        let all_lost = lost + u64::from(edges[k - 1]) + u64::from(edges[k]);
+        let all_gained = wanted
+            + u64::from(before[k])
+            + u64::from(next[k])
+            + u64::from(back[k - 1])
+            + u64::from(here[k + 1]);
+        if all_gained < all_lost {
+            return k;
+        }
+    }
+    end
+}
+
+/// The same for reverses: they lose and gain sums of ways besides.
+#[inline(always)]
+pub(crate) fn first_reverse_gain(
+    lost: u64,
+    wanted: u64,
+    edges: &[u32],
+    sums: &[u64],
+    back_sums: &[u64],
+    before: &[u32],
+    here: &[u32],
+    from: usize,
+    end: usize,
+) -> usize
+    requires lost { lost < 2 ^ 51 }
+    requires wanted { wanted < 2 ^ 61 }
+    requires order { from ≤ end }
+    requires edges { end ≤ length edges.now }
+    requires sums { end ≤ length sums.now }
+    requires back_sums { end ≤ length back_sums.now }
+    requires before { end ≤ length before.now }
+    requires here { end < length here.now }
+    requires small { All (λ x. x ≤ 2 ^ 42) sums.now × All (λ x. x ≤ 2 ^ 42) back_sums.now }
+    ensures low { from ≤ result }
+    ensures high { result ≤ end }
+    ensures none { (k : ℕ) → k < result → from ≤ k → lost + slice_index sums.now k + slice_index edges.now k
+        ≤ wanted + slice_index before.now k + slice_index back_sums.now k + slice_index here.now (k + 1) }
+{
+    for k in from..end {
+        let all_lost = lost + sums[k] + u64::from(edges[k]);
+        let all_gained = wanted + u64::from(before[k]) + back_sums[k] + u64::from(here[k + 1]);
+        if all_gained < all_lost {
+            return k;
+        }
+    }
+    end
+}
+
+/// Whether `first_gain` may find an index, by one pass without branches over a long row; for a short row it is not asked.
+#[inline(always)]
+pub(crate) fn may_gain(
+    lost: u64,
+    wanted: u64,
+    edges: &[u32],
+    to: &[u32],
+    on: &[u32],
+    from: usize,
+    end: usize,
+) -> bool
+    requires lost { lost < 2 ^ 50 }
+    requires wanted { wanted < 2 ^ 61 }
+    requires order { from ≤ end }
+    requires edges { end ≤ length edges.now }
+    requires to { end ≤ length to.now }
+    requires on { end < length on.now }
+    ensures { result ≡ false → (k : ℕ) → k < end → from ≤ k → lost + slice_index edges.now k ≤ wanted + slice_index to.now k + slice_index on.now (k + 1) }
+{
+    if end - from < FEW {
+        return true;
+    }
+    let mut gains = false;
+    for k in from..end {
+        let all_gained = wanted + u64::from(to[k]) + u64::from(on[k + 1]);
+        let all_lost = lost + u64::from(edges[k]);
+        if all_gained < all_lost {
+            gains = true;
+        }
+    }
+    gains
+}
+
+/// The same for `first_swap_gain`.
+#[inline(always)]
+pub(crate) fn may_swap_gain(
+    lost: u64,
+    wanted: u64,
+    edges: &[u32],
+    before: &[u32],
+    here: &[u32],
+    next: &[u32],
+    back: &[u32],
+    from: usize,
+    end: usize,
+) -> bool
+    requires lost { lost < 2 ^ 50 }
+    requires wanted { wanted < 2 ^ 61 }
+    requires begin { 1 ≤ from }
+    requires order { from ≤ end }
+    requires edges { end ≤ length edges.now }
+    requires before { end ≤ length before.now }
+    requires here { end < length here.now }
+    requires next { end ≤ length next.now }
+    requires back { end ≤ length back.now }
+    ensures { result ≡ false → (k : ℕ) → k < end → from ≤ k → lost + slice_index edges.now (k - 1) + slice_index edges.now k
+        ≤ wanted + slice_index before.now k + slice_index next.now k + slice_index back.now (k - 1) + slice_index here.now (k + 1) }
+{
+    if end - from < FEW {
+        return true;
+    }
+    let mut gains = false;
+    for k in from..end {
+        let all_lost = lost + u64::from(edges[k - 1]) + u64::from(edges[k]);
+        let all_gained = wanted
+            + u64::from(before[k])
+            + u64::from(next[k])
+            + u64::from(back[k - 1])
+            + u64::from(here[k + 1]);
+        if all_gained < all_lost {
+            gains = true;
+        }
+    }
+    gains
+}
+
+/// The same for `first_reverse_gain`.
+#[inline(always)]
+pub(crate) fn may_reverse_gain(
+    lost: u64,
+    wanted: u64,
+    edges: &[u32],
+    sums: &[u64],
+    back_sums: &[u64],
+    before: &[u32],
+    here: &[u32],
+    from: usize,
+    end: usize,
+) -> bool
+    requires lost { lost < 2 ^ 51 }
+    requires wanted { wanted < 2 ^ 61 }
+    requires order { from ≤ end }
+    requires edges { end ≤ length edges.now }
+    requires sums { end ≤ length sums.now }
+    requires back_sums { end ≤ length back_sums.now }
+    requires before { end ≤ length before.now }
+    requires here { end < length here.now }
+    requires small { All (λ x. x ≤ 2 ^ 42) sums.now × All (λ x. x ≤ 2 ^ 42) back_sums.now }
+    ensures { result ≡ false → (k : ℕ) → k < end → from ≤ k → lost + slice_index sums.now k + slice_index edges.now k
+        ≤ wanted + slice_index before.now k + slice_index back_sums.now k + slice_index here.now (k + 1) }
+{
+    if end - from < FEW {
+        return true;
+    }
+    let mut gains = false;
+    for k in from..end {
+        let all_lost = lost + sums[k] + u64::from(edges[k]);
+        let all_gained = wanted + u64::from(before[k]) + back_sums[k] + u64::from(here[k + 1]);
+        if all_gained < all_lost {
+            gains = true;
+        }
+    }
+    gains
+}
