@@ -1,5 +1,6 @@
 mod AccessLaws
 mod BreakLaws
+mod ComingLaws
 mod CommandLaws
 mod CountLaws
 mod FewerLaws

@@ -4,6 +4,7 @@ ghost use Rattle.std.specs.Map.{lookup};
 ghost use Rattle.std.specs.Result.{result_err};
 ghost use Rattle.std.specs.List.{list_all};
 ghost use Rattle.role_hierarchy.specs.Below.{closed};
+ghost use Rattle.role_hierarchy.specs.Roles.{with_role};
 ghost use Rattle.policy_core.specs.State.{is_session, session_of, is_role, user_of, with_session, broken_dsd, counted};
 ghost use Rattle.policy_core.specs.Commands.{Says, authorized_for, slots_of, opened, open_refusal, shut, close_refusal, activated, activate_refusal, deactivated, deactivate_refusal, migrated, migrate_refusal, migrated_session};
 
@@ -103,11 +104,11 @@ impl Policy {
         if !self.authorized_for(user).contains(slot) {
             return Err(Refusal::NotAuthorized);
         }
-        active.insert(slot);
-        match self.refusal_of_active(active) {
-            Some(refusal) => Err(refusal),
-            None => Ok(Session::of(user, active)),
+        if let Some(refusal) = self.refusal_of_activated(number, user, active, slot) {
+            return Err(refusal);
         }
+        active.insert(slot);
+        Ok(Session::of(user, active))
     }
 
     /// DropActiveRole. In this order `NoRole`, `NotThere`.
@@ -225,6 +226,30 @@ impl Policy {
             .dsd
             .broken_by(count(self.counting, &self.order, active))
         {
+            Some(set) => Some(Refusal::Dsd(set)),
+            None => None,
+        }
+    }
+
+    /// Why the role may not be active besides in the session: the first set that it would break. A
+    /// set that has none of the roles that are counted for it stays whole.
+    fn refusal_of_activated(
+        &self,
+        number: u32,
+        user: Name,
+        active: RoleSet,
+        slot: u8,
+    ) -> Option<Refusal>
+        requires { Some (record { user = user; active = active }) ≡ lookup (nat_eq number) self.now.sessions }
+        ensures { result ≡ broken_dsd (with_session self.now number (record { user = user; active = with_role active slot })) }
+    {
+        self.order.is_order();
+        let (mut roles, mut alone) = (active, RoleSet::new());
+        roles.insert(slot);
+        alone.insert(slot);
+        let given = count(self.counting, &self.order, roles);
+        let coming = count(self.counting, &self.order, alone);
+        match self.dsd.broken_by_coming(given, coming) {
             Some(set) => Some(Refusal::Dsd(set)),
             None => None,
         }

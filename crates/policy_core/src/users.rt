@@ -2,7 +2,7 @@
 ghost use Rattle.std.specs.Prelude.{◌≡◌, ℕ, ◌<◌, ◌≤◌, [], ◌∷◌, List, None, Some, OnOk, OnErr, IfErr, IfOk, IfNone, IfSome, ◌↔◌, ◌+◌, ◌-◌, true, false, bytes_eq, nat_eq, is_some, is_none, map, unwrap_or, length, filter, not};
 ghost use Rattle.std.specs.Map.{lookup};
 ghost use Rattle.std.specs.Result.{result_err};
-ghost use Rattle.role_hierarchy.specs.Roles.{without};
+ghost use Rattle.role_hierarchy.specs.Roles.{with_role, without};
 ghost use Rattle.policy_core.specs.State.{is_user, held_by, slot_of, with_roles, broken_ssd};
 ghost use Rattle.policy_core.specs.Commands.{Says, add_user_refusal, user_added, delete_user_refusal, user_gone, assign_refusal, assigned, narrowed, deassigned, deassign_refusal};
 
@@ -86,12 +86,12 @@ impl Policy {
         if held.contains(slot) {
             return Err(Refusal::Already);
         }
+        if let Some(refusal) = self.refusal_of_role(user, held, slot) {
+            return Err(refusal);
+        }
         let mut roles = held;
         roles.insert(slot);
-        match self.refusal_of_roles(user, roles) {
-            Some(refusal) => Err(refusal),
-            None => Ok(roles),
-        }
+        Ok(roles)
     }
 
     /// DeassignUser. In this order `NoUser`, `NoRole`, `NotThere`.
@@ -143,11 +143,17 @@ impl Policy {
         });
     }
 
-    /// Why the user may not be assigned to these roles: the first set that it would break.
-    fn refusal_of_roles(&self, user: Name, roles: RoleSet) -> Option<Refusal>
-        ensures { result ≡ broken_ssd (with_roles self.now user roles) }
+    /// Why the user, assigned to those that it holds, may not be assigned to the role besides: the
+    /// first set that it would break. A set that has none of the roles below that one stays whole.
+    fn refusal_of_role(&self, user: Name, held: RoleSet, slot: u8) -> Option<Refusal>
+        requires { Some held ≡ lookup (bytes_eq user) self.now.users }
+        ensures { result ≡ broken_ssd (with_roles self.now user (with_role held slot)) }
     {
-        match self.ssd.broken_by(self.order.closure(roles)) {
+        self.order.is_order();
+        let mut roles = held;
+        roles.insert(slot);
+        let given = self.order.closure(roles);
+        match self.ssd.broken_by_coming(given, self.order.juniors(slot)) {
             Some(set) => Some(Refusal::Ssd(set)),
             None => None,
         }
