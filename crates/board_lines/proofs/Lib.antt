@@ -10,3 +10,4 @@ mod Commands
 mod Reread
 mod Floats
 mod Pieces
+mod Decimals

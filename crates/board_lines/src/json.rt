@@ -1,26 +1,49 @@
 //! A listing as JSON.
 
-ghost use Rattle.std.specs.Prelude.{◌≡◌, ◌++◌, IfOk, OnOk, string_bytes};
+ghost use Rattle.std.specs.Prelude.{◌≡◌, ◌++◌, [], ◌∷◌, map, IfOk, OnOk, string_bytes};
 ghost use Rattle.std.specs.List.{flat_map};
 ghost use Rattle.serde_json.specs.View.{view};
-ghost use Rattle.board_lines.specs.Json.{row_data, rows_data, json_text, comma_number, row_json, comma_row, rows_json, in_pieces};
+ghost use Rattle.board_lines.specs.Json.{number_data, cells, row_data, rows_data, json_text, comma_number, row_json, comma_row, rows_json, in_pieces};
 
 use crate::digits::push_number;
 use board_rules::Row;
 use serde_json::{Value, json};
 use std::alloc::{AllocError, Global};
 
+fn push_value(list: &mut Vec<Value>, n: u64) -> Result<(), AllocError>
+    ensures { OnOk result (map view list.new.items ≡ map view list.old.items ++ number_data n ∷ []) }
+{
+    match list.push(Value::from(n)) {
+        Ok(()) => Ok(()),
+        Err(_) => Err(AllocError),
+    }
+}
+
+fn push_values(list: &mut Vec<Value>, numbers: &[u64]) -> Result<(), AllocError>
+    ensures { OnOk result (map view list.new.items ≡ map view list.old.items ++ map number_data numbers.now) }
+{
+    for n in numbers {
+        push_value(list, *n)?;
+    }
+    Ok(())
+}
+
+fn push_row_values(list: &mut Vec<Value>, row: &Row) -> Result<(), AllocError>
+    ensures { OnOk result (map view list.new.items ≡ map view list.old.items ++ map number_data (cells row.now)) }
+{
+    push_value(list, u64::from(row.vehicle()))?;
+    push_value(list, u64::from(row.place()))?;
+    push_value(list, u64::from(row.customer()))?;
+    push_values(list, row.early())
+}
+
+// The list is put together by functions that own none, since each exit of one that does drops every value in it.
 fn row_value(alloc: Global, row: &Row) -> Result<Value, AllocError>
     ensures { IfOk result (λ value. view value ≡ row_data row.now) }
 {
-    let mut cells = Vec::new(alloc);
-    cells.push(Value::from(row.vehicle()))?;
-    cells.push(Value::from(row.place()))?;
-    cells.push(Value::from(row.customer()))?;
-    for early in row.early() {
-        cells.push(Value::from(*early))?;
-    }
-    Ok(Value::Array(cells))
+    let mut list = Vec::new(alloc);
+    push_row_values(&mut list, row)?;
+    Ok(Value::Array(list))
 }
 
 fn rows_value(alloc: Global, rows: &[Row]) -> Result<Value, AllocError>

@@ -1,12 +1,12 @@
 -- Answers of a front as outcomes of a line.
-use Rattle.std.proofs.Common.{◌≡◌, ℕ, List, Bool, true, ◌⊎◌, inl, inr, refl, sym, subst, ◌∙◌, Result, Ok, Err, IfOk, OnErr}
+use Rattle.std.proofs.Common.{◌≡◌, ℕ, List, inl, inr, refl, sym, subst, Result, Ok, Err, IfOk, OnErr}
 use Rattle.board_lines.specs.declared.command.Command.{Command}
 use Rattle.board_lines.specs.declared.command.Command.TheVariants as commands
 use Rattle.board_lines.specs.declared.command.LineFault.{LineFault}
 use Rattle.board_lines.specs.declared.command.ReadFault.{ReadFault}
 use Rattle.board_lines.specs.declared.command.ReadFault.TheVariants.{Line, NoMemory}
 use Rattle.board_lines.specs.Reading.{Says}
-use Rattle.line_engine.specs.Answers.{Answer, Outcome, Said, Bad}
+use Rattle.line_engine.specs.Answers.{Answer, Said, Bad}
 use Rattle.line_engine.specs.Fronts.{Does, Gives, Fails, Drops, Loses, as_json}
 use Rattle.line_engine.specs.declared.answer.Mark.{Mark}
 use Rattle.line_engine.specs.Marks.{Marks, Obeys, Tells, TellsJson, IsUnread}

@@ -1,5 +1,5 @@
 -- How a front may answer, where step says what answer a command may have, and refuses what want of memory may leave.
-use Rattle.std.specs.Prelude.{◌≡◌, ◌⊎◌, List, ℕ, Bool, Result, Ok, Err}
+use Rattle.std.specs.Prelude.{◌≡◌, ◌⊎◌, Result, Ok, Err}
 use Rattle.board_rules.specs.declared.call.Call.{Call}
 use Rattle.board_rules.specs.declared.reply.Fault.{Fault}
 use Rattle.board_rules.specs.declared.reply.Fault.TheVariants as turn_faults

@@ -1,7 +1,8 @@
 //! The engine of lines.
 
-ghost use Rattle.std.specs.Prelude.{◌≡◌, ◌<◌, ◌⊎◌, ◌∷◌, [], ◌++◌, List, ℕ, Some, IfSome, MatchOption, length, OnOk, OnErr, IfOk, IfErr, string_bytes};
+ghost use Rattle.std.specs.Prelude.{◌≡◌, ◌<◌, ◌⊎◌, ◌∷◌, [], ◌++◌, List, ℕ, length, map, OnOk, OnErr, IfOk, IfErr, string_bytes};
 ghost use Rattle.std.specs.Io.KnownBytes.{Appends};
+ghost use Rattle.text_words.specs.Words.{words as line_words};
 ghost use Rattle.board_lines.specs.Reading.{read_of, Says};
 ghost use Rattle.line_engine.specs.Fronts.{Gives, Drops};
 ghost use Rattle.line_engine.specs.Marks.{Marks};
@@ -11,31 +12,33 @@ use crate::answer::{Mark, OutOfMemory, obey, unread};
 use crate::front::Front;
 use crate::outbox::Outbox;
 use crate::run_fault::{Counts, RunFault};
-use board_lines::{Command, ReadFault, read_kept};
+use board_lines::{Command, ReadFault, read_line, read_words};
 use std::alloc::Global;
 use std::io::{Read, Write};
+use text_words::{keep_all_words, keep_line};
 
-/// The words of the line in work, in a buffer that is kept from line to line.
-type Words<'a> = Vec<&'a [u8]>;
-
-/// What a line says, without the one carriage return at its end.
-fn read<'a>(alloc: Global, words: &mut Words<'a>, line: &'a [u8]) -> Result<Command, ReadFault>
+/// What a line says, without the one carriage return at its end. The words of a line that has none are cut already.
+fn read(alloc: Global, words: &[&[u8]], line: &[u8]) -> Result<Command, ReadFault>
+    requires { map (λ w. w.now) words.now ≡ line_words line.now }
     ensures { Says result (read_of (body line.now)) }
 {
-    let text = line.strip_suffix(b"\r".as_slice()).unwrap_or(line);
-    read_kept(alloc, words, text)
+    match line.strip_suffix(b"\r".as_slice()) {
+        Some(text) => read_line(alloc, text),
+        None => read_words(alloc, words),
+    }
 }
 
 /// Asks the front what a line says, and puts the text of what it answers in the place of the text.
-fn answer<'a, R, F: Front<R>>(
+fn answer<R, F: Front<R>>(
     rt: &R,
     alloc: Global,
     front: &mut F,
     text: &mut String,
-    words: &mut Words<'a>,
-    line: &'a [u8],
+    words: &[&[u8]],
+    line: &[u8],
 ) -> Result<Mark, OutOfMemory>
-    requires { F.ready front.old }
+    requires ready { F.ready front.old }
+    requires words { map (λ w. w.now) words.now ≡ line_words line.now }
     ensures ready { F.ready front.new }
     ensures ok { IfOk result (Marks (λ outcome. Gives F.step front.old (read_of (body line.now)) outcome front.new) (string_bytes text.new)) }
     ensures err { OnErr result (Drops F.step F.refuses front.old (read_of (body line.now)) front.new) }
@@ -47,17 +50,18 @@ fn answer<'a, R, F: Front<R>>(
     }
 }
 
-/// Answers a line and holds the text of it.
-fn serve<'a, R, F: Front<R>>(
+/// Answers a line whose words are these, and holds the text of it.
+fn serve<R, F: Front<R>>(
     rt: &R,
     alloc: Global,
     front: &mut F,
     outbox: &mut Outbox,
-    words: &mut Words<'a>,
-    line: &'a [u8],
+    words: &[&[u8]],
+    line: &[u8],
 ) -> Result<(), RunFault>
     requires seen { outbox.old.tally.seen < 4294967296 }
     requires ready { F.ready front.old }
+    requires words { map (λ w. w.now) words.now ≡ line_words line.now }
     ensures ready { F.ready front.new }
     ensures ok { OnOk result (Grows outbox.old.held.items outbox.new.held.items (λ out. Served F.step front.old front.new out line.now
         outbox.old.tally.seen outbox.new.tally.seen outbox.old.tally.lines outbox.new.tally.lines
@@ -72,23 +76,33 @@ fn serve<'a, R, F: Front<R>>(
     Ok(())
 }
 
+/// Answers a line that came in pieces, or has no line end, and holds the text of it.
+#[inline(never)]
+fn serve_whole<R, F: Front<R>>(
+    rt: &R,
+    alloc: Global,
+    front: &mut F,
+    outbox: &mut Outbox,
+    line: &[u8],
+) -> Result<(), RunFault>
+    requires seen { outbox.old.tally.seen < 4294967296 }
+    requires ready { F.ready front.old }
+    ensures ready { F.ready front.new }
+    ensures ok { OnOk result (Grows outbox.old.held.items outbox.new.held.items (λ out. Served F.step front.old front.new out line.now
+        outbox.old.tally.seen outbox.new.tally.seen outbox.old.tally.lines outbox.new.tally.lines
+        outbox.old.tally.refused outbox.new.tally.refused)) }
+    ensures held { OnErr result (outbox.new.held.items ≡ outbox.old.held.items) }
+    ensures err { IfErr result (λ e. ServeBroken F.step F.refuses e front.old front.new line.now) }
+{
+    let mut words = Vec::new(alloc);
+    if keep_all_words(&mut words, line).is_err() {
+        return Err(RunFault::NoMemory);
+    }
+    serve(rt, alloc, front, outbox, words.as_slice(), line)
+}
+
 /// How many bytes a line may have.
 const MOST_BYTES: usize = 4096;
-
-/// What stands before the first line end, and what stands after it, if there is one.
-#[inline(always)]
-fn next_line(piece: &[u8]) -> (&[u8], Option<&[u8]>)
-    ensures plain { HasNoEnd result.0.now }
-    ensures parts { MatchOption result.1 (piece.now ≡ result.0.now) (λ rest. piece.now ≡ result.0.now ++ 10 ∷ rest.now) }
-    ensures shorter { IfSome result.1 (λ rest. length rest.now < length piece.now) }
-{
-    for (i, byte) in piece.iter().enumerate() {
-        if *byte == b'\n' {
-            return (&piece[..i], Some(&piece[i + 1..]));
-        }
-    }
-    (piece, None)
-}
 
 /// Puts what has come of a line behind what had come of it.
 fn keep(partial: &mut Vec<u8>, more: &[u8]) -> Result<(), RunFault>
@@ -104,19 +118,20 @@ fn keep(partial: &mut Vec<u8>, more: &[u8]) -> Result<(), RunFault>
     Ok(())
 }
 
-/// Answers the line that ends behind these bytes.
-fn take_line<'a, R, F: Front<R>>(
+/// Answers the line that ends behind these bytes, which have these words.
+fn take_line<R, F: Front<R>>(
     rt: &R,
     alloc: Global,
     front: &mut F,
     outbox: &mut Outbox,
     partial: &mut Vec<u8>,
-    words: &mut Words<'a>,
-    more: &'a [u8],
+    words: &[&[u8]],
+    more: &[u8],
 ) -> Result<(), RunFault>
     requires line { IsLine partial.old.items }
     requires plain { HasNoEnd more.now }
     requires ready { F.ready front.old }
+    requires words { map (λ w. w.now) words.now ≡ line_words more.now }
     ensures ready { F.ready front.new }
     ensures ok { OnOk result (Grows outbox.old.held.items outbox.new.held.items (λ out. Progress F.step front.old front.new out
         (partial.old.items ++ (more.now ++ 10 ∷ [])) partial.new.items outbox.old.tally.seen outbox.new.tally.seen
@@ -132,14 +147,7 @@ fn take_line<'a, R, F: Front<R>>(
         return Ok(());
     }
     keep(partial, more)?;
-    serve(
-        rt,
-        alloc,
-        front,
-        outbox,
-        &mut Vec::new(alloc),
-        partial.as_slice(),
-    )?;
+    serve_whole(rt, alloc, front, outbox, partial.as_slice())?;
     partial.clear();
     Ok(())
 }
@@ -168,16 +176,23 @@ fn feed<'a, R, F: Front<R>>(
     let mut words = Vec::with_capacity(alloc, MANY_WORDS)?;
     let mut left = piece;
     'lines: loop {
-        let (line, after) = next_line(left);
-        let Some(after) = after else {
-            keep(partial, line)?;
+        let Some(end) = keep_line(&mut words, left)? else {
+            keep(partial, left)?;
             return Ok(b"".as_slice());
         };
-        take_line(rt, alloc, front, outbox, partial, &mut words, line)?;
+        take_line(
+            rt,
+            alloc,
+            front,
+            outbox,
+            partial,
+            words.as_slice(),
+            &left[..end],
+        )?;
+        left = &left[end + 1..];
         if outbox.is_full() {
-            return Ok(after);
+            return Ok(left);
         }
-        left = after;
     }
 }
 
@@ -239,7 +254,7 @@ fn finish<R, F: Front<R>>(
     if outbox.tally.is_full() {
         return Err(RunFault::Read);
     }
-    serve(rt, alloc, front, outbox, &mut Vec::new(alloc), partial)?;
+    serve_whole(rt, alloc, front, outbox, partial)?;
     Ok(())
 }
 

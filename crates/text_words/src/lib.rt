@@ -1,9 +1,9 @@
 //! Words of a line, and the numbers that words are.
 #![tactic(auto)]
 
-ghost use Rattle.std.specs.Prelude.{◌≡◌, ◌<◌, ◌≤◌, ◌==◌, true, [], ◌∷◌, IfOk, IfSome, OnOk, MatchOption, length, map, take, slice_index};
+ghost use Rattle.std.specs.Prelude.{◌≡◌, ◌<◌, ◌≤◌, ◌-◌, ◌==◌, ◌||◌, true, [], ◌∷◌, ◌++◌, IfOk, IfSome, OnOk, MatchOption, length, map, take, drop, slice_index};
 ghost use Rattle.std.specs.List.{slice_split};
-ghost use Rattle.text_words.specs.Words.{words, number, is_gap, HasNoGap};
+ghost use Rattle.text_words.specs.Words.{full_parts, words, number, is_gap, HasNoGap, HasNoLineFeed, IsLineEnd};
 
 use std::alloc::{AllocError, Global};
 
@@ -81,6 +81,55 @@ pub fn words_of(alloc: Global, line: &[u8]) -> Result<Vec<&[u8]>, AllocError>
     let mut kept = Vec::new(alloc);
     keep_all_words(&mut kept, line)?;
     Ok(kept)
+}
+
+/// Whether the byte ends a word: a space, a tab or a line feed.
+#[inline(always)]
+fn ends_word(byte: u8) -> bool
+    ensures { result ≡ (is_gap byte || (byte == 10)) }
+{
+    is_gap(byte) || byte == b'\n'
+}
+
+/// Keeps what stands from one place up to another, unless that is nothing.
+#[inline(always)]
+fn keep_part<'a>(
+    kept: &mut Vec<&'a [u8]>,
+    text: &'a [u8],
+    from: usize,
+    to: usize,
+) -> Result<(), AllocError>
+    requires from { from ≤ to }
+    requires to { to ≤ length text.now }
+    ensures { OnOk result (map (λ w. w.now) kept.new.items ≡ map (λ w. w.now) kept.old.items ++ full_parts (take (to - from) (drop from text.now) ∷ [])) }
+{
+    if from < to {
+        kept.push(&text[from..to])?;
+    }
+    Ok(())
+}
+
+/// Makes `kept` the words of a text's first line, and gives the place of the line feed that ends it. Line and words are cut
+/// in one pass. Where the text has no line feed, there is no such place, and no more is said of `kept`.
+#[inline(always)]
+pub fn keep_line<'a>(kept: &mut Vec<&'a [u8]>, text: &'a [u8]) -> Result<Option<usize>, AllocError>
+    ensures end { IfOk result (λ end. MatchOption end (HasNoLineFeed text.now) (IsLineEnd text.now)) }
+    ensures words { IfOk result (λ end. IfSome end (λ i. map (λ w. w.now) kept.new.items ≡ words (take i text.now))) }
+{
+    kept.clear();
+    let mut start = 0;
+    for i in 0..text.len() {
+        let byte = text[i];
+        if !ends_word(byte) {
+            continue;
+        }
+        keep_part(kept, text, start, i)?;
+        if byte == b'\n' {
+            return Ok(Some(i));
+        }
+        start = i + 1;
+    }
+    Ok(None)
 }
 
 /// The number that a word is: 1 to 10 digits, with a value of at most 4,294,967,295.

@@ -1,7 +1,7 @@
-use Rattle.std.proofs.Common.{rules, ◌≡◌, ◌∙◌, [], ◌∷◌, ◌++◌, ap, refl, sym, append_assoc, List, ℕ}
+use Rattle.std.proofs.Common.{◌≡◌, ◌∙◌, [], ◌∷◌, ◌++◌, ap, refl, sym, append_assoc, take, List, ℕ}
 use Rattle.std.proofs.lemmas.List.{append-nil}
 use Rattle.std.proofs.lemmas.Result.{err_from_is_err_and}
-use Rattle.line_engine.proofs.Runs.{nothing_yet, no_memory_within, keep_broken, keep_done, feed_line, feed_broken_line, held_then}
+use Rattle.line_engine.proofs.Runs.{nothing_yet, no_memory, no_memory_within, keep_broken, keep_done, feed_line, feed_broken_line, held_then, behind_line, line_first}
 use Rattle.line_engine.proofs.engine.feed.Goals as goal
 
 pub lines-init : goal.lines-init
@@ -12,39 +12,51 @@ returns-in_err-words-clause-err g c =
     let p = err_from_is_err_and c.from_residual.result c.from_residual.ensures.1 in
     rw (p.1, p.2) ([], sym (append-nil _), no_memory_within g.F.Front.step g.F.Front.refuses _ c.args.partial.now.items c.args.piece.now _)
 
+pub returns-in_err-end-clause-err : goal.returns-in_err-end-clause-err
+returns-in_err-end-clause-err g c =
+    let i = c.lines.invariant in
+    let p = err_from_is_err_and c.from_residual-in_err-end.result c.from_residual-in_err-end.ensures.1 in
+    rw (p.1, p.2) (
+      i.3.0 ++ [],
+      i.3.1 ∙ ap (λ (l : List ℕ). c.args.outbox.now.held.items ++ l) (sym (append-nil i.3.0)),
+      feed_broken_line g.F.Front.step g.F.Front.refuses _ _ _ _ i.3.0 [] c.args.partial.now.items c.args.piece.now i.0 [] c.lines.left.now c.lines.partial.items _ _ _ _ _ _ i.1 i.3.2
+          (no_memory g.F.Front.step g.F.Front.refuses _ (c.lines.partial.items ++ []) _),
+    )
+
 pub returns-in_err-keep-clause-err : goal.returns-in_err-keep-clause-err
 returns-in_err-keep-clause-err g c =
     let i = c.lines.invariant in
-    let line = c.next_line.result.0.now in
+    let line = c.lines.left.now in
     let p = err_from_is_err_and c.from_residual-in_err-keep.result c.from_residual-in_err-keep.ensures.1 in
-    let cut : c.lines.left.now ≡ line = search rules in
-    let whole : c.lines.left.now ≡ (line ++ []) ++ [] = cut ∙ sym (append-nil line) ∙ sym (append-nil (line ++ [])) in
+    let plain = rw c.in_default.is at c.in_ok-end.ensures.end in
+    let whole : line ≡ (line ++ []) ++ [] = sym (append-nil line) ∙ sym (append-nil (line ++ [])) in
     let e : c.args.piece.now ≡ i.0 ++ ((line ++ []) ++ []) = i.1 ∙ ap (λ (l : List ℕ). i.0 ++ l) whole in
     rw (p.1, p.2) (
       i.3.0 ++ [],
       i.3.1 ∙ ap (λ (l : List ℕ). c.args.outbox.now.held.items ++ l) (sym (append-nil i.3.0)),
       feed_broken_line g.F.Front.step g.F.Front.refuses _ _ _ _ i.3.0 [] c.args.partial.now.items c.args.piece.now i.0 (line ++ []) [] c.lines.partial.items _ _ _ _ _ _ e i.3.2
-          (keep_broken g.F.Front.step g.F.Front.refuses _ _ c.lines.partial.items line [] _ i.3.2.cut.partial c.next_line.ensures.plain c.in_err-keep.ensures.err),
+          (keep_broken g.F.Front.step g.F.Front.refuses _ _ c.lines.partial.items line [] _ i.3.2.cut.partial plain c.in_err-keep.ensures.err),
     )
 
 pub returns-in_err-take_line-clause-err : goal.returns-in_err-take_line-clause-err
 returns-in_err-take_line-clause-err g c =
     let i = c.lines.invariant in
-    let line = c.next_line.result.0.now in
-    let after = c.in-Some.after.now in
+    let left = c.lines.left.now in
+    let n = c.in-Some.end in
+    let line = take n left in
+    let after = behind_line left n in
     let t = c.in_err-take_line.ensures.err in
     let p = err_from_is_err_and c.from_residual-in_err-take_line.result c.from_residual-in_err-take_line.ensures.1 in
-    let cut : c.lines.left.now ≡ line ++ 10 ∷ after = search rules in
+    let cut : left ≡ line ++ 10 ∷ after = line_first left n (rw c.in-Some.is at c.in_ok-end.ensures.end) in
     let e : c.args.piece.now ≡ i.0 ++ ((line ++ 10 ∷ []) ++ after) = i.1 ∙ ap (λ (l : List ℕ). i.0 ++ l) (cut ∙ sym (append_assoc line (10 ∷ []) after)) in
     rw (p.1, p.2) (i.3.0 ++ t.0, held_then _ _ _ i.3.0 t.0 i.3.1 t.1, feed_broken_line g.F.Front.step g.F.Front.refuses _ _ _ _ i.3.0 t.0 c.args.partial.now.items c.args.piece.now i.0 (line ++ 10 ∷ []) after c.lines.partial.items _ _ _ _ _ _ e i.3.2 t.2)
 
 pub returns-in_default-clause-ok : goal.returns-in_default-clause-ok
 returns-in_default-clause-ok g c =
     let i = c.lines.invariant in
-    let line = c.next_line.result.0.now in
-    let cut : c.lines.left.now ≡ line = search rules in
+    let line = c.lines.left.now in
     let none : c.as_slice.result.now ≡ [] = c.as_slice.ensures in
-    let e : c.args.piece.now ≡ (i.0 ++ line) ++ c.as_slice.result.now = i.1 ∙ ap (λ (l : List ℕ). i.0 ++ l) cut ∙ sym (append-nil (i.0 ++ line)) ∙ ap (λ (l : List ℕ). (i.0 ++ line) ++ l) (sym none) in (
+    let e : c.args.piece.now ≡ (i.0 ++ line) ++ c.as_slice.result.now = i.1 ∙ sym (append-nil (i.0 ++ line)) ∙ ap (λ (l : List ℕ). (i.0 ++ line) ++ l) (sym none) in (
       i.0 ++ line,
       e,
       (
@@ -57,10 +69,12 @@ returns-in_default-clause-ok g c =
 pub returns-then-is_full-clause-ok : goal.returns-then-is_full-clause-ok
 returns-then-is_full-clause-ok g c =
     let i = c.lines.invariant in
-    let line = c.next_line.result.0.now in
-    let after = c.in-Some.after.now in
+    let left = c.lines.left.now in
+    let n = c.in-Some.end in
+    let line = take n left in
+    let after = behind_line left n in
     let t = c.in_ok-take_line.ensures.ok in
-    let cut : c.lines.left.now ≡ line ++ 10 ∷ after = search rules in
+    let cut : left ≡ line ++ 10 ∷ after = line_first left n (rw c.in-Some.is at c.in_ok-end.ensures.end) in
     let e : c.args.piece.now ≡ i.0 ++ ((line ++ 10 ∷ []) ++ after) = i.1 ∙ ap (λ (l : List ℕ). i.0 ++ l) (cut ∙ sym (append_assoc line (10 ∷ []) after)) in (
       i.0 ++ (line ++ 10 ∷ []),
       e ∙ sym (append_assoc i.0 (line ++ 10 ∷ []) after),
@@ -74,10 +88,12 @@ returns-then-is_full-clause-ok g c =
 pub lines-preserved : goal.lines-preserved
 lines-preserved g c =
     let i = c.lines.invariant in
-    let line = c.next_line.result.0.now in
-    let after = c.in-Some.after.now in
+    let left = c.lines.left.now in
+    let n = c.in-Some.end in
+    let line = take n left in
+    let after = behind_line left n in
     let t = c.in_ok-take_line.ensures.ok in
-    let cut : c.lines.left.now ≡ line ++ 10 ∷ after = search rules in
+    let cut : left ≡ line ++ 10 ∷ after = line_first left n (rw c.in-Some.is at c.in_ok-end.ensures.end) in
     let e : c.args.piece.now ≡ i.0 ++ ((line ++ 10 ∷ []) ++ after) = i.1 ∙ ap (λ (l : List ℕ). i.0 ++ l) (cut ∙ sym (append_assoc line (10 ∷ []) after)) in (
       i.0 ++ (line ++ 10 ∷ []),
       e ∙ sym (append_assoc i.0 (line ++ 10 ∷ []) after),

@@ -15,13 +15,13 @@ returns-then-is_full-clause-err g c =
     let e : c.args.outbox.now.tally.seen ≡ 4294967296 = grind (arith, nat_tests) in
     ([], sym (append-nil _), is_full g.F.Front.step g.F.Front.refuses _ _ _ e)
 
-pub returns-in_err-serve-clause-err : goal.returns-in_err-serve-clause-err
-returns-in_err-serve-clause-err g c =
+pub returns-in_err-serve_whole-clause-err : goal.returns-in_err-serve_whole-clause-err
+returns-in_err-serve_whole-clause-err g c =
     let p = err_from_is_err_and c.from_residual.result c.from_residual.ensures.1 in
-    rw (p.1, p.2) ([], same_held _ _ c.in_err-serve.ensures.held, line_broken g.F.Front.step g.F.Front.refuses _ _ _ c.args.partial.now c.args.partial.now _ (c.requires.line, inl refl) c.in_err-serve.ensures.err)
+    rw (p.1, p.2) ([], same_held _ _ c.in_err-serve_whole.ensures.held, line_broken g.F.Front.step g.F.Front.refuses _ _ _ c.args.partial.now c.args.partial.now _ (c.requires.line, inl refl) c.in_err-serve_whole.ensures.err)
 
 pub returns-clause-ok : goal.returns-clause-ok
 returns-clause-ok g c =
     let some : 0 < length c.args.partial.now = grind (arith, nat_tests) in
-    let s = c.in_ok-serve.ensures.ok in
+    let s = c.in_ok-serve_whole.ensures.ok in
     (s.0, s.1, finished g.F.Front.step _ _ _ c.args.partial.now _ _ _ _ _ _ some s.2)

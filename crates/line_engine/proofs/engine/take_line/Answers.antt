@@ -27,16 +27,16 @@ returns-in_err-keep-clause-err g c =
     let p = err_from_is_err_and c.from_residual-in_err-keep.result c.from_residual-in_err-keep.ensures.1 in
     rw (p.1, p.2) ([], sym (append-nil _), keep_broken g.F.Front.step g.F.Front.refuses _ _ c.args.partial.now.items c.args.more.now _ _ c.requires.line c.requires.plain c.in_err-keep.ensures.err)
 
-pub returns-in_err-serve-2-clause-err : goal.returns-in_err-serve-2-clause-err
-returns-in_err-serve-2-clause-err g c =
-    let p = err_from_is_err_and c.from_residual-in_err-serve-2.result c.from_residual-in_err-serve-2.ensures.1 in
+pub returns-in_err-serve_whole-clause-err : goal.returns-in_err-serve_whole-clause-err
+returns-in_err-serve_whole-clause-err g c =
+    let p = err_from_is_err_and c.from_residual-in_err-serve_whole.result c.from_residual-in_err-serve_whole.ensures.1 in
     let k = c.in_ok-keep.ensures.ok in
     let same = c.as_slice.ensures.value in
-    rw (p.1, p.2) ([], same_held _ _ c.in_err-serve-2.ensures.held, take_broken g.F.Front.step g.F.Front.refuses _ _ _ c.args.partial.now.items c.args.more.now c.as_slice.result.now _ (rw same k.1) (same ∙ k.0) c.in_err-serve-2.ensures.err)
+    rw (p.1, p.2) ([], same_held _ _ c.in_err-serve_whole.ensures.held, take_broken g.F.Front.step g.F.Front.refuses _ _ _ c.args.partial.now.items c.args.more.now c.as_slice.result.now _ (rw same k.1) (same ∙ k.0) c.in_err-serve_whole.ensures.err)
 
 pub returns-clause-ok : goal.returns-clause-ok
 returns-clause-ok g c =
     let k = c.in_ok-keep.ensures.ok in
     let same = c.as_slice.ensures.value in
-    let s = c.in_ok-serve-2.ensures.ok in
+    let s = c.in_ok-serve_whole.ensures.ok in
     (s.0, s.1, take_done g.F.Front.step _ _ _ c.args.partial.now.items c.args.more.now c.as_slice.result.now _ _ _ _ _ _ _ (rw same k.1) (same ∙ k.0) c.clear.ensures.items s.2)

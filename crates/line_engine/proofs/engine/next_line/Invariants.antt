@@ -1,7 +1,0 @@
-use Rattle.std.proofs.Common.{take}
-use Rattle.line_engine.specs.Running.{HasNoEnd}
-use Rattle.line_engine.proofs.engine.next_line.Given as goal
-
--- no line end so far
-abbrev pub invariant-loop-i : goal.invariant-loop-i
-invariant-loop-i l = HasNoEnd (take l.i l.piece)
