@@ -52,6 +52,15 @@ fn push_small(out: &mut String, n: u64) -> Result<(), AllocError>
     push_digit(out, n % 10)
 }
 
+// Apart, so that a small number pays nothing for the formatter's buffer.
+#[inline(never)]
+fn push_large(out: &mut String, n: u64) -> Result<(), AllocError>
+    ensures { OnOk result (string_bytes out.new ≡ string_bytes out.old ++ decimal n) }
+{
+    let mut digits = Buffer::new();
+    out.push_str(digits.format(n))
+}
+
 /// Puts a number at the end, without leading zeros.
 pub(crate) fn push_number(out: &mut String, n: u64) -> Result<(), AllocError>
     ensures { OnOk result (string_bytes out.new ≡ string_bytes out.old ++ decimal n) }
@@ -59,8 +68,7 @@ pub(crate) fn push_number(out: &mut String, n: u64) -> Result<(), AllocError>
     if n < 10_000 {
         return push_small(out, n);
     }
-    let mut digits = Buffer::new();
-    out.push_str(digits.format(n))
+    push_large(out, n)
 }
 
 /// Puts a space and a number at the end.

@@ -397,8 +397,6 @@ fn question(session: u32, word: AskWord, arguments: &[&[u8]]) -> Result<Command,
 
 // ---- lines
 
-// Apart, so that the family's function fills the caller's result itself, and no large result is handed on.
-#[inline(never)]
 fn command(
     alloc: Global,
     session: u32,
@@ -428,7 +426,6 @@ fn command(
 /// The faults, in the order in which they are looked for: the session is no number, the command's word, the count of
 /// words (without the words of an object whose kind is none), then from the left the first argument that does not fit.
 #[tactic(auto, unfolding(crate::specs::Reading::words_read))]
-#[inline(never)]
 pub fn read_words(alloc: Global, words: &[&[u8]]) -> Result<Command, ReadFault>
     ensures { Says result (words_read (map (λ w. w.now) words.now)) }
 {

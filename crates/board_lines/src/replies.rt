@@ -76,6 +76,7 @@ fn push_refusal(out: &mut String, refusal: Refusal) -> Result<(), AllocError>
 }
 
 /// Puts the text of a reply at the end, without a line end.
+#[inline(always)]
 pub fn push_reply(out: &mut String, reply: Reply) -> Result<(), AllocError>
     ensures { OnOk result (string_bytes out.new ≡ string_bytes out.old ++ reply_text reply) }
 {

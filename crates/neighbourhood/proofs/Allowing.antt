@@ -1,4 +1,4 @@
-use Rattle.std.proofs.Common.{◌≡◌, ◌≢◌, ◌∙◌, ℕ, zero, suc, ◌+◌, ◌<◌, ◌≤◌, ◌⊎◌, ◌↔◌, inl, inr, refl, sym, ap, subst, arith, List, [], ◌∷◌, ◌++◌, length, take, drop, slice_get, Option, Some, None, true, false, Contains, Bool, IsTrue, is_some, slice_index, slice_index_or, All}
+use Rattle.std.proofs.Common.{◌-◌, length-drop, get_or-drop, ◌≡◌, ◌≢◌, ◌∙◌, ℕ, zero, suc, ◌+◌, ◌<◌, ◌≤◌, ◌⊎◌, ◌↔◌, inl, inr, refl, sym, ap, subst, arith, List, [], ◌∷◌, ◌++◌, length, take, drop, slice_get, Option, Some, None, true, false, Contains, Bool, IsTrue, is_some, slice_index, slice_index_or, All}
 use Rattle.std.proofs.lemmas.List.{get_or_default, length-append}
 use Rattle.std.proofs.lemmas.List.Elements.{Contains-append_right, Contains-get_or, All-take, All-drop, All-nil, All-cons, All-append}
 use Rattle.plan_core.specs.declared.touch.Touch.{Touch}
@@ -144,6 +144,17 @@ module _ (law : Laws) where
       split : (o : Option ℕ) → o ≡ None → is_some o ≡ true → IsTrue false
       split None n y = cc
       split (Some x) n y = absurd cc
+
+  -- and of one whose tail begins no later
+  pub not_loose_from : (s : PinState) (cs : List ℕ) (i k c : ℕ) (b : Bool) → k ≤ i → i < length cs → c ≡ slice_index cs i → b ≡ is_some (pin_of s c) → b ≡ true
+      → AreLoose s (drop k cs) → ⊥
+  not_loose_from s cs i k c b order h e t is loose =
+      let back : k + (i - k) ≡ i = omega arith in
+      let there : slice_index (drop k cs) (i - k) ≡ slice_index cs i = get_or-drop k cs (i - k) 0 ∙ ap (λ (n : ℕ). slice_index cs n) back in
+      let long : i - k < length (drop k cs) = let d = length-drop k cs in omega arith in
+      let wrong = (not_loose s (drop k cs) (i - k) c b long (e ∙ sym there) t is).1 loose in
+      let both : false ≡ true = wrong in
+      absurd cc
 
   pub loose_one : (s : PinState) (c : ℕ) (b : Bool) → b ≡ is_some (pin_of s c) → b ≡ false → pin_of s c ≡ None
   loose_one s c b t e = split (pin_of s c) (sym t ∙ e)

@@ -1,5 +1,5 @@
 -- What a move that counts leaves where it is: the frozen fronts, and pinned customers, who stay on their vehicle.
-use Rattle.std.proofs.Common.{◌≡◌, ◌≢◌, ℕ, ◌+◌, ◌<◌, ◌⊎◌, inl, inr, refl, arith, List}
+use Rattle.std.proofs.Common.{◌≡◌, ◌≢◌, ℕ, ◌+◌, ◌<◌, ◌⊎◌, inl, inr, refl, arith, List, drop}
 use Rattle.std.proofs.lemmas.Bool.{cases_order}
 use Rattle.dimension_core.specs.Setting.{Setting}
 use Rattle.plan_core.specs.Plan.{route_at}
@@ -28,10 +28,22 @@ module _ (law : Laws) (s : Setting) (view : ViewState) (skip : List Move) (sound
       let a = (between_allowed law s view skip (Swap v p w at) v w p at _ _ _ _ sound q.possible (swap_between law s.customers view.routes v p w at q.possible o)).0 q.allowed in
       (a.front, a.other, a.loose)
 
-  pub cross_free : (v k w l : ℕ) → Counts s view skip v w (Cross v k w l) → (front_of (pins_of view) v < k + 1) × (front_of (pins_of view) w < l + 1)
+  pub cross_free : (v k w l : ℕ) → Counts s view skip v w (Cross v k w l)
+      → (front_of (pins_of view) v < k + 1) × (front_of (pins_of view) w < l + 1) × AreLoose (pins_of view) (drop k (route_at view.routes v)) × AreLoose (pins_of view) (drop l (route_at view.routes w))
   cross_free v k w l q =
       let a = (between_allowed law s view skip (Cross v k w l) v w (k + 1) (l + 1) _ _ _ _ sound q.possible (cross_between law s.customers view.routes v k w l q.possible)).0 q.allowed in
-      (a.front, a.other)
+      (a.front, a.other, a.loose, a.loose_back)
+
+  -- a cross keeps of both vehicles all that have to be kept
+  pub cross_kept : (v k w l : ℕ) → Counts s view skip v w (Cross v k w l)
+      → ((k < front_of (pins_of view) v) ⊎ ¬ AreLoose (pins_of view) (drop k (route_at view.routes v))) ⊎ ((l < front_of (pins_of view) w) ⊎ ¬ AreLoose (pins_of view) (drop l (route_at view.routes w))) → ⊥
+  cross_kept v k w l q h = split h
+    where
+      split : ((k < front_of (pins_of view) v) ⊎ ¬ AreLoose (pins_of view) (drop k (route_at view.routes v))) ⊎ ((l < front_of (pins_of view) w) ⊎ ¬ AreLoose (pins_of view) (drop l (route_at view.routes w))) → ⊥
+      split (inl (inl a)) = let free = (cross_free v k w l q).0 in omega arith
+      split (inl (inr a)) = a (cross_free v k w l q).2
+      split (inr (inl a)) = let free = (cross_free v k w l q).1 in omega arith
+      split (inr (inr a)) = a (cross_free v k w l q).3
 
   pub shift_inside_free : (v p m at : ℕ) → Counts s view skip v v (Shift v p m v at) → (front_of (pins_of view) v < p) × (front_of (pins_of view) v < at)
   shift_inside_free v p m at q = split (cases_order at p)

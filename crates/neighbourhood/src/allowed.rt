@@ -1,5 +1,5 @@
 //! What a view allows.
-ghost use Rattle.std.specs.Prelude.{◌≡◌, ◌≢◌, ◌≤◌, ◌<◌, ◌+◌, ◌-◌, ◌++◌, ◌↔◌, true, false, length, take, drop, IsTrue, All, Contains};
+ghost use Rattle.std.specs.Prelude.{ℕ, ◌⊎◌, ◌≡◌, ◌≢◌, ◌≤◌, ◌<◌, ◌+◌, ◌-◌, ◌++◌, ◌↔◌, true, false, length, take, drop, IsTrue, All, Contains};
 ghost use Rattle.dimension_core.specs.Setup.{setting};
 ghost use Rattle.move_core.specs.declared.moves.Move.TheVariants.{Shift, Swap, Reverse, Cross};
 ghost use Rattle.move_core.specs.Moves.{is_possible, stretch};
@@ -87,6 +87,25 @@ pub(crate) fn may_leave(view: &View, setup: &Setup, v: u32, place: u32, count: u
         return false;
     }
     are_loose(view, part(view.customers(v), place, place + count))
+}
+
+/// How many of its first customers a vehicle has to keep in a cross: those of its frozen front, and all up to the last one that is pinned.
+pub(crate) fn must_keep(view: &View, setup: &Setup, v: u32) -> u32
+    requires laws { Laws }
+    requires view { IsViewOf (setting setup.now) view.now }
+    requires v { (1 ≤ v) × (v ≤ length view.now.routes) }
+    ensures high { result ≤ length (route_at view.now.routes v) }
+    ensures held { (k : ℕ) → k < result → (k < front_of (pins_of view.now) v) ⊎ ¬ AreLoose (pins_of view.now) (drop k (route_at view.now.routes v)) }
+{
+    let _customers = setup.customers();
+    let route = view.customers(v);
+    let mut keep = view.front(v);
+    for place in 0..route.len() as u32 {
+        if view.is_pinned(route[place as usize]) {
+            keep = keep.max(place + 1);
+        }
+    }
+    keep
 }
 
 /// Whether a move is to be skipped.

@@ -5,12 +5,13 @@ ghost use Rattle.dimension_core.specs.Setup.{setting};
 ghost use Rattle.move_core.specs.declared.moves.Move.TheVariants.{Cross};
 ghost use Rattle.move_core.specs.Moves.{is_possible};
 ghost use Rattle.neighbourhood.specs.View.{IsViewOf};
+ghost use Rattle.neighbourhood.specs.Best.{Counts};
 ghost use Rattle.neighbourhood.specs.Kept.{AreKept};
 ghost use Rattle.neighbourhood.specs.Laws.{Laws};
 ghost use Rattle.neighbourhood.specs.Search.{IsBestSoFar, IsSaving};
 ghost use Rattle.neighbourhood.specs.Ways.{AreStops, AreEdges, AreHops};
 
-use crate::allowed::first_free;
+use crate::allowed::must_keep;
 use crate::best::better;
 use crate::gains::{first_gain, may_gain, wanted};
 use crate::kept::Kept;
@@ -86,7 +87,8 @@ fn cross_row(
     best
 }
 
-/// The better of the best so far and the crosses that keep so many customers of one vehicle.
+/// The better of the best so far and the crosses that keep so many customers of one vehicle. None counts that keeps fewer than `least` of
+/// it or `begin` of the other.
 fn cross_over(
     view: &View,
     setup: &Setup,
@@ -94,6 +96,8 @@ fn cross_over(
     v: u32,
     w: u32,
     keep: u32,
+    least: u32,
+    begin: u32,
     from: &[u32],
     to: &[u32],
     from_edges: &[u32],
@@ -110,6 +114,9 @@ fn cross_over(
     requires v_kept { AreKept (setting setup.now) view.now.routes v w v_kept.now }
     requires w_kept { AreKept (setting setup.now) view.now.routes w v w_kept.now }
     requires apart { v ≢ w }
+    requires begin { begin + 2 ≤ length to.now }
+    requires least { (k l : ℕ) → k < least → ¬ Counts (setting setup.now) view.now skip.now v w (Cross v k w l) }
+    requires onto { (k l : ℕ) → l < begin → ¬ Counts (setting setup.now) view.now skip.now v w (Cross v k w l) }
     requires keep { keep + 1 < length from.now }
     requires from { AreStops (setting setup.now).customers view.now.routes v from.now }
     requires to { AreStops (setting setup.now).customers view.now.routes w to.now }
@@ -120,10 +127,9 @@ fn cross_over(
     requires best { IsBestSoFar (setting setup.now) view.now skip.now v w (4 ∷ v ∷ keep ∷ w ∷ 0 ∷ []) best }
     ensures { IsBestSoFar (setting setup.now) view.now skip.now v w (4 ∷ v ∷ keep ∷ w ∷ (length to.now - 1) ∷ []) result }
 {
-    if keep + 1 < first_free(view, setup, v) {
+    if keep < least {
         return best;
     }
-    let begin = first_free(view, setup, w) - 1;
     let index = keep as usize;
     let last = index + 2 == from.len();
     let end = if last { to.len() - 2 } else { to.len() - 1 };
@@ -168,11 +174,12 @@ pub(crate) fn best_cross(
     requires best { IsBestSoFar (setting setup.now) view.now skip.now v w (4 ∷ []) best }
     ensures { IsBestSoFar (setting setup.now) view.now skip.now v w (5 ∷ []) result }
 {
+    let (least, begin) = (must_keep(view, setup, v), must_keep(view, setup, w));
     let mut best = best;
     for keep in 0..from.len() as u32 - 1 {
         best = cross_over(
-            view, setup, skip, v, w, keep, from, to, from_edges, to_edges, out, into, v_kept,
-            w_kept, best, meter,
+            view, setup, skip, v, w, keep, least, begin, from, to, from_edges, to_edges, out, into,
+            v_kept, w_kept, best, meter,
         );
     }
     best

@@ -253,7 +253,8 @@ fn shift_within(
     let first = place as usize;
     let after = first + count as usize;
     let lost = u64::from(edges[first - 1]) + u64::from(edges[after - 1]);
-    let gained = hop(setup, from[first - 1], from[after], meter);
+    let closes = row(out, from.len(), first - 1);
+    let gained = u64::from(closes[after]);
     let comes = row(into, from.len(), first);
     let goes = row(out, from.len(), after - 1);
     let forwards = shift_row(

@@ -3,7 +3,7 @@
 
 ghost use Rattle.std.specs.Prelude.{◌≡◌, ◌<◌, ◌≤◌, ◌-◌, ◌==◌, ◌||◌, true, [], ◌∷◌, ◌++◌, IfOk, IfSome, OnOk, MatchOption, length, map, take, drop, slice_index};
 ghost use Rattle.std.specs.List.{slice_split};
-ghost use Rattle.text_words.specs.Words.{full_parts, words, number, is_gap, HasNoGap, HasNoLineFeed, IsLineEnd};
+ghost use Rattle.text_words.specs.Words.{full_parts, words, number, is_gap, HasNoGap, HasNoFeed, HasNoLineFeed, IsLineEnd};
 
 use std::alloc::{AllocError, Global};
 
@@ -91,6 +91,24 @@ fn ends_word(byte: u8) -> bool
     is_gap(byte) || byte == b'\n'
 }
 
+/// The place of the first byte from a place on that ends a word, or of the text's end.
+#[inline(always)]
+fn word_end(text: &[u8], from: usize) -> usize
+    requires { from ≤ length text.now }
+    ensures from { from ≤ result }
+    ensures within { result ≤ length text.now }
+    ensures plain { HasNoGap text.now from result }
+    ensures feeds { HasNoFeed text.now from result }
+    ensures end { result < length text.now → (is_gap (slice_index text.now result) || (slice_index text.now result == 10)) ≡ true }
+{
+    for i in from..text.len() {
+        if ends_word(text[i]) {
+            return i;
+        }
+    }
+    text.len()
+}
+
 /// Keeps what stands from one place up to another, unless that is nothing.
 #[inline(always)]
 fn keep_part<'a>(
@@ -118,16 +136,16 @@ pub fn keep_line<'a>(kept: &mut Vec<&'a [u8]>, text: &'a [u8]) -> Result<Option<
 {
     kept.clear();
     let mut start = 0;
-    for i in 0..text.len() {
-        let byte = text[i];
-        if !ends_word(byte) {
-            continue;
+    while start < text.len() {
+        let end = word_end(text, start);
+        if end == text.len() {
+            return Ok(None);
         }
-        keep_part(kept, text, start, i)?;
-        if byte == b'\n' {
-            return Ok(Some(i));
+        keep_part(kept, text, start, end)?;
+        if text[end] == b'\n' {
+            return Ok(Some(end));
         }
-        start = i + 1;
+        start = end + 1;
     }
     Ok(None)
 }

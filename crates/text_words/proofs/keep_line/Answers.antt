@@ -1,48 +1,47 @@
-use Rattle.std.proofs.Common.{◌+◌, arith, rules, sym, ◌∙◌, le_refl}
-use Rattle.text_words.proofs.Parts.{kept_front, kept_last, no_gap_more, no_gap_yet, no_feed_more, front_has_none, text_has_none, plain_byte, gap_byte}
+use Rattle.std.proofs.Common.{ℕ, arith, rules, subst}
+use Rattle.text_words.specs.Words.{HasNoFeed}
+use Rattle.text_words.proofs.Parts.{kept_front, kept_last, no_feed_yet, no_feed_more, no_feed_then, front_has_none, text_has_none, gap_byte}
 use Rattle.text_words.proofs.keep_line.Goals as goal
 
-pub loop-i-init : goal.loop-i-init
-loop-i-init c = record {
-  before = omega arith;
-  plain = no_gap_yet c.args.text.now 0;
-  feeds = λ k lt. absurd (omega arith);
+pub loop-start-init : goal.loop-start-init
+loop-start-init c = record {
+  within = omega arith;
+  feeds = no_feed_yet c.args.text.now 0 0 (omega arith);
   found = λ n low high. search rules;
 }
 
-pub loop-i-preserved-then-not-ends_word : goal.loop-i-preserved-then-not-ends_word
-loop-i-preserved-then-not-ends_word c =
+pub returns-then-end-text-clause-end : goal.returns-then-end-text-clause-end
+returns-then-end-text-clause-end c =
+    let e = c.word_end-end.ensures in
+    let v = c.loop-start.invariant in
+    text_has_none c.args.text.now (subst (λ (n : ℕ). HasNoFeed c.args.text.now 0 n) (omega arith) (no_feed_then c.args.text.now 0 c.loop-start.start c.word_end-end.result v.feeds e.feeds))
+
+pub returns-then-text-end-eq10-clause-end : goal.returns-then-text-end-eq10-clause-end
+returns-then-text-end-eq10-clause-end c =
+    let e = c.word_end-end.ensures in
+    let v = c.loop-start.invariant in
+    (omega arith, front_has_none c.args.text.now c.word_end-end.result (no_feed_then c.args.text.now 0 c.loop-start.start c.word_end-end.result v.feeds e.feeds), c.if-text-end-eq10.true)
+
+pub returns-then-text-end-eq10-clause-words : goal.returns-then-text-end-eq10-clause-words
+returns-then-text-end-eq10-clause-words c =
+    let e = c.word_end-end.ensures in
+    let v = c.loop-start.invariant in
+    kept_last c.args.text.now c.loop-start.start c.word_end-end.result _ _ e.from e.within e.plain c.in_ok-keep_part.ensures (v.found c.word_end-end.result e.from e.within)
+
+pub loop-start-preserved : goal.loop-start-preserved
+loop-start-preserved c =
     let text = c.args.text.now in
-    let i = c.loop-i.i in
-    let v = c.loop-i.invariant in
-    let byte = plain_byte _ (sym c.ends_word.ensures ∙ c.if-not-ends_word.true) in
+    let end = c.word_end-end.result in
+    let e = c.word_end-end.ensures in
+    let v = c.loop-start.invariant in
+    let gap = gap_byte _ (e.end (omega arith)) c.if-text-end-eq10.false in
     record {
-      before = omega (arith, v.before);
-      plain = no_gap_more text c.loop-i.start i v.plain byte.0;
-      feeds = no_feed_more text i v.feeds byte.1;
-      found = λ n low high. v.found n (omega arith) high;
-    }
-
-pub returns-then-byte-eq10-clause-end : goal.returns-then-byte-eq10-clause-end
-returns-then-byte-eq10-clause-end c = (omega arith, front_has_none c.args.text.now c.loop-i.i c.loop-i.invariant.feeds, c.if-byte-eq10.true)
-
-pub returns-then-byte-eq10-clause-words : goal.returns-then-byte-eq10-clause-words
-returns-then-byte-eq10-clause-words c =
-    let v = c.loop-i.invariant in
-    kept_last c.args.text.now c.loop-i.start c.loop-i.i _ _ v.before (omega arith) v.plain c.in_ok-keep_part.ensures (v.found c.loop-i.i (le_refl c.loop-i.i) (omega arith))
-
-pub loop-i-preserved : goal.loop-i-preserved
-loop-i-preserved c =
-    let text = c.args.text.now in
-    let i = c.loop-i.i in
-    let v = c.loop-i.invariant in
-    let gap = gap_byte _ (sym c.ends_word.ensures ∙ c.if-not-ends_word.false) c.if-byte-eq10.false in
-    record {
-      before = omega arith;
-      plain = no_gap_yet text (i + 1);
-      feeds = no_feed_more text i v.feeds c.if-byte-eq10.false;
-      found = λ n low high. kept_front text c.loop-i.start i n _ _ v.before (omega arith) high v.plain gap c.in_ok-keep_part.ensures (v.found n (omega arith) high);
+      within = omega arith;
+      feeds = no_feed_more text 0 end (no_feed_then text 0 c.loop-start.start end v.feeds e.feeds) c.if-text-end-eq10.false;
+      found = λ n low high. kept_front text c.loop-start.start end n _ _ e.from (omega arith) high e.plain gap c.in_ok-keep_part.ensures (v.found n (omega (arith, e.from)) high);
     }
 
 pub returns-clause-end : goal.returns-clause-end
-returns-clause-end c = text_has_none c.args.text.now (λ k lt. c.loop-i.invariant.feeds k (omega arith))
+returns-clause-end c =
+    let v = c.loop-start.invariant in
+    text_has_none c.args.text.now (subst (λ (n : ℕ). HasNoFeed c.args.text.now 0 n) (omega (arith, v.within)) v.feeds)

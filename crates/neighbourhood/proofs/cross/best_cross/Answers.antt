@@ -1,6 +1,7 @@
-use Rattle.std.proofs.Common.{◌-◌, arith, refl, length}
+use Rattle.std.proofs.Common.{inl, inr, ◌-◌, arith, refl, length}
 use Rattle.dimension_core.specs.Setup.{setting}
 use Rattle.neighbourhood.proofs.Rows.{crosses_begin, crosses_end, cross_row, cross_row_done}
+use Rattle.neighbourhood.proofs.Still.{cross_kept}
 use Rattle.neighbourhood.proofs.cross.best_cross.Goals as goal
 
 pub loop-keep-init : goal.loop-keep-init
@@ -19,3 +20,11 @@ returns g c =
     let low = c.loop-keep-test.false in
     let long = c.requires.from.sized in
     crosses_end c.requires.laws (setting c.args.setup.now) c.args.view.now c.args.skip.now c.args.v c.args.w c.loop-keep.keep c.loop-keep.best (omega arith) c.loop-keep.invariant
+
+pub cross_over-best-requires-clause-least : goal.cross_over-best-requires-clause-least
+cross_over-best-requires-clause-least g c = λ k l h q.
+    cross_kept c.requires.laws (setting c.args.setup.now) c.args.view.now c.args.skip.now c.requires.view c.args.v k c.args.w l q (inl (c.must_keep-least.ensures.held k h))
+
+pub cross_over-best-requires-clause-onto : goal.cross_over-best-requires-clause-onto
+cross_over-best-requires-clause-onto g c = λ k l h q.
+    cross_kept c.requires.laws (setting c.args.setup.now) c.args.view.now c.args.skip.now c.requires.view c.args.v k c.args.w l q (inr (c.must_keep-begin.ensures.held l h))

@@ -8,7 +8,6 @@ use Rattle.neighbourhood.proofs.Possible.{cross_can}
 use Rattle.neighbourhood.proofs.Tabled.{row_of, row_room, cross_by, cross_tabled}
 use Rattle.neighbourhood.proofs.Orders.{cross_none}
 use Rattle.neighbourhood.proofs.Rows.{crosses_past}
-use Rattle.neighbourhood.proofs.Still.{cross_free}
 use Rattle.neighbourhood.proofs.cross.cross_over.Goals.{then-last, else-last}
 use Rattle.neighbourhood.proofs.cross.cross_over.Goals as goal
 
@@ -73,32 +72,19 @@ returns g c =
           subst (λ (k : ℕ). IsBestSoFar (setting c.args.setup.now) c.args.view.now c.args.skip.now c.args.v c.args.w (4 ∷ c.args.v ∷ c.args.keep ∷ c.args.w ∷ k ∷ []) c.cross_row.result) e c.cross_row.ensures
     ]
 
-pub returns-then-keep-first_free : goal.returns-then-keep-first_free
-returns-then-keep-first_free g c =
+pub returns-then-keep-least : goal.returns-then-keep-least
+returns-then-keep-least g c =
     let wide = c.requires.to.sized in
-    let test = c.if-keep-first_free.true in
-    let begin = c.first_free.ensures.value in
     crosses_past c.requires.laws (setting c.args.setup.now) c.args.view.now c.args.skip.now c.args.v c.args.w c.args.keep 0 (length c.args.to.now - 1) c.args.best (omega arith)
-    (λ k l h q.
-    let free = cross_free c.requires.laws (setting c.args.setup.now) c.args.view.now c.args.skip.now c.requires.view c.args.v c.args.keep c.args.w k q in
-    let front = free.0 in
-    absurd (omega arith))
-    c.requires.best
+    (λ k l h q. absurd (c.requires.least c.args.keep k c.if-keep-least.true q)) c.requires.best
 
 pub cross_row-requires-clause-best : goal.cross_row-requires-clause-best
 cross_row-requires-clause-best g c =
-    let begin = c.first_free-begin.ensures.value in
-    crosses_past c.requires.laws (setting c.args.setup.now) c.args.view.now c.args.skip.now c.args.v c.args.w c.args.keep 0 (c.first_free-begin.result - 1) c.args.best (omega arith)
-    (λ k l h q.
-    let free = cross_free c.requires.laws (setting c.args.setup.now) c.args.view.now c.args.skip.now c.requires.view c.args.v c.args.keep c.args.w k q in
-    let front = free.1 in
-    absurd (omega arith))
-    c.requires.best
+    crosses_past c.requires.laws (setting c.args.setup.now) c.args.view.now c.args.skip.now c.args.v c.args.w c.args.keep 0 c.args.begin c.args.best (omega arith) (λ k l h q. absurd (c.requires.onto c.args.keep k h q)) c.requires.best
 
 pub cross_row-requires-clause-order : goal.cross_row-requires-clause-order
 cross_row-requires-clause-order g c =
-    let wide = c.requires.to.sized in
-    let high = c.first_free-begin.ensures.high in
+    let high = c.requires.begin in
     elim c.if-last.branch [
       | then-last w ↦ let e = w.end-is in omega arith
       | else-last w ↦ let e = w.end-is in omega arith

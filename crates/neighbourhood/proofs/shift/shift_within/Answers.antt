@@ -1,4 +1,4 @@
-use Rattle.std.proofs.Common.{◌+◌, ◌-◌, refl, arith, true, false, [], ◌∷◌, length}
+use Rattle.std.proofs.Common.{slice_index, ◌+◌, ◌-◌, refl, arith, true, false, [], ◌∷◌, length}
 use Rattle.callback_store.specs.Tables.{table_at}
 use Rattle.dimension_core.specs.Setup.{setting}
 use Rattle.plan_core.specs.Plan.{route_at}
@@ -40,16 +40,17 @@ shift_row-forwards-requires-clause-saving g c =
     let fit = r.place.1 in
     let f = c.from.ensures in
     let f2 = c.from-2.ensures in
+    let f3 = c.from-gained.ensures in
     let begin = c.first_free-begin.ensures.value in
     λ at l h.
     let can = shift_inside_can r.laws s.customers c.args.view.now.routes c.args.v c.args.place c.args.count at c.args.from.now r.from low some fit (omega arith) (omega arith) (λ e. omega arith) in
     let saving = shift_inside_by r.laws s c.args.view.now c.args.v c.args.place c.args.count 0 at c.args.from.now r.view.plan r.from can
     (around_before (route_at c.args.view.now.routes c.args.v) c.args.place c.args.count at low (omega arith) h) in
-    rw (f, f2) (shift_tabled s c.args.view.now (Shift c.args.v c.args.place c.args.count c.args.v at) t c.args.from.now c.args.from.now c.args.edges.now c.args.edges.now c.row-comes.result.now c.row-goes.result.now
-    c.args.place c.args.count 0 at c.hop-gained.result saving low some fit (omega arith) (omega arith) r.edges r.edges
+    rw (f, f2, f3) (shift_tabled s c.args.view.now (Shift c.args.v c.args.place c.args.count c.args.v at) t c.args.from.now c.args.from.now c.args.edges.now c.args.edges.now c.row-comes.result.now c.row-goes.result.now
+    c.args.place c.args.count 0 at (slice_index c.row-closes.result.now (c.args.place + c.args.count)) saving low some fit (omega arith) (omega arith) r.edges r.edges
     (row_of true t c.args.from.now c.args.from.now c.args.into.now c.row-comes.result.now c.args.place r.into (omega arith) c.row-comes.ensures.cells)
     (row_of false t c.args.from.now c.args.from.now c.args.out.now c.row-goes.result.now (c.args.place + c.args.count - 1) r.out (omega arith) c.row-goes.ensures.cells)
-    c.hop-gained.ensures.value)
+    (row_of false t c.args.from.now c.args.from.now c.args.out.now c.row-closes.result.now (c.args.place - 1) r.out (omega arith) c.row-closes.ensures.cells (c.args.place + c.args.count) fit))
 
 pub shift_row-requires-clause-saving : goal.shift_row-requires-clause-saving
 shift_row-requires-clause-saving g c =
@@ -62,15 +63,16 @@ shift_row-requires-clause-saving g c =
     let fit = r.place.1 in
     let f = c.from.ensures in
     let f2 = c.from-2.ensures in
+    let f3 = c.from-gained.ensures in
     λ at l h.
     let can = shift_inside_can r.laws s.customers c.args.view.now.routes c.args.v c.args.place c.args.count at c.args.from.now r.from low some fit (omega arith) (omega arith) (λ e. omega arith) in
     let saving = shift_inside_by r.laws s c.args.view.now c.args.v c.args.place c.args.count c.args.count at c.args.from.now r.view.plan r.from can
     (around_after (route_at c.args.view.now.routes c.args.v) c.args.place c.args.count at low (omega arith) (omega arith)) in
-    rw (f, f2) (shift_tabled s c.args.view.now (Shift c.args.v c.args.place c.args.count c.args.v at) t c.args.from.now c.args.from.now c.args.edges.now c.args.edges.now c.row-comes.result.now c.row-goes.result.now
-    c.args.place c.args.count c.args.count at c.hop-gained.result saving low some fit (omega arith) (omega arith) r.edges r.edges
+    rw (f, f2, f3) (shift_tabled s c.args.view.now (Shift c.args.v c.args.place c.args.count c.args.v at) t c.args.from.now c.args.from.now c.args.edges.now c.args.edges.now c.row-comes.result.now c.row-goes.result.now
+    c.args.place c.args.count c.args.count at (slice_index c.row-closes.result.now (c.args.place + c.args.count)) saving low some fit (omega arith) (omega arith) r.edges r.edges
     (row_of true t c.args.from.now c.args.from.now c.args.into.now c.row-comes.result.now c.args.place r.into (omega arith) c.row-comes.ensures.cells)
     (row_of false t c.args.from.now c.args.from.now c.args.out.now c.row-goes.result.now (c.args.place + c.args.count - 1) r.out (omega arith) c.row-goes.ensures.cells)
-    c.hop-gained.ensures.value)
+    (row_of false t c.args.from.now c.args.from.now c.args.out.now c.row-closes.result.now (c.args.place - 1) r.out (omega arith) c.row-closes.ensures.cells (c.args.place + c.args.count) fit))
 
 pub shift_row-requires-clause-best : goal.shift_row-requires-clause-best
 shift_row-requires-clause-best g c =
