@@ -12,7 +12,7 @@ use Rattle.board_rules.specs.declared.reply.Refusal.TheVariants as refusals
 use Rattle.board_rules.specs.declared.reply.Reply.{Reply}
 use Rattle.board_rules.specs.declared.reply.Reply.TheVariants.{Done, Session, Refused}
 
--- a refusal of the policy as one of the board; want of memory is no answer of a step
+-- a refusal of the policy as one of the board, each by its name; want of memory is no answer of a step
 abbrev pub board_refusal : PolicyRefusal → Refusal
 board_refusal narrow.NoSession = refusals.NoSession
 board_refusal narrow.NoAccess = refusals.NoAccess
@@ -28,7 +28,8 @@ board_refusal narrow.NotThere = refusals.NotThere
 board_refusal narrow.NotAuthorized = refusals.NotAuthorized
 board_refusal (narrow.Ssd set) = refusals.Ssd set
 board_refusal (narrow.Dsd set) = refusals.Dsd set
-board_refusal _ = refusals.Full
+board_refusal narrow.Full = refusals.Full
+board_refusal narrow.NoMemory = refusals.Full
 
 -- the reply to a command that was carried out
 abbrev pub outcome_reply : Outcome → Reply
