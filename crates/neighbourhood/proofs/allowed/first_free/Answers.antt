@@ -1,4 +1,4 @@
-use Rattle.std.proofs.Common.{◌≡◌, ◌+◌, ◌≤◌, arith}
+use Rattle.std.proofs.Common.{arith}
 use Rattle.dimension_core.specs.Setup.{setting}
 use Rattle.neighbourhood.proofs.allowed.first_free.Goals as goal
 

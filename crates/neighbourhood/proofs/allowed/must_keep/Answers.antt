@@ -1,4 +1,4 @@
-use Rattle.std.proofs.Common.{◌≡◌, ℕ, ◌+◌, ◌≤◌, ◌<◌, ◌⊎◌, inl, inr, refl, subst, arith, List, length, drop}
+use Rattle.std.proofs.Common.{ℕ, ◌<◌, ◌⊎◌, inl, inr, refl, subst, arith, List, drop}
 use Rattle.std.proofs.lemmas.Bool.{cases_lt}
 use Rattle.pin_core.specs.Pins.{front_of}
 use Rattle.pin_core.specs.View.{pins_of}

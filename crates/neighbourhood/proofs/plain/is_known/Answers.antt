@@ -1,4 +1,4 @@
-use Rattle.std.proofs.Common.{◌≤◌, ℕ, arith, below_more, subst, length}
+use Rattle.std.proofs.Common.{◌≤◌, ℕ, arith, below_more, subst}
 use Rattle.std.proofs.lemmas.List.{get_or_default}
 use Rattle.neighbourhood.proofs.plain.is_known.Goals as goal
 

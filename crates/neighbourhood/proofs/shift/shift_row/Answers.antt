@@ -1,4 +1,4 @@
-use Rattle.std.proofs.Common.{◌≡◌, ℕ, ◌+◌, ◌-◌, ◌≤◌, ◌<◌, arith, ap, subst, [], ◌∷◌, slice_index}
+use Rattle.std.proofs.Common.{◌≡◌, ℕ, ◌+◌, ◌-◌, arith, ap, subst, [], ◌∷◌, slice_index, refl}
 use Rattle.dimension_core.specs.Setup.{setting}
 use Rattle.neighbourhood.specs.Search.{IsBestSoFar}
 use Rattle.neighbourhood.proofs.Shifts.{shift_next, shifts_past}
@@ -61,3 +61,46 @@ returns-then-not-may_gain g c =
     let out : slice_index c.args.out.now (k + c.args.offset - 1 + 1) ≡ slice_index c.args.out.now (k + c.args.offset) = ap (λ (n : ℕ). slice_index c.args.out.now n) z in
     omega arith)
     c.requires.best
+
+pub better-best-requires-clause-possible : goal.better-best-requires-clause-possible
+better-best-requires-clause-possible g c =
+    let low = c.row.invariant.low in
+    let from = c.first_gain-found.ensures.low in
+    let to = c.first_gain-found.ensures.high in
+    let other = c.if-next-end.false in
+    let begin = c.requires.low in
+    c.requires.possible (c.first_gain-found.result + 1 - c.args.offset) (omega arith) (omega arith)
+
+pub better-best-requires-clause-near : goal.better-best-requires-clause-near
+better-best-requires-clause-near g c =
+    (refl, refl, c.requires.few)
+
+pub bounds-edges-found : goal.bounds-edges-found
+bounds-edges-found g c =
+    let low = c.row.invariant.low in
+    let from = c.first_gain-found.ensures.low in
+    let to = c.first_gain-found.ensures.high in
+    let other = c.if-next-end.false in
+    let begin = c.requires.low in
+    let room = c.requires.edges in
+    omega arith
+
+pub bounds-into-found : goal.bounds-into-found
+bounds-into-found g c =
+    let low = c.row.invariant.low in
+    let from = c.first_gain-found.ensures.low in
+    let to = c.first_gain-found.ensures.high in
+    let other = c.if-next-end.false in
+    let begin = c.requires.low in
+    let room = c.requires.into in
+    omega arith
+
+pub bounds-out-found : goal.bounds-out-found
+bounds-out-found g c =
+    let low = c.row.invariant.low in
+    let from = c.first_gain-found.ensures.low in
+    let to = c.first_gain-found.ensures.high in
+    let other = c.if-next-end.false in
+    let begin = c.requires.low in
+    let room = c.requires.out in
+    omega arith

@@ -1,4 +1,4 @@
-use Rattle.std.proofs.Common.{◌≤◌, ◌+◌, ◌-◌, [], ◌∷◌}
+use Rattle.std.proofs.Common.{◌≤◌, ◌-◌, [], ◌∷◌}
 use Rattle.dimension_core.specs.Setup.{setting}
 use Rattle.neighbourhood.specs.Search.{IsBestSoFar}
 use Rattle.neighbourhood.proofs.swap.swap_row.Given as goal

@@ -1,4 +1,4 @@
-use Rattle.std.proofs.Common.{◌+◌, ◌*◌, ◌/◌, ◌%◌, refl, rules, arith}
+use Rattle.std.proofs.Common.{◌+◌, ◌*◌, ◌%◌, refl, rules, arith}
 use borrow.Pointer.Called.{post_made}
 use Rattle.callback_store.specs.Boxed.{post_of_closure}
 use Rattle.callback_store.specs.Closures.{pairs_of_function, table_of_function}

@@ -1,5 +1,4 @@
-use Rattle.std.proofs.Common.{◌≡◌, ◌∙◌, ℕ, List, ap, sym, subst, length}
-use Rattle.dimension_core.specs.Setup.{setting}
+use Rattle.std.proofs.Common.{◌∙◌, ℕ, List, ap, sym, subst, length}
 use Rattle.plan_core.specs.Plan.{IsPlan}
 use Rattle.pin_core.specs.Pins.{DoPinsHold, DoFrontsFit}
 use Rattle.pin_core.specs.View.{pins_of}
