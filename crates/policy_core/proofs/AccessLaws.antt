@@ -1,6 +1,6 @@
 -- Numbers below a bound that pass a test, and CheckAccess by its test.
 use Rattle.std.proofs.Common.{◌≡◌, ℕ, zero, suc, ◌+◌, ◌<◌, ◌≤◌, Bool, true, false, ◌||◌, ◌&&◌, ◌↔◌, refl, sym, ap, ap₂, ◌∙◌, subst, arith, inl, inr}
-use Rattle.std.proofs.lemmas.Bool.{cases_eq, cases_lt, or_parts, and_parts, and_from, false≢true}
+use Rattle.std.proofs.lemmas.Bool.{cases_eq, cases_lt, and_parts, and_from, false≢true}
 use Rattle.std.proofs.Common.{List, [], ◌∷◌, Option, Some, None}
 use Rattle.std.specs.Prelude.{is_some, unwrap_or, nat_eq}
 use Rattle.std.specs.Map.{lookup}

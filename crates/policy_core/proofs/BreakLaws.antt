@@ -1,9 +1,9 @@
 -- What a change of users or sessions does to the search for the first set that is broken.
-use Rattle.std.proofs.Common.{◌≡◌, ℕ, filter, zero, suc, ◌&&◌, Bool, true, false, cond, ◌||◌, List, [], ◌∷◌, Option, Some, None, map, sym, refl, subst, ap, ap₂, ◌∙◌, ◌≤◌, arith}
-use Rattle.std.specs.Prelude.{bytes_eq, bit_and, bit_or, count_ones, nat_le}
+use Rattle.std.proofs.Common.{◌≡◌, ℕ, filter, zero, suc, ◌&&◌, Bool, true, false, cond, ◌||◌, List, [], ◌∷◌, Option, Some, None, map, sym, refl, ap, ap₂, ◌∙◌, ◌≤◌, arith}
+use Rattle.std.specs.Prelude.{bit_and, bit_or, count_ones, nat_le}
 use Rattle.std.specs.List.{list_any, list_all}
 use Rattle.std.specs.Map.{lookup, remove_entry}
-use Rattle.std.proofs.lemmas.Bool.{or_parts, and_parts, and_from, cond-true, cond-false, leb-false, leb-true, lt-leb}
+use Rattle.std.proofs.lemmas.Bool.{or_parts, and_parts, and_from, cond-false, leb-false, leb-true, lt-leb}
 use lib.Count.{ones}
 use Rattle.indexmap.specs.IndexMap.{insert_entry}
 use Rattle.role_hierarchy.specs.Roles.{has}

@@ -1,6 +1,6 @@
 -- What the commands' judgements say of the whole policy.
-use Rattle.std.proofs.Common.{◌≡◌, ◌≤◌, ◌+◌, cond, ℕ, Bool, true, false, List, [], ◌∷◌, map, filter, not, ap₂, Option, Some, None, sym, refl, subst, ap, ◌∙◌, arith}
-use Rattle.std.specs.Prelude.{bytes_eq, nat_eq, is_some}
+use Rattle.std.proofs.Common.{◌≡◌, ◌≤◌, ◌+◌, ℕ, Bool, true, List, [], ◌∷◌, map, filter, not, ap₂, Option, Some, None, sym, refl, subst, ap, ◌∙◌, arith}
+use Rattle.std.specs.Prelude.{bytes_eq, nat_eq}
 use Rattle.std.specs.Option.{option_map, option_or}
 use Rattle.indexmap.specs.IndexMap.{insert_entry}
 use Rattle.std.specs.Map.{lookup, remove_entry}
@@ -17,8 +17,7 @@ use Rattle.policy_core.specs.declared.refusal.Refusal.{Refusal}
 use Rattle.policy_core.specs.declared.refusal.Refusal.TheVariants.{Ssd, Dsd}
 use Rattle.policy_core.specs.declared.session.Session.{Session}
 use Rattle.policy_core.specs.declared.session.Counting.{Counting}
-use Rattle.policy_core.specs.declared.session.Counting.TheVariants.{Active}
-use Rattle.policy_core.specs.State.{HasSlots, PolicyState, IsPolicy, no_policy, authorized, counted, counted_all, numbers_of, rise, broken_ssd, broken_dsd, with_roles, with_session, is_session, broken}
+use Rattle.policy_core.specs.State.{HasSlots, PolicyState, IsPolicy, no_policy, authorized, counted, rise, broken_ssd, broken_dsd, with_roles, with_session, is_session, broken}
 use Rattle.policy_core.proofs.BreakLaws.{breaking_inserted, broken_at, breaking_removed, breaking_filtered, closed_none, none_breaks}
 use Rattle.policy_core.proofs.CountLaws.{counted_fewer, counted-with_slot}
 use Rattle.policy_core.proofs.NumberLaws.{numbers-present, rise-removed, rise-filter, rise-opened}

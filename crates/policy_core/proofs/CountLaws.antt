@@ -1,8 +1,8 @@
 -- Which roles DSD counts for a session.
-use Rattle.std.proofs.Common.{◌≡◌, ℕ, Bool, true, ◌∙◌, refl, ap}
+use Rattle.std.proofs.Common.{◌≡◌, ℕ, true, refl}
 use Rattle.role_hierarchy.specs.Roles.{has}
 use Rattle.role_hierarchy.specs.Order.{Order, stands, with_slot}
-use Rattle.role_hierarchy.specs.Below.{closed, IsOrder}
+use Rattle.role_hierarchy.specs.Below.{IsOrder}
 use Rattle.role_hierarchy.specs.BelowLaws.{closed_fewer, closed_fewer_pairs, closed-with_slot}
 use Rattle.policy_core.specs.declared.session.Counting.{Counting}
 use Rattle.policy_core.specs.declared.session.Counting.TheVariants.{Active, Inherited}

@@ -1,14 +1,14 @@
 -- Fewer roles: users are authorized for fewer, and sessions keep what is left.
-use Rattle.std.proofs.Common.{◌≡◌, ℕ, Bool, true, false, cond, List, [], ◌∷◌, Option, Some, None, map, sym, refl, ap, ◌∙◌}
+use Rattle.std.proofs.Common.{◌≡◌, ℕ, true, false, cond, List, [], ◌∷◌, Option, Some, None, map, sym, refl, ap, ◌∙◌}
 use Rattle.std.specs.Prelude.{bit_and, unwrap_or, bytes_eq, is_some}
 use Rattle.std.specs.Map.{lookup}
-use Rattle.std.proofs.lemmas.Bool.{and_parts, false≢true}
-use Rattle.role_hierarchy.specs.Roles.{has, without}
+use Rattle.std.proofs.lemmas.Bool.{and_parts}
+use Rattle.role_hierarchy.specs.Roles.{has}
 use Rattle.role_hierarchy.specs.Order.{Order, stands}
 use Rattle.role_hierarchy.specs.Below.{closed, IsOrder}
 use Rattle.role_hierarchy.specs.RoleLaws.{has-bit_and}
 use Rattle.role_hierarchy.specs.BelowLaws.{closed_fewer, closed_fewer_pairs}
-use Rattle.separation_core.specs.Groups.{Groups, AreSets, first_breaking, first_broken}
+use Rattle.separation_core.specs.Groups.{AreSets, first_breaking, first_broken}
 use Rattle.permission_core.specs.Permissions.{Rows}
 use Rattle.policy_core.specs.declared.session.Session.{Session}
 use Rattle.policy_core.specs.declared.session.Counting.{Counting}

@@ -1,6 +1,6 @@
 -- The numbers of the sessions rise.
-use Rattle.std.proofs.Common.{◌≡◌, ℕ, zero, suc, ◌+◌, ◌<◌, ◌≤◌, Bool, true, false, cond, ◌&&◌, not, List, [], ◌∷◌, map, filter, length, get_or, Option, Some, None, eqb, sym, refl, ap, ap₂, ◌∙◌, arith}
-use Rattle.std.specs.Prelude.{nat_eq, nat_lt, nat_le, is_some}
+use Rattle.std.proofs.Common.{◌≡◌, ℕ, zero, suc, ◌+◌, ◌<◌, ◌≤◌, Bool, true, false, cond, List, [], ◌∷◌, map, filter, length, get_or, Some, refl, ap, ◌∙◌, arith}
+use Rattle.std.specs.Prelude.{nat_eq, is_some}
 use Rattle.std.specs.Map.{lookup, remove_entry}
 use Rattle.std.specs.List.Sorted.{IsStrictlyIncreasing}
 use Rattle.indexmap.specs.IndexMap.{insert_entry}

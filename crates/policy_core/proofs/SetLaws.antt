@@ -1,5 +1,5 @@
 -- What a change of the sets does to the whole policy.
-use Rattle.std.proofs.Common.{◌≡◌, cond, ℕ, Bool, List, [], ◌∷◌, ◌||◌, map, Option, Some, None, sym, refl, subst, ap, ◌∙◌}
+use Rattle.std.proofs.Common.{◌≡◌, cond, ℕ, Bool, List, [], ◌∷◌, ◌||◌, map, Some, None, sym, refl, subst, ap, ◌∙◌}
 use Rattle.std.specs.Option.{option_map}
 use Rattle.std.specs.List.{list_any}
 use Rattle.role_hierarchy.specs.Order.{Order}

@@ -1,5 +1,5 @@
 -- Each command of ANSI INCITS 359-2004 on a policy: why it is refused, the first reason that holds, and the state after it.
-use Rattle.std.specs.Prelude.{◌≡◌, ℕ, ◌+◌, Bool, true, false, not, ◌&&◌, ◌||◌, nat_le, if◌then◌else◌, List, map, Option, Some, None, bit_and, bytes_eq, nat_eq, is_some, is_none, unwrap_or, ⊤, length, fold, filter}
+use Rattle.std.specs.Prelude.{◌≡◌, ℕ, ◌+◌, not, ◌&&◌, ◌||◌, nat_le, if◌then◌else◌, List, map, Option, Some, None, bit_and, bytes_eq, nat_eq, is_some, is_none, unwrap_or, ⊤, length, fold, filter}
 use Rattle.std.specs.List.{list_all}
 use Rattle.std.specs.Option.{option_or, option_map_or}
 use Rattle.std.specs.Map.{lookup, remove_entry}

@@ -1,13 +1,11 @@
 -- The policy that a board begins with.
-use Rattle.std.specs.Prelude.{◌≡◌, ℕ, List, [], ◌∷◌}
-use Rattle.role_hierarchy.specs.Roles.{with_role}
+use Rattle.std.specs.Prelude.{ℕ, List, [], ◌∷◌}
 use Rattle.role_hierarchy.specs.Order.{no_order, with_slot}
 use Rattle.permission_core.specs.declared.objects.Operation.TheVariants.{Admin}
 use Rattle.permission_core.specs.declared.objects.ObjectRange.TheVariants.{Board}
-use Rattle.permission_core.specs.Objects.{with_range}
 use Rattle.permission_core.specs.Permissions.{no_rows, row_set}
 use Rattle.policy_core.specs.declared.session.Counting.TheVariants.{Active}
-use Rattle.policy_core.specs.State.{PolicyState, no_policy}
+use Rattle.policy_core.specs.State.{PolicyState}
 use Rattle.policy_core.specs.Commands.{user_added, role_added, assigned, granted, opened}
 
 -- a user and a role of that name, the one assigned to the other, which may `admin` the board, and a session of it

@@ -1,5 +1,5 @@
 -- The reviews of ANSI INCITS 359-2004, 6.1: who is assigned to what, and what is active.
-use Rattle.std.specs.Prelude.{ℕ, Bool, not, if◌then◌else◌, List, map, filter, Option, Some, None, bytes_eq}
+use Rattle.std.specs.Prelude.{ℕ, not, if◌then◌else◌, List, map, filter, Option, Some, None, bytes_eq}
 use Rattle.role_hierarchy.specs.Roles.{has}
 use Rattle.policy_core.specs.declared.refusal.Refusal.{Refusal}
 use Rattle.policy_core.specs.declared.refusal.Refusal.TheVariants.{NoUser, NoRole, NotThere}

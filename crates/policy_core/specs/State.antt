@@ -1,6 +1,6 @@
 -- The policy as data: USERS, ROLES, UA, PA, RH and SESSIONS of ANSI INCITS 359-2004, 6.1 and 6.2, and its SSD and DSD
 -- sets, 6.3 and 6.4. A role is its slot; its name stands in the list of roles.
-use Rattle.std.specs.Prelude.{◌≡◌, ◌≤◌, ℕ, Bool, true, not, ◌&&◌, nat_le, nat_lt, if◌then◌else◌, List, [], ◌∷◌, map, Option, Some, None, bytes_eq, nat_eq, is_some, unwrap_or}
+use Rattle.std.specs.Prelude.{◌≡◌, ◌≤◌, ℕ, Bool, true, ◌&&◌, nat_le, nat_lt, List, [], ◌∷◌, map, Option, Some, None, bytes_eq, nat_eq, is_some, unwrap_or}
 use Rattle.std.specs.Map.{lookup}
 use Rattle.std.specs.Option.{option_map, option_or}
 use Rattle.indexmap.specs.IndexMap.{insert_entry}

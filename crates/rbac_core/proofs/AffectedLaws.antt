@@ -1,22 +1,21 @@
 -- Which sessions keep their access over a command.
-use Rattle.std.proofs.Common.{◌≡◌, ℕ, ◌+◌, ◌*◌, Bool, true, false, cond, not, ◌&&◌, ◌||◌, List, [], ◌∷◌, ◌++◌, take, map, filter, Option, Some, None, eqb, sym, refl, ap, ap₂, ◌∙◌, subst}
-use Rattle.std.specs.Prelude.{nat_eq, bytes_eq, is_some, unwrap_or, bit_and, slice_index, slice_get, ◌==◌}
+use Rattle.std.proofs.Common.{◌≡◌, ℕ, ◌+◌, Bool, true, false, cond, not, ◌&&◌, ◌||◌, List, [], ◌∷◌, ◌++◌, take, map, filter, Option, Some, None, sym, refl, ap, ◌∙◌}
+use Rattle.std.specs.Prelude.{nat_eq, bytes_eq, is_some, unwrap_or, bit_and, slice_get, ◌==◌}
 use Rattle.std.specs.List.{list_any}
 use Rattle.std.specs.Map.{lookup, remove_entry}
 use Rattle.std.specs.Option.{option_map}
 use Rattle.indexmap.specs.IndexMap.{insert_entry}
-use Rattle.std.proofs.lemmas.Bool.{false≢true, true≢false, eqb-true, eq-eqb, or_parts, not-true}
-use Rattle.role_hierarchy.specs.Roles.{has, first_free}
-use Rattle.role_hierarchy.specs.Order.{Order, with_slot}
-use Rattle.role_hierarchy.specs.Below.{closed}
+use Rattle.std.proofs.lemmas.Bool.{false≢true, eqb-true, or_parts}
+use Rattle.role_hierarchy.specs.Roles.{has}
+use Rattle.role_hierarchy.specs.Order.{with_slot}
 use Rattle.role_hierarchy.specs.BelowLaws.{closed-with_slot}
 use Rattle.separation_core.specs.GroupLaws.{take_at}
 use Rattle.permission_core.specs.declared.objects.Operation.{Operation}
 use Rattle.permission_core.specs.declared.objects.Object.{Object}
 use Rattle.permission_core.specs.Objects.{number_of}
-use Rattle.permission_core.specs.Permissions.{Rows, row_at}
+use Rattle.permission_core.specs.Permissions.{row_at}
 use Rattle.policy_core.specs.declared.session.Session.{Session}
-use Rattle.policy_core.specs.State.{PolicyState, is_session, session_of, numbers_of}
+use Rattle.policy_core.specs.State.{PolicyState, session_of, numbers_of}
 use Rattle.policy_core.specs.Access.{has_access, is_here, reaches, some_below}
 use Rattle.policy_core.specs.Commands.{kept_session}
 use Rattle.rbac_core.specs.Affected.{has_lost}

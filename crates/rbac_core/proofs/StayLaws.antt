@@ -1,5 +1,5 @@
 -- A session that is not affected by a command keeps its access.
-use Rattle.std.proofs.Common.{◌≡◌, ℕ, ◌+◌, Bool, false, List, map, Option, Some, None, sym, refl, ◌∙◌}
+use Rattle.std.proofs.Common.{◌≡◌, ℕ, ◌+◌, false, map, Option, Some, None, sym, refl, ◌∙◌}
 use Rattle.std.specs.Prelude.{nat_eq, bytes_eq}
 use Rattle.std.specs.List.{list_any}
 use Rattle.std.specs.Option.{option_map_or}
@@ -13,7 +13,7 @@ use Rattle.permission_core.specs.declared.objects.Object.{Object}
 use Rattle.policy_core.specs.declared.session.Session.{Session as ASession}
 use Rattle.policy_core.specs.State.{PolicyState, held_by, slot_of}
 use Rattle.policy_core.specs.Access.{has_access, reaches}
-use Rattle.policy_core.specs.Commands.{activated, assigned, deactivated, deassigned, dsd_created, dsd_deleted, dsd_joined, dsd_left, dsd_numbered, granted, inherited, kept_authorized, migrated, migrated_session, opened, revoked, role_added, role_at, role_gone, shut, slots_of, ssd_created, ssd_deleted, ssd_joined, ssd_left, ssd_numbered, uninherited, user_added, user_gone}
+use Rattle.policy_core.specs.Commands.{activated, assigned, deactivated, deassigned, dsd_created, dsd_deleted, dsd_joined, dsd_left, dsd_numbered, granted, inherited, kept_authorized, migrated, migrated_session, opened, revoked, role_at, role_gone, shut, slots_of, ssd_created, ssd_deleted, ssd_joined, ssd_left, ssd_numbered, uninherited, user_added, user_gone}
 use Rattle.rbac_core.specs.declared.command.Command.{Command}
 use Rattle.rbac_core.specs.declared.command.Command.TheVariants.{AddUser, DeleteUser, AddRole, DeleteRole, AssignUser, DeassignUser, GrantPermission, RevokePermission, AddInheritance, DeleteInheritance, CreateSsdSet, AddSsdRoleMember, DeleteSsdRoleMember, DeleteSsdSet, SetSsdSetCardinality, CreateDsdSet, AddDsdRoleMember, DeleteDsdRoleMember, DeleteDsdSet, SetDsdSetCardinality, CreateSession, DeleteSession, AddActiveRole, DropActiveRole, Migrate}
 use Rattle.rbac_core.specs.Step.{after}

@@ -1,5 +1,5 @@
 -- A step is its guard, and then its command.
-use Rattle.std.proofs.Common.{◌≡◌, ℕ, Option, Some, None, sym, refl, subst, ap, ap₂, ◌∙◌}
+use Rattle.std.proofs.Common.{◌≡◌, ℕ, Option, Some, None, sym, subst, ap, ap₂, ◌∙◌}
 use Rattle.std.specs.Prelude.{Result, Ok, Err, OnOk, IfOk, IfErr}
 use Rattle.std.specs.Option.{option_or}
 use Rattle.rbac_core.specs.declared.command.Command.{Command}

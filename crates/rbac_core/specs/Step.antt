@@ -1,5 +1,5 @@
 -- One step of a policy: the guard, the refusals of the command, the state after it and the answer.
-use Rattle.std.specs.Prelude.{◌≡◌, ℕ, ◌+◌, Bool, true, false, not, ◌&&◌, if◌then◌else◌, List, Option, Some, None, bytes_eq, Result, Ok, Err, ⊤}
+use Rattle.std.specs.Prelude.{◌≡◌, ℕ, ◌+◌, Bool, false, not, ◌&&◌, if◌then◌else◌, List, Option, Some, None, bytes_eq, Result, Ok, Err, ⊤}
 use Rattle.std.specs.Option.{option_or}
 use Rattle.permission_core.specs.declared.objects.Operation.TheVariants.{Admin}
 use Rattle.permission_core.specs.declared.objects.Object.TheVariants.{Board}

@@ -1,4 +1,4 @@
-use Rattle.std.proofs.Common.{◌≡◌, ℕ, List, map, filter, take}
+use Rattle.std.proofs.Common.{◌≡◌, ℕ, map, filter, take}
 use Rattle.std.specs.Prelude.{bytes_eq}
 use Rattle.policy_core.specs.declared.session.Session.{Session}
 use Rattle.policy_core.proofs.reviews.numbers_with.Given as goal

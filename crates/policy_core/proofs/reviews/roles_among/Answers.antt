@@ -1,4 +1,4 @@
-use Rattle.std.proofs.Common.{◌≡◌, ℕ, List, Bool, sym, ap, ◌∙◌, arith, ◌++◌, ◌∷◌, []}
+use Rattle.std.proofs.Common.{ℕ, List, Bool, sym, ap, ◌∙◌, arith, ◌++◌, ◌∷◌, []}
 use Rattle.std.proofs.lemmas.Bool.{false≢true}
 use Rattle.role_hierarchy.specs.Roles.{has}
 use Rattle.policy_core.proofs.ReviewLaws.{gathered_more, gathered_skip, gathered_all}

@@ -1,4 +1,4 @@
-use Rattle.std.proofs.Common.{◌≡◌, ℕ, List, sym, ap, ◌∙◌, arith, ◌++◌}
+use Rattle.std.proofs.Common.{ℕ, sym, ap, ◌∙◌, arith, ◌++◌}
 use Rattle.std.proofs.lemmas.Bool.{false≢true}
 use Rattle.std.proofs.lemmas.List.{take_all}
 use Rattle.policy_core.specs.declared.session.Session.{Session}

@@ -1,4 +1,4 @@
-use Rattle.std.proofs.Common.{◌≡◌, ap, subst, sym, ℕ, ◌∙◌, cond, Some}
+use Rattle.std.proofs.Common.{ap, subst, sym, ℕ, ◌∙◌, cond, Some}
 use Rattle.std.specs.Prelude.{bytes_eq}
 use Rattle.std.specs.Map.{lookup}
 use Rattle.role_hierarchy.specs.Roles.{with_role}

@@ -1,5 +1,4 @@
 use Rattle.std.proofs.Common.{ap, ◌∙◌, refl}
-use Rattle.role_hierarchy.specs.Roles.{has}
 use Rattle.policy_core.proofs.CommandLaws.{fewer_active, fewer_of}
 use Rattle.policy_core.proofs.policy.Policy.judge_deactivate.Goals as goal
 

@@ -1,5 +1,4 @@
-use Rattle.std.proofs.Common.{◌≡◌}
-use Rattle.policy_core.specs.State.{PolicyState, no_policy}
+use Rattle.policy_core.specs.State.{no_policy}
 use Rattle.policy_core.proofs.CommandLaws.{same_parts, none_is_policy}
 use Rattle.policy_core.proofs.policy.Policy.new.Goals as goal
 

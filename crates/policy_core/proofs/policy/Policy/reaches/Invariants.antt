@@ -1,4 +1,4 @@
-use Rattle.std.proofs.Common.{◌≡◌, ◌≤◌, ◌-◌, ℕ, false}
+use Rattle.std.proofs.Common.{◌≡◌, ◌≤◌, ◌-◌, false}
 use Rattle.policy_core.specs.Access.{some_below, is_reached}
 use Rattle.policy_core.proofs.policy.Policy.reaches.Given as goal
 
