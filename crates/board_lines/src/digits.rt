@@ -1,12 +1,21 @@
 //! Numbers at the end of a text.
 
-ghost use Rattle.std.specs.Prelude.{◌≡◌, ◌<◌, ◌++◌, ◌∷◌, OnOk, string_bytes};
+ghost use Rattle.std.specs.Prelude.{◌≡◌, ◌<◌, ◌++◌, [], ◌∷◌, OnOk, string_bytes};
 ghost use Rattle.std.specs.List.{flat_map};
 ghost use Rattle.std.specs.Fmt.{decimal};
 ghost use Rattle.board_lines.specs.Replies.{spaced};
 
 use itoa::Buffer;
 use std::alloc::AllocError;
+
+/// Puts an ASCII character at the end, for half of what a text of one character takes.
+#[inline(always)]
+pub(crate) fn push_ascii(out: &mut String, ch: char) -> Result<(), AllocError>
+    requires { ch < 128 }
+    ensures { OnOk result (string_bytes out.new ≡ string_bytes out.old ++ ch ∷ []) }
+{
+    out.push(ch)
+}
 
 /// Puts a number below ten at the end.
 #[inline(always)]
@@ -75,7 +84,7 @@ pub(crate) fn push_number(out: &mut String, n: u64) -> Result<(), AllocError>
 pub(crate) fn push_spaced(out: &mut String, n: u64) -> Result<(), AllocError>
     ensures { OnOk result (string_bytes out.new ≡ string_bytes out.old ++ spaced n) }
 {
-    out.push_str(" ")?;
+    push_ascii(out, ' ')?;
     push_number(out, n)
 }
 

@@ -5,7 +5,7 @@ ghost use Rattle.std.specs.List.{flat_map};
 ghost use Rattle.serde_json.specs.View.{view};
 ghost use Rattle.board_lines.specs.Json.{number_data, cells, row_data, rows_data, json_text, comma_number, row_json, comma_row, rows_json, in_pieces};
 
-use crate::digits::push_number;
+use crate::digits::{push_ascii, push_number};
 use board_rules::Row;
 use serde_json::{Value, json};
 use std::alloc::{AllocError, Global};
@@ -71,7 +71,7 @@ pub fn list_json(alloc: Global, rows: &[Row]) -> Result<String, AllocError>
 fn push_comma(out: &mut String, n: u64) -> Result<(), AllocError>
     ensures { OnOk result (string_bytes out.new ≡ string_bytes out.old ++ comma_number n) }
 {
-    out.push_str(",")?;
+    push_ascii(out, ',')?;
     push_number(out, n)
 }
 
@@ -87,19 +87,19 @@ fn push_commas(out: &mut String, numbers: &[u64]) -> Result<(), AllocError>
 fn push_cells(out: &mut String, row: &Row) -> Result<(), AllocError>
     ensures { OnOk result (string_bytes out.new ≡ string_bytes out.old ++ row_json row.now) }
 {
-    out.push_str("[")?;
+    push_ascii(out, '[')?;
     push_number(out, u64::from(row.vehicle()))?;
     push_comma(out, u64::from(row.place()))?;
     push_comma(out, u64::from(row.customer()))?;
     push_commas(out, row.early())?;
-    out.push_str("]")
+    push_ascii(out, ']')
 }
 
 fn push_more(out: &mut String, rows: &[Row]) -> Result<(), AllocError>
     ensures { OnOk result (string_bytes out.new ≡ string_bytes out.old ++ flat_map comma_row rows.now) }
 {
     for row in rows {
-        out.push_str(",")?;
+        push_ascii(out, ',')?;
         push_cells(out, row)?;
     }
     Ok(())

@@ -5,7 +5,7 @@ ghost use Rattle.std.specs.List.{flat_map};
 ghost use Rattle.board_lines.specs.Replies.{spaced};
 ghost use Rattle.board_lines.specs.Listings.{end_line, row_line, list_text, tag_text, answer_text, entry_line, audit_text, name_line, review_text, check_text};
 
-use crate::digits::push_spaced;
+use crate::digits::{push_ascii, push_spaced};
 use crate::replies::push_reply;
 use crate::spelling::push_event;
 use board_rules::{Entry, Row};
@@ -39,7 +39,7 @@ pub fn push_row(out: &mut String, row: &Row) -> Result<(), AllocError>
     push_spaced(out, u64::from(row.place()))?;
     push_spaced(out, u64::from(row.customer()))?;
     push_early(out, row.early())?;
-    out.push_str("\n")
+    push_ascii(out, '\n')
 }
 
 /// Puts a listing at the end: one line for each row, then the line `end`, each with its line end.
@@ -89,7 +89,7 @@ pub fn push_entry(out: &mut String, n: u64, entry: &Entry) -> Result<(), AllocEr
 {
     push_tag(out, n, entry)?;
     push_answer(out, entry)?;
-    out.push_str("\n")
+    push_ascii(out, '\n')
 }
 
 /// Puts the journal at the end: one line for each entry from the first on, then the line `end`, each with its line end.
@@ -111,7 +111,7 @@ fn push_name_line(out: &mut String, name: &Name) -> Result<(), AllocError>
 {
     out.push_str("name ")?;
     out.push_str(name.as_str())?;
-    out.push_str("\n")
+    push_ascii(out, '\n')
 }
 
 /// Puts a review at the end: one line `name` for each name, then the line `end`, each with its line end.

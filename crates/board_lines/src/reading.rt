@@ -426,6 +426,7 @@ fn command(
 /// The faults, in the order in which they are looked for: the session is no number, the command's word, the count of
 /// words (without the words of an object whose kind is none), then from the left the first argument that does not fit.
 #[tactic(auto, unfolding(crate::specs::Reading::words_read))]
+#[inline(always)]
 pub fn read_words(alloc: Global, words: &[&[u8]]) -> Result<Command, ReadFault>
     ensures { Says result (words_read (map (λ w. w.now) words.now)) }
 {

@@ -6,7 +6,7 @@ ghost use Rattle.std.specs.Fmt.{decimal};
 ghost use Rattle.board_lines.specs.Replies.{spaced};
 ghost use Rattle.board_lines.specs.Saying.{operation_word, range_words, behind, move_said, policy_said, after_number, event_text};
 
-use crate::digits::{push_each, push_number};
+use crate::digits::{push_ascii, push_each, push_number};
 use board_rules::Call;
 use move_core::Move;
 use rbac_core::{Command as PolicyCommand, ObjectRange, Operation};
@@ -18,7 +18,7 @@ use std::alloc::{AllocError, Global};
 fn push_name(out: &mut String, name: &Name) -> Result<(), AllocError>
     ensures { OnOk result (string_bytes out.new ≡ string_bytes out.old ++ 32 ∷ name.now) }
 {
-    out.push_str(" ")?;
+    push_ascii(out, ' ')?;
     out.push_str(name.as_str())
 }
 

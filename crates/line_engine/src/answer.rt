@@ -72,11 +72,19 @@ fn is_reply_refusal(reply: &Reply) -> bool
 
 // ---- lines
 
+/// Ends the line.
+#[inline(always)]
+fn end_line(text: &mut String) -> Result<(), AllocError>
+    ensures { OnOk result (string_bytes text.new ≡ ended (string_bytes text.old)) }
+{
+    text.push('\n')
+}
+
 fn reply_line(text: &mut String, reply: Reply) -> Result<(), AllocError>
     ensures { OnOk result (string_bytes text.new ≡ string_bytes text.old ++ ended (reply_text reply)) }
 {
     push_reply(text, reply)?;
-    text.push_str("\n")
+    end_line(text)
 }
 
 fn fault_line(text: &mut String, fault: Fault) -> Result<(), AllocError>
@@ -84,7 +92,7 @@ fn fault_line(text: &mut String, fault: Fault) -> Result<(), AllocError>
     ensures { OnOk result (string_bytes text.new ≡ string_bytes text.old ++ ended (fault_text fault)) }
 {
     push_fault(text, fault)?;
-    text.push_str("\n")
+    end_line(text)
 }
 
 fn refused_line(text: &mut String, fault: AskFault) -> Result<(), AllocError>
@@ -92,14 +100,14 @@ fn refused_line(text: &mut String, fault: AskFault) -> Result<(), AllocError>
     ensures { OnOk result (string_bytes text.new ≡ string_bytes text.old ++ ended (ask_fault_text fault)) }
 {
     push_ask_fault(text, fault)?;
-    text.push_str("\n")
+    end_line(text)
 }
 
 fn bad_line(text: &mut String, fault: LineFault) -> Result<(), AllocError>
     ensures { OnOk result (string_bytes text.new ≡ string_bytes text.old ++ ended (line_fault_text fault)) }
 {
     push_line_fault(text, fault)?;
-    text.push_str("\n")
+    end_line(text)
 }
 
 // ---- commands, each with an empty text before
@@ -224,7 +232,7 @@ fn check<R, F: Front<R>>(
 {
     let answer = front.check(rt, session, operation, object);
     push_check(text, answer)?;
-    text.push_str("\n")?;
+    end_line(text)?;
     Ok(Mark::said(false))
 }
 
@@ -243,7 +251,7 @@ fn json<R, F: Front<R>>(
     match front.list(rt, session) {
         Ok(rows) => {
             push_json(text, rows.as_slice())?;
-            text.push_str("\n")?;
+            end_line(text)?;
             Ok(Mark::said(false))
         }
         Err(AskFault::NoMemory) => Err(OutOfMemory),

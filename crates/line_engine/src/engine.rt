@@ -17,13 +17,21 @@ use std::alloc::Global;
 use std::io::{Read, Write};
 use text_words::{keep_all_words, keep_line};
 
+// Apart, since few lines end so.
+#[inline(never)]
+fn read_returned(alloc: Global, text: &[u8]) -> Result<Command, ReadFault>
+    ensures { Says result (read_of text.now) }
+{
+    read_line(alloc, text)
+}
+
 /// What a line says, without the one carriage return at its end. The words of a line that has none are cut already.
 fn read(alloc: Global, words: &[&[u8]], line: &[u8]) -> Result<Command, ReadFault>
     requires { map (λ w. w.now) words.now ≡ line_words line.now }
     ensures { Says result (read_of (body line.now)) }
 {
     match line.strip_suffix(b"\r".as_slice()) {
-        Some(text) => read_line(alloc, text),
+        Some(text) => read_returned(alloc, text),
         None => read_words(alloc, words),
     }
 }
