@@ -134,7 +134,6 @@ pub fn keep_line<'a>(kept: &mut Vec<&'a [u8]>, text: &'a [u8]) -> Result<Option<
     ensures end { IfOk result (λ end. MatchOption end (HasNoLineFeed text.now) (IsLineEnd text.now)) }
     ensures words { IfOk result (λ end. IfSome end (λ i. map (λ w. w.now) kept.new.items ≡ words (take i text.now))) }
 {
-    // Not inlined: within its caller the loop takes ten instructions a byte, and here seven.
     kept.clear();
     let mut start = 0;
     while start < text.len() {
