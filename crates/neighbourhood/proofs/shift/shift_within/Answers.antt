@@ -9,7 +9,7 @@ use Rattle.neighbourhood.proofs.Firsts.{best_kept}
 use Rattle.neighbourhood.proofs.Shifts.{shift_next, shifts_past}
 use Rattle.neighbourhood.proofs.Still.{shift_inside_free}
 use Rattle.neighbourhood.proofs.Possible.{shift_inside_can}
-use Rattle.neighbourhood.proofs.Tabled.{row_of, shift_inside_by, shift_tabled}
+use Rattle.neighbourhood.proofs.Tabled.{row_of, row_room, shift_inside_by, shift_tabled}
 use Rattle.neighbourhood.proofs.shift.shift_within.Goals as goal
 
 pub shift_row-forwards-requires-clause-possible : goal.shift_row-forwards-requires-clause-possible
@@ -105,3 +105,121 @@ shift_row-forwards-requires-clause-best g c =
     let front = free.1 in
     absurd (omega arith))
     c.requires.best
+
+pub row-closes-requires : goal.row-closes-requires
+row-closes-requires g c =
+    let low = c.requires.place.0 in
+    let fit = c.requires.place.1 in
+    record { high = row_room false (table_at (setting c.args.setup.now).tables (setting c.args.setup.now).cost) c.args.from.now c.args.from.now c.args.out.now (c.args.place - 1) c.requires.out (omega arith) }
+
+pub row-comes-requires : goal.row-comes-requires
+row-comes-requires g c =
+    let low = c.requires.place.0 in
+    let fit = c.requires.place.1 in
+    record { high = row_room true (table_at (setting c.args.setup.now).tables (setting c.args.setup.now).cost) c.args.from.now c.args.from.now c.args.into.now c.args.place c.requires.into (omega arith) }
+
+pub row-goes-requires : goal.row-goes-requires
+row-goes-requires g c =
+    let low = c.requires.place.0 in
+    let fit = c.requires.place.1 in
+    let some = c.requires.count.0 in
+    record { high = row_room false (table_at (setting c.args.setup.now).tables (setting c.args.setup.now).cost) c.args.from.now c.args.from.now c.args.out.now (c.args.place + c.args.count - 1) c.requires.out (omega arith) }
+
+pub first_free-begin-requires-clause-v : goal.first_free-begin-requires-clause-v
+first_free-begin-requires-clause-v g c =
+    (c.requires.from.low, c.requires.from.high)
+
+pub bounds-edges-first : goal.bounds-edges-first
+bounds-edges-first g c =
+    let low = c.requires.place.0 in
+    let fit = c.requires.place.1 in
+    let edges = c.requires.edges.counted in
+    omega arith
+
+pub bounds-edges-after : goal.bounds-edges-after
+bounds-edges-after g c =
+    let low = c.requires.place.0 in
+    let fit = c.requires.place.1 in
+    let some = c.requires.count.0 in
+    let edges = c.requires.edges.counted in
+    omega arith
+
+pub bounds-closes-after : goal.bounds-closes-after
+bounds-closes-after g c =
+    let low = c.requires.place.0 in
+    let fit = c.requires.place.1 in
+    let sized = c.row-closes.ensures.sized in
+    omega arith
+
+pub shift_row-forwards-requires-clause-edges : goal.shift_row-forwards-requires-clause-edges
+shift_row-forwards-requires-clause-edges g c =
+    let low = c.requires.place.0 in
+    let fit = c.requires.place.1 in
+    let edges = c.requires.edges.counted in
+    omega arith
+
+pub shift_row-forwards-requires-clause-into : goal.shift_row-forwards-requires-clause-into
+shift_row-forwards-requires-clause-into g c =
+    let low = c.requires.place.0 in
+    let fit = c.requires.place.1 in
+    let sized = c.row-comes.ensures.sized in
+    omega arith
+
+pub shift_row-forwards-requires-clause-out : goal.shift_row-forwards-requires-clause-out
+shift_row-forwards-requires-clause-out g c =
+    let low = c.requires.place.0 in
+    let fit = c.requires.place.1 in
+    let sized = c.row-goes.ensures.sized in
+    omega arith
+
+pub shift_row-forwards-requires-clause-short : goal.shift_row-forwards-requires-clause-short
+shift_row-forwards-requires-clause-short g c =
+    let sized = c.row-goes.ensures.sized in
+    let short = c.requires.from.short in
+    omega arith
+
+pub shift_row-forwards-requires-clause-order : goal.shift_row-forwards-requires-clause-order
+shift_row-forwards-requires-clause-order g c =
+    c.if-place-begin.false
+
+pub shift_row-forwards-requires-clause-low : goal.shift_row-forwards-requires-clause-low
+shift_row-forwards-requires-clause-low g c =
+    let begin = c.first_free-begin.ensures.value in
+    omega arith
+
+pub shift_row-requires-clause-edges : goal.shift_row-requires-clause-edges
+shift_row-requires-clause-edges g c =
+    let low = c.requires.place.0 in
+    let fit = c.requires.place.1 in
+    let edges = c.requires.edges.counted in
+    omega arith
+
+pub shift_row-requires-clause-into : goal.shift_row-requires-clause-into
+shift_row-requires-clause-into g c =
+    let low = c.requires.place.0 in
+    let fit = c.requires.place.1 in
+    let sized = c.row-comes.ensures.sized in
+    omega arith
+
+pub shift_row-requires-clause-out : goal.shift_row-requires-clause-out
+shift_row-requires-clause-out g c =
+    let low = c.requires.place.0 in
+    let fit = c.requires.place.1 in
+    let sized = c.row-goes.ensures.sized in
+    omega arith
+
+pub shift_row-requires-clause-short : goal.shift_row-requires-clause-short
+shift_row-requires-clause-short g c =
+    let sized = c.row-goes.ensures.sized in
+    let short = c.requires.from.short in
+    omega arith
+
+pub shift_row-requires-clause-order : goal.shift_row-requires-clause-order
+shift_row-requires-clause-order g c =
+    let low = c.requires.place.0 in
+    let fit = c.requires.place.1 in
+    omega arith
+
+pub shift_row-requires-clause-low : goal.shift_row-requires-clause-low
+shift_row-requires-clause-low g c =
+    omega arith

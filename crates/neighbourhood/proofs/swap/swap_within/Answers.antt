@@ -57,3 +57,92 @@ returns-then-place-first_free g c =
     let front = swap_inside_free c.requires.laws (setting c.args.setup.now) c.args.view.now c.args.skip.now c.requires.view c.args.v c.args.place k (omega arith) q in
     absurd (omega arith))
     c.requires.best
+
+pub row-before-requires : goal.row-before-requires
+row-before-requires g c =
+    let low = c.requires.place.0 in
+    let fit = c.requires.place.1 in
+    record { high = row_room false (table_at (setting c.args.setup.now).tables (setting c.args.setup.now).cost) c.args.from.now c.args.from.now c.args.out.now (c.args.place - 1) c.requires.out (omega arith) }
+
+pub row-here-requires : goal.row-here-requires
+row-here-requires g c =
+    let low = c.requires.place.0 in
+    let fit = c.requires.place.1 in
+    record { high = row_room false (table_at (setting c.args.setup.now).tables (setting c.args.setup.now).cost) c.args.from.now c.args.from.now c.args.out.now c.args.place c.requires.out (omega arith) }
+
+pub row-back-requires : goal.row-back-requires
+row-back-requires g c =
+    let low = c.requires.place.0 in
+    let fit = c.requires.place.1 in
+    record { high = row_room true (table_at (setting c.args.setup.now).tables (setting c.args.setup.now).cost) c.args.from.now c.args.from.now c.args.into.now c.args.place c.requires.into (omega arith) }
+
+pub first_free-requires-clause-v : goal.first_free-requires-clause-v
+first_free-requires-clause-v g c =
+    (c.requires.from.low, c.requires.from.high)
+
+pub bounds-edges-index : goal.bounds-edges-index
+bounds-edges-index g c =
+    let low = c.requires.place.0 in
+    let fit = c.requires.place.1 in
+    let edges = c.requires.edges.counted in
+    omega arith
+
+pub bounds-edges-index-2 : goal.bounds-edges-index-2
+bounds-edges-index-2 g c =
+    let low = c.requires.place.0 in
+    let fit = c.requires.place.1 in
+    let edges = c.requires.edges.counted in
+    omega arith
+
+pub swap_next-near-requires-clause-place : goal.swap_next-near-requires-clause-place
+swap_next-near-requires-clause-place g c =
+    let room = c.if-index-from.false in
+    (c.requires.place.0, omega arith)
+
+pub swap_row-requires-clause-edges : goal.swap_row-requires-clause-edges
+swap_row-requires-clause-edges g c =
+    let low = c.requires.place.0 in
+    let fit = c.requires.place.1 in
+    let edges = c.requires.edges.counted in
+    omega arith
+
+pub swap_row-requires-clause-before : goal.swap_row-requires-clause-before
+swap_row-requires-clause-before g c =
+    let sized = c.row-before.ensures.sized in
+    omega arith
+
+pub swap_row-requires-clause-next : goal.swap_row-requires-clause-next
+swap_row-requires-clause-next g c =
+    let sized = c.row-next.ensures.sized in
+    omega arith
+
+pub swap_row-requires-clause-back : goal.swap_row-requires-clause-back
+swap_row-requires-clause-back g c =
+    let sized = c.row-back.ensures.sized in
+    omega arith
+
+pub swap_row-requires-clause-here : goal.swap_row-requires-clause-here
+swap_row-requires-clause-here g c =
+    let low = c.requires.place.0 in
+    let fit = c.requires.place.1 in
+    let sized = c.row-here.ensures.sized in
+    omega arith
+
+pub swap_row-requires-clause-short : goal.swap_row-requires-clause-short
+swap_row-requires-clause-short g c =
+    let sized = c.row-here.ensures.sized in
+    let short = c.requires.from.short in
+    omega arith
+
+pub swap_row-requires-clause-order : goal.swap_row-requires-clause-order
+swap_row-requires-clause-order g c =
+    let room = c.if-index-from.false in
+    omega arith
+
+pub swap_row-requires-clause-low : goal.swap_row-requires-clause-low
+swap_row-requires-clause-low g c =
+    omega arith
+
+pub swap_row-requires-clause-near : goal.swap_row-requires-clause-near
+swap_row-requires-clause-near g c =
+    λ e. omega arith
