@@ -1,8 +1,9 @@
 -- The places of a plan that is held, and the early values there.
-use Rattle.std.proofs.Common.{◌≡◌, ℕ, ◌+◌, ◌<◌, ◌≤◌, List, length, take, sym, ap, ◌∙◌, subst, arith, slice_index, inl, inr}
-use Rattle.std.specs.Prelude.{slice_set, cond}
+use Rattle.std.proofs.Common.{◌≡◌, ℕ, ◌+◌, ◌<◌, ◌≤◌, List, [], ◌∷◌, ◌++◌, length, take, sym, ap, ◌∙◌, subst, arith, slice_index, inl, inr}
+use Rattle.std.specs.Prelude.{cond}
+use Rattle.std.proofs.Math.Seq.{get_or-append_seam}
 use Rattle.std.proofs.lemmas.Bool.{cases_eq, ne_eqb}
-use Rattle.std.proofs.lemmas.List.{get_or-set_same, get_or-set_other, get_or-take, length-take-le}
+use Rattle.std.proofs.lemmas.List.{get_or_append_left}
 use Rattle.dimension_core.specs.Cumuls.{IsEarly, table_of}
 use Rattle.dimension_core.specs.Setting.{Setting, dimension_at}
 use Rattle.plan_core.specs.Plan.{route_at}
@@ -44,15 +45,15 @@ abbrev pub IsEarlyAt : Setting → List (List ℕ) → ℕ → ℕ → ℕ → �
 IsEarlyAt s routes v p k y = IsEarly (table_of s.tables (dimension_at s k)) (dimension_at s k) v (take p (route_at routes v)) y
 
 -- one value more
-pub early_more : (s : Setting) (routes : List (List ℕ)) (v p n y : ℕ) (early : List ℕ) → n < length early
+pub early_more : (s : Setting) (routes : List (List ℕ)) (v p n y : ℕ) (early : List ℕ) → length early ≡ n
     → ((k : ℕ) → k < n → IsEarlyAt s routes v p k (slice_index early k)) → IsEarlyAt s routes v p n y
-    → (k : ℕ) → k < n + 1 → IsEarlyAt s routes v p k (slice_index (slice_set early n y) k)
-early_more s routes v p n y early within before now k below = elim (cases_eq k n) [
+    → (k : ℕ) → k < n + 1 → IsEarlyAt s routes v p k (slice_index (early ++ y ∷ []) k)
+early_more s routes v p n y early sized before now k below = elim (cases_eq k n) [
   | inl same ↦
-      subst (λ (m : ℕ). IsEarlyAt s routes v p m (slice_index (slice_set early n y) m)) (sym same)
-      (subst (λ (z : ℕ). IsEarlyAt s routes v p n z) (sym (get_or-set_same early n y 0 within)) now)
+      subst (λ (m : ℕ). IsEarlyAt s routes v p m (slice_index (early ++ y ∷ []) m)) (sized ∙ sym same)
+      (subst (λ (z : ℕ). IsEarlyAt s routes v p (length early) z) (sym (get_or-append_seam early y [] 0)) (subst (λ (m : ℕ). IsEarlyAt s routes v p m y) (sym sized) now))
   | inr other ↦
-      subst (λ (z : ℕ). IsEarlyAt s routes v p k z) (sym (get_or-set_other early n k y 0 other)) (before k (omega (arith, below, other)))
+      subst (λ (z : ℕ). IsEarlyAt s routes v p k z) (sym (get_or_append_left early (y ∷ []) 0 k (omega (arith, below, other, sized)))) (before k (omega (arith, below, other)))
 ]
 
 -- a row with these values
@@ -65,12 +66,3 @@ row_early s routes row v p early ev ep ee low sized values = record {
       (subst (λ (x : ℕ). IsEarlyAt s routes v x k (slice_index row.early k)) (sym ep)
       (subst (λ (xs : List ℕ). IsEarlyAt s routes v p k (slice_index xs k)) (sym ee) (values k (omega (arith, below, ap length ee)))));
 }
-
--- and with the first of them
-pub row_taken : (s : Setting) (routes : List (List ℕ)) (row : RowShown) (v p n : ℕ) (early : List ℕ) → row.vehicle ≡ v → row.place ≡ p → row.early ≡ take n early
-    → 1 ≤ v → n ≡ length s.dimensions → n ≤ length early → ((k : ℕ) → k < n → IsEarlyAt s routes v p k (slice_index early k)) → HasEarlyValues s routes row
-row_taken s routes row v p n early ev ep ee low sized within values =
-    let long = length-take-le n early within in
-    row_early s routes row v p (take n early) ev ep ee low (long ∙ sized) (λ k below.
-    let under : k < n = omega (arith, below, long) in
-    subst (λ (y : ℕ). IsEarlyAt s routes v p k y) (sym (get_or-take n early k 0 under)) (values k under))

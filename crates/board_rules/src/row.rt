@@ -1,4 +1,4 @@
-ghost use Rattle.std.specs.Prelude.{◌≡◌, ◌≤◌, length};
+ghost use Rattle.std.specs.Prelude.{◌≡◌, ◌<◌, ◌≤◌, ◌++◌, ◌∷◌, [], length};
 
 use std::marker::Model;
 
@@ -26,6 +26,7 @@ impl Model for Row {
 
 impl Row {
     /// The row of a customer with its early values, one for each dimension of the setup, of which there are 8 at most.
+    #[inline(always)]
     pub fn new(vehicle: u32, place: u32, customer: u32, early: &[u64]) -> Row
         requires { length early.now ≤ 8 }
         ensures vehicle { result.vehicle ≡ vehicle }
@@ -42,6 +43,16 @@ impl Row {
             dimensions: early.len() as u32,
             early: kept,
         }
+    }
+
+    /// Puts the early value of one dimension more behind those that are there, of which there are fewer than 8.
+    #[inline(always)]
+    pub fn push_early(&mut self, value: u64)
+        requires { length self.old.early < 8 }
+        ensures { self.new ≡ record self.old { early = self.old.early ++ value ∷ [] } }
+    {
+        self.early[self.dimensions as usize] = value;
+        self.dimensions += 1;
     }
 
     /// The vehicle, from 1, or 0 where the customer is unassigned.

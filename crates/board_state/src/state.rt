@@ -9,12 +9,13 @@ ghost use Rattle.board_rules.specs.State.{BoardState};
 ghost use Rattle.board_state.specs.Held.{Holds, IsOpening, IsOpened};
 ghost use Rattle.range_cache.specs.Cache.{IsCacheOf};
 ghost use Rattle.board_state.specs.Work.{WorksAtMost};
-ghost use Rattle.permission_table.specs.Tables.{allows};
+ghost use Rattle.permission_table.specs.Tables.{allows, rows_of};
+ghost use Rattle.std.specs.Option.{option_map};
 ghost use Rattle.policy_core.specs.State.{is_session};
 
 use callback_store::Meter;
 use dimension_core::Setup;
-use permission_table::Tables;
+use permission_table::{SessionRows, Tables};
 use pin_core::Pins;
 use plan_core::Plan;
 use range_cache::Cache;
@@ -102,6 +103,27 @@ impl State {
     {
         let mut meter = Meter::new();
         self.may(session, operation, object, &mut meter)
+    }
+
+    /// The compiled permissions of a session, for `check_in`.
+    pub fn session_rows(&self, session: u32) -> Option<&SessionRows>
+        ensures { option_map (λ found. found.now) result ≡ rows_of self.now.tables session }
+    {
+        self.tables.session_rows(session)
+    }
+
+    /// What `check` answers for a session that has these permissions, which are not looked for again.
+    #[inline(always)]
+    pub fn check_in(
+        &self,
+        found: Option<&SessionRows>,
+        operation: Operation,
+        object: Object,
+    ) -> bool
+        ensures { (s : Setting) (state : BoardState) (session : ℕ) → Holds s self.now state
+            → option_map (λ rows. rows.now) found.entry ≡ rows_of self.now.tables session → result ≡ has_access state.policy session operation object }
+    {
+        self.tables.allows(found, operation, object)
     }
 
     /// Whether there is such a session.

@@ -6,6 +6,7 @@ mod row;
 mod tables;
 
 pub use laws::compiled_is_check_access;
+pub use row::SessionRows;
 pub use tables::{Rows, Tables};
 
 #[cfg(test)]

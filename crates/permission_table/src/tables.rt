@@ -1,9 +1,11 @@
 //! Tables of permissions, and the rows that a change of the policy puts into them.
 ghost use Rattle.std.specs.Prelude.{◌≡◌, ◌<◌, ◌≤◌, ◌+◌, ℕ, true, false, [], IfOk, length, nat_eq, is_some, unwrap_or, ◌==◌, if◌then◌else◌};
 ghost use Rattle.std.specs.Map.{lookup};
+ghost use Rattle.std.specs.Option.{option_map};
 ghost use Rattle.indexmap.specs.IndexMap.{spare};
 ghost use Rattle.callback_store.specs.Meter.{after_probe};
 ghost use Rattle.policy_core.specs.State.{PolicyState};
+ghost use Rattle.permission_table.specs.Bits.{allowed_by};
 ghost use Rattle.permission_table.specs.Tables.{TablesState, RowsState, no_rows, rows_of, allows, rows_after, will_allow, is_among};
 ghost use Rattle.permission_table.specs.Compiled.{AreCompiled, WillBeCompiled, SameAccessBut, HasSizes, AreRowsOf, AreChangesOf};
 
@@ -119,6 +121,27 @@ impl Tables {
         put_all(&mut self.rows, changes);
     }
 
+    /// The rows of the session, for a caller who asks for many objects.
+    pub fn session_rows(&self, session: u32) -> Option<&SessionRows>
+        ensures { option_map (λ rows. rows.now) result ≡ rows_of self.now session }
+    {
+        self.rows.get(&session)
+    }
+
+    /// What `check` answers for a session that has these rows, which are not looked for again.
+    #[inline(always)]
+    pub fn allows(&self, found: Option<&SessionRows>, operation: Operation, object: Object) -> bool
+        ensures { result ≡ allowed_by self.now.customers self.now.vehicles (option_map (λ rows. rows.now) found.entry) operation object }
+    {
+        let Some(number) = object.number(self.customers, self.vehicles) else {
+            return false;
+        };
+        match found {
+            Some(rows) => rows.contains(operation, number),
+            None => false,
+        }
+    }
+
     /// Whether the session may do the operation to the object: one probe, of one word.
     pub fn check(
         &self,
@@ -131,13 +154,7 @@ impl Tables {
         ensures probe { meter.new ≡ after_probe meter.old }
     {
         meter.probe();
-        let Some(number) = object.number(self.customers, self.vehicles) else {
-            return false;
-        };
-        match self.rows.get(&session) {
-            Some(rows) => rows.contains(operation, number),
-            None => false,
-        }
+        self.allows(self.session_rows(session), operation, object)
     }
 }
 

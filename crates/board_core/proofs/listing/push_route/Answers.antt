@@ -4,13 +4,13 @@ use Rattle.plan_core.specs.Plan.{PlanState, route_at}
 use Rattle.board_core.proofs.Listings.{place_seen, place_past, vehicle_past}
 use Rattle.board_core.proofs.Stops.{stop_at}
 use Rattle.board_core.proofs.listing.push_route.Goals as goal
-use Rattle.board_core.proofs.listing.push_route.Goals.{then-check+in_ok-push, else-check}
+use Rattle.board_core.proofs.listing.push_route.Goals.{then-check_in+in_ok-push, else-check_in}
 
-pub returns-then-not-check : goal.returns-then-not-check
-returns-then-not-check g c = λ board holds.
+pub returns-then-not-check_in : goal.returns-then-not-check_in
+returns-then-not-check_in g c = λ board holds.
     let s = setting c.args.setup.now in
     vehicle_past s board c.args.session c.args.vehicle (route_at board.routes c.args.vehicle) c.args.rows.now.items c.requires.low
-    (sym (c.check.ensures s board holds) ∙ c.if-not-check.true)
+    (sym (c.check_in.ensures s board c.args.session holds c.requires.seen) ∙ c.if-not-check_in.true)
 
 pub loop-before-preserved : goal.loop-before-preserved
 loop-before-preserved g c = λ board holds.
@@ -19,19 +19,19 @@ loop-before-preserved g c = λ board holds.
     let n = c.loop-before.before in
     let route = c.customers-route.result.now in
     let within = c.loop-before-test.true in
-    let viewed = sym (c.check.ensures s board holds) ∙ c.if-not-check.false in
+    let viewed = sym (c.check_in.ensures s board c.args.session holds c.requires.seen) ∙ c.if-not-check_in.false in
     let read : route ≡ route_at c.args.state.now.plan.routes v =
     c.customers-route.ensures ∙ (c.deref.ensures ∙ (c.route.ensures.value ∙ ap (λ (p : PlanState). route_at p.routes v) c.plan.ensures)) in
     let last : n + 1 ≤ length (route_at c.args.state.now.plan.routes v) = omega (arith, within, ap length read) in
-    elim c.if-check.branch [
-      | then-check+in_ok-push w ↦
+    elim c.if-check_in.branch [
+      | then-check_in+in_ok-push w ↦
           rw w.rows-is (place_seen s board c.args.session _ _ _ v route n w.placed_row.result c.requires.low within viewed
-          (sym (c.check-in-loop-before.ensures s board holds) ∙ w.if-check.true)
+          (sym (c.check_in-in-loop-before.ensures s board c.args.session holds c.requires.seen) ∙ w.if-check_in.true)
           w.placed_row.ensures.spot
           (w.placed_row.ensures.early board.routes (stop_at s c.args.state.now board holds _ v (n + 1) w.cache.ensures c.requires.low c.requires.high (omega arith) last))
           (c.loop-before.invariant board holds) w.in_ok-push.ensures.items)
-      | else-check w ↦
+      | else-check_in w ↦
           rw w.rows-is (place_past s board c.args.session _ _ v route n c.requires.low within viewed
-          (sym (c.check-in-loop-before.ensures s board holds) ∙ w.if-check.false)
+          (sym (c.check_in-in-loop-before.ensures s board c.args.session holds c.requires.seen) ∙ w.if-check_in.false)
           (c.loop-before.invariant board holds))
     ]
