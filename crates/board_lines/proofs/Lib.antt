@@ -1,5 +1,5 @@
 mod Booleans
-mod Lengths
+mod Letters
 mod Roles
 mod Journals
 mod Faults

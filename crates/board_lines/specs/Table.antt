@@ -82,7 +82,8 @@ row_of (Ask asks.Active) = row (codes "active") (number nothing)
 
 abbrev pub all_words : List Word
 all_words =
-    Propose moves.Insert ∷ Propose moves.Remove ∷ Propose moves.Shift ∷ Propose moves.Swap ∷ Propose moves.Reverse ∷ Propose moves.Cross
+    Ask asks.List ∷ Ask asks.Json ∷ Ask asks.Audit ∷ Ask asks.Check ∷ Ask asks.Users ∷ Ask asks.Roles ∷ Ask asks.Active
+    ∷ Propose moves.Insert ∷ Propose moves.Remove ∷ Propose moves.Shift ∷ Propose moves.Swap ∷ Propose moves.Reverse ∷ Propose moves.Cross
     ∷ Hold holds.Pin ∷ Hold holds.Unpin ∷ Hold holds.Freeze ∷ Hold holds.Thaw
     ∷ Manage manages.AddUser ∷ Manage manages.DeleteUser ∷ Manage manages.AddRole ∷ Manage manages.DeleteRole
     ∷ Manage manages.Assign ∷ Manage manages.Deassign ∷ Manage manages.Grant ∷ Manage manages.Revoke
@@ -90,16 +91,20 @@ all_words =
     ∷ Separate Static sets.Create ∷ Separate Static sets.Add ∷ Separate Static sets.Drop ∷ Separate Static sets.Delete ∷ Separate Static sets.Number
     ∷ Separate Dynamic sets.Create ∷ Separate Dynamic sets.Add ∷ Separate Dynamic sets.Drop ∷ Separate Dynamic sets.Delete ∷ Separate Dynamic sets.Number
     ∷ Session sessions.Open ∷ Session sessions.Close ∷ Session sessions.Activate ∷ Session sessions.Deactivate
-    ∷ Ask asks.List ∷ Ask asks.Json ∷ Ask asks.Audit ∷ Ask asks.Check ∷ Ask asks.Users ∷ Ask asks.Roles ∷ Ask asks.Active
     ∷ []
 
 -- each command by its word
 abbrev pub table : List (List ℕ × Word)
 table = map (λ w. ((row_of w).text, w)) all_words
 
--- the commands whose words have that length
-abbrev pub of_length : ℕ → List (List ℕ × Word)
-of_length n = filter (λ e. length e.0 == n) table
+-- the first byte of a word, and 0 where it has none
+abbrev pub first_byte : List ℕ → ℕ
+first_byte [] = 0
+first_byte (b ∷ bs) = b
+
+-- the commands whose words begin with that letter
+abbrev pub of_letter : ℕ → List (List ℕ × Word)
+of_letter letter = filter (λ e. first_byte e.0 == letter) table
 
 -- the command that the word names
 unfoldable pub word_of : List ℕ → Option Word

@@ -1,33 +1,54 @@
 use Rattle.std.proofs.Common.{◌∙◌, arith}
-use Rattle.board_lines.proofs.Lengths.{named, unnamed}
+use Rattle.board_lines.proofs.Letters.{named, unnamed, unnamed_empty}
 use Rattle.board_lines.proofs.word.Word.of.Goals as goal
 
-pub returns-in-3 : goal.returns-in-3
-returns-in-3 c = c.of_three.ensures ∙ named c.args.word.now 3 c.in-3.is
+pub returns-in-97 : goal.returns-in-97
+returns-in-97 c = c.of_a.ensures ∙ named c.args.word.now 97 c.in-97.is
 
-pub returns-in-4 : goal.returns-in-4
-returns-in-4 c = c.of_four.ensures ∙ named c.args.word.now 4 c.in-4.is
+pub returns-in-99 : goal.returns-in-99
+returns-in-99 c = c.of_c.ensures ∙ named c.args.word.now 99 c.in-99.is
 
-pub returns-in-5 : goal.returns-in-5
-returns-in-5 c = c.of_five.ensures ∙ named c.args.word.now 5 c.in-5.is
+pub returns-in-100 : goal.returns-in-100
+returns-in-100 c = c.of_d.ensures ∙ named c.args.word.now 100 c.in-100.is
 
-pub returns-in-6 : goal.returns-in-6
-returns-in-6 c = c.of_six.ensures ∙ named c.args.word.now 6 c.in-6.is
+pub returns-in-102 : goal.returns-in-102
+returns-in-102 c = c.of_f.ensures ∙ named c.args.word.now 102 c.in-102.is
 
-pub returns-in-7 : goal.returns-in-7
-returns-in-7 c = c.of_seven.ensures ∙ named c.args.word.now 7 c.in-7.is
+pub returns-in-103 : goal.returns-in-103
+returns-in-103 c = c.of_g.ensures ∙ named c.args.word.now 103 c.in-103.is
 
-pub returns-in-8 : goal.returns-in-8
-returns-in-8 c = c.of_eight.ensures ∙ named c.args.word.now 8 c.in-8.is
+pub returns-in-105 : goal.returns-in-105
+returns-in-105 c = c.of_i.ensures ∙ named c.args.word.now 105 c.in-105.is
 
-pub returns-in-9 : goal.returns-in-9
-returns-in-9 c = c.of_nine.ensures ∙ named c.args.word.now 9 c.in-9.is
+pub returns-in-106 : goal.returns-in-106
+returns-in-106 c = c.of_j.ensures ∙ named c.args.word.now 106 c.in-106.is
 
-pub returns-in-10 : goal.returns-in-10
-returns-in-10 c = c.of_ten.ensures ∙ named c.args.word.now 10 c.in-10.is
+pub returns-in-108 : goal.returns-in-108
+returns-in-108 c = c.of_l.ensures ∙ named c.args.word.now 108 c.in-108.is
 
-pub returns-in-11 : goal.returns-in-11
-returns-in-11 c = c.of_eleven.ensures ∙ named c.args.word.now 11 c.in-11.is
+pub returns-in-109 : goal.returns-in-109
+returns-in-109 c = c.of_m.ensures ∙ named c.args.word.now 109 c.in-109.is
+
+pub returns-in-111 : goal.returns-in-111
+returns-in-111 c = c.of_o.ensures ∙ named c.args.word.now 111 c.in-111.is
+
+pub returns-in-112 : goal.returns-in-112
+returns-in-112 c = c.of_p.ensures ∙ named c.args.word.now 112 c.in-112.is
+
+pub returns-in-114 : goal.returns-in-114
+returns-in-114 c = c.of_r.ensures ∙ named c.args.word.now 114 c.in-114.is
+
+pub returns-in-115 : goal.returns-in-115
+returns-in-115 c = c.of_s.ensures ∙ named c.args.word.now 115 c.in-115.is
+
+pub returns-in-116 : goal.returns-in-116
+returns-in-116 c = c.of_t.ensures ∙ named c.args.word.now 116 c.in-116.is
+
+pub returns-in-117 : goal.returns-in-117
+returns-in-117 c = c.of_u.ensures ∙ named c.args.word.now 117 c.in-117.is
+
+pub returns-in_default-letter : goal.returns-in_default-letter
+returns-in_default-letter c = unnamed c.args.word.now (λ h. omega (arith, h)) (λ h. omega (arith, h)) (λ h. omega (arith, h)) (λ h. omega (arith, h)) (λ h. omega (arith, h)) (λ h. omega (arith, h)) (λ h. omega (arith, h)) (λ h. omega (arith, h)) (λ h. omega (arith, h)) (λ h. omega (arith, h)) (λ h. omega (arith, h)) (λ h. omega (arith, h)) (λ h. omega (arith, h)) (λ h. omega (arith, h)) (λ h. omega (arith, h))
 
 pub returns-in_default : goal.returns-in_default
-returns-in_default c = unnamed c.args.word.now (λ lo hi. omega arith)
+returns-in_default c = unnamed_empty c.args.word.now c.in_default.len_below
