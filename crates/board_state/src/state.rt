@@ -160,7 +160,7 @@ fn opening_permissions(
     ensures { IfOk result (λ r. IsOpened customers vehicles r.0.now r.1) }
 {
     let (opening, tables) = opening_policy(alloc, customers, vehicles)?;
-    let policy = Twin::new(opening)?;
+    let policy = Twin::new(alloc, opening)?;
     Ok((policy, tables))
 }
 

@@ -6,7 +6,7 @@ ghost use Rattle.std.specs.Option.{option_or};
 ghost use Rattle.role_hierarchy.specs.Below.{closed, juniors_of};
 ghost use Rattle.role_hierarchy.specs.Order.{is_there, stands, with_pair};
 ghost use Rattle.role_hierarchy.specs.Roles.{has, without};
-ghost use Rattle.std.specs.Prelude.{◌++◌};
+ghost use Rattle.std.specs.Prelude.{◌++◌, bit_or};
 ghost use Rattle.policy_core.specs.State.{slot_of, broken, broken_ssd, broken_dsd};
 ghost use Rattle.policy_core.specs.Wider.{AreSeniors, wider, all_wider, held_in, active_in};
 ghost use Rattle.policy_core.specs.Commands.{Says, add_role_refusal, role_added, role_gone, delete_role_refusal, inherited, inherit_refusal, uninherited, uninherit_refusal, kept_authorized};
@@ -239,8 +239,24 @@ fn drop_from_all(users: &mut IndexMap<Name, RoleSet>, slot: u8)
     });
 }
 
+/// Adds to the list the roles, what stands below them, and these juniors. It is kept out of line, so that those who are passed over,
+/// nearly all, pay nothing for it.
+#[inline(never)]
+fn push_closed(
+    all: &mut Vec<RoleSet>,
+    order: &Hierarchy,
+    juniors: RoleSet,
+    roles: RoleSet,
+) -> Result<(), AllocError>
+    ensures { OnOk result (all.new.items ≡ all.old.items ++ bit_or (closed order.now roles) juniors ∷ []) }
+{
+    all.push(order.closure(roles).union(juniors))?;
+    Ok(())
+}
+
 /// Adds to the list what stands below the roles once their seniors and juniors stand in a pair,
 /// where that is more than before: where a role is among those that are senior to the new senior.
+#[inline(always)]
 fn push_wider(
     all: &mut Vec<RoleSet>,
     order: &Hierarchy,
@@ -253,7 +269,7 @@ fn push_wider(
 {
     order.is_order();
     if roles.meets(seniors) {
-        all.push(order.closure(roles).union(juniors))?;
+        push_closed(all, order, juniors, roles)?;
     }
     Ok(())
 }

@@ -597,7 +597,7 @@ fn is_tried(rt: &impl Abort, alloc: Global, twin: &mut Twin, line: &str) -> bool
 }
 
 fn spare(rt: &impl Abort, alloc: Global) -> Twin {
-    Twin::new(opening(rt, alloc)).expect(rt, "memory")
+    Twin::new(alloc, opening(rt, alloc)).expect(rt, "memory")
 }
 
 #[test]

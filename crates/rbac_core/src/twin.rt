@@ -5,9 +5,9 @@ ghost use Rattle.rbac_core.specs.Step.{refusal_of, after, outcome_of, guard, gua
 ghost use Rattle.rbac_core.specs.Twins.{Follows};
 
 use crate::command::{Command, Outcome};
-use crate::steps::{carry_out, guard};
+use crate::steps::{carry_out, change, guard};
 use policy_core::{Policy, Refusal};
-use std::alloc::AllocError;
+use std::alloc::{AllocError, Global};
 use std::marker::Model;
 use std::mem;
 
@@ -29,8 +29,9 @@ enum Lag {
 ///
 /// Contracts see the policy, and the state that `settle` would bring.
 pub struct Twin {
-    policy: Policy,
-    spare: Policy,
+    // Boxed, so that the two are exchanged by exchanging two words.
+    policy: Box<Policy>,
+    spare: Box<Policy>,
     lag: Lag,
 }
 
@@ -52,17 +53,18 @@ impl Model for Twin {
 
     ghost use Rattle.rbac_core.specs.Twins.{Follows, tried_of};
 
-    ghost view = { λ a. record { now = a.policy; tried = tried_of a.lag a.spare a.policy } };
+    ghost view = { λ a. record { now = a.policy.value; tried = tried_of a.lag a.spare.value a.policy.value } };
 
-    ghost invariant = { λ a. Follows a.lag a.spare a.policy };
+    ghost invariant = { λ a. Follows a.lag a.spare.value a.policy.value };
 }
 
 impl Twin {
     /// The policy with a spare copy.
-    pub fn new(policy: Policy) -> Result<Twin, AllocError>
+    pub fn new(alloc: Global, policy: Policy) -> Result<Twin, AllocError>
         ensures { IfOk result (λ twin. twin ≡ record { now = policy; tried = policy }) }
     {
-        let spare = policy.copy()?;
+        let spare = Box::new(alloc, policy.copy()?)?;
+        let policy = Box::new(alloc, policy)?;
         Ok(Twin {
             policy,
             spare,
@@ -128,7 +130,7 @@ fn even_out(policy: &Policy, spare: &mut Policy, lag: &mut Lag) -> bool
 {
     let even = match lag {
         Lag::Even => true,
-        Lag::Behind(command) => carry_out(spare, command).is_ok(),
+        Lag::Behind(command) => change(spare, command).is_ok(),
         Lag::Ahead => match policy.copy() {
             Ok(copy) => {
                 *spare = copy;
