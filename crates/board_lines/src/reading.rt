@@ -397,6 +397,8 @@ fn question(session: u32, word: AskWord, arguments: &[&[u8]]) -> Result<Command,
 
 // ---- lines
 
+// Within its caller, which holds the large result: apart, it would be copied once more.
+#[inline(always)]
 fn command(
     alloc: Global,
     session: u32,
