@@ -1,11 +1,12 @@
 -- Sets that are passed over: those of which too few roles are among the given ones.
-use Rattle.std.proofs.Common.{◌≡◌, ℕ, suc, ◌+◌, ◌<◌, ◌≤◌, Bool, true, false, cond, ◌&&◌, ◌||◌, List, [], ◌∷◌, length, sym, refl, ap, ap₂, ◌∙◌, arith, Option, Some, None, eqb}
+use Rattle.std.proofs.Common.{◌≡◌, ℕ, suc, ◌+◌, ◌*◌, ◌^◌, ◌<◌, ◌≤◌, Bool, true, false, cond, ◌&&◌, ◌||◌, List, [], ◌∷◌, length, sym, refl, ap, ap₂, ◌∙◌, arith, Option, Some, None, eqb}
 use Rattle.std.specs.Prelude.{◌==◌, not, count_ones, bit_and, position, nat_lt}
 use Rattle.std.specs.List.{list_any, list_all, position_or_len}
-use Rattle.std.proofs.lemmas.Bool.{cond-false, true≢false, and_parts, and_from, or_parts, not-false, eqb-true, eq-eqb, ne_eqb, leb-true, leb-false, lt-leb, le-ltb}
-use Rattle.std.proofs.lemmas.Nat.{ones_le_self}
+use Rattle.std.proofs.lemmas.Bool.{cond-false, true≢false, and_parts, and_from, or_parts, not-false, eqb-true, leb-true, leb-false, lt-leb, le-ltb}
+use Rattle.std.proofs.lemmas.Nat.{ones_le_self, ones_cat, pow_pos}
+use Rattle.std.proofs.lemmas.Nat.Bits.{bit_at-pow_same}
 use Rattle.role_hierarchy.specs.Roles.{has, without}
-use Rattle.role_hierarchy.specs.RoleLaws.{has-empty, has-bit_and, has-without, same_roles, count_fewer, below_power}
+use Rattle.role_hierarchy.specs.RoleLaws.{has-empty, has-bit_and, has-without, count_fewer, below_power}
 use Rattle.separation_core.specs.declared.sets.Limit.{Limit}
 use Rattle.separation_core.specs.Groups.{Groups, is_sound, is_broken, first_broken, breaks_coming, limits_of}
 
@@ -45,67 +46,37 @@ none_given given none =
     let fewer : count_ones given ≤ count_ones 0 = count_fewer given 0 given (below_power given) (λ q h. absurd (true≢false (sym h ∙ none q (omega arith)))) in
     omega (arith, fewer, ones_le_self 0)
 
--- where one is left without the role, a set that does not have the role is whole
-apart : (roles role q : ℕ) → has roles q ≡ true → has roles role ≡ false → not (eqb q role) ≡ true
-apart roles role q here absent = by (eqb q role) refl
-  where
-    by : (b : Bool) → eqb q role ≡ b → not b ≡ true
-    by true e = absurd (true≢false (sym here ∙ ap (has roles) (eqb-true q role e) ∙ absent))
-    by false e = refl
+-- one role by itself
+module _ (role : ℕ) where
+  alone_has : has (2 ^ role) role ≡ true
+  unfolding has
+  alone_has = ap (λ n. eqb n 1) (bit_at-pow_same role)
 
-pub with_of_two : (given role : ℕ) (limits : List Limit) → list_all is_sound limits ≡ true → count_ones (without given role) < 2 →
-    list_any (λ limit. has limit.roles role && is_broken given limit) limits ≡ list_any (is_broken given) limits
-with_of_two given role limits sound small =
-    kept_of (λ limit. has limit.roles role) (is_broken given) limits (λ limit s absent. unbroken given (without given role) limit s (within limit absent) small) sound
+  alone_few : count_ones (2 ^ role) < 2
+  alone_few =
+      let split : count_ones (1 * 2 ^ role + 0) ≡ count_ones 1 + count_ones 0 = ones_cat role 1 0 (pow_pos role) in
+      let one : 1 * 2 ^ role + 0 ≡ 2 ^ role = omega arith in
+      few (count_ones (2 ^ role)) (count_ones 1) (count_ones 0) (ap count_ones (sym one) ∙ split) (ones_le_self 1) (ones_le_self 0)
+    where
+      few : (n a b : ℕ) → n ≡ a + b → a ≤ 1 → b ≤ 0 → n < 2
+      few n a b e h k = omega (arith, e, h, k)
+
+-- a set that has none of the given roles but for one is whole
+pub rest_of_all : (given role : ℕ) (groups : Groups) → list_all is_sound (limits_of groups) ≡ true → breaks_coming given (without given role) groups ≡ list_any (is_broken given) (limits_of groups)
+rest_of_all given role groups sound = kept_of (λ limit. not (bit_and limit.roles (without given role) == 0)) (is_broken given) (limits_of groups) (λ limit s unmet. whole limit s unmet) sound
   where
-    within : (limit : Limit) → has limit.roles role ≡ false → (q : ℕ) → has (bit_and limit.roles given) q ≡ true → has (without given role) q ≡ true
-    within limit absent q h =
+    same : (limit : Limit) → bit_and limit.roles (without given role) ≡ 0 → (q : ℕ) → has (bit_and limit.roles given) q ≡ true → (b : Bool) → eqb q role ≡ b → has (2 ^ role) q ≡ true
+    same limit none q h true e = ap (has (2 ^ role)) (eqb-true q role e) ∙ alone_has role
+    same limit none q h false e =
         let parts = and_parts _ _ (sym (has-bit_and limit.roles given q) ∙ h) in
-        has-without given role q ∙ and_from _ _ (apart limit.roles role q parts.0 absent) parts.1
+        let there : has (without given role) q ≡ true = has-without given role q ∙ and_from _ _ (ap not e) parts.1 in
+        let both : has (bit_and limit.roles (without given role)) q ≡ true = has-bit_and limit.roles (without given role) q ∙ and_from _ _ parts.0 there in
+        absurd (true≢false (sym both ∙ ap (λ s. has s q) none ∙ has-empty q))
 
--- a set that has none of the given roles is whole
-pub met_of_all : (given : ℕ) (groups : Groups) → list_all is_sound (limits_of groups) ≡ true → breaks_coming given given groups ≡ list_any (is_broken given) (limits_of groups)
-met_of_all given groups sound = kept_of (λ limit. not (bit_and limit.roles given == 0)) (is_broken given) (limits_of groups) (λ limit s unmet. whole limit s unmet) sound
-  where
-    whole : (limit : Limit) → is_sound limit ≡ true → not (bit_and limit.roles given == 0) ≡ false → is_broken given limit ≡ false
+    whole : (limit : Limit) → is_sound limit ≡ true → not (bit_and limit.roles (without given role) == 0) ≡ false → is_broken given limit ≡ false
     whole limit s unmet =
-        let two : 2 ≤ limit.number = leb-true _ _ (and_parts _ _ s).0 in
-        let none : bit_and limit.roles given ≡ 0 = eqb-true _ _ (not-false _ unmet) in
-        let nil : count_ones (bit_and limit.roles given) ≡ count_ones 0 = ap count_ones none in
-        lt-leb _ _ (omega (arith, two, nil, ones_le_self 0))
-
--- a set meets one role where it has that role
-module _ (coming role : ℕ) (here : has coming role ≡ true) (alone : without coming role ≡ 0) where
-  same_role : (q : ℕ) → has coming q ≡ true → eqb q role ≡ true
-  same_role q h = by (eqb q role) refl
-    where
-      by : (b : Bool) → eqb q role ≡ b → eqb q role ≡ true
-      by true e = e
-      by false e =
-          let kept : has (without coming role) q ≡ true = has-without coming role q ∙ and_from _ _ (ap not e) h in
-          absurd (true≢false (sym kept ∙ ap (λ s. has s q) alone ∙ has-empty q))
-
-  neither : (x y : Bool) → (y ≡ true → x ≡ false) → (x && y) ≡ false
-  neither true true e = e refl
-  neither true false e = refl
-  neither false y e = refl
-
-  meets_one : (roles : ℕ) → not (bit_and roles coming == 0) ≡ has roles role
-  meets_one roles = by (has roles role) refl
-    where
-      by : (b : Bool) → has roles role ≡ b → not (bit_and roles coming == 0) ≡ b
-      by true e =
-          let both : has (bit_and roles coming) role ≡ true = has-bit_and roles coming role ∙ and_from _ _ e here in
-          ap not (ne_eqb _ _ (λ none. true≢false (sym both ∙ ap (λ s. has s role) none ∙ has-empty role)))
-      by false e =
-          let none : bit_and roles coming ≡ 0 = same_roles (bit_and roles coming) 0 (λ q. has-bit_and roles coming q
-          ∙ neither (has roles q) (has coming q) (λ h. ap (has roles) (eqb-true q role (same_role q h)) ∙ e) ∙ sym (has-empty q)) in
-          ap not (eq-eqb _ _ none)
-
-  pub coming_one : (given : ℕ) (limits : List Limit) →
-      list_any (λ limit. has limit.roles role && is_broken given limit) limits ≡ list_any (λ limit. not (bit_and limit.roles coming == 0) && is_broken given limit) limits
-  coming_one given [] = refl
-  coming_one given (limit ∷ limits) = ap₂ (λ s t. (s && is_broken given limit) || t) (sym (meets_one limit.roles)) (coming_one given limits)
+        let none : bit_and limit.roles (without given role) ≡ 0 = eqb-true _ _ (not-false _ unmet) in
+        unbroken given (2 ^ role) limit s (λ q h. same limit none q h (eqb q role) refl) (alone_few role)
 
 -- where the roles but for the coming ones broke no set, a set that has none of the coming ones is whole
 module _ (before given coming : ℕ) (within : (q : ℕ) → has given q ≡ true → has coming q ≡ false → has before q ≡ true) where
