@@ -10,6 +10,10 @@ counted n = min (n + 1) 18446744073709551615
 abbrev pub after_ask : Meter → Meter
 after_ask m = record m { asks = counted m.asks }
 
+-- the meter after so many more asks
+abbrev pub after_asks : Meter → ℕ → Meter
+after_asks m n = record m { asks = min (m.asks + n) 18446744073709551615 }
+
 -- the meter after one more probe
 abbrev pub after_probe : Meter → Meter
 after_probe m = record m { probes = counted m.probes }

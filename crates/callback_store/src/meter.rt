@@ -13,7 +13,7 @@ pub struct Meter {
 
 impl Meter {
     ghost use Rattle.std.specs.Prelude.{◌≡◌};
-    ghost use Rattle.callback_store.specs.Meter.{after_ask, after_probe, after_walk, AsksAtMost};
+    ghost use Rattle.callback_store.specs.Meter.{after_ask, after_asks, after_probe, after_walk, AsksAtMost};
 
     /// A meter that has counted nothing.
     pub fn new() -> Meter
@@ -32,6 +32,15 @@ impl Meter {
         ensures one { AsksAtMost self.old self.new 1 }
     {
         self.asks = self.asks.saturating_add(1);
+    }
+
+    /// Counts some asks at once.
+    #[inline(always)]
+    pub fn ask_many(&mut self, count: u64)
+        ensures value { self.new ≡ after_asks self.old count }
+        ensures most { AsksAtMost self.old self.new count }
+    {
+        self.asks = self.asks.saturating_add(count);
     }
 
     /// Counts one probe.

@@ -1,5 +1,5 @@
-ghost use Rattle.std.specs.Prelude.{◌≡◌, ℕ, ◌+◌, ◌*◌, ◌<◌, ◌≤◌, ◌↔◌, true, false, List, [], ◌∷◌, ◌++◌, length, map, IfOk, OnErr, IsErrOf, nat_lt};
-ghost use Rattle.callback_store.specs.Meter.{after_ask, AsksAtMost};
+ghost use Rattle.std.specs.Prelude.{◌≡◌, ℕ, ◌+◌, ◌*◌, ◌<◌, ◌≤◌, ◌↔◌, true, false, List, [], ◌∷◌, ◌++◌, length, map, IfOk, OnErr, IsErrOf, nat_lt, All};
+ghost use Rattle.callback_store.specs.Meter.{after_ask, after_asks, AsksAtMost};
 ghost use Rattle.callback_store.specs.Tables.{AreTables, slot_table, pair_table, node_table, table_at, nodes_of, is_fitting, entry};
 
 use crate::meter::Meter;
@@ -164,5 +164,44 @@ impl Registry {
     {
         let slot = &self.slots[id.index as usize];
         slot.ask(meter, i, j)
+    }
+
+    /// The answers of a callback on the ways from node `i` to each of some nodes, in their order, one for each place of `answers`.
+    /// It counts one ask for each.
+    pub fn ask_row(&self, id: TransitId, meter: &mut Meter, i: u32, to: &[u32], answers: &mut [u32])
+        requires registered { id < length (tables self.now) }
+        requires from { i < nodes_of (tables self.now) }
+        requires to { All (λ j. j < nodes_of (tables self.now)) to.now }
+        requires room { length answers.old ≡ length to.now }
+        ensures answers { answers.new ≡ map (λ j. entry (table_at (tables self.now) id) i j) to.now }
+        ensures small { All (λ x. x ≤ 1000000000) answers.new }
+        ensures counted { meter.new ≡ after_asks meter.old (length to.now) }
+        ensures most { AsksAtMost meter.old meter.new (length to.now) }
+    {
+        let slot = &self.slots[id.index as usize];
+        slot.ask_row(meter, i, to, answers)
+    }
+
+    /// The answers of a callback on the ways to node `j` from each of some nodes, in their order, one for each place of `answers`.
+    /// It counts one ask for each.
+    pub fn ask_column(
+        &self,
+        id: TransitId,
+        meter: &mut Meter,
+        j: u32,
+        from: &[u32],
+        answers: &mut [u32],
+    )
+        requires registered { id < length (tables self.now) }
+        requires to { j < nodes_of (tables self.now) }
+        requires from { All (λ i. i < nodes_of (tables self.now)) from.now }
+        requires room { length answers.old ≡ length from.now }
+        ensures answers { answers.new ≡ map (λ i. entry (table_at (tables self.now) id) i j) from.now }
+        ensures small { All (λ x. x ≤ 1000000000) answers.new }
+        ensures counted { meter.new ≡ after_asks meter.old (length from.now) }
+        ensures most { AsksAtMost meter.old meter.new (length from.now) }
+    {
+        let slot = &self.slots[id.index as usize];
+        slot.ask_column(meter, j, from, answers)
     }
 }

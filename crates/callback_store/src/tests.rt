@@ -1,4 +1,4 @@
-ghost use Rattle.std.specs.Prelude.{◌≡◌, ◌<◌, ◌+◌, ◌*◌, slice_index, length};
+ghost use Rattle.std.specs.Prelude.{◌≡◌, ◌<◌, ◌+◌, ◌-◌, ◌*◌, slice_index, length};
 
 use crate::{Meter, RegisterFault, Registry, Transit, Unary};
 use std::test::Fail;
@@ -54,6 +54,43 @@ fn registers_both_kinds(rt: HostRuntime) -> Result<(), Fail> {
 }
 
 #[test]
+fn answers_a_row_and_a_column(rt: HostRuntime) -> Result<(), Fail> {
+    let two = Box::new(
+        rt.alloc(),
+        move |i: u32, j: u32| -> u64
+            ensures { result ≡ 30 * (j - i) + 10 * (i - j) }
+        { 30 * u64::from(j.saturating_sub(i)) + 10 * u64::from(i.saturating_sub(j)) },
+    )?;
+    let one = Box::new(
+        rt.alloc(),
+        move |i: u32| -> u64
+            ensures { result ≡ 7 * i }
+        { 7 * u64::from(i) },
+    )?;
+    let steps = Transit::new(3, two);
+    let weights = Unary::new(3, one);
+    let mut registry = Registry::new(rt.alloc());
+    let pairs = registry.register(steps).expect(&rt, "room");
+    let nodes = registry.register_unary(weights).expect(&rt, "room");
+    let mut meter = Meter::new();
+    let mut answers = [1u32; 4];
+    registry.ask_row(pairs, &mut meter, 1, &[2, 0, 1, 2], &mut answers);
+    assert_eq!(rt; answers, [30, 10, 0, 30]);
+    assert_eq!(rt; meter.asks, 4);
+    registry.ask_column(pairs, &mut meter, 1, &[2, 0, 1, 2], &mut answers);
+    assert_eq!(rt; answers, [10, 30, 0, 10]);
+    assert_eq!(rt; meter.asks, 8);
+    registry.ask_row(nodes, &mut meter, 1, &[2, 0, 1, 2], &mut answers);
+    assert_eq!(rt; answers, [7, 7, 7, 7]);
+    registry.ask_column(nodes, &mut meter, 1, &[2, 0, 1, 2], &mut answers);
+    assert_eq!(rt; answers, [14, 0, 7, 14]);
+    assert_eq!(rt; meter.asks, 16);
+    registry.ask_row(pairs, &mut meter, 1, &[], &mut []);
+    assert_eq!(rt; meter.asks, 16);
+    Ok(())
+}
+
+#[test]
 fn refuses_sizes_and_a_seventeenth(rt: HostRuntime) -> Result<(), Fail> {
     let mut registry = Registry::new(rt.alloc());
     for step in 0..21u32 {
@@ -100,14 +137,18 @@ fn counts_stay_at_their_greatest(rt: HostRuntime) {
             walks: u64::MAX
         }
     );
+    meter.ask_many(0);
+    meter.ask_many(5);
+    assert_eq!(rt; meter.asks, u64::MAX);
     let mut fresh = Meter::new();
+    fresh.ask_many(6);
     fresh.probe();
     fresh.walk();
     fresh.walk();
     assert_eq!(rt;
         fresh,
         Meter {
-            asks: 0,
+            asks: 6,
             probes: 1,
             walks: 2
         }

@@ -1,6 +1,6 @@
-ghost use Rattle.std.specs.Prelude.{◌≡◌, ℕ, ◌<◌, ◌≤◌, List, slice_index};
+ghost use Rattle.std.specs.Prelude.{◌≡◌, ℕ, ◌<◌, ◌≤◌, List, length, map, slice_index, All};
 ghost use Rattle.callback_store.specs.Callback.{TableOf, TableOf-prop, IsTableOf};
-ghost use Rattle.callback_store.specs.Meter.{after_ask, AsksAtMost};
+ghost use Rattle.callback_store.specs.Meter.{after_ask, after_asks, AsksAtMost};
 
 use crate::meter::Meter;
 
@@ -40,7 +40,7 @@ impl Unary {
         self.size
     }
 
-    /// The answer for node `i`. It is the only way to the closure, and counts one ask.
+    /// The answer for node `i`. It counts one ask.
     pub fn ask(&self, meter: &mut Meter, i: u32) -> u64
         requires { i < (node_table self.now).size }
         ensures answer { result ≡ slice_index (node_table self.now).entries i }
@@ -50,5 +50,37 @@ impl Unary {
     {
         meter.ask();
         (self.call)(i)
+    }
+
+    /// The answers for each of some nodes, in their order. It counts one ask for each.
+    #[inline(never)]
+    pub(crate) fn ask_all(&self, meter: &mut Meter, nodes: &[u32], answers: &mut [u32])
+        requires nodes { All (λ i. i < (node_table self.now).size) nodes.now }
+        requires room { length answers.old ≡ length nodes.now }
+        ensures answers { answers.new ≡ map (λ i. slice_index (node_table self.now).entries i) nodes.now }
+        ensures small { All (λ x. x ≤ 1000000000) answers.new }
+        ensures counted { meter.new ≡ after_asks meter.old (length nodes.now) }
+        ensures most { AsksAtMost meter.old meter.new (length nodes.now) }
+    {
+        meter.ask_many(nodes.len() as u64);
+        for k in 0..nodes.len() {
+            answers[k] = (self.call)(nodes[k]) as u32;
+        }
+    }
+
+    /// The answers for one node, as often as there is room. It counts one ask for each.
+    #[inline(never)]
+    pub(crate) fn ask_again(&self, meter: &mut Meter, i: u32, answers: &mut [u32])
+        requires { i < (node_table self.now).size }
+        ensures answers { answers.new ≡ map (λ a. slice_index (node_table self.now).entries i) answers.old }
+        ensures small { All (λ x. x ≤ 1000000000) answers.new }
+        ensures counted { meter.new ≡ after_asks meter.old (length answers.old) }
+        ensures most { AsksAtMost meter.old meter.new (length answers.old) }
+    {
+        meter.ask_many(answers.len() as u64);
+        for k in 0..answers.len() {
+            let answer = (self.call)(i);
+            answers[k] = answer as u32;
+        }
     }
 }

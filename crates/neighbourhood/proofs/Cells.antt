@@ -1,11 +1,13 @@
-use Rattle.std.proofs.Common.{add-zero, ◌≡◌, ℕ, ◌+◌, ◌-◌, ◌*◌, ◌<◌, ◌≤◌, ◌∙◌, sym, ap, subst, arith, inl, inr, List, [], ◌∷◌, ◌++◌, length, slice_index, length-append, Bool, true, false, if◌then◌else◌, take, suc}
-use Rattle.std.proofs.lemmas.Bool.{cases_lt}
-use Rattle.std.proofs.lemmas.List.{get_or_push, get_or_append_left, take_more}
+use Rattle.std.proofs.Common.{add-zero, ◌≡◌, ◌≢◌, ℕ, ◌+◌, ◌-◌, ◌*◌, ◌<◌, ◌≤◌, ◌∙◌, refl, sym, ap, subst, arith, inl, inr, List, [], ◌∷◌, ◌++◌, length, map, set, slice_index, length-append, Bool, true, false, ◌==◌, if◌then◌else◌, take, suc}
+use Rattle.std.proofs.lemmas.Bool.{cases_lt, ne_eqb}
+use Rattle.std.proofs.lemmas.List.{get_or_push, get_or_append_left, get_or-append-add, get_or-take, get_or-set_same, get_or-set_other, get_or-map, length-set, length-take-le, take_more}
 use Rattle.std.proofs.lemmas.Nat.{same_from_place}
-use Rattle.callback_store.specs.Tables.{Table}
+use Rattle.std.proofs.Math.Seq.{take-append_seam}
+use borrow.Rule.Slice.PartMut.{put_mid, post_of}
+use Rattle.callback_store.specs.Tables.{Table, entry}
 use Rattle.plan_core.specs.Cost.{way}
 use Rattle.neighbourhood.proofs.Ways.{way_append, last_take}
-use Rattle.neighbourhood.specs.Ways.{hop, hop_by, along, AreHops, AreSums}
+use Rattle.neighbourhood.specs.Ways.{hop, hop_by, entry_by, along, AreHops, AreSums}
 
 -- a row lies inside its table
 pub row_fits : (a n w : ℕ) → a < n → a * w + w ≤ n * w
@@ -20,27 +22,157 @@ pushed_before cells x k h = get_or_append_left cells (x ∷ []) 0 k h
 pushed_last : (cells : List ℕ) (x k : ℕ) → length cells ≡ k → slice_index (cells ++ x ∷ []) k ≡ x
 pushed_last cells x k h = get_or_push cells x 0 k h
 
+-- the first n numbers of a table that is filled in place: the ways from some stops to others, row by row, or back
+pub record AreFilled (turned : Bool) (t : Table) (from to : List ℕ) (n : ℕ) (cells : List ℕ) : Type 0 where
+  pub whole : length cells ≡ length from * length to
+  pub hops : (a b : ℕ) → b < length to → a * length to + b < n → slice_index cells (a * length to + b) ≡ hop_by turned t (slice_index from a) (slice_index to b)
+
+pub filled_none : (turned : Bool) (t : Table) (from to cells : List ℕ) → length cells ≡ length from * length to → AreFilled turned t from to 0 cells
+filled_none turned t from to cells e = record { whole = e; hops = λ a b k below. absurd (omega arith) }
+
+pub filled_at : (turned : Bool) (t : Table) (from to cells : List ℕ) (n m : ℕ) → n ≡ m → AreFilled turned t from to n cells → AreFilled turned t from to m cells
+filled_at turned t from to cells n m e h = subst (λ (k : ℕ). AreFilled turned t from to k cells) e h
+
 -- one number more
-pub hops_more : (turned : Bool) (t : Table) (from to cells : List ℕ) (i j x : ℕ) → j < length to → AreHops turned t from to (i * length to + j) cells
-    → x ≡ hop_by turned t (slice_index from i) (slice_index to j) → AreHops turned t from to (i * length to + j + 1) (cells ++ x ∷ [])
-hops_more turned t from to cells i j x h f r = record {
-  counted = length-append cells (x ∷ []) ∙ ap (λ (n : ℕ). n + 1) f.counted;
-  hops = λ a b k below. elim (cases_lt (a * length to + b) (i * length to + j)) [
-    | inl less ↦ pushed_before cells x (a * length to + b) (subst (λ (n : ℕ). a * length to + b < n) (sym f.counted) less) ∙ f.hops a b k less
+pub filled_more : (turned : Bool) (t : Table) (from to cells : List ℕ) (i j x : ℕ) → i < length from → j < length to → AreFilled turned t from to (i * length to + j) cells
+    → x ≡ hop_by turned t (slice_index from i) (slice_index to j) → AreFilled turned t from to (i * length to + (j + 1)) (set cells (i * length to + j) x)
+filled_more turned t from to cells i j x g h f r =
+    let fits = row_fits i (length from) (length to) g in
+    let whole = f.whole in
+    let room : i * length to + j < length cells = omega arith in
+    record {
+      whole = length-set cells (i * length to + j) x ∙ f.whole;
+      hops = λ a b k below. elim (cases_lt (a * length to + b) (i * length to + j)) [
+        | inl less ↦ get_or-set_other cells (i * length to + j) (a * length to + b) x 0 (λ same. absurd (omega (arith, same))) ∙ f.hops a b k less
+        | inr more ↦
+            let place : i * length to + j ≡ a * length to + b = omega arith in
+            let same = same_from_place a b i j (length to) k h (sym place) in
+            subst (λ (n : ℕ). slice_index (set cells (i * length to + j) x) n ≡ x) place (get_or-set_same cells (i * length to + j) x 0 room) ∙ r
+            ∙ ap (λ (n : ℕ). hop_by turned t (slice_index from n) (slice_index to j)) (sym same.0) ∙ ap (λ (n : ℕ). hop_by turned t (slice_index from a) (slice_index to n)) (sym same.1)
+      ];
+    }
+
+-- a part of a list is put anew
+pub put_at : (a k : ℕ) (xs ys : List ℕ) (n : ℕ) → a ≤ length xs → n < length ys → slice_index (put_mid a k xs ys) (a + n) ≡ slice_index ys n
+put_at a k xs ys n fits h =
+    subst (λ (m : ℕ). slice_index (put_mid a k xs ys) (m + n) ≡ slice_index ys n) (length-take-le a xs fits)
+    (get_or-append-add (take a xs) (ys ++ post_of a k xs) n 0 ∙ get_or_append_left ys (post_of a k xs) 0 n h)
+
+pub put_before : (a k : ℕ) (xs ys : List ℕ) (n : ℕ) → a ≤ length xs → n < a → slice_index (put_mid a k xs ys) n ≡ slice_index xs n
+put_before a k xs ys n fits h =
+    get_or_append_left (take a xs) (ys ++ post_of a k xs) 0 n (subst (λ (m : ℕ). n < m) (sym (length-take-le a xs fits)) h) ∙ get_or-take a xs n 0 h
+
+-- what a list holds after it was lent whole
+pub written_back : (n : ℕ) (xs ys : List ℕ) → length xs ≡ n → xs ≡ take n (xs ++ ys)
+written_back n xs ys e = subst (λ (m : ℕ). xs ≡ take m (xs ++ ys)) e (sym (take-append_seam xs ys))
+
+-- one row more
+pub filled_row : (turned : Bool) (t : Table) (from to cells filled : List ℕ) (i : ℕ) → AreFilled turned t from to (i * length to) cells
+    → length filled ≡ length cells → ((k : ℕ) → k < length to → slice_index filled (i * length to + k) ≡ hop_by turned t (slice_index from i) (slice_index to k))
+    → ((k : ℕ) → k < i * length to → slice_index filled k ≡ slice_index cells k) → AreFilled turned t from to ((i + 1) * length to) filled
+filled_row turned t from to cells filled i f sized ways kept =
+    let w = length to in
+    record {
+      whole = sized ∙ f.whole;
+      hops = λ a b k below. elim (cases_lt (a * w + b) (i * w)) [
+        | inl less ↦ kept (a * w + b) less ∙ f.hops a b k less
+        | inr more ↦
+            let place : a * w + b ≡ i * w + (a * w + b - i * w) = omega arith in
+            let same = same_from_place a b i (a * w + b - i * w) w k (omega arith) place in
+            let here : i * w + b ≡ a * w + b = ap (λ (n : ℕ). n * w + b) (sym same.0) in
+            subst (λ (n : ℕ). slice_index filled n ≡ hop_by turned t (slice_index from i) (slice_index to b)) here (ways b k)
+            ∙ ap (λ (n : ℕ). hop_by turned t (slice_index from n) (slice_index to b)) (sym same.0)
+      ];
+    }
+
+-- the whole table
+pub filled_all : (turned : Bool) (t : Table) (from to cells : List ℕ) (n : ℕ) → n ≡ length from * length to → AreFilled turned t from to n cells
+    → AreHops turned t from to (length from * length to) cells
+filled_all turned t from to cells n e f = let g = filled_at turned t from to cells n (length from * length to) e f in record { counted = g.whole; hops = g.hops }
+
+-- a callback answers on each way that is driven
+hop_away : (t : Table) (i j : ℕ) → (i ≡ 0 → j ≢ 0) → hop t i j ≡ entry t i j
+hop_away t i j h = elim (cases_lt 0 j) [
+  | inl more ↦
+      let apart : j ≢ 0 = λ same. absurd (omega (arith, same)) in
+      rw (ne_eqb j 0 apart) refl
+  | inr none ↦
+      let here : j ≡ 0 = omega arith in
+      let apart : i ≢ 0 = λ same. absurd (h same here) in
+      rw (here, ne_eqb i 0 apart) refl
+]
+
+pub way_away : (turned : Bool) (t : Table) (i j : ℕ) → (i ≡ 0 → j ≢ 0) → hop_by turned t i j ≡ entry_by turned t i j
+way_away true t i j h = hop_away t j i (λ e f. h f e)
+way_away false t i j h = hop_away t i j h
+
+pub way_home : (turned : Bool) (t : Table) (i j : ℕ) → i ≡ 0 → j ≡ 0 → hop_by turned t i j ≡ 0
+way_home true t i j e f = rw (e, f) refl
+way_home false t i j e f = rw (e, f) refl
+
+-- the first numbers of a row from the depot, 0 at each depot, and the others as they were
+pub record AreCleared (to old : List ℕ) (n : ℕ) (row : List ℕ) : Type 0 where
+  pub sized : length row ≡ length to
+  pub ways : (k : ℕ) → k < n → slice_index row k ≡ (if slice_index to k == 0 then 0 else slice_index old k)
+  pub rest : (k : ℕ) → n ≤ k → slice_index row k ≡ slice_index old k
+
+clear_if : (x y : ℕ) → x ≡ 0 → (if x == 0 then 0 else y) ≡ 0
+clear_if x y e = rw e refl
+
+keep_if : (x y : ℕ) → x ≢ 0 → (if x == 0 then 0 else y) ≡ y
+keep_if x y o = rw (ne_eqb x 0 o) refl
+
+pub cleared_here : (to old row : List ℕ) (n : ℕ) → n < length to → slice_index to n ≡ 0 → AreCleared to old n row → AreCleared to old (n + 1) (set row n 0)
+cleared_here to old row n h e f =
+    let room : n < length row = subst (λ (m : ℕ). n < m) (sym f.sized) h in
+    record {
+      sized = length-set row n 0 ∙ f.sized;
+      ways = λ k below. elim (cases_lt k n) [
+        | inl less ↦ get_or-set_other row n k 0 0 (λ same. absurd (omega (arith, same))) ∙ f.ways k less
+        | inr more ↦
+            let same : n ≡ k = omega arith in
+            subst (λ (m : ℕ). slice_index (set row n 0) m ≡ (if slice_index to m == 0 then 0 else slice_index old m)) same
+            (get_or-set_same row n 0 0 room ∙ sym (clear_if (slice_index to n) (slice_index old n) e))
+      ];
+      rest = λ k from. get_or-set_other row n k 0 0 (λ same. absurd (omega (arith, same))) ∙ f.rest k (omega arith);
+    }
+
+pub cleared_past : (to old row : List ℕ) (n : ℕ) → slice_index to n ≢ 0 → AreCleared to old n row → AreCleared to old (n + 1) row
+cleared_past to old row n o f = record {
+  sized = f.sized;
+  ways = λ k below. elim (cases_lt k n) [
+    | inl less ↦ f.ways k less
     | inr more ↦
-        let place : a * length to + b ≡ i * length to + j = omega arith in
-        let same = same_from_place a b i j (length to) k h place in
-        pushed_last cells x (a * length to + b) (f.counted ∙ sym place) ∙ r
-        ∙ ap (λ (n : ℕ). hop_by turned t (slice_index from n) (slice_index to j)) (sym same.0) ∙ ap (λ (n : ℕ). hop_by turned t (slice_index from a) (slice_index to n)) (sym same.1)
+        let same : n ≡ k = omega arith in
+        subst (λ (m : ℕ). slice_index row m ≡ (if slice_index to m == 0 then 0 else slice_index old m)) same
+        (f.rest n (omega arith) ∙ sym (keep_if (slice_index to n) (slice_index old n) o))
   ];
+  rest = λ k from. f.rest k (omega arith);
 }
 
--- the first row begins, and one row is done
-pub hops_none : (turned : Bool) (t : Table) (from to : List ℕ) → AreHops turned t from to (0 * length to) []
-hops_none turned t from to = record { counted = omega arith; hops = λ a b k below. absurd (omega arith) }
+-- a row from the depot
+pub row_home : (turned : Bool) (t : Table) (to old row : List ℕ) (i : ℕ) → i ≡ 0 → ((k : ℕ) → k < length to → slice_index old k ≡ entry_by turned t i (slice_index to k))
+    → ((k : ℕ) → k < length to → slice_index row k ≡ (if slice_index to k == 0 then 0 else slice_index old k))
+    → (k : ℕ) → k < length to → slice_index row k ≡ hop_by turned t i (slice_index to k)
+row_home turned t to old row i e asked cleared k h = elim (cases_lt 0 (slice_index to k)) [
+  | inl more ↦
+      let apart : slice_index to k ≢ 0 = λ same. absurd (omega (arith, same)) in
+      cleared k h ∙ keep_if (slice_index to k) (slice_index old k) apart ∙ asked k h ∙ sym (way_away turned t i (slice_index to k) (λ q. apart))
+  | inr none ↦
+      let here : slice_index to k ≡ 0 = omega arith in
+      cleared k h ∙ clear_if (slice_index to k) (slice_index old k) here ∙ sym (way_home turned t i (slice_index to k) e here)
+]
 
-pub hops_at : (turned : Bool) (t : Table) (from to cells : List ℕ) (n m : ℕ) → n ≡ m → AreHops turned t from to n cells → AreHops turned t from to m cells
-hops_at turned t from to cells n m e h = subst (λ (k : ℕ). AreHops turned t from to k cells) e h
+pub row_away : (turned : Bool) (t : Table) (to row : List ℕ) (i : ℕ) → i ≢ 0 → ((k : ℕ) → k < length to → slice_index row k ≡ entry_by turned t i (slice_index to k))
+    → (k : ℕ) → k < length to → slice_index row k ≡ hop_by turned t i (slice_index to k)
+row_away turned t to row i o asked k h = asked k h ∙ sym (way_away turned t i (slice_index to k) (λ e. absurd (o e)))
+
+-- the answers of a callback, as it is asked for a row or for a column
+pub asked_row : (t : Table) (i : ℕ) (to row : List ℕ) → row ≡ map (λ j. entry t i j) to → (k : ℕ) → k < length to → slice_index row k ≡ entry_by false t i (slice_index to k)
+asked_row t i to row e k h = ap (λ (xs : List ℕ). slice_index xs k) e ∙ get_or-map (λ j. entry t i j) to k 0 0 h
+
+pub asked_column : (t : Table) (j : ℕ) (from row : List ℕ) → row ≡ map (λ i. entry t i j) from → (k : ℕ) → k < length from → slice_index row k ≡ entry_by true t j (slice_index from k)
+asked_column t j from row e k h = ap (λ (xs : List ℕ). slice_index xs k) e ∙ get_or-map (λ i. entry t i j) from k 0 0 h
 
 -- a way between two stops that follow one another, as it is driven or driven back
 pub steps_by : (turned : Bool) (t : Table) (S cells : List ℕ) (i j : ℕ) → AreHops false t S S (length S * length S) cells → i + 1 ≡ j → j < length S

@@ -36,6 +36,10 @@ along f A k = way f 0 (take k (drop 1 A))
 abbrev pub hop_by : Bool → Table → ℕ → ℕ → ℕ
 hop_by turned t i j = if turned then hop t j i else hop t i j
 
+-- what a callback answers on a way, as it is driven or driven back
+abbrev pub entry_by : Bool → Table → ℕ → ℕ → ℕ
+entry_by turned t i j = if turned then entry t j i else entry t i j
+
 -- the first n numbers of a table: the ways from some stops to others, row by row, or back
 pub record AreHops (turned : Bool) (t : Table) (from to : List ℕ) (n : ℕ) (cells : List ℕ) : Type 0 where
   pub counted : length cells ≡ n

@@ -1,8 +1,8 @@
 //! What the ways between stops cost, asked once and kept.
-ghost use Rattle.std.specs.Prelude.{◌≡◌, ◌≤◌, ◌<◌, ◌+◌, ◌*◌, ◌^◌, ◌∷◌, if◌then◌else◌, ℕ, true, false, List, length, slice_index, All, IfOk};
+ghost use Rattle.std.specs.Prelude.{◌≡◌, ◌≤◌, ◌<◌, ◌+◌, ◌*◌, ◌^◌, ◌∷◌, ◌==◌, if◌then◌else◌, ℕ, true, false, List, length, slice_index, All, IfOk};
 ghost use Rattle.callback_store.specs.Tables.{table_at};
 ghost use Rattle.dimension_core.specs.Setup.{setting};
-ghost use Rattle.neighbourhood.specs.Ways.{hop_by, AreHops, AreEdges, AreSums};
+ghost use Rattle.neighbourhood.specs.Ways.{entry_by, hop_by, AreHops, AreEdges, AreSums};
 
 use crate::hops::hop;
 use callback_store::Meter;
@@ -24,6 +24,75 @@ fn hop_by(setup: &Setup, turned: bool, i: u32, j: u32, meter: &mut Meter) -> u32
     }
 }
 
+/// The answers for the ways from a stop to each of some others, as they are driven or driven back.
+fn ask_ways(setup: &Setup, turned: bool, stop: u32, to: &[u32], row: &mut [u32], meter: &mut Meter)
+    requires stop { stop ≤ (setting setup.now).customers }
+    requires to { All (λ c. c ≤ (setting setup.now).customers) to.now }
+    requires room { length row.old ≡ length to.now }
+    ensures sized { length row.new ≡ length to.now }
+    ensures answers { (k : ℕ) → k < length to.now → slice_index row.new k ≡ entry_by turned (table_at (setting setup.now).tables (setting setup.now).cost) stop (slice_index to.now k) }
+{
+    let _customers = setup.customers();
+    if turned {
+        setup
+            .registry()
+            .ask_column(setup.cost(), meter, stop, to, row);
+    } else {
+        setup.registry().ask_row(setup.cost(), meter, stop, to, row);
+    }
+}
+
+/// Puts 0 at the depots of a row from the depot: a vehicle that stays there drives no way.
+fn clear_stays(to: &[u32], row: &mut [u32])
+    requires room { length row.old ≡ length to.now }
+    ensures sized { length row.new ≡ length to.now }
+    ensures ways { (k : ℕ) → k < length to.now → slice_index row.new k ≡ (if slice_index to.now k == 0 then 0 else slice_index row.old k) }
+{
+    for k in 0..to.len() {
+        if to[k] == 0 {
+            row[k] = 0;
+        }
+    }
+}
+
+/// What the ways from a stop to each of some others cost, as they are driven or driven back.
+fn fill_row(setup: &Setup, turned: bool, stop: u32, to: &[u32], row: &mut [u32], meter: &mut Meter)
+    requires stop { stop ≤ (setting setup.now).customers }
+    requires to { All (λ c. c ≤ (setting setup.now).customers) to.now }
+    requires room { length row.old ≡ length to.now }
+    ensures sized { length row.new ≡ length to.now }
+    ensures ways { (k : ℕ) → k < length to.now → slice_index row.new k ≡ hop_by turned (table_at (setting setup.now).tables (setting setup.now).cost) stop (slice_index to.now k) }
+{
+    ask_ways(setup, turned, stop, to, row, meter);
+    if stop == 0 {
+        clear_stays(to, row);
+    }
+}
+
+/// Fills in a row of a table, from a place on.
+fn fill_at(
+    setup: &Setup,
+    turned: bool,
+    stop: u32,
+    to: &[u32],
+    cells: &mut [u32],
+    at: usize,
+    meter: &mut Meter,
+)
+    requires stop { stop ≤ (setting setup.now).customers }
+    requires to { All (λ c. c ≤ (setting setup.now).customers) to.now }
+    requires room { at + length to.now ≤ length cells.old }
+    ensures sized { length cells.new ≡ length cells.old }
+    ensures ways { (k : ℕ) → k < length to.now → slice_index cells.new (at + k) ≡ hop_by turned (table_at (setting setup.now).tables (setting setup.now).cost) stop (slice_index to.now k) }
+    ensures kept { (k : ℕ) → k < at → slice_index cells.new k ≡ slice_index cells.old k }
+{
+    let row = &mut cells[at..at + to.len()];
+    fill_row(setup, turned, stop, to, row, meter);
+}
+
+/// What stands in a table before it is filled. Its bytes differ, so that a table is made by wide stores and not byte by byte.
+const UNFILLED: u32 = 1;
+
 /// What the ways from each of some stops to each of others cost, row by row, as they are driven or driven back.
 pub(crate) fn table_of(
     alloc: Global,
@@ -38,11 +107,18 @@ pub(crate) fn table_of(
     requires short { (length from.now ≤ 1002) × (length to.now ≤ 1002) }
     ensures { IfOk result (λ cells. AreHops turned (table_at (setting setup.now).tables (setting setup.now).cost) from.now to.now (length from.now * length to.now) cells.items) }
 {
-    let mut cells = Vec::with_capacity(alloc, from.len() * to.len())?;
-    for i in from {
-        for j in to {
-            cells.push(hop_by(setup, turned, *i, *j, meter))?;
-        }
+    let width = to.len();
+    let mut cells = vec![in alloc; UNFILLED; from.len() * width]?;
+    for i in 0..from.len() {
+        fill_at(
+            setup,
+            turned,
+            from[i],
+            to,
+            cells.as_mut_slice(),
+            i * width,
+            meter,
+        );
     }
     Ok(cells)
 }
@@ -89,10 +165,10 @@ pub(crate) fn turned_of(
     ensures { IfOk result (λ back. AreHops true (table_at (setting setup.now).tables (setting setup.now).cost) stops.now stops.now (length stops.now * length stops.now) back.items) }
 {
     let width = stops.len();
-    let mut back = Vec::with_capacity(alloc, width * width)?;
+    let mut back = vec![in alloc; UNFILLED; width * width]?;
     for i in 0..width {
         for j in 0..width {
-            back.push(cell(cells, width, j, i))?;
+            back[i * width + j] = cell(cells, width, j, i);
         }
     }
     Ok(back)

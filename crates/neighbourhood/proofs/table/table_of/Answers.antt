@@ -1,17 +1,18 @@
-use Rattle.std.proofs.Common.{◌≡◌, ◌+◌, ◌*◌, ◌++◌, [], ◌∷◌, length, List, ℕ, arith, sym, subst}
-use Rattle.std.proofs.lemmas.Grind.{common_steps}
+use Rattle.std.proofs.Common.{◌≡◌, ◌+◌, ◌*◌, ◌∙◌, length, List, ℕ, subst, sym}
 use Rattle.callback_store.specs.Tables.{table_at}
 use Rattle.dimension_core.specs.Setup.{setting}
-use Rattle.neighbourhood.specs.Ways.{AreHops}
-use Rattle.neighbourhood.proofs.Cells.{hops_more, hops_at}
+use Rattle.neighbourhood.proofs.Cells.{AreFilled, filled_row, written_back}
 use Rattle.neighbourhood.proofs.table.table_of.Goals as goal
 
-pub loop-j-preserved : goal.loop-j-preserved
-loop-j-preserved g c =
+pub loop-i-preserved : goal.loop-i-preserved
+loop-i-preserved g c =
     let t = table_at (setting c.args.setup.now).tables (setting c.args.setup.now).cost in
     let w = length c.args.to.now in
-    let pushed : c.push.new.self.items ≡ c.loop-j.cells.items ++ c.hop_by.result ∷ [] = grind (arith, common_steps) in
-    subst (λ (xs : List ℕ). AreHops c.args.turned t c.args.from.now c.args.to.now (c.loop-i.i-index * w + (c.loop-j.j-index + 1)) xs) (sym pushed)
-    (hops_at c.args.turned t c.args.from.now c.args.to.now (c.loop-j.cells.items ++ c.hop_by.result ∷ []) (c.loop-i.i-index * w + c.loop-j.j-index + 1) (c.loop-i.i-index * w + (c.loop-j.j-index + 1)) (omega arith)
-    (hops_more c.args.turned t c.args.from.now c.args.to.now c.loop-j.cells.items c.loop-i.i-index c.loop-j.j-index c.hop_by.result c.loop-j-test.true c.loop-j.invariant
-    c.hop_by.ensures.value))
+    let cells = c.loop-i.cells.items in
+    let lent : c.as_mut_slice.result.now ≡ cells = c.as_mut_slice.ensures.value in
+    let more : AreFilled c.args.turned t c.args.from.now c.args.to.now ((c.loop-i.i + 1) * w) c.fill_at.new.cells =
+    filled_row c.args.turned t c.args.from.now c.args.to.now c.as_mut_slice.result.now c.fill_at.new.cells c.loop-i.i
+    (subst (λ (xs : List ℕ). AreFilled c.args.turned t c.args.from.now c.args.to.now (c.loop-i.i * w) xs) (sym lent) c.loop-i.invariant)
+    c.fill_at.ensures.sized c.fill_at.ensures.ways c.fill_at.ensures.kept in
+    subst (λ (xs : List ℕ). AreFilled c.args.turned t c.args.from.now c.args.to.now ((c.loop-i.i + 1) * w) xs)
+    (written_back c.loop-i.cells.len c.fill_at.new.cells _ (c.fill_at.ensures.sized ∙ c.as_mut_slice.ensures.len)) more

@@ -1,0 +1,19 @@
+use Rattle.std.proofs.Common.{◌<◌, ◌∙◌, subst, sym, ap, ℕ, All, map}
+use Rattle.callback_store.specs.Tables.{Table, slot_table, entry}
+use Rattle.callback_store.proofs.Slots.{kept_at, kept_size}
+use Rattle.callback_store.proofs.registry.Registry.ask_row.Goals as goal
+
+pub ask_row-requires-clause-from : goal.ask_row-requires-clause-from
+ask_row-requires-clause-from g c =
+    let size = kept_size slot_table _ _ _ _ c.args.self.now.tables c.id.view_is c.requires.registered c.index-slot.ensures in
+    subst (λ (n : ℕ). c.args.i < n) (sym size) c.requires.from
+
+pub ask_row-requires-clause-to : goal.ask_row-requires-clause-to
+ask_row-requires-clause-to g c =
+    let size = kept_size slot_table _ _ _ _ c.args.self.now.tables c.id.view_is c.requires.registered c.index-slot.ensures in
+    subst (λ (n : ℕ). All (λ j. j < n) c.args.to.now) (sym size) c.requires.to
+
+pub returns-clause-answers : goal.returns-clause-answers
+returns-clause-answers g c =
+    let table = kept_at slot_table _ _ _ _ c.id.view_is c.requires.registered c.index-slot.ensures in
+    c.ask_row.ensures.answers ∙ ap (λ (t : Table). map (λ j. entry t c.args.i j) c.args.to.now) table
