@@ -131,7 +131,7 @@ pub(crate) fn first_reverse_gain(
 }
 
 /// Whether a number of the first row may be more than `more`, the second row's number and the one after the third row's, in one pass
-/// without branches. A sum that does not fit is told too small, so that four numbers go through at once.
+/// without branches. No sum is made, so that 32 bits are enough, and four numbers go through at once.
 #[inline(always)]
 fn may_gain_over(more: u32, edges: &[u32], to: &[u32], on: &[u32], from: usize, end: usize) -> bool
     requires order { from ≤ end }
@@ -142,15 +142,15 @@ fn may_gain_over(more: u32, edges: &[u32], to: &[u32], on: &[u32], from: usize, 
 {
     let mut gains = false;
     for k in from..end {
-        let all_gained = to[k].saturating_add(on[k + 1]).saturating_add(more);
-        if all_gained < edges[k] {
+        let left = edges[k].saturating_sub(more).saturating_sub(to[k]);
+        if on[k + 1] < left {
             gains = true;
         }
     }
     gains
 }
 
-/// The same where the first row's number and `less` may be more than the others.
+/// The same where the first row's number and `less` may be more than the others. A sum that does not fit is told too small.
 #[inline(always)]
 fn may_gain_under(less: u32, edges: &[u32], to: &[u32], on: &[u32], from: usize, end: usize) -> bool
     requires order { from ≤ end }
