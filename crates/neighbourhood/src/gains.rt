@@ -130,6 +130,46 @@ pub(crate) fn first_reverse_gain(
     end
 }
 
+/// Whether a number of the first row may be more than `more`, the second row's number and the one after the third row's, in one pass
+/// without branches. No sum is made, so that 32 bits are enough, and four numbers go through at once.
+#[inline(always)]
+fn may_gain_over(more: u32, edges: &[u32], to: &[u32], on: &[u32], from: usize, end: usize) -> bool
+    requires order { from ≤ end }
+    requires edges { end ≤ length edges.now }
+    requires to { end ≤ length to.now }
+    requires on { end < length on.now }
+    ensures { result ≡ false → (k : ℕ) → k < end → from ≤ k → slice_index edges.now k ≤ more + slice_index to.now k + slice_index on.now (k + 1) }
+{
+    let mut gains = false;
+    for k in from..end {
+        let left = edges[k].saturating_sub(more).saturating_sub(to[k]);
+        if on[k + 1] < left {
+            gains = true;
+        }
+    }
+    gains
+}
+
+/// The same where the first row's number and `less` may be more than the others. A sum that does not fit is told too small.
+#[inline(always)]
+fn may_gain_under(less: u32, edges: &[u32], to: &[u32], on: &[u32], from: usize, end: usize) -> bool
+    requires order { from ≤ end }
+    requires edges { end ≤ length edges.now }
+    requires to { end ≤ length to.now }
+    requires on { end < length on.now }
+    ensures { result ≡ false → (k : ℕ) → k < end → from ≤ k → less + slice_index edges.now k ≤ slice_index to.now k + slice_index on.now (k + 1) }
+{
+    let mut gains = false;
+    for k in from..end {
+        let all_gained = to[k].saturating_add(on[k + 1]);
+        let left = all_gained.saturating_sub(less);
+        if all_gained < less || left < edges[k] {
+            gains = true;
+        }
+    }
+    gains
+}
+
 /// Whether `first_gain` may find an index, by one pass without branches over a long row; for a short row it is not asked.
 #[inline(always)]
 pub(crate) fn may_gain(
@@ -152,15 +192,15 @@ pub(crate) fn may_gain(
     if end - from < FEW {
         return true;
     }
-    let mut gains = false;
-    for k in from..end {
-        let all_gained = wanted + u64::from(to[k]) + u64::from(on[k + 1]);
-        let all_lost = lost + u64::from(edges[k]);
-        if all_gained < all_lost {
-            gains = true;
-        }
+    if lost <= wanted {
+        let more = (wanted - lost).min(4_294_967_295) as u32;
+        return may_gain_over(more, edges, to, on, from, end);
     }
-    gains
+    let less = lost - wanted;
+    if less > 4_294_967_295 {
+        return true;
+    }
+    may_gain_under(less as u32, edges, to, on, from, end)
 }
 
 /// The same for `first_swap_gain`.
