@@ -301,7 +301,6 @@ fn of_u(word: &[u8]) -> Option<Word>
 
 impl Word {
     /// The command that the word names, in lower case exactly. It is compared with the words of its first letter, and with no others.
-    #[inline(always)]
     pub fn of(word: &[u8]) -> Option<Word>
         ensures { result ≡ word_of word.now }
     {
