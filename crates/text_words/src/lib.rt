@@ -5,6 +5,9 @@ ghost use Rattle.std.specs.Prelude.{◌≡◌, ◌<◌, ◌≤◌, ◌-◌, ◌=
 ghost use Rattle.std.specs.List.{slice_split};
 ghost use Rattle.text_words.specs.Words.{full_parts, words, number, is_gap, HasNoGap, HasNoFeed, HasNoLineFeed, IsLineEnd};
 
+mod ends;
+
+use crate::ends::{first_end, known_ends};
 use std::alloc::{AllocError, Global};
 
 /// Whether the byte parts words: a space or a tab.
@@ -83,32 +86,6 @@ pub fn words_of(alloc: Global, line: &[u8]) -> Result<Vec<&[u8]>, AllocError>
     Ok(kept)
 }
 
-/// Whether the byte ends a word: a space, a tab or a line feed.
-#[inline(always)]
-fn ends_word(byte: u8) -> bool
-    ensures { result ≡ (is_gap byte || (byte == 10)) }
-{
-    is_gap(byte) || byte == b'\n'
-}
-
-/// The place of the first byte from a place on that ends a word, or of the text's end.
-#[inline(always)]
-fn word_end(text: &[u8], from: usize) -> usize
-    requires { from ≤ length text.now }
-    ensures from { from ≤ result }
-    ensures within { result ≤ length text.now }
-    ensures plain { HasNoGap text.now from result }
-    ensures feeds { HasNoFeed text.now from result }
-    ensures end { result < length text.now → (is_gap (slice_index text.now result) || (slice_index text.now result == 10)) ≡ true }
-{
-    for i in from..text.len() {
-        if ends_word(text[i]) {
-            return i;
-        }
-    }
-    text.len()
-}
-
 /// Keeps what stands from one place up to another, unless that is nothing.
 #[inline(always)]
 fn keep_part<'a>(
@@ -136,18 +113,21 @@ pub fn keep_line<'a>(kept: &mut Vec<&'a [u8]>, text: &'a [u8]) -> Result<Option<
 {
     kept.clear();
     let mut start = 0;
-    while start < text.len() {
-        let end = word_end(text, start);
-        if end == text.len() {
+    let mut base = 0;
+    let mut bits = 0;
+    'words: loop {
+        let Some((place, ends)) = known_ends(text, start, base, bits) else {
             return Ok(None);
-        }
+        };
+        let (end, left) = first_end(text, start, place, ends);
         keep_part(kept, text, start, end)?;
         if text[end] == b'\n' {
             return Ok(Some(end));
         }
         start = end + 1;
+        base = place;
+        bits = left;
     }
-    Ok(None)
 }
 
 /// The number that a word is: 1 to 10 digits, with a value of at most 4,294,967,295.
