@@ -8,7 +8,7 @@ use Rattle.board_lines.specs.declared.command.ReadFault.TheVariants.{Line, NoMem
 use Rattle.board_lines.specs.Reading.{Says}
 use Rattle.line_engine.specs.Answers.{Answer, Said, Bad}
 use Rattle.line_engine.specs.Fronts.{Does, Gives, Fails, Drops, Loses, as_json}
-use Rattle.line_engine.specs.declared.answer.Mark.{Mark}
+use Rattle.line_engine.specs.declared.mark.Mark.{Mark}
 use Rattle.line_engine.specs.Marks.{Marks, Obeys, Tells, TellsJson, IsUnread}
 
 -- a command whose outcome is what the front answers to it

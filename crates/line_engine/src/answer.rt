@@ -1,9 +1,9 @@
 //! What a front answers to a command, as text.
 
-ghost use Rattle.std.specs.Prelude.{◌≡◌, ◌++◌, [], true, false, IfOk, OnOk, OnErr, string_bytes};
-ghost use Rattle.board_lines.specs.Replies.{ended, reply_text, fault_text, ask_fault_text, line_fault_text};
+ghost use Rattle.std.specs.Prelude.{◌≡◌, ◌++◌, [], ℕ, List, IfOk, OnOk, OnErr, string_bytes};
+ghost use Rattle.board_lines.specs.Replies.{ended, reply_text, fault_text, ask_fault_text};
 ghost use Rattle.board_lines.specs.declared.command.Command.{Command};
-ghost use Rattle.line_engine.specs.Answers.{Outcome, outcome_text, is_reply_refusal, has_reply, is_refusal};
+ghost use Rattle.line_engine.specs.Answers.{Outcome, is_reply_refusal};
 ghost use Rattle.line_engine.specs.Fronts.{Fails, Loses};
 ghost use Rattle.line_engine.specs.Marks.{Obeys, Tells, TellsJson, IsUnread};
 ghost use Rattle.board_rules.specs.declared.reply.Fault.TheVariants as faults;
@@ -11,11 +11,11 @@ ghost use Rattle.board_rules.specs.declared.reply.AskFault.TheVariants as asks;
 ghost use Rattle.std.specs.Prelude.{◌≢◌};
 
 use crate::front::Front;
+use crate::mark::Mark;
 use board_lines::{
-    Command, LineFault, ReadFault, push_ask_fault, push_check, push_fault, push_json,
-    push_line_fault, push_list, push_reply, push_review,
+    Command, ReadFault, push_ask_fault, push_fault, push_json, push_list, push_reply, push_review,
 };
-use board_rules::{AskFault, Call, Fault, Reply, Review};
+use board_rules::{AskFault, Call, Denial, Fault, Reply, Review};
 use rbac_core::{Object, Operation};
 use std::alloc::AllocError;
 
@@ -26,38 +26,6 @@ pub(crate) struct OutOfMemory;
 impl From<AllocError> for OutOfMemory {
     fn from(_e: AllocError) -> OutOfMemory {
         OutOfMemory
-    }
-}
-
-/// How a line counts: whether something is written for it, and whether that is a denial, a refusal, a fault, a refused
-/// question or a bad line.
-#[derive(Clone, Copy, Drop)]
-pub(crate) struct Mark {
-    pub(crate) has_reply: bool,
-    pub(crate) is_refusal: bool,
-}
-
-impl Mark {
-    /// Something is written.
-    fn said(is_refusal: bool) -> Mark
-        ensures replied { result.has_reply ≡ true }
-        ensures refused { result.is_refusal ≡ is_refusal }
-    {
-        Mark {
-            has_reply: true,
-            is_refusal,
-        }
-    }
-
-    /// Nothing is written.
-    fn skipped() -> Mark
-        ensures replied { result.has_reply ≡ false }
-        ensures refused { result.is_refusal ≡ false }
-    {
-        Mark {
-            has_reply: false,
-            is_refusal: false,
-        }
     }
 }
 
@@ -103,13 +71,6 @@ fn refused_line(text: &mut String, fault: AskFault) -> Result<(), AllocError>
     end_line(text)
 }
 
-fn bad_line(text: &mut String, fault: LineFault) -> Result<(), AllocError>
-    ensures { OnOk result (string_bytes text.new ≡ string_bytes text.old ++ ended (line_fault_text fault)) }
-{
-    push_line_fault(text, fault)?;
-    end_line(text)
-}
-
 // ---- commands, each with an empty text before
 
 fn submit<R, F: Front<R>>(
@@ -125,19 +86,21 @@ fn submit<R, F: Front<R>>(
     ensures err { OnErr result (Loses F.step F.refuses front.old (Command.Submit call) front.new) }
 {
     match front.submit(rt, call) {
+        Ok(Reply::Done) => Ok(Mark::Done),
+        Ok(Reply::Denied(Denial::NoSession)) => Ok(Mark::NoSession),
         Ok(reply) => {
             let refused = is_reply_refusal(&reply);
             reply_line(text, reply)?;
-            Ok(Mark::said(refused))
+            Ok(Mark::Text(refused))
         }
         Err(Fault::NoMemory) => Err(OutOfMemory),
         Err(Fault::OutOfTurn) => {
             fault_line(text, Fault::OutOfTurn)?;
-            Ok(Mark::said(true))
+            Ok(Mark::Text(true))
         }
         Err(Fault::Full) => {
             fault_line(text, Fault::Full)?;
-            Ok(Mark::said(true))
+            Ok(Mark::Text(true))
         }
     }
 }
@@ -157,12 +120,12 @@ fn list<R, F: Front<R>>(
     match front.list(rt, session) {
         Ok(rows) => {
             push_list(text, rows.as_slice())?;
-            Ok(Mark::said(false))
+            Ok(Mark::Text(false))
         }
         Err(AskFault::NoMemory) => Err(OutOfMemory),
         Err(fault) => {
             refused_line(text, fault)?;
-            Ok(Mark::said(true))
+            Ok(Mark::Text(true))
         }
     }
 }
@@ -180,12 +143,12 @@ fn audit<R, F: Front<R>>(
     ensures err { OnErr result (Loses F.step F.refuses front.old (Command.Audit session) front.new) }
 {
     match front.audit(rt, session, text) {
-        Ok(()) => Ok(Mark::said(false)),
+        Ok(()) => Ok(Mark::Text(false)),
         Err(AskFault::NoMemory) => Err(OutOfMemory),
         Err(fault) => {
             text.clear();
             refused_line(text, fault)?;
-            Ok(Mark::said(true))
+            Ok(Mark::Text(true))
         }
     }
 }
@@ -206,12 +169,12 @@ fn review<R, F: Front<R>>(
     match front.review(rt, session, which) {
         Ok(names) => {
             push_review(text, names.as_slice())?;
-            Ok(Mark::said(false))
+            Ok(Mark::Text(false))
         }
         Err(AskFault::NoMemory) => Err(OutOfMemory),
         Err(fault) => {
             refused_line(text, fault)?;
-            Ok(Mark::said(true))
+            Ok(Mark::Text(true))
         }
     }
 }
@@ -230,10 +193,7 @@ fn check<R, F: Front<R>>(
     ensures ok { IfOk result (Tells F.step front.old (Command.Check session operation object) front.new (string_bytes text.new)) }
     ensures err { OnErr result (Loses F.step F.refuses front.old (Command.Check session operation object) front.new) }
 {
-    let answer = front.check(rt, session, operation, object);
-    push_check(text, answer)?;
-    end_line(text)?;
-    Ok(Mark::said(false))
+    Ok(Mark::Checked(front.check(rt, session, operation, object)))
 }
 
 fn json<R, F: Front<R>>(
@@ -252,12 +212,12 @@ fn json<R, F: Front<R>>(
         Ok(rows) => {
             push_json(text, rows.as_slice())?;
             end_line(text)?;
-            Ok(Mark::said(false))
+            Ok(Mark::Text(false))
         }
         Err(AskFault::NoMemory) => Err(OutOfMemory),
         Err(fault) => {
             refused_line(text, fault)?;
-            Ok(Mark::said(true))
+            Ok(Mark::Text(true))
         }
     }
 }
@@ -278,7 +238,7 @@ pub(crate) fn obey<R, F: Front<R>>(
     ensures err { OnErr result (Fails F.step F.refuses front.old command front.new) }
 {
     match command {
-        Command::Skip => Ok(Mark::skipped()),
+        Command::Skip => Ok(Mark::Nothing),
         Command::Submit(call) => submit(rt, front, text, call),
         Command::List { session } => list(rt, front, text, session),
         Command::Json { session } => json(rt, front, text, session),
@@ -292,16 +252,12 @@ pub(crate) fn obey<R, F: Front<R>>(
     }
 }
 
-/// Puts the text of a line that says nothing that is known into the text, which is empty before.
-pub(crate) fn unread(text: &mut String, fault: ReadFault) -> Result<Mark, OutOfMemory>
-    requires { string_bytes text.old ≡ [] }
-    ensures { IfOk result (IsUnread fault (string_bytes text.new)) }
+/// How a line that says nothing that is known counts.
+pub(crate) fn unread(fault: ReadFault) -> Result<Mark, OutOfMemory>
+    ensures { (text : List ℕ) → IfOk result (IsUnread fault text) }
 {
     match fault {
-        ReadFault::Line(fault) => {
-            bad_line(text, fault)?;
-            Ok(Mark::said(true))
-        }
+        ReadFault::Line(fault) => Ok(Mark::Bad(fault)),
         ReadFault::NoMemory => Err(OutOfMemory),
     }
 }

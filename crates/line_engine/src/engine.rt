@@ -8,8 +8,9 @@ ghost use Rattle.line_engine.specs.Fronts.{Gives, Drops};
 ghost use Rattle.line_engine.specs.Marks.{Marks};
 ghost use Rattle.line_engine.specs.Running.{body, Grows, Served, ServeBroken, Progress, Broken, IsLine, HasNoEnd, BrokenWithin, Finished, Reaches, Answered, Stopped};
 
-use crate::answer::{Mark, OutOfMemory, obey, unread};
+use crate::answer::{OutOfMemory, obey, unread};
 use crate::front::Front;
+use crate::mark::Mark;
 use crate::outbox::Outbox;
 use crate::run_fault::{Counts, RunFault};
 use board_lines::{Command, ReadFault, read_line, read_words};
@@ -54,7 +55,7 @@ fn answer<R, F: Front<R>>(
     text.clear();
     match read(alloc, words, line) {
         Ok(command) => obey(rt, front, text, command),
-        Err(fault) => unread(text, fault),
+        Err(fault) => unread(fault),
     }
 }
 

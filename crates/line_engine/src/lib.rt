@@ -5,6 +5,7 @@ mod answer;
 mod engine;
 mod front;
 mod laws;
+mod mark;
 mod outbox;
 mod run_fault;
 mod tally;

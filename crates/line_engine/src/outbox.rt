@@ -2,12 +2,14 @@
 
 ghost use Rattle.std.specs.Prelude.{◌≡◌, ◌+◌, ◌<◌, ◌++◌, [], if◌then◌else◌, nat_le, length, OnOk, OnErr, IfOk, IfErr, string_bytes};
 ghost use Rattle.std.specs.Io.KnownBytes.{Appends};
+ghost use Rattle.line_engine.specs.Marks.{mark_text, mark_has_reply, mark_is_refusal};
 ghost use Rattle.line_engine.specs.Running.{AppendsFront, Reaches, MayBeWrite};
 
-use crate::answer::Mark;
+use crate::mark::Mark;
 use crate::run_fault::RunFault;
 use crate::tally::Tally;
 use crate::write::write_whole;
+use board_lines::LineFault;
 use std::alloc::{AllocError, Global};
 use std::io::Write;
 
@@ -47,17 +49,40 @@ impl Outbox {
         self.held.len() >= FULL_BYTES
     }
 
+    /// Puts what is written for a line behind the replies that are held. Want of memory changes nothing.
+    #[inline(always)]
+    fn hold(&mut self, mark: Mark) -> Result<(), AllocError>
+        ensures text { OnOk result (self.new.held.items ≡ self.old.held.items ++ mark_text mark (string_bytes self.old.text)) }
+        ensures err { OnErr result (self.new.held.items ≡ self.old.held.items) }
+        ensures tally { self.new.tally ≡ self.old.tally }
+    {
+        match mark {
+            Mark::Nothing => Ok(()),
+            Mark::Text(_) => self.held.extend_from_slice(self.text.as_bytes()),
+            Mark::Done => self.held.extend_from_slice(b"done\n"),
+            Mark::Checked(true) => self.held.extend_from_slice(b"yes\n"),
+            Mark::Checked(false) => self.held.extend_from_slice(b"no\n"),
+            Mark::NoSession => self.held.extend_from_slice(b"denied no-session\n"),
+            Mark::Bad(LineFault::Number) => self.held.extend_from_slice(b"bad number\n"),
+            Mark::Bad(LineFault::Word) => self.held.extend_from_slice(b"bad word\n"),
+            Mark::Bad(LineFault::Count) => self.held.extend_from_slice(b"bad count\n"),
+            Mark::Bad(LineFault::Name) => self.held.extend_from_slice(b"bad name\n"),
+            Mark::Bad(LineFault::Op) => self.held.extend_from_slice(b"bad op\n"),
+            Mark::Bad(LineFault::Object) => self.held.extend_from_slice(b"bad object\n"),
+        }
+    }
+
     /// Puts the text of a line's answer behind the replies that are held, and counts it. Want of memory changes neither.
     pub(crate) fn put(&mut self, mark: Mark) -> Result<(), AllocError>
         requires { self.old.tally.seen < 4294967296 }
-        ensures text { OnOk result (self.new.held.items ≡ self.old.held.items ++ string_bytes self.old.text) }
+        ensures text { OnOk result (self.new.held.items ≡ self.old.held.items ++ mark_text mark (string_bytes self.old.text)) }
         ensures seen { OnOk result (self.new.tally.seen ≡ self.old.tally.seen + 1) }
-        ensures lines { OnOk result (self.new.tally.lines ≡ self.old.tally.lines + (if mark.has_reply then 1 else 0)) }
-        ensures refused { OnOk result (self.new.tally.refused ≡ self.old.tally.refused + (if mark.is_refusal then 1 else 0)) }
+        ensures lines { OnOk result (self.new.tally.lines ≡ self.old.tally.lines + (if mark_has_reply mark then 1 else 0)) }
+        ensures refused { OnOk result (self.new.tally.refused ≡ self.old.tally.refused + (if mark_is_refusal mark then 1 else 0)) }
         ensures err { OnErr result (self.new.held.items ≡ self.old.held.items) }
     {
-        self.held.extend_from_slice(self.text.as_bytes())?;
-        self.tally.count(mark.has_reply, mark.is_refusal);
+        self.hold(mark)?;
+        self.tally.count(mark.has_reply(), mark.is_refusal());
         Ok(())
     }
 

@@ -7,4 +7,4 @@ returns-in-Ok-clause-err g c =
 
 pub returns-in-Err-clause-ok : goal.returns-in-Err-clause-ok
 returns-in-Err-clause-ok g c =
-    untold g.F.Front.step _ _ _ _ c.in-Err.is c.read.ensures _ _ c.unread.ensures
+    untold g.F.Front.step _ _ _ _ c.in-Err.is c.read.ensures _ _ (c.unread.ensures _)
