@@ -19,10 +19,3 @@ mod table;
 
 pub use round::draw;
 pub use search::best_move;
-
-#[cfg(test)]
-mod plain;
-#[cfg(test)]
-mod tests;
-#[cfg(test)]
-mod views;

@@ -3,7 +3,7 @@ use Rattle.std.proofs.lemmas.Bool.{cases_eq, cases_lt}
 use Rattle.std.proofs.lemmas.List.{get_or_past}
 use Rattle.pin_core.specs.Pins.{IsHeld}
 use Rattle.pin_core.specs.View.{pins_of}
-use Rattle.neighbourhood.proofs.views.do_pins_hold.Goals as goal
+use Rattle.neighbourhood_tests.proofs.views.do_pins_hold.Goals as goal
 
 pub loop-before-preserved : goal.loop-before-preserved
 loop-before-preserved c = λ d low high.

@@ -7,8 +7,8 @@ use Rattle.dimension_core.specs.Setup.{setting}
 use Rattle.plan_core.specs.Laws.{PlansAreTested}
 use Rattle.plan_core.specs.Tested.{is_plan}
 use Rattle.neighbourhood.specs.View.{IsViewOf}
-use Rattle.neighbourhood.proofs.tests.the_best_moves_of_three_customers.OwnLists.{own-1, at-1-1}
-use Rattle.neighbourhood.proofs.tests.the_best_moves_of_three_customers.Goals as goal
+use Rattle.neighbourhood_tests.proofs.tests.the_best_moves_of_three_customers.OwnLists.{own-1, at-1-1}
+use Rattle.neighbourhood_tests.proofs.tests.the_best_moves_of_three_customers.Goals as goal
 
 none_at : (k : ℕ) → ◌≡◌ {A = Option ℕ} (slice_index_or (None ∷ None ∷ None ∷ []) k None) None
 none_at zero = refl

@@ -2,7 +2,7 @@ use Rattle.std.proofs.Common.{ℕ, ◌≤◌}
 use Rattle.dimension_core.specs.Feasible.{FitsAll}
 use Rattle.dimension_core.specs.Setup.{setting}
 use Rattle.plan_core.specs.Plan.{route_at}
-use Rattle.neighbourhood.proofs.views.is_feasible.Given as goal
+use Rattle.neighbourhood_tests.proofs.views.is_feasible.Given as goal
 
 -- the routes of the vehicles so far are in bounds
 abbrev pub invariant-loop-before : goal.invariant-loop-before

@@ -1,7 +1,7 @@
 use Rattle.std.proofs.Common.{◌≡◌, ◌∙◌, Some, subst, sym, refl}
 use Rattle.plan_core.specs.Plan.{Changes, IsPlan, changes_of, with_routes}
 use Rattle.move_core.specs.Moves.{changes_by, effect}
-use Rattle.neighbourhood.proofs.views.put.Goals as goal
+use Rattle.neighbourhood_tests.proofs.views.put.Goals as goal
 
 pub replace-requires-clause-plan : goal.replace-requires-clause-plan
 replace-requires-clause-plan g c =

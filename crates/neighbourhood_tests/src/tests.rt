@@ -4,10 +4,10 @@ ghost use Rattle.neighbourhood.specs.View.{IsViewOf};
 
 use crate::plain::plain_best;
 use crate::views::{below, is_view, some_dimensions, some_plan, some_view};
-use crate::{best_move, draw};
 use callback_store::{Registry, Transit, Unary};
 use dimension_core::Setup;
 use move_core::Move;
+use neighbourhood::{best_move, draw};
 use pin_core::View;
 use plan_core::{Plan, Route, plans_are_tested};
 use rand_core::Rng;

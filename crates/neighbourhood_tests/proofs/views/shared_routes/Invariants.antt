@@ -1,6 +1,6 @@
 use Rattle.std.proofs.Common.{◌≡◌, take}
 use Rattle.plan_core.specs.Plan.{routes_of}
-use Rattle.neighbourhood.proofs.views.shared_routes.Given as goal
+use Rattle.neighbourhood_tests.proofs.views.shared_routes.Given as goal
 
 -- the routes of the vehicles so far
 abbrev pub invariant-loop-before : goal.invariant-loop-before

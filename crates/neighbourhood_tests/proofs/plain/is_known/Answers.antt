@@ -1,6 +1,6 @@
 use Rattle.std.proofs.Common.{◌≤◌, ℕ, arith, below_more, subst}
 use Rattle.std.proofs.lemmas.List.{get_or_default}
-use Rattle.neighbourhood.proofs.plain.is_known.Goals as goal
+use Rattle.neighbourhood_tests.proofs.plain.is_known.Goals as goal
 
 pub loop-customer-preserved : goal.loop-customer-preserved
 loop-customer-preserved c = below_more _ _ c.loop-customer.invariant (let test = c.if-customer-customers.false in omega arith)

@@ -2,7 +2,7 @@ use Rattle.std.proofs.Common.{◌∙◌, ℕ, List, ap, sym, subst, length}
 use Rattle.plan_core.specs.Plan.{IsPlan}
 use Rattle.pin_core.specs.Pins.{DoPinsHold, DoFrontsFit}
 use Rattle.pin_core.specs.View.{pins_of}
-use Rattle.neighbourhood.proofs.views.is_view.Goals as goal
+use Rattle.neighbourhood_tests.proofs.views.is_view.Goals as goal
 
 pub returns : goal.returns
 returns g c = λ _.

@@ -3,7 +3,7 @@ use Rattle.std.proofs.lemmas.Bool.{cases_eq}
 use Rattle.dimension_core.specs.Feasible.{FitsAll}
 use Rattle.dimension_core.specs.Setup.{setting}
 use Rattle.plan_core.specs.Plan.{route_at}
-use Rattle.neighbourhood.proofs.views.is_feasible.Goals as goal
+use Rattle.neighbourhood_tests.proofs.views.is_feasible.Goals as goal
 
 pub loop-before-preserved : goal.loop-before-preserved
 loop-before-preserved g c = λ v low high.

@@ -1,5 +1,5 @@
 use Rattle.std.proofs.Common.{◌<◌, ◌≤◌, ℕ, slice_index}
-use Rattle.neighbourhood.proofs.plain.is_known.Given as goal
+use Rattle.neighbourhood_tests.proofs.plain.is_known.Given as goal
 
 -- the customers so far are known
 abbrev pub invariant-loop-customer : goal.invariant-loop-customer

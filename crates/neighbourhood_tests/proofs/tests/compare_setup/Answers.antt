@@ -2,8 +2,8 @@ use Rattle.std.proofs.Common.{◌+◌, ◌*◌, ◌%◌, refl, rules, arith}
 use borrow.Pointer.Called.{post_made}
 use Rattle.callback_store.specs.Boxed.{post_of_closure}
 use Rattle.callback_store.specs.Closures.{pairs_of_function, table_of_function}
-use Rattle.neighbourhood.proofs.tests.compare_setup.OwnLists.{own-1, at-1-1, at-1-2, own-2, at-2-1}
-use Rattle.neighbourhood.proofs.tests.compare_setup.Goals as goal
+use Rattle.neighbourhood_tests.proofs.tests.compare_setup.OwnLists.{own-1, at-1-1, at-1-2, own-2, at-2-1}
+use Rattle.neighbourhood_tests.proofs.tests.compare_setup.Goals as goal
 
 pub new-ways-requires-clause-table : goal.new-ways-requires-clause-table
 new-ways-requires-clause-table g c =

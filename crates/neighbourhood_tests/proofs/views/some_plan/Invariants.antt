@@ -1,5 +1,5 @@
 use Rattle.std.proofs.Common.{◌≡◌, length}
-use Rattle.neighbourhood.proofs.views.some_plan.Given as goal
+use Rattle.neighbourhood_tests.proofs.views.some_plan.Given as goal
 
 -- the plan keeps its sizes
 abbrev pub invariant-loop-step : goal.invariant-loop-step
