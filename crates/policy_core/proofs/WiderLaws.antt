@@ -121,3 +121,8 @@ module _ (order : Order) (is : IsOrder order) (s j seniors juniors roles : ℕ) 
 
   pub wider_apart : not (eqb (bit_and roles seniors) 0) ≡ false → wider order s j roles ≡ []
   wider_apart apart = ap (λ t. cond t (bit_or (closed order roles) (juniors_of order j) ∷ []) []) (sym (meets_below order is s seniors roles are) ∙ apart)
+
+-- where there is no set, none is broken
+pub no_set_breaks : (all : List ℕ) (sets : Groups) → sets ≡ [] → None ≡ first_breaking all sets
+unfolding first_breaking
+no_set_breaks all sets none = sym (ap (first_breaking all) none)

@@ -139,11 +139,14 @@ impl Policy {
     }
 
     /// The first SSD set that some user would break with the pair. A user that is authorized for
-    /// no more roles than before is not looked at further.
+    /// no more roles than before is not looked at further, and where there is no set nobody is.
     fn ssd_refusal_of_pair(&self, above: u8, below: u8) -> Result<Option<Refusal>, AllocError>
         ensures { IfOk result (λ refusal. refusal ≡ broken_ssd (record self.now { order = with_pair self.now.order above below })) }
     {
         self.order.is_order();
+        if self.ssd.is_empty() {
+            return Ok(None);
+        }
         let wider = wider_users(&self.users, &self.order, above, below)?;
         match self.ssd.broken_by_some(&wider) {
             Some(set) => Ok(Some(Refusal::Ssd(set))),
@@ -152,12 +155,15 @@ impl Policy {
     }
 
     /// The first DSD set that some session would break with the pair; none where active roles
-    /// alone count.
+    /// alone count, or where there is no set.
     fn dsd_refusal_of_pair(&self, above: u8, below: u8) -> Result<Option<Refusal>, AllocError>
         ensures { IfOk result (λ refusal. refusal ≡ broken_dsd (record self.now { order = with_pair self.now.order above below })) }
     {
         self.order.is_order();
         if let Counting::Active = self.counting {
+            return Ok(None);
+        }
+        if self.dsd.is_empty() {
             return Ok(None);
         }
         let wider = wider_sessions(&self.sessions, &self.order, above, below)?;
