@@ -22,6 +22,3 @@ pub use reading::{read_kept, read_line, read_words};
 pub use replies::{push_ask_fault, push_fault, push_line_fault, push_reply, reply_text};
 pub use spelling::{event_text, push_event};
 pub use word::{AskWord, HoldWord, ManageWord, MoveWord, Separation, SessionWord, SetWord, Word};
-
-#[cfg(test)]
-mod tests;

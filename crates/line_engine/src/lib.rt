@@ -16,6 +16,3 @@ pub use front::Front;
 pub use laws::texts_have_their_lines;
 pub use run_fault::{Counts, RunFault};
 pub use write::write_whole;
-
-#[cfg(test)]
-mod tests;

@@ -17,6 +17,3 @@ mod users;
 pub use policy::Policy;
 pub use refusal::Refusal;
 pub use session::{Counting, Session};
-
-#[cfg(test)]
-mod tests;

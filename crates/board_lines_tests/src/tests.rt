@@ -1,4 +1,9 @@
-use super::*;
+use board_lines::{
+    Command, LineFault, ReadFault, Word, event_text, faults_are_first, lines_are_commands,
+    list_json, list_text, push_ask_fault, push_audit, push_check, push_end, push_entry, push_event,
+    push_fault, push_json, push_line_fault, push_review, push_row, read_kept, read_line,
+    read_words, reply_text, text_is_read,
+};
 use board_rules::{AskFault, Call, Denial, Entry, Fault, Refusal, Reply, Review, Row};
 use move_core::Move;
 use permission_core::{Object, Operation};

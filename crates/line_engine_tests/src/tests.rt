@@ -1,6 +1,6 @@
-use super::*;
 use board_lines::push_audit;
 use board_rules::{AskFault, Call, Denial, Fault, Refusal, Reply, Review, Row};
+use line_engine::{Counts, Front, RunFault, run_lines};
 use move_core::Move;
 use rbac_core::{Object, Operation};
 use separation_core::Name;

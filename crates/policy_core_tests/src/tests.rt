@@ -1,5 +1,5 @@
-use crate::{Policy, Refusal};
 use permission_core::{ObjectRange, Operation};
+use policy_core::{Policy, Refusal};
 use separation_core::Name;
 use std::alloc::Global;
 use std::process::Abort;
