@@ -10,7 +10,7 @@ use Rattle.std.proofs.Math.Nat.{zero-div, div-eq_of_lt, two-pow-succ}
 use Rattle.std.proofs.Common.{pow_pos, zero, suc}
 use Rattle.std.proofs.lemmas.Bool.{cases_lt, cases_Bool, both_ways}
 use Rattle.text_words.specs.Words.{ends_word}
-use Rattle.text_words.specs.Ends.{HasNoEnd, IsEndAt, AreEnds}
+use Rattle.text_words.specs.Ends.{EndsNoWord, IsWordEnd, AreWordEnds}
 
 -- the lanes that hold a byte, a bit for each
 abbrev marked : List ℕ → ℕ → ℕ
@@ -78,7 +78,7 @@ none_where text k refuted = elim (cases_Bool (ends_word (get_or text k 0))) [
 ]
 
 -- before the lowest bit no word ends
-pub none_before : (text : List ℕ) (from base bits bit : ℕ) → AreEnds text from base bits → bit_at bits bit ≡ 1 → ((k : ℕ) → k < bit → bit_at bits k ≡ 0) → HasNoEnd text from (base + bit)
+pub none_before : (text : List ℕ) (from base bits bit : ℕ) → AreWordEnds text from base bits → bit_at bits bit ≡ 1 → ((k : ℕ) → k < bit → bit_at bits k ≡ 0) → EndsNoWord text from (base + bit)
 none_before text from base bits bit ends set below i low high =
     elim (cases_lt i base) [
       | inl near ↦ ends.none i low near
@@ -90,14 +90,14 @@ none_before text from base bits bit ends set below i low high =
           omega (arith, there, below k (omega arith)))
     ]
 
-pub none_then : (text : List ℕ) (a b c : ℕ) → HasNoEnd text a b → HasNoEnd text b c → HasNoEnd text a c
+pub none_then : (text : List ℕ) (a b c : ℕ) → EndsNoWord text a b → EndsNoWord text b c → EndsNoWord text a c
 none_then text a b c first then = λ k low high. elim (cases_lt k b) [
   | inl lt ↦ first k low lt
   | inr ge ↦ then k ge high
 ]
 
 -- 32 places without bits
-pub none_among : (text : List ℕ) (at bits : ℕ) → bits ≡ 0 → ((k : ℕ) → (bit_at bits k ≡ 1) ↔ ((k < 32) × (ends_word (get_or text (at + k) 0) ≡ true))) → HasNoEnd text at (at + 32)
+pub none_among : (text : List ℕ) (at bits : ℕ) → bits ≡ 0 → ((k : ℕ) → (bit_at bits k ≡ 1) ↔ ((k < 32) × (ends_word (get_or text (at + k) 0) ≡ true))) → EndsNoWord text at (at + 32)
 none_among text at bits nil tells k ge lt =
     let bit = k - at in
     let place : at + bit ≡ k = omega arith in
@@ -106,7 +106,7 @@ none_among text at bits nil tells k ge lt =
     omega (arith, set, no_bit bit, ap (λ n. bit_at n bit) nil))
 
 -- the ends among 32 places
-pub ends_of_lanes : (text : List ℕ) (from at bits : ℕ) → from ≤ at → at + 32 ≤ length text → HasNoEnd text from at → ((k : ℕ) → (bit_at bits k ≡ 1) ↔ ((k < 32) × (ends_word (get_or text (at + k) 0) ≡ true))) → AreEnds text from at bits
+pub ends_of_lanes : (text : List ℕ) (from at bits : ℕ) → from ≤ at → at + 32 ≤ length text → EndsNoWord text from at → ((k : ℕ) → (bit_at bits k ≡ 1) ↔ ((k < 32) × (ends_word (get_or text (at + k) 0) ≡ true))) → AreWordEnds text from at bits
 ends_of_lanes text from at bits le room none tells = record {
   none = none;
   each = λ k j lt set low end. (tells k).1 (omega (arith, ((tells j).0 set).0), end);
@@ -114,17 +114,17 @@ ends_of_lanes text from at bits le room none tells = record {
 }
 
 -- one end alone
-pub one_end : (text : List ℕ) (from at : ℕ) → from ≤ at → at < length text → HasNoEnd text from at → ends_word (get_or text at 0) ≡ true → AreEnds text from at 1
+pub one_end : (text : List ℕ) (from at : ℕ) → from ≤ at → at < length text → EndsNoWord text from at → ends_word (get_or text at 0) ≡ true → AreWordEnds text from at 1
 one_end text from at le room none end = record {
   none = none;
   each = λ k j lt set low there. absurd (omega (arith, only_bit j set));
   only = λ k set.
       let first = only_bit k set in
-      (subst (λ (i : ℕ). IsEndAt text from i) (omega (arith, first)) (record { low = le; high = room; end = end }), omega (arith, first));
+      (subst (λ (i : ℕ). IsWordEnd text from i) (omega (arith, first)) (record { low = le; high = room; end = end }), omega (arith, first));
 }
 
 -- no ends are known
-pub none_to_know : (text : List ℕ) (from : ℕ) → AreEnds text from 0 0
+pub none_to_know : (text : List ℕ) (from : ℕ) → AreWordEnds text from 0 0
 none_to_know text from = record {
   none = λ k low high. absurd (omega arith);
   each = λ k j lt set low end. absurd (omega (arith, no_bit j));
@@ -132,9 +132,9 @@ none_to_know text from = record {
 }
 
 -- the ends behind the first of them
-pub ends_behind : (text : List ℕ) (from base bits bit left : ℕ) → AreEnds text from base bits → bit_at bits bit ≡ 1 → ((k : ℕ) → k < bit → bit_at bits k ≡ 0)
+pub ends_behind : (text : List ℕ) (from base bits bit left : ℕ) → AreWordEnds text from base bits → bit_at bits bit ≡ 1 → ((k : ℕ) → k < bit → bit_at bits k ≡ 0)
     → ((k : ℕ) → k < 64 → k ≢ bit → bit_at left k ≡ bit_at bits k) → ((k : ℕ) → bit_at left k ≡ 1 → (bit_at bits k ≡ 1) × (k ≢ bit))
-    → AreEnds text (base + bit + 1) base left
+    → AreWordEnds text (base + bit + 1) base left
 ends_behind text from base bits bit left ends set below kept fewer =
     let low = (ends.only bit set).0.low in
     record {

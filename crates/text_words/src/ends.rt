@@ -3,7 +3,7 @@
 ghost use Rattle.std.specs.Prelude.{◌≡◌, ◌≢◌, ◌↔◌, ℕ, ◌+◌, ◌<◌, ◌≤◌, true, length, slice_index, MatchOption};
 ghost use Rattle.std.specs.Int.{bit_at};
 ghost use Rattle.text_words.specs.Words.{ends_word};
-ghost use Rattle.text_words.specs.Ends.{HasNoEnd, AreEnds};
+ghost use Rattle.text_words.specs.Ends.{EndsNoWord, AreWordEnds};
 
 use crate::is_gap;
 use std::simd::prelude::*;
@@ -54,12 +54,12 @@ fn without(bits: u64, bit: usize) -> u64
 #[inline(always)]
 pub(crate) fn first_end(text: &[u8], from: usize, base: usize, bits: u64) -> (usize, u64)
     requires some { bits ≢ 0 }
-    requires ends { AreEnds text.now from base bits }
+    requires ends { AreWordEnds text.now from base bits }
     ensures from { from ≤ result.0 }
     ensures within { result.0 < length text.now }
-    ensures none { HasNoEnd text.now from result.0 }
+    ensures none { EndsNoWord text.now from result.0 }
     ensures end { ends_word (slice_index text.now result.0) ≡ true }
-    ensures ends { AreEnds text.now (result.0 + 1) base result.1 }
+    ensures ends { AreWordEnds text.now (result.0 + 1) base result.1 }
 {
     let bit = lowest(bits);
     (base + bit, without(bits, bit))
@@ -71,7 +71,7 @@ fn near_end(text: &[u8], from: usize) -> usize
     requires { from ≤ length text.now }
     ensures from { from ≤ result }
     ensures within { result ≤ length text.now }
-    ensures none { HasNoEnd text.now from result }
+    ensures none { EndsNoWord text.now from result }
     ensures end { result < length text.now → ends_word (slice_index text.now result) ≡ true }
 {
     for i in from..text.len() {
@@ -86,7 +86,7 @@ fn near_end(text: &[u8], from: usize) -> usize
 #[inline(always)]
 fn more_ends(text: &[u8], from: usize) -> Option<(usize, u64)>
     requires { from ≤ length text.now }
-    ensures ends { MatchOption result (HasNoEnd text.now from (length text.now)) (λ r. (r.1 ≢ 0) × AreEnds text.now from r.0 r.1) }
+    ensures ends { MatchOption result (EndsNoWord text.now from (length text.now)) (λ r. (r.1 ≢ 0) × AreWordEnds text.now from r.0 r.1) }
 {
     let mut at = from;
     while 32 <= text.len() - at {
@@ -107,8 +107,8 @@ fn more_ends(text: &[u8], from: usize) -> Option<(usize, u64)>
 #[inline(always)]
 pub(crate) fn known_ends(text: &[u8], from: usize, base: usize, bits: u64) -> Option<(usize, u64)>
     requires from { from ≤ length text.now }
-    requires ends { AreEnds text.now from base bits }
-    ensures ends { MatchOption result (HasNoEnd text.now from (length text.now)) (λ r. (r.1 ≢ 0) × AreEnds text.now from r.0 r.1) }
+    requires ends { AreWordEnds text.now from base bits }
+    ensures ends { MatchOption result (EndsNoWord text.now from (length text.now)) (λ r. (r.1 ≢ 0) × AreWordEnds text.now from r.0 r.1) }
 {
     if bits != 0 {
         return Some((base, bits));

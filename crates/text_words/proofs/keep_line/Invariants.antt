@@ -1,5 +1,5 @@
 use Rattle.std.proofs.Common.{◌≡◌, ℕ, ◌++◌, ◌≤◌, ◌-◌, length, map, take, drop}
-use Rattle.text_words.specs.Ends.{AreEnds}
+use Rattle.text_words.specs.Ends.{AreWordEnds}
 use Rattle.text_words.specs.Words.{words as line_words, HasNoFeed}
 use Rattle.text_words.proofs.keep_line.Given as goal
 
@@ -7,7 +7,7 @@ use Rattle.text_words.proofs.keep_line.Given as goal
 abbrev pub invariant-words : goal.invariant-words
 invariant-words l = record {
   within : l.start ≤ length l.text;
-  ends : AreEnds l.text l.start l.base l.bits;
+  ends : AreWordEnds l.text l.start l.base l.bits;
   feeds : HasNoFeed l.text 0 l.start;
   found : (n : ℕ) → l.start ≤ n → n ≤ length l.text → map (λ w. w.now) l.kept.items ++ line_words (drop l.start (take n l.text)) ≡ line_words (take n l.text);
 }
