@@ -224,7 +224,8 @@ fn json<R, F: Front<R>>(
 
 // ---- lines
 
-/// Has the front do what a line says, and puts the text of what it answers into the text, which is empty before.
+/// Has the front do what a line says, and tells what is to be written for it; where that is a text, it stands in the text, which is
+/// empty before.
 pub(crate) fn obey<R, F: Front<R>>(
     rt: &R,
     front: &mut F,
