@@ -1,6 +1,6 @@
 use Rattle.std.proofs.Common.{arith, rules}
 use Rattle.text_words.proofs.Lanes.{none_to_know}
-use Rattle.text_words.proofs.Parts.{kept_front, kept_last, no_feed_yet, no_feed_more, no_feed_then, front_has_none, text_has_none, gap_byte, no_gap_there, no_feed_there}
+use Rattle.text_words.proofs.Parts.{kept_front, kept_last, no_feed_yet, no_feed_more, no_feed_then, front_has_none, gap_byte, no_gap_there, no_feed_there}
 use Rattle.text_words.proofs.keep_line.Goals as goal
 
 pub words-init : goal.words-init

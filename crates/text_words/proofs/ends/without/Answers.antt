@@ -1,4 +1,4 @@
-use Rattle.std.proofs.Common.{◌^◌, ◌*◌, ◌%◌, bit_and, arith, subst, sym, ap, w64}
+use Rattle.std.proofs.Common.{◌^◌, ◌*◌, ◌%◌, bit_and, arith, ap, w64}
 use Rattle.std.specs.Int.{bit_at, bit_not}
 use Rattle.std.proofs.lemmas.Nat.Bits.{bit_at_clear_other, bit_at_clear_same, bit_at_and}
 use Rattle.text_words.proofs.ends.without.Goals as goal
