@@ -3,10 +3,10 @@ ghost use Rattle.dimension_core.specs.Setup.{setting};
 ghost use Rattle.plan_core.specs.Plan.{IsPlan, changes_of, replaced, with_routes};
 ghost use Rattle.range_cache.specs.Cache.{IsCacheOf};
 
-use crate::{Cache, JudgeFault};
 use callback_store::{Meter, Registry, Transit, TransitId, Unary};
 use dimension_core::{Dimension, Range, Setup, first_out};
 use plan_core::{Plan, Route, plans_are_tested};
+use range_cache::{Cache, JudgeFault};
 use std::alloc::{AllocError, Global};
 use std::process::Abort;
 use std::sync::Arc;

@@ -2,8 +2,8 @@ use Rattle.std.proofs.Common.{rules, ◌+◌, ◌*◌, [], ◌∷◌, refl}
 use borrow.Pointer.Called.{post_made}
 use Rattle.callback_store.specs.Boxed.{post_of_closure}
 use Rattle.callback_store.specs.Closures.{small_at}
-use Rattle.range_cache.proofs.tests.four_customers.OwnLists.{own-1, at-1-1, own-2, at-2-1}
-use Rattle.range_cache.proofs.tests.four_customers.Goals as goal
+use Rattle.range_cache_tests.proofs.tests.four_customers.OwnLists.{own-1, at-1-1, own-2, at-2-1}
+use Rattle.range_cache_tests.proofs.tests.four_customers.Goals as goal
 
 pub new-demand-requires-clause-table : goal.new-demand-requires-clause-table
 new-demand-requires-clause-table g c =

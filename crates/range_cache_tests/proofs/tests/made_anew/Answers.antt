@@ -3,7 +3,7 @@ use Rattle.std.proofs.lemmas.Bool.{cases_eq}
 use Rattle.dimension_core.specs.Feasible.{FitsAll}
 use Rattle.dimension_core.specs.Setup.{setting}
 use Rattle.plan_core.specs.Plan.{route_at}
-use Rattle.range_cache.proofs.tests.made_anew.Goals as goal
+use Rattle.range_cache_tests.proofs.tests.made_anew.Goals as goal
 
 pub loop-before-preserved : goal.loop-before-preserved
 loop-before-preserved g c = λ v low high.

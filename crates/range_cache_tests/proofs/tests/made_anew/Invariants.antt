@@ -2,7 +2,7 @@ use Rattle.std.proofs.Common.{ℕ, ◌≤◌}
 use Rattle.dimension_core.specs.Feasible.{FitsAll}
 use Rattle.dimension_core.specs.Setup.{setting}
 use Rattle.plan_core.specs.Plan.{route_at}
-use Rattle.range_cache.proofs.tests.made_anew.Given as goal
+use Rattle.range_cache_tests.proofs.tests.made_anew.Given as goal
 
 -- the routes of the vehicles so far are in bounds
 abbrev pub invariant-loop-before : goal.invariant-loop-before
