@@ -1,10 +1,10 @@
 ghost use Rattle.std.specs.Prelude.{◌≡◌};
 
-use crate::{
+use callback_store::{Meter, Registry, Transit, Unary};
+use dimension_core::{
     Dimension, DimensionFault, Range, Setup, SetupFault, cumuls_are_by_place, first_out,
     first_out_is_alone, spans_go_on, spans_meet,
 };
-use callback_store::{Meter, Registry, Transit, Unary};
 use std::test::Fail;
 
 const LIMIT: u64 = 1_000_000_000_000;

@@ -2,8 +2,8 @@ use Rattle.std.proofs.Common.{rules, refl, arith}
 use borrow.Pointer.Called.{post_made}
 use Rattle.callback_store.specs.Closures.{table_of_function}
 use Rattle.callback_store.specs.Boxed.{post_of_closure}
-use Rattle.dimension_core.proofs.tests.a_setup_is_refused.OwnLists.{own-2, at-2-1}
-use Rattle.dimension_core.proofs.tests.a_setup_is_refused.Goals as goal
+use Rattle.dimension_core_tests.proofs.tests.a_setup_is_refused.OwnLists.{own-2, at-2-1}
+use Rattle.dimension_core_tests.proofs.tests.a_setup_is_refused.Goals as goal
 
 pub new-requires-in-loop-customers-clause-table : goal.new-requires-in-loop-customers-clause-table
 new-requires-in-loop-customers-clause-table g c =

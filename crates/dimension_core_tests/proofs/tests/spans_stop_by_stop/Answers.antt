@@ -2,8 +2,8 @@ use Rattle.std.proofs.Common.{rules, refl, arith}
 use borrow.Pointer.Called.{post_made}
 use Rattle.callback_store.specs.Closures.{pairs_of_function}
 use Rattle.callback_store.specs.Boxed.{post_of_closure}
-use Rattle.dimension_core.proofs.tests.the_earliest_cumul_alone_does_not_decide.OwnLists.{own-1, at-1-1}
-use Rattle.dimension_core.proofs.tests.the_earliest_cumul_alone_does_not_decide.Goals as goal
+use Rattle.dimension_core_tests.proofs.tests.spans_stop_by_stop.OwnLists.{own-1, at-1-1}
+use Rattle.dimension_core_tests.proofs.tests.spans_stop_by_stop.Goals as goal
 
 pub new-requires-2-clause-table : goal.new-requires-2-clause-table
 new-requires-2-clause-table g c =

@@ -2,8 +2,8 @@ use Rattle.std.proofs.Common.{rules, refl, arith}
 use borrow.Pointer.Called.{post_made}
 use Rattle.callback_store.specs.Closures.{table_of_function}
 use Rattle.callback_store.specs.Boxed.{post_of_closure}
-use Rattle.dimension_core.proofs.tests.the_second_dimension_is_the_first_out.OwnLists.{own-2, at-2-1}
-use Rattle.dimension_core.proofs.tests.the_second_dimension_is_the_first_out.Goals as goal
+use Rattle.dimension_core_tests.proofs.tests.the_second_dimension_is_the_first_out.OwnLists.{own-2, at-2-1}
+use Rattle.dimension_core_tests.proofs.tests.the_second_dimension_is_the_first_out.Goals as goal
 
 pub new-requires-2-clause-table : goal.new-requires-2-clause-table
 new-requires-2-clause-table g c =
