@@ -1,13 +1,14 @@
 ghost use Rattle.std.specs.Prelude.{◌≡◌, [], ◌∷◌, IfOk};
 ghost use Rattle.plan_core.specs.Plan.{changes_of};
 
-use crate::{
+use move_core::{
     Move, MoveFault, fronts_by_first_change, moves_are_possible, moves_between_carry_over,
     moves_inside_rearrange, moves_keep_plans, moves_keep_the_untouched, moves_name_vehicles,
     shifts_in_parts,
 };
 use plan_core::{Plan, Route, Touch, plans_are_tested};
 use std::alloc::{AllocError, Global};
+use std::process::Abort;
 use std::sync::Arc;
 use std::test::Fail;
 
@@ -132,35 +133,54 @@ fn at(vehicle: u32, place: u32, customer: u32) -> Touch {
     }
 }
 
-/// Whether the move makes these routes and touches these customers, both where it is asked first whether it has an effect and where it is
-/// not.
-fn makes(
+/// Whether the first two new routes have these customers.
+fn are(changes: &[(u32, Arc<Route>)], routes: (&[u32], &[u32])) -> bool {
+    first(changes) == routes.0 && second(changes) == routes.1
+}
+
+/// Whether the move makes these routes, where it is asked first whether it has an effect.
+fn makes(rt: &impl Abort, alloc: Global, plan: &Plan, mv: Move, routes: (&[u32], &[u32])) -> bool {
+    mv.is_possible(plan) && are(&mv.routes(alloc, plan).expect(rt, "memory"), routes)
+}
+
+/// Whether it touches these customers, where it is asked first.
+fn touches(rt: &impl Abort, alloc: Global, plan: &Plan, mv: Move, touched: &[Touch]) -> bool {
+    mv.is_possible(plan) && mv.touches(alloc, plan).expect(rt, "memory").as_slice() == touched
+}
+
+fn demand(rt: &impl Abort, holds: bool, mv: Move) {
+    assert!(rt; holds, "{mv:?}");
+}
+
+/// Compares the new routes and the customers that are touched, both where the move is asked first whether it has an effect and where it
+/// is not.
+fn compare(
+    rt: &impl Abort,
     alloc: Global,
     plan: &Plan,
     mv: Move,
     routes: (&[u32], &[u32]),
     touched: &[Touch],
-) -> Result<bool, MoveFault> {
-    if !mv.is_possible(plan) {
-        return Ok(false);
-    }
-    let made = mv.routes(alloc, plan)?;
-    let also_made = mv.new_routes(alloc, plan)?;
-    Ok(
-        first(&made) == routes.0
-            && second(&made) == routes.1
-            && first(&also_made) == routes.0
-            && second(&also_made) == routes.1
-            && mv.touches(alloc, plan)?.as_slice() == touched
-            && mv.touched(alloc, plan)?.as_slice() == touched,
-    )
+) {
+    demand(rt, makes(rt, alloc, plan, mv, routes), mv);
+    demand(rt, touches(rt, alloc, plan, mv, touched), mv);
+    let also_made = mv.new_routes(alloc, plan).expect(rt, "routes");
+    demand(rt, are(&also_made, routes), mv);
+    let also_touched = mv.touched(alloc, plan).expect(rt, "touches");
+    demand(rt, also_touched.as_slice() == touched, mv);
 }
 
-/// Whether all calls answer that the move has no effect.
-fn is_bad(alloc: Global, plan: &Plan, mv: Move) -> bool {
+/// Sees that all calls answer that the move has no effect.
+fn refuse(rt: &impl Abort, alloc: Global, plan: &Plan, mv: Move) {
     let touched = mv.touched(alloc, plan).err() == Some(MoveFault::BadPlace);
     let routes = mv.new_routes(alloc, plan).err() == Some(MoveFault::BadPlace);
-    touched && routes && !mv.is_possible(plan)
+    demand(rt, touched && routes && !mv.is_possible(plan), mv);
+}
+
+fn refuse_all(rt: &impl Abort, alloc: Global, plan: &Plan, moves: &[Move]) {
+    for mv in moves {
+        refuse(rt, alloc, plan, *mv);
+    }
 }
 
 #[test]
@@ -182,27 +202,38 @@ fn names_each_vehicle_once(rt: HostRuntime) {
 fn inserts_and_removes(rt: HostRuntime) -> Result<(), Fail> {
     let alloc = rt.alloc();
     let plan = three_on_one(alloc)?;
-    let none: &[u32] = &[];
-    assert!(rt; makes(alloc, &plan, remove(1, 2), (&[1, 3], none), &[at(1, 2, 2)])?);
-    assert!(rt; makes(alloc, &plan, remove(1, 1), (&[2, 3], none), &[at(1, 1, 1)])?);
-    let plan = two_and_one(alloc)?;
-    assert!(rt;
-        makes(
-            alloc,
-            &plan,
-            insert(3, 1, 2),
-            (&[1, 3, 2], none),
-            &[at(1, 2, 3)]
-        )?
+    compare(
+        &rt,
+        alloc,
+        &plan,
+        remove(1, 2),
+        (&[1, 3], &[]),
+        &[at(1, 2, 2)],
     );
-    assert!(rt;
-        makes(
-            alloc,
-            &plan,
-            insert(3, 1, 3),
-            (&[1, 2, 3], none),
-            &[at(1, 3, 3)]
-        )?
+    compare(
+        &rt,
+        alloc,
+        &plan,
+        remove(1, 1),
+        (&[2, 3], &[]),
+        &[at(1, 1, 1)],
+    );
+    let plan = two_and_one(alloc)?;
+    compare(
+        &rt,
+        alloc,
+        &plan,
+        insert(3, 1, 2),
+        (&[1, 3, 2], &[]),
+        &[at(1, 2, 3)],
+    );
+    compare(
+        &rt,
+        alloc,
+        &plan,
+        insert(3, 1, 3),
+        (&[1, 2, 3], &[]),
+        &[at(1, 3, 3)],
     );
     Ok(())
 }
@@ -211,26 +242,23 @@ fn inserts_and_removes(rt: HostRuntime) -> Result<(), Fail> {
 fn shifts_within_and_across(rt: HostRuntime) -> Result<(), Fail> {
     let alloc = rt.alloc();
     let plan = three_on_one(alloc)?;
-    let none: &[u32] = &[];
-    assert!(rt; is_bad(alloc, &plan, shift(1, 1, 1, 1, 1)));
-    assert!(rt;
-        makes(
-            alloc,
-            &plan,
-            shift(1, 1, 1, 1, 3),
-            (&[2, 3, 1], none),
-            &[at(1, 1, 1)]
-        )?
+    refuse(&rt, alloc, &plan, shift(1, 1, 1, 1, 1));
+    compare(
+        &rt,
+        alloc,
+        &plan,
+        shift(1, 1, 1, 1, 3),
+        (&[2, 3, 1], &[]),
+        &[at(1, 1, 1)],
     );
     let plan = turned_on_one(alloc)?;
-    assert!(rt;
-        makes(
-            alloc,
-            &plan,
-            shift(1, 3, 1, 2, 1),
-            (&[2, 3], &[1]),
-            &[at(1, 3, 1)]
-        )?
+    compare(
+        &rt,
+        alloc,
+        &plan,
+        shift(1, 3, 1, 2, 1),
+        (&[2, 3], &[1]),
+        &[at(1, 3, 1)],
     );
     Ok(())
 }
@@ -239,70 +267,70 @@ fn shifts_within_and_across(rt: HostRuntime) -> Result<(), Fail> {
 fn shifts_more_than_one(rt: HostRuntime) -> Result<(), Fail> {
     let alloc = rt.alloc();
     let plan = four_and_two(alloc)?;
-    let none: &[u32] = &[];
-    let two = [at(1, 2, 2), at(1, 3, 3)];
-    assert!(rt;
-        makes(
-            alloc,
-            &plan,
-            shift(1, 2, 2, 1, 1),
-            (&[2, 3, 1, 5], none),
-            &two
-        )?
+    let two = &[at(1, 2, 2), at(1, 3, 3)];
+    compare(
+        &rt,
+        alloc,
+        &plan,
+        shift(1, 2, 2, 1, 1),
+        (&[2, 3, 1, 5], &[]),
+        two,
     );
-    assert!(rt;
-        makes(
-            alloc,
-            &plan,
-            shift(1, 2, 2, 1, 3),
-            (&[1, 5, 2, 3], none),
-            &two
-        )?
+    compare(
+        &rt,
+        alloc,
+        &plan,
+        shift(1, 2, 2, 1, 3),
+        (&[1, 5, 2, 3], &[]),
+        two,
     );
-    assert!(rt;
-        makes(
-            alloc,
-            &plan,
-            shift(1, 2, 2, 2, 2),
-            (&[1, 5], &[4, 2, 3, 6]),
-            &two
-        )?
+    compare(
+        &rt,
+        alloc,
+        &plan,
+        shift(1, 2, 2, 2, 2),
+        (&[1, 5], &[4, 2, 3, 6]),
+        two,
     );
-    let three = [at(1, 1, 1), at(1, 2, 2), at(1, 3, 3)];
-    assert!(rt;
-        makes(
-            alloc,
-            &plan,
-            shift(1, 1, 3, 2, 3),
-            (&[5], &[4, 6, 1, 2, 3]),
-            &three
-        )?
+    let three = &[at(1, 1, 1), at(1, 2, 2), at(1, 3, 3)];
+    compare(
+        &rt,
+        alloc,
+        &plan,
+        shift(1, 1, 3, 2, 3),
+        (&[5], &[4, 6, 1, 2, 3]),
+        three,
     );
     Ok(())
 }
 
 #[test]
-fn swaps_and_reverses(rt: HostRuntime) -> Result<(), Fail> {
+fn swaps(rt: HostRuntime) -> Result<(), Fail> {
     let alloc = rt.alloc();
     let plan = turned_on_one(alloc)?;
-    let none: &[u32] = &[];
-    let both = [at(1, 1, 2), at(1, 3, 1)];
-    assert!(rt; makes(alloc, &plan, swap(1, 1, 1, 3), (&[1, 3, 2], none), &both)?);
-    let all = [at(1, 1, 2), at(1, 2, 3), at(1, 3, 1)];
-    assert!(rt; makes(alloc, &plan, reverse(1, 1, 3), (&[1, 3, 2], none), &all)?);
+    let both = &[at(1, 1, 2), at(1, 3, 1)];
+    compare(&rt, alloc, &plan, swap(1, 1, 1, 3), (&[1, 3, 2], &[]), both);
     let plan = two_and_one(alloc)?;
-    let both = [at(2, 1, 4), at(1, 2, 2)];
-    assert!(rt; makes(alloc, &plan, swap(2, 1, 1, 2), (&[2], &[1, 4]), &both)?);
+    let both = &[at(2, 1, 4), at(1, 2, 2)];
+    compare(&rt, alloc, &plan, swap(2, 1, 1, 2), (&[2], &[1, 4]), both);
+    Ok(())
+}
+
+#[test]
+fn reverses(rt: HostRuntime) -> Result<(), Fail> {
+    let alloc = rt.alloc();
+    let plan = turned_on_one(alloc)?;
+    let all = &[at(1, 1, 2), at(1, 2, 3), at(1, 3, 1)];
+    compare(&rt, alloc, &plan, reverse(1, 1, 3), (&[1, 3, 2], &[]), all);
     let plan = four_and_two(alloc)?;
-    let inner = [at(1, 2, 2), at(1, 3, 3)];
-    assert!(rt;
-        makes(
-            alloc,
-            &plan,
-            reverse(1, 2, 3),
-            (&[1, 3, 2, 5], none),
-            &inner
-        )?
+    let inner = &[at(1, 2, 2), at(1, 3, 3)];
+    compare(
+        &rt,
+        alloc,
+        &plan,
+        reverse(1, 2, 3),
+        (&[1, 3, 2, 5], &[]),
+        inner,
     );
     Ok(())
 }
@@ -311,18 +339,24 @@ fn swaps_and_reverses(rt: HostRuntime) -> Result<(), Fail> {
 fn crosses_tails(rt: HostRuntime) -> Result<(), Fail> {
     let alloc = rt.alloc();
     let plan = two_and_one(alloc)?;
-    let tails = [at(1, 2, 2), at(2, 1, 4)];
-    assert!(rt; makes(alloc, &plan, cross(1, 1, 2, 0), (&[1, 4], &[2]), &tails)?);
-    let tail = [at(1, 1, 1), at(1, 2, 2)];
-    assert!(rt; makes(alloc, &plan, cross(1, 0, 2, 1), (&[], &[4, 1, 2]), &tail)?);
-    assert!(rt;
-        makes(
-            alloc,
-            &plan,
-            cross(1, 2, 2, 0),
-            (&[1, 2, 4], &[]),
-            &[at(2, 1, 4)]
-        )?
+    let tails = &[at(1, 2, 2), at(2, 1, 4)];
+    compare(&rt, alloc, &plan, cross(1, 1, 2, 0), (&[1, 4], &[2]), tails);
+    let tail = &[at(1, 1, 1), at(1, 2, 2)];
+    compare(
+        &rt,
+        alloc,
+        &plan,
+        cross(1, 0, 2, 1),
+        (&[], &[4, 1, 2]),
+        tail,
+    );
+    compare(
+        &rt,
+        alloc,
+        &plan,
+        cross(1, 2, 2, 0),
+        (&[1, 2, 4], &[]),
+        &[at(2, 1, 4)],
     );
     Ok(())
 }
@@ -353,9 +387,7 @@ fn has_no_effect_by_one(rt: HostRuntime) -> Result<(), Fail> {
         cross(1, 3, 2, 0),
         cross(1, 0, 1, 1),
     ];
-    for mv in bad {
-        assert!(rt; is_bad(alloc, &plan, mv), "{mv:?}");
-    }
+    refuse_all(&rt, alloc, &plan, &bad);
     Ok(())
 }
 
@@ -374,8 +406,6 @@ fn great_numbers_do_not_wrap(rt: HostRuntime) -> Result<(), Fail> {
         reverse(1, 1, most),
         cross(1, most, 2, most),
     ];
-    for mv in bad {
-        assert!(rt; is_bad(alloc, &plan, mv), "{mv:?}");
-    }
+    refuse_all(&rt, alloc, &plan, &bad);
     Ok(())
 }

@@ -1,5 +1,5 @@
 use Rattle.std.proofs.Common.{[], ◌∷◌, refl}
-use Rattle.move_core.proofs.tests.two_and_one.Goals as goal
+use Rattle.move_core_tests.proofs.tests.two_and_one.Goals as goal
 
 pub replace-requires-clause-plan : goal.replace-requires-clause-plan
 replace-requires-clause-plan c =
