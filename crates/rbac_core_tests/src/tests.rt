@@ -1,8 +1,8 @@
-use crate::{
+use callback_store::Meter;
+use rbac_core::{
     Command, Counting, Names, Object, ObjectRange, Operation, Outcome, Policy, Refusal, Twin,
     access_stays, affected, carry_out, guard_by, step,
 };
-use callback_store::Meter;
 use separation_core::Name;
 use std::alloc::Global;
 use std::process::Abort;
