@@ -2,8 +2,8 @@ use Rattle.std.proofs.Common.{rules, ◌+◌, ◌*◌, [], ◌∷◌, refl, arit
 use Rattle.callback_store.specs.Closures.{small_at}
 use borrow.Pointer.Called.{post_made}
 use Rattle.callback_store.specs.Boxed.{post_of_closure}
-use Rattle.callback_store.proofs.tests.registers_both_kinds.OwnLists.{own-1, at-1-1, own-2, at-2-1}
-use Rattle.callback_store.proofs.tests.registers_both_kinds.Goals as goal
+use Rattle.callback_store_tests.proofs.tests.registers_both_kinds.OwnLists.{own-1, at-1-1, own-2, at-2-1}
+use Rattle.callback_store_tests.proofs.tests.registers_both_kinds.Goals as goal
 
 pub new-unary-requires-clause-table : goal.new-unary-requires-clause-table
 new-unary-requires-clause-table g c =

@@ -1,8 +1,8 @@
 use Rattle.std.proofs.Common.{rules, [], ◌∷◌, refl, arith}
 use borrow.Pointer.Called.{post_made}
 use Rattle.callback_store.specs.Boxed.{post_of_closure}
-use Rattle.callback_store.proofs.tests.answers_of_a_vec.OwnLists.{own-1, at-1-1}
-use Rattle.callback_store.proofs.tests.answers_of_a_vec.Goals as goal
+use Rattle.callback_store_tests.proofs.tests.answers_of_a_vec.OwnLists.{own-1, at-1-1}
+use Rattle.callback_store_tests.proofs.tests.answers_of_a_vec.Goals as goal
 
 pub new-unary-requires-clause-table : goal.new-unary-requires-clause-table
 new-unary-requires-clause-table g c =

@@ -1,7 +1,29 @@
 ghost use Rattle.std.specs.Prelude.{◌≡◌, ◌<◌, ◌+◌, ◌-◌, ◌*◌, slice_index, length};
 
-use crate::{Meter, RegisterFault, Registry, Transit, Unary};
+use callback_store::{Meter, RegisterFault, Registry, Transit, Unary};
+use std::process::Abort;
 use std::test::Fail;
+
+fn compare(rt: &impl Abort, found: u64, wanted: u64, what: &str) {
+    assert_eq!(rt; found, wanted, "{what}");
+}
+
+/// Compares the answers, and how often a callback was asked up to here.
+fn compare_answers(rt: &impl Abort, found: &[u32; 4], wanted: &[u32; 4], meter: &Meter, asks: u64) {
+    assert_eq!(rt; found, wanted);
+    assert_eq!(rt; meter.asks, asks);
+}
+
+fn compare_meter(rt: &impl Abort, found: Meter, asks: u64, probes: u64, walks: u64) {
+    assert_eq!(rt;
+        found,
+        Meter {
+            asks,
+            probes,
+            walks
+        }
+    );
+}
 
 #[test]
 fn answers_of_a_vec(rt: HostRuntime) -> Result<(), Fail> {
@@ -15,10 +37,10 @@ fn answers_of_a_vec(rt: HostRuntime) -> Result<(), Fail> {
     )?;
     let unary = Unary::new(3, call);
     let mut meter = Meter::new();
-    assert_eq!(rt; unary.size(), 3);
-    assert_eq!(rt; unary.ask(&mut meter, 1), 4);
-    assert_eq!(rt; unary.ask(&mut meter, 2), 3);
-    assert_eq!(rt; meter.asks, 2);
+    compare(&rt, u64::from(unary.size()), 3, "the size");
+    compare(&rt, unary.ask(&mut meter, 1), 4, "node 1");
+    compare(&rt, unary.ask(&mut meter, 2), 3, "node 2");
+    compare(&rt, meter.asks, 2, "asks");
     Ok(())
 }
 
@@ -46,10 +68,10 @@ fn registers_both_kinds(rt: HostRuntime) -> Result<(), Fail> {
     let load = registry.register_unary(unary).expect(&rt, "room");
     let time = registry.register(transit).expect(&rt, "room");
     let mut meter = Meter::new();
-    assert_eq!(rt; registry.ask(load, &mut meter, 1, 0), 4);
-    assert_eq!(rt; registry.ask(time, &mut meter, 0, 1), 10);
-    assert_eq!(rt; registry.ask(time, &mut meter, 1, 0), 20);
-    assert_eq!(rt; meter.asks, 3);
+    compare(&rt, registry.ask(load, &mut meter, 1, 0), 4, "load");
+    compare(&rt, registry.ask(time, &mut meter, 0, 1), 10, "out");
+    compare(&rt, registry.ask(time, &mut meter, 1, 0), 20, "back");
+    compare(&rt, meter.asks, 3, "asks");
     Ok(())
 }
 
@@ -75,18 +97,15 @@ fn answers_a_row_and_a_column(rt: HostRuntime) -> Result<(), Fail> {
     let mut meter = Meter::new();
     let mut answers = [1u32; 4];
     registry.ask_row(pairs, &mut meter, 1, &[2, 0, 1, 2], &mut answers);
-    assert_eq!(rt; answers, [30, 10, 0, 30]);
-    assert_eq!(rt; meter.asks, 4);
+    compare_answers(&rt, &answers, &[30, 10, 0, 30], &meter, 4);
     registry.ask_column(pairs, &mut meter, 1, &[2, 0, 1, 2], &mut answers);
-    assert_eq!(rt; answers, [10, 30, 0, 10]);
-    assert_eq!(rt; meter.asks, 8);
+    compare_answers(&rt, &answers, &[10, 30, 0, 10], &meter, 8);
     registry.ask_row(nodes, &mut meter, 1, &[2, 0, 1, 2], &mut answers);
-    assert_eq!(rt; answers, [7, 7, 7, 7]);
+    compare_answers(&rt, &answers, &[7, 7, 7, 7], &meter, 12);
     registry.ask_column(nodes, &mut meter, 1, &[2, 0, 1, 2], &mut answers);
-    assert_eq!(rt; answers, [14, 0, 7, 14]);
-    assert_eq!(rt; meter.asks, 16);
+    compare_answers(&rt, &answers, &[14, 0, 7, 14], &meter, 16);
     registry.ask_row(pairs, &mut meter, 1, &[], &mut []);
-    assert_eq!(rt; meter.asks, 16);
+    compare(&rt, meter.asks, 16, "asks after no node");
     Ok(())
 }
 
@@ -112,8 +131,8 @@ fn refuses_sizes_and_a_seventeenth(rt: HostRuntime) -> Result<(), Fail> {
         let answer = registry.register_unary(unary).map(|id| id.index());
         assert_eq!(rt; answer, wanted, "at {step}");
     }
-    assert_eq!(rt; registry.count(), 16);
-    assert_eq!(rt; registry.nodes(), 2);
+    compare(&rt, u64::from(registry.count()), 16, "count");
+    compare(&rt, u64::from(registry.nodes()), 2, "nodes");
     Ok(())
 }
 
@@ -129,28 +148,14 @@ fn counts_stay_at_their_greatest(rt: HostRuntime) {
         meter.probe();
         meter.walk();
     }
-    assert_eq!(rt;
-        meter,
-        Meter {
-            asks: u64::MAX,
-            probes: u64::MAX,
-            walks: u64::MAX
-        }
-    );
+    compare_meter(&rt, meter, u64::MAX, u64::MAX, u64::MAX);
     meter.ask_many(0);
     meter.ask_many(5);
-    assert_eq!(rt; meter.asks, u64::MAX);
+    compare(&rt, meter.asks, u64::MAX, "asks");
     let mut fresh = Meter::new();
     fresh.ask_many(6);
     fresh.probe();
     fresh.walk();
     fresh.walk();
-    assert_eq!(rt;
-        fresh,
-        Meter {
-            asks: 6,
-            probes: 1,
-            walks: 2
-        }
-    );
+    compare_meter(&rt, fresh, 6, 1, 2);
 }

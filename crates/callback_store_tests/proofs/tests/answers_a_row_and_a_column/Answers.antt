@@ -2,8 +2,8 @@ use Rattle.std.proofs.Common.{rules, ◌+◌, ◌-◌, ◌*◌, refl, arith}
 use borrow.Pointer.Called.{post_made}
 use Rattle.callback_store.specs.Boxed.{post_of_closure}
 use Rattle.callback_store.specs.Closures.{pairs_of_function, table_of_function}
-use Rattle.callback_store.proofs.tests.answers_a_row_and_a_column.OwnLists.{own-1, at-1-1, own-2, at-2-1}
-use Rattle.callback_store.proofs.tests.answers_a_row_and_a_column.Goals as goal
+use Rattle.callback_store_tests.proofs.tests.answers_a_row_and_a_column.OwnLists.{own-1, at-1-1, own-2, at-2-1}
+use Rattle.callback_store_tests.proofs.tests.answers_a_row_and_a_column.Goals as goal
 
 pub new-steps-requires-clause-table : goal.new-steps-requires-clause-table
 new-steps-requires-clause-table g c =

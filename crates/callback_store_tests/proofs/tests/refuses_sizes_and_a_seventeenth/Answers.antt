@@ -2,8 +2,8 @@ use Rattle.std.proofs.Common.{rules, refl, arith}
 use borrow.Pointer.Called.{post_made}
 use Rattle.callback_store.specs.Boxed.{post_of_closure}
 use Rattle.callback_store.specs.Closures.{table_of_function}
-use Rattle.callback_store.proofs.tests.refuses_sizes_and_a_seventeenth.OwnLists.{own-2, at-2-1}
-use Rattle.callback_store.proofs.tests.refuses_sizes_and_a_seventeenth.Goals as goal
+use Rattle.callback_store_tests.proofs.tests.refuses_sizes_and_a_seventeenth.OwnLists.{own-2, at-2-1}
+use Rattle.callback_store_tests.proofs.tests.refuses_sizes_and_a_seventeenth.Goals as goal
 
 pub new-unary-requires-clause-table : goal.new-unary-requires-clause-table
 new-unary-requires-clause-table g c =
