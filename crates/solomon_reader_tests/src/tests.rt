@@ -1,4 +1,4 @@
-use super::*;
+use solomon_reader::{Instance, Kind, Node, ReadFault, read};
 use std::alloc::{AllocError, Global};
 use std::process::Abort;
 use std::test::Fail;
