@@ -1,14 +1,37 @@
-use super::*;
-use std::test::Fail;
+use command_line::{OptionFault, Options, options, status};
+use std::alloc::Global;
+use std::process::Abort;
+
+fn compare(rt: &impl Abort, alloc: Global, words: &[&str], wanted: Options) {
+    let asked = options(alloc, words).expect(rt, "options");
+    assert_eq!(rt; asked, wanted);
+}
+
+/// The fault as text, and whether it is help.
+fn refused(rt: &impl Abort, alloc: Global, words: &[&str], wanted: u8) -> String {
+    let fault = options(alloc, words).expect_err(rt, "a fault");
+    let is_help = matches!(fault, OptionFault::Help(_));
+    assert_eq!(rt; is_help, wanted == 0);
+    assert_eq!(rt; status(&fault), wanted);
+    fault.to_string(alloc).expect(rt, "memory")
+}
+
+fn begins(rt: &impl Abort, text: &str, front: &str) {
+    assert!(rt; text.starts_with(front), "{text}");
+}
+
+fn has_the_lines(rt: &impl Abort, text: &str) {
+    assert!(rt; text.contains("\n  plan       insert C V P BASE  "));
+    assert!(rt; text.ends_with("docs/INSTANCES.md the format of instances.\n"));
+}
 
 #[test]
-fn words_of_the_command_line(rt: HostRuntime) -> Result<(), Fail> {
+fn words_of_the_command_line(rt: HostRuntime) {
     for words in [
         ["dispatch"].as_slice(),
         ["/usr/bin/dispatch", "--"].as_slice(),
     ] {
-        let asked = options(rt.alloc(), words).expect(&rt, "options");
-        assert_eq!(rt; asked, Options::Joined);
+        compare(&rt, rt.alloc(), words, Options::Joined);
     }
     for (words, instance) in [
         (["dispatch", "check", "a.txt"].as_slice(), "a.txt"),
@@ -17,8 +40,7 @@ fn words_of_the_command_line(rt: HostRuntime) -> Result<(), Fail> {
         (["dispatch", "check", "--", "-a"].as_slice(), "-a"),
         (["dispatch", "check", "a.txt", "--"].as_slice(), "a.txt"),
     ] {
-        let asked = options(rt.alloc(), words).expect(&rt, "options");
-        assert_eq!(rt; asked, Options::Check { instance });
+        compare(&rt, rt.alloc(), words, Options::Check { instance });
     }
     for (words, instance, script) in [
         (["dispatch", "run", "a", "b"].as_slice(), "a", "b"),
@@ -27,15 +49,13 @@ fn words_of_the_command_line(rt: HostRuntime) -> Result<(), Fail> {
         (["dispatch", "run", "a", "--", "-b"].as_slice(), "a", "-b"),
         (["dispatch", "run", "a", "b", "--"].as_slice(), "a", "b"),
     ] {
-        let asked = options(rt.alloc(), words).expect(&rt, "options");
-        assert_eq!(rt; asked, Options::Run { instance, script });
+        compare(&rt, rt.alloc(), words, Options::Run { instance, script });
     }
-    Ok(())
 }
 
 #[test]
-fn words_that_ask_for_nothing(rt: HostRuntime) -> Result<(), Fail> {
-    for (words, wanted, begins) in [
+fn words_that_ask_for_nothing(rt: HostRuntime) {
+    for (words, wanted, front) in [
         (
             ["dispatch", "chek"].as_slice(),
             2,
@@ -106,29 +126,16 @@ fn words_that_ask_for_nothing(rt: HostRuntime) -> Result<(), Fail> {
             "Opens the board of an instance, and answers the lines of a script.\n",
         ),
     ] {
-        let fault = options(rt.alloc(), words).expect_err(&rt, "a fault");
-        let is_help = matches!(fault, OptionFault::Help(_));
-        assert_eq!(rt; is_help, wanted == 0);
-        assert_eq!(rt; status(&fault), wanted);
-        let text = fault.to_string(rt.alloc())?;
-        assert!(rt; text.as_str().starts_with(begins), "{text}");
+        begins(&rt, &refused(&rt, rt.alloc(), words, wanted), front);
     }
-    Ok(())
 }
 
 #[test]
-fn help_has_the_lines(rt: HostRuntime) -> Result<(), Fail> {
+fn help_has_the_lines(rt: HostRuntime) {
     for words in [
         ["dispatch", "--help"].as_slice(),
         ["dispatch", "run", "--help"].as_slice(),
     ] {
-        let fault = options(rt.alloc(), words).expect_err(&rt, "a fault");
-        let text = fault.to_string(rt.alloc())?;
-        assert!(rt; text.as_str().contains("\n  plan       insert C V P BASE  "));
-        assert!(rt;
-            text.as_str()
-                .ends_with("docs/INSTANCES.md the format of instances.\n")
-        );
+        has_the_lines(&rt, &refused(&rt, rt.alloc(), words, 0));
     }
-    Ok(())
 }
