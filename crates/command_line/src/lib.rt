@@ -7,6 +7,3 @@ mod parse;
 
 pub use form::{OptionFault, Options};
 pub use parse::{options, status};
-
-#[cfg(test)]
-mod tests;

@@ -16,6 +16,3 @@ pub use laws::{cumuls_are_by_place, spans_go_on, spans_meet};
 pub use range::Range;
 pub use setup::Setup;
 pub use spans::{extend_spans, first_spans};
-
-#[cfg(test)]
-mod tests;

@@ -15,6 +15,3 @@ pub use laws::{
     moves_keep_plans, moves_keep_the_untouched, moves_name_vehicles, shifts_in_parts,
 };
 pub use moves::Move;
-
-#[cfg(test)]
-mod tests;

@@ -10,6 +10,3 @@ mod walk;
 pub use cache::Cache;
 pub use fault::JudgeFault;
 pub use pending::Pending;
-
-#[cfg(test)]
-mod tests;

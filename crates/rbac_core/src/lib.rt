@@ -16,6 +16,3 @@ pub use permission_core::{Object, ObjectRange, ObjectSet, Operation};
 pub use policy_core::{Counting, Policy, Refusal, Session};
 pub use steps::{carry_out, guard, guard_by, is_own, step};
 pub use twin::Twin;
-
-#[cfg(test)]
-mod tests;

@@ -10,6 +10,3 @@ mod reading;
 pub use fault::{Kind, ReadFault};
 pub use instance::{Instance, Node};
 pub use reading::read;
-
-#[cfg(test)]
-mod tests;

@@ -1,0 +1,296 @@
+ghost use Rattle.std.specs.Prelude.{◌≡◌};
+ghost use Rattle.dimension_core.specs.Setup.{setting};
+
+use callback_store::{Meter, Registry, Transit, TransitId, Unary};
+use dimension_core::{
+    Dimension, DimensionFault, Range, Setup, SetupFault, cumuls_are_by_place, first_out,
+    first_out_is_alone, spans_go_on, spans_meet,
+};
+use std::alloc::Global;
+use std::process::Abort;
+
+const LIMIT: u64 = 1_000_000_000_000;
+
+fn compare(rt: &impl Abort, found: u64, wanted: u64, what: &str) {
+    assert_eq!(rt; found, wanted, "{what}");
+}
+
+fn compare_span(rt: &impl Abort, found: Option<Range>, wanted: Option<Range>, what: &str) {
+    assert_eq!(rt; found, wanted, "{what}");
+}
+
+fn compare_answer(rt: &impl Abort, found: bool, wanted: bool, what: Range) {
+    assert_eq!(rt; found, wanted, "{what:?}");
+}
+
+/// One customer, one vehicle of capacity 1,000, each transit 10, no slack, and the depot's range 0 to 100.
+#[test]
+fn the_earliest_cumul_alone_does_not_decide(rt: HostRuntime) {
+    let call = Box::new(
+        rt.alloc(),
+        move |_i: u32, _j: u32| -> u64
+            ensures { result ≡ 10 }
+        { 10 },
+    )
+    .expect(&rt, "memory");
+    let mut registry = Registry::new(rt.alloc());
+    let id = registry.register(Transit::new(2, call)).expect(&rt, "room");
+    let mut meter = Meter::new();
+    let cases = [
+        (false, 50u64, 60u64, true),
+        (true, 50, 60, false),
+        (true, 10, 60, true),
+        (false, 5, 9, false),
+        (false, 90, 100, true),
+        (false, 91, 100, false),
+    ];
+    for (fixed, lo, hi, wanted) in cases {
+        let caps = vec![in rt.alloc(); 1000u64].expect(&rt, "memory");
+        let range = Range { lo, hi };
+        let ranges = vec![in rt.alloc(); Range { lo: 0, hi: 100 }, range].expect(&rt, "memory");
+        let time = Dimension::new(&registry, id, 0, caps, fixed, ranges).expect(&rt, "bounds");
+        let answer = time.in_bounds(&registry, &[1], 1, &mut meter);
+        compare_answer(&rt, answer, wanted, range);
+    }
+    compare(&rt, meter.asks, 10, "asks");
+}
+
+fn compare_fault(
+    rt: &impl Abort,
+    found: Option<DimensionFault>,
+    wanted: Option<DimensionFault>,
+    vehicles: usize,
+    nodes: usize,
+) {
+    assert_eq!(rt; found, wanted, "{vehicles} capacities, {nodes} ranges");
+}
+
+#[test]
+fn a_dimension_is_refused(rt: HostRuntime) {
+    let call = Box::new(
+        rt.alloc(),
+        move |_i: u32| -> u64
+            ensures { result ≡ 3 }
+        { 3 },
+    )
+    .expect(&rt, "memory");
+    let empty = Registry::new(rt.alloc());
+    let mut registry = Registry::new(rt.alloc());
+    let id = registry
+        .register_unary(Unary::new(2, call))
+        .expect(&rt, "room");
+    let cases = [
+        (true, 0u64, 1usize, 9u64, 2usize, 4u64, 5u64, None),
+        (true, LIMIT, 1000, LIMIT, 2, LIMIT, LIMIT, None),
+        (false, 0, 0, 9, 2, 5, 4, Some(DimensionFault::NoTransit)),
+        (true, 0, 0, 9, 2, 4, 5, Some(DimensionFault::Size)),
+        (true, 0, 1001, 9, 2, 4, 5, Some(DimensionFault::Size)),
+        (true, 0, 1, 9, 1, 4, 5, Some(DimensionFault::Size)),
+        (true, 0, 1, 9, 3, 5, 4, Some(DimensionFault::Size)),
+        (true, 0, 1, 9, 2, 5, 4, Some(DimensionFault::Range)),
+        (true, 0, 1, 9, 2, 4, LIMIT + 1, Some(DimensionFault::Range)),
+        (true, 0, 1, LIMIT + 1, 2, 4, 5, Some(DimensionFault::Range)),
+        (true, LIMIT + 1, 1, 9, 2, 4, 5, Some(DimensionFault::Range)),
+    ];
+    for (registered, slack_max, vehicles, cap, nodes, lo, hi, wanted) in cases {
+        let registry = if registered { &registry } else { &empty };
+        let caps = vec![in rt.alloc(); cap; vehicles].expect(&rt, "memory");
+        let ranges = vec![in rt.alloc(); Range { lo, hi }; nodes].expect(&rt, "memory");
+        let answer = Dimension::new(registry, id, slack_max, caps, false, ranges);
+        compare_fault(&rt, answer.err(), wanted, vehicles, nodes);
+    }
+}
+
+/// So many dimensions of one customer and one vehicle.
+fn loads(
+    rt: &impl Abort,
+    alloc: Global,
+    registry: &Registry,
+    id: TransitId,
+    count: u32,
+) -> Vec<Dimension> {
+    let mut dimensions = Vec::new(alloc);
+    for _ in 0..count {
+        let caps = vec![in alloc; 9u64].expect(rt, "memory");
+        let ranges = vec![in alloc; Range { lo: 0, hi: 9 }; 2].expect(rt, "memory");
+        let load = Dimension::new(registry, id, 0, caps, true, ranges).expect(rt, "bounds");
+        dimensions.push(load).expect(rt, "memory");
+    }
+    dimensions
+}
+
+fn compare_refusal(
+    rt: &impl Abort,
+    found: Option<SetupFault>,
+    wanted: Option<SetupFault>,
+    customers: u32,
+    count: u32,
+) {
+    assert_eq!(rt; found, wanted, "{customers} customers, {count} dimensions");
+}
+
+#[test]
+fn a_setup_is_refused(rt: HostRuntime) {
+    let cases = [
+        (1u32, 1u32, 8u32, false, 1u32, None),
+        (1, 1, 0, false, 16_777_216, None),
+        (0, 1, 0, false, 10, Some(SetupFault::Size)),
+        (1001, 1, 0, false, 10, Some(SetupFault::Size)),
+        (1, 0, 0, false, 10, Some(SetupFault::Size)),
+        (1, 1001, 0, false, 10, Some(SetupFault::Size)),
+        (2, 1, 0, false, 10, Some(SetupFault::Size)),
+        (1, 2, 9, true, 0, Some(SetupFault::Size)),
+        (1, 1, 9, true, 0, Some(SetupFault::NoTransit)),
+        (1, 1, 9, false, 0, Some(SetupFault::Many)),
+        (1, 1, 8, false, 0, Some(SetupFault::Limit)),
+        (1, 1, 8, false, 16_777_217, Some(SetupFault::Limit)),
+    ];
+    for (customers, vehicles, count, loses_callbacks, max_events, wanted) in cases {
+        let call = Box::new(
+            rt.alloc(),
+            move |_i: u32| -> u64
+                ensures { result ≡ 3 }
+            { 3 },
+        )
+        .expect(&rt, "memory");
+        let mut registry = Registry::new(rt.alloc());
+        let id = registry
+            .register_unary(Unary::new(2, call))
+            .expect(&rt, "room");
+        let dimensions = loads(&rt, rt.alloc(), &registry, id, count);
+        let registry = if loses_callbacks {
+            Registry::new(rt.alloc())
+        } else {
+            registry
+        };
+        let answer = Setup::new(customers, vehicles, registry, dimensions, id, max_events);
+        compare_refusal(&rt, answer.err(), wanted, customers, count);
+    }
+}
+
+fn compare_setup(rt: &impl Abort, setup: &Setup) {
+    compare(rt, u64::from(setup.customers()), 2, "customers");
+    compare(rt, u64::from(setup.vehicles()), 1, "vehicles");
+    compare(rt, u64::from(setup.registry().count()), 1, "callbacks");
+    compare(rt, u64::from(setup.cost().index()), 0, "cost");
+    compare(rt, u64::from(setup.max_events()), 10, "events");
+    assert_eq!(rt; setup.dimensions().len(), 2);
+}
+
+fn compare_first_out(rt: &impl Abort, setup: &Setup)
+    requires customers { (setting setup.now).customers ≡ 2 }
+    requires vehicles { (setting setup.now).vehicles ≡ 1 }
+{
+    let mut meter = Meter::new();
+    assert_eq!(rt; first_out(setup, 1, &[1, 2], &mut meter), Some(2));
+    compare(rt, meter.asks, 6, "asks");
+    assert_eq!(rt; first_out(setup, 1, &[2], &mut meter), None);
+}
+
+/// A route that the first dimension bears and the second does not.
+#[test]
+fn the_second_dimension_is_the_first_out(rt: HostRuntime) {
+    let call = Box::new(
+        rt.alloc(),
+        move |i: u32| -> u64
+            ensures { result ≡ i }
+        { i as u64 },
+    )
+    .expect(&rt, "memory");
+    let mut registry = Registry::new(rt.alloc());
+    let id = registry
+        .register_unary(Unary::new(3, call))
+        .expect(&rt, "room");
+    let mut dimensions = Vec::new(rt.alloc());
+    for cap in [3u64, 2] {
+        let caps = vec![in rt.alloc(); cap].expect(&rt, "memory");
+        let ranges = vec![in rt.alloc(); Range { lo: 0, hi: 9 }; 3].expect(&rt, "memory");
+        let load = Dimension::new(&registry, id, 0, caps, true, ranges).expect(&rt, "bounds");
+        dimensions.push(load).expect(&rt, "memory");
+    }
+    let setup = Setup::new(2, 1, registry, dimensions, id, 10).expect(&rt, "a setup");
+    compare_setup(&rt, &setup);
+    compare_first_out(&rt, &setup);
+    cumuls_are_by_place();
+    first_out_is_alone();
+    spans_go_on();
+    spans_meet();
+}
+
+/// Each transit 10, slack at most 5, capacity 45; the depot's range is 0 to 20, and those of the customers 12 to 40 and 0 to 100.
+#[test]
+fn spans_stop_by_stop(rt: HostRuntime) {
+    let call = Box::new(
+        rt.alloc(),
+        move |_i: u32, _j: u32| -> u64
+            ensures { result ≡ 10 }
+        { 10 },
+    )
+    .expect(&rt, "memory");
+    let mut registry = Registry::new(rt.alloc());
+    let id = registry.register(Transit::new(3, call)).expect(&rt, "room");
+    let mut meter = Meter::new();
+    for (fixed, start, first, last) in [(false, 20u64, 35u64, 45u64), (true, 0, 15, 30)] {
+        let caps = vec![in rt.alloc(); 45u64].expect(&rt, "memory");
+        let ranges = vec![in rt.alloc();
+            Range { lo: 0, hi: 20 },
+            Range { lo: 12, hi: 40 },
+            Range { lo: 0, hi: 100 },
+        ]
+        .expect(&rt, "memory");
+        let time = Dimension::new(&registry, id, 5, caps, fixed, ranges).expect(&rt, "bounds");
+        let span = Range { lo: 0, hi: start };
+        compare_answer(&rt, time.is_fixed(), fixed, span);
+        compare_span(&rt, time.start(1), Some(span), "start");
+        let next = time.extend(&registry, span, 0, 1, 1, &mut meter);
+        compare_span(&rt, next, Some(Range { lo: 12, hi: first }), "next");
+        let late = Range { lo: 31, hi: 45 };
+        let none = time.extend(&registry, late, 2, 1, 1, &mut meter);
+        compare_span(&rt, none, None, "late");
+        let reached = time.reach(&registry, &[1, 2], 1, &mut meter);
+        compare_span(&rt, reached, Some(Range { lo: 22, hi: last }), "reached");
+    }
+    compare(&rt, meter.asks, 8, "asks");
+}
+
+type Carried = Option<(Range, u32)>;
+
+fn compare_carried(rt: &impl Abort, found: Carried, wanted: Carried) {
+    assert_eq!(rt; found, wanted);
+}
+
+/// The same dimension where the start is free: on from customer 1, and back from customer 2.
+#[test]
+fn spans_on_and_back(rt: HostRuntime) {
+    let call = Box::new(
+        rt.alloc(),
+        move |_i: u32, _j: u32| -> u64
+            ensures { result ≡ 10 }
+        { 10 },
+    )
+    .expect(&rt, "memory");
+    let mut registry = Registry::new(rt.alloc());
+    let id = registry.register(Transit::new(3, call)).expect(&rt, "room");
+    let mut meter = Meter::new();
+    let caps = vec![in rt.alloc(); 45u64].expect(&rt, "memory");
+    let ranges = vec![in rt.alloc();
+        Range { lo: 0, hi: 20 },
+        Range { lo: 12, hi: 40 },
+        Range { lo: 0, hi: 100 },
+    ]
+    .expect(&rt, "memory");
+    let time = Dimension::new(&registry, id, 5, caps, false, ranges).expect(&rt, "bounds");
+    let first = Range { lo: 12, hi: 35 };
+    let last = Range { lo: 22, hi: 45 };
+    let late = Range { lo: 31, hi: 45 };
+    let soon = Range { lo: 0, hi: 9 };
+    let carried = time.carry(&registry, first, 1, &[2], 1, &mut meter);
+    compare_carried(&rt, carried, Some((last, 2)));
+    let carried = time.carry(&registry, late, 2, &[1, 2], 1, &mut meter);
+    compare_carried(&rt, carried, None);
+    let before = time.precede(&registry, last, 1, 2, 1, &mut meter);
+    compare_span(&rt, before, Some(first), "before");
+    let none = time.precede(&registry, soon, 1, 2, 1, &mut meter);
+    compare_span(&rt, none, None, "soon");
+    compare(&rt, meter.asks, 4, "asks");
+}

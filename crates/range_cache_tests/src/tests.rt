@@ -1,0 +1,367 @@
+ghost use Rattle.std.specs.Prelude.{◌≡◌, ℕ, ◌+◌, ◌*◌, ◌<◌, ◌≤◌, [], ◌∷◌, length, slice_index, All, IfOk, IfSome, OnOk, OnErr};
+ghost use Rattle.dimension_core.specs.NewRoutes.{AllKnown};
+ghost use Rattle.dimension_core.specs.Setup.{setting};
+ghost use Rattle.plan_core.specs.Plan.{IsPlan, changes_of, replaced, with_routes};
+ghost use Rattle.range_cache.specs.Cache.{IsCacheOf};
+
+use callback_store::{Meter, Registry, Transit, TransitId, Unary};
+use dimension_core::{Dimension, Range, Setup, first_out};
+use plan_core::{Plan, Route, plans_are_tested};
+use range_cache::{Cache, JudgeFault};
+use std::alloc::{AllocError, Global};
+use std::process::Abort;
+use std::sync::Arc;
+use std::sync::atomic::{AtomicU64, Ordering};
+use std::test::Fail;
+
+/// One new route alone.
+fn one_change(
+    alloc: Global,
+    vehicle: u32,
+    customers: &[u32],
+) -> Result<Vec<(u32, Arc<Route>)>, AllocError>
+    ensures changes { IfOk result (λ changes. changes_of changes.items ≡ (vehicle, customers.now) ∷ []) }
+    ensures short { IfOk result (λ changes. length customers.now ≤ 1000 → All (λ c. length c.1.value ≤ 1000) changes.items) }
+{
+    let route = Arc::new(alloc, Route::new(Vec::from_slice(alloc, customers)?))?;
+    let mut changes = Vec::with_capacity(alloc, 1)?;
+    changes.push((vehicle, route))?;
+    Ok(changes)
+}
+
+/// Gives a vehicle a new route where it is in bounds, in the cache and in the plan.
+fn commit(
+    alloc: Global,
+    setup: &Setup,
+    cache: &mut Cache,
+    plan: &mut Plan,
+    vehicle: u32,
+    customers: &[u32],
+    meter: &mut Meter,
+) -> Result<(), JudgeFault>
+    requires cache { IsCacheOf (setting setup.now) plan.old.routes cache.old }
+    requires low { 1 ≤ vehicle }
+    requires high { vehicle ≤ (setting setup.now).vehicles }
+    requires known { All (λ c. c ≤ (setting setup.now).customers) customers.now }
+    requires short { length customers.now ≤ 1000 }
+    requires plan { IsPlan plan.old.customers (with_routes ((vehicle, customers.now) ∷ []) plan.old.routes) }
+    requires room { plan.old.version < 16777216 }
+    ensures cache { IsCacheOf (setting setup.now) plan.new.routes cache.new }
+    ensures ok { OnOk result (plan.new ≡ replaced ((vehicle, customers.now) ∷ []) plan.old) }
+    ensures err { OnErr result (plan.new ≡ plan.old) }
+{
+    let changes = one_change(alloc, vehicle, customers)?;
+    let pending = cache.judge(setup, plan, &changes, meter)?;
+    cache.take(pending);
+    plan.replace(changes);
+    Ok(())
+}
+
+/// The early values of a vehicle's route, dimension by dimension.
+fn earlies(
+    alloc: Global,
+    setup: &Setup,
+    cache: &Cache,
+    plan: &Plan,
+    vehicle: u32,
+) -> Result<Vec<u64>, AllocError>
+    requires cache { IsCacheOf (setting setup.now) plan.now.routes cache.now }
+    requires low { 1 ≤ vehicle }
+    requires high { vehicle ≤ (setting setup.now).vehicles }
+{
+    let _sound = setup.vehicles();
+    let mut values = Vec::new(alloc);
+    let stops = plan.route(vehicle).len() as u32;
+    for dimension in 0..setup.dimensions().len() as u32 {
+        for before in 0..stops {
+            values.push(cache.early(dimension + 1, vehicle, before + 1))?;
+        }
+    }
+    Ok(values)
+}
+
+fn compare_earlies(
+    rt: &impl Abort,
+    alloc: Global,
+    setup: &Setup,
+    cache: &Cache,
+    plan: &Plan,
+    wanted: &[u64],
+)
+    requires cache { IsCacheOf (setting setup.now) plan.now.routes cache.now }
+    requires vehicles { (setting setup.now).vehicles ≡ 2 }
+{
+    let kept = earlies(alloc, setup, cache, plan, 1).expect(rt, "memory");
+    assert_eq!(rt; kept.as_slice(), wanted);
+}
+
+/// Compares how often a callback was asked.
+fn asked(rt: &impl Abort, found: u64, wanted: u64) {
+    assert_eq!(rt; found, wanted);
+}
+
+/// Why the new routes are not taken, if they are not.
+fn fault_of(
+    setup: &Setup,
+    cache: &Cache,
+    plan: &Plan,
+    changes: &[(u32, Arc<Route>)],
+    meter: &mut Meter,
+) -> Option<JudgeFault>
+    requires cache { IsCacheOf (setting setup.now) plan.now.routes cache.now }
+    requires known { AllKnown (setting setup.now) (changes_of changes.now) }
+    requires short { All (λ c. length c.1.value ≤ 1000) changes.now }
+{
+    cache.judge(setup, plan, changes, meter).err()
+}
+
+fn compare_fault(rt: &impl Abort, found: Option<JudgeFault>, wanted: Option<JudgeFault>) {
+    assert_eq!(rt; found, wanted);
+}
+
+/// For four customers and two vehicles: load of at most 10 with the start at 0, and time without bounds but the windows.
+fn load_and_time(
+    rt: &impl Abort,
+    alloc: Global,
+    registry: &Registry,
+    load: TransitId,
+    time: TransitId,
+) -> Vec<Dimension> {
+    let caps = vec![in alloc; 10u64, 10].expect(rt, "memory");
+    let ranges = vec![in alloc; Range { lo: 0, hi: 10 }; 5].expect(rt, "memory");
+    let loads = Dimension::new(registry, load, 0, caps, true, ranges).expect(rt, "bounds");
+    let caps = vec![in alloc; 1000u64, 1000].expect(rt, "memory");
+    let ranges = vec![in alloc;
+        Range { lo: 0, hi: 1000 },
+        Range { lo: 0, hi: 500 },
+        Range { lo: 0, hi: 500 },
+        Range { lo: 0, hi: 140 },
+        Range { lo: 0, hi: 500 },
+    ]
+    .expect(rt, "memory");
+    let times = Dimension::new(registry, time, 1000, caps, false, ranges).expect(rt, "bounds");
+    let mut dimensions = Vec::new(alloc);
+    dimensions.push(loads).expect(rt, "memory");
+    dimensions.push(times).expect(rt, "memory");
+    dimensions
+}
+
+/// The cache of a plan that was found in bounds, made anew.
+fn made_anew(
+    alloc: Global,
+    setup: &Setup,
+    plan: &Plan,
+    meter: &mut Meter,
+) -> Result<Option<Cache>, AllocError>
+    requires customers { plan.now.customers ≡ (setting setup.now).customers }
+    requires vehicles { length plan.now.routes ≡ (setting setup.now).vehicles }
+    ensures { IfOk result (λ made. IfSome made (IsCacheOf (setting setup.now) plan.now.routes)) }
+{
+    for before in 0..setup.vehicles() {
+        let route = plan.route(before + 1).customers();
+        if let Some(_) = first_out(setup, before + 1, route, meter) {
+            return Ok(None);
+        }
+    }
+    Ok(Some(Cache::of(alloc, setup, plan, meter)?))
+}
+
+/// One customer after the other, each with at most four asks.
+fn inserts(
+    rt: &impl Abort,
+    alloc: Global,
+    setup: &Setup,
+    meter: &mut Meter,
+) -> Result<(), AllocError>
+    requires customers { (setting setup.now).customers ≡ 4 }
+    requires vehicles { (setting setup.now).vehicles ≡ 2 }
+{
+    plans_are_tested();
+    let mut plan = Plan::new(alloc, 4, 2)?;
+    let mut cache = Cache::new(alloc, setup)?;
+    let begun = meter.asks;
+    commit(alloc, setup, &mut cache, &mut plan, 1, &[1], meter).expect(rt, "one");
+    asked(rt, meter.asks.wrapping_sub(begun), 4);
+    commit(alloc, setup, &mut cache, &mut plan, 1, &[1, 2], meter).expect(rt, "two");
+    asked(rt, meter.asks.wrapping_sub(begun), 8);
+    commit(alloc, setup, &mut cache, &mut plan, 1, &[1, 2, 3], meter).expect(rt, "three");
+    asked(rt, meter.asks.wrapping_sub(begun), 12);
+    compare_earlies(rt, alloc, setup, &cache, &plan, &[0, 4, 7, 28, 84, 140]);
+    Ok(())
+}
+
+/// The cache of the whole plan, made at once.
+fn of_a_plan(
+    rt: &impl Abort,
+    alloc: Global,
+    setup: &Setup,
+    meter: &mut Meter,
+) -> Result<(), AllocError>
+    requires customers { (setting setup.now).customers ≡ 4 }
+    requires vehicles { (setting setup.now).vehicles ≡ 2 }
+{
+    plans_are_tested();
+    let mut plan = Plan::new(alloc, 4, 2)?;
+    plan.replace(one_change(alloc, 1, &[1, 2, 3])?);
+    let begun = meter.asks;
+    let made = made_anew(alloc, setup, &plan, meter)?;
+    asked(rt, meter.asks.wrapping_sub(begun), 16);
+    let made = made.expect(rt, "in bounds");
+    compare_earlies(rt, alloc, setup, &made, &plan, &[0, 4, 7, 28, 84, 140]);
+    Ok(())
+}
+
+/// Customers that leave a route: the travel past the second is too long, the first and then all may go.
+fn removals(
+    rt: &impl Abort,
+    alloc: Global,
+    setup: &Setup,
+    meter: &mut Meter,
+) -> Result<(), AllocError>
+    requires customers { (setting setup.now).customers ≡ 4 }
+    requires vehicles { (setting setup.now).vehicles ≡ 2 }
+{
+    plans_are_tested();
+    let mut plan = Plan::new(alloc, 4, 2)?;
+    let mut cache = Cache::new(alloc, setup)?;
+    commit(alloc, setup, &mut cache, &mut plan, 1, &[1, 2, 3], meter).expect(rt, "all");
+    let begun = meter.asks;
+    let late = one_change(alloc, 1, &[1, 3])?;
+    let answer = fault_of(setup, &cache, &plan, &late, meter);
+    compare_fault(rt, answer, Some(JudgeFault::Bound(1, 2)));
+    asked(rt, meter.asks.wrapping_sub(begun), 3);
+    commit(alloc, setup, &mut cache, &mut plan, 1, &[2, 3], meter).expect(rt, "two");
+    asked(rt, meter.asks.wrapping_sub(begun), 9);
+    compare_earlies(rt, alloc, setup, &cache, &plan, &[0, 3, 84, 140]);
+    commit(alloc, setup, &mut cache, &mut plan, 1, &[], meter).expect(rt, "none");
+    asked(rt, meter.asks.wrapping_sub(begun), 9);
+    compare_earlies(rt, alloc, setup, &cache, &plan, &[]);
+    Ok(())
+}
+
+/// Two new routes, of which the first is in bounds and the second is too heavy.
+fn the_second_is_out(
+    rt: &impl Abort,
+    alloc: Global,
+    setup: &Setup,
+    meter: &mut Meter,
+) -> Result<(), AllocError>
+    requires customers { (setting setup.now).customers ≡ 4 }
+    requires vehicles { (setting setup.now).vehicles ≡ 2 }
+{
+    let plan = Plan::new(alloc, 4, 2)?;
+    let cache = Cache::new(alloc, setup)?;
+    let mut changes = one_change(alloc, 2, &[4])?;
+    let route = Route::new(Vec::from_slice(alloc, [1, 2, 3, 4].as_slice())?);
+    changes.push((1, Arc::new(alloc, route)?))?;
+    let answer = fault_of(setup, &cache, &plan, &changes, meter);
+    compare_fault(rt, answer, Some(JudgeFault::Bound(1, 1)));
+    Ok(())
+}
+
+fn in_turn(rt: &impl Abort, alloc: Global, setup: &Setup, meter: &mut Meter)
+    requires customers { (setting setup.now).customers ≡ 4 }
+    requires vehicles { (setting setup.now).vehicles ≡ 2 }
+{
+    inserts(rt, alloc, setup, meter).expect(rt, "memory");
+    of_a_plan(rt, alloc, setup, meter).expect(rt, "memory");
+    removals(rt, alloc, setup, meter).expect(rt, "memory");
+    the_second_is_out(rt, alloc, setup, meter).expect(rt, "memory");
+}
+
+/// Compares the meter with the calls that the closures counted.
+fn compare_counts(rt: &impl Abort, meter: Meter, calls: u64) {
+    assert_eq!(rt; meter.asks, calls);
+    assert_eq!(rt; (meter.probes, meter.walks), (0, 0));
+}
+
+/// Travel between the depot at (0, 0) and the customers at (2, 2), (6, 6), (10, 10), (3, 4), in tenths, and demands 4, 3, 3, 5. The
+/// closures count their calls beside the meter.
+#[test]
+fn four_customers(rt: HostRuntime) -> Result<(), Fail> {
+    let demands = vec![in rt.alloc(); 0u64, 4, 3, 3, 5]?;
+    let travels = vec![in rt.alloc();
+        0u64, 28, 84, 141, 50, 28, 0, 56, 113, 22, 84, 56, 0, 56, 36, 141, 113, 56, 0, 92, 50, 22,
+        36, 92, 0,
+    ]?;
+    let calls = Arc::new(rt.alloc(), AtomicU64::new(0)).expect(&rt, "memory");
+    let of_demands = Arc::try_clone(&calls).expect(&rt, "memory");
+    let of_travels = Arc::try_clone(&calls).expect(&rt, "memory");
+    let demand = Box::new(
+        rt.alloc(),
+        move |i: u32| -> u64
+            requires { i < length demands.items }
+            ensures { result ≡ slice_index demands.items i }
+        {
+            of_demands.fetch_add(1, Ordering::SeqCst);
+            demands[i as usize]
+        },
+    )
+    .expect(&rt, "memory");
+    let travel = Box::new(
+        rt.alloc(),
+        move |i: u32, j: u32| -> u64
+            requires { i * 5 + j < length travels.items }
+            ensures { result ≡ slice_index travels.items (i * 5 + j) }
+        {
+            of_travels.fetch_add(1, Ordering::SeqCst);
+            travels[i as usize * 5 + j as usize]
+        },
+    )
+    .expect(&rt, "memory");
+    let demand = Unary::new(5, demand);
+    let travel = Transit::new(5, travel);
+    let alloc = rt.alloc();
+    let mut registry = Registry::new(alloc);
+    let load = registry.register_unary(demand).expect(&rt, "room");
+    let time = registry.register(travel).expect(&rt, "room");
+    let dimensions = load_and_time(&rt, alloc, &registry, load, time);
+    let setup = Setup::new(4, 2, registry, dimensions, time, 10).expect(&rt, "setup");
+    let mut meter = Meter::new();
+    in_turn(&rt, alloc, &setup, &mut meter);
+    compare_counts(&rt, meter, calls.load(Ordering::SeqCst));
+    Ok(())
+}
+
+/// One customer and one vehicle, no slack, capacity 1,000, and the depot's range 0 to 100: what is said of customer 1 with that range.
+fn judged(
+    rt: &impl Abort,
+    alloc: Global,
+    registry: Registry,
+    id: TransitId,
+    fixed: bool,
+    range: Range,
+) -> Option<JudgeFault> {
+    let caps = vec![in alloc; 1000u64].expect(rt, "memory");
+    let ranges = vec![in alloc; Range { lo: 0, hi: 100 }, range].expect(rt, "memory");
+    let time = Dimension::new(&registry, id, 0, caps, fixed, ranges).expect(rt, "bounds");
+    let mut dimensions = Vec::new(alloc);
+    dimensions.push(time).expect(rt, "memory");
+    let setup = Setup::new(1, 1, registry, dimensions, id, 10).expect(rt, "setup");
+    let plan = Plan::new(alloc, 1, 1).expect(rt, "memory");
+    let cache = Cache::new(alloc, &setup).expect(rt, "memory");
+    let changes = one_change(alloc, 1, &[1]).expect(rt, "memory");
+    fault_of(&setup, &cache, &plan, &changes, &mut Meter::new())
+}
+
+/// Each transit is 10: the range 50 to 60 is met where the start is free alone, and 5 to 9 never.
+#[test]
+fn the_earliest_cumul_alone_does_not_decide(rt: HostRuntime) {
+    for (fixed, lo, hi, wanted) in [
+        (false, 50u64, 60u64, None),
+        (true, 50, 60, Some(JudgeFault::Bound(1, 1))),
+        (false, 5, 9, Some(JudgeFault::Bound(1, 1))),
+    ] {
+        let call = Box::new(
+            rt.alloc(),
+            move |_i: u32, _j: u32| -> u64
+                ensures { result ≡ 10 }
+            { 10 },
+        )
+        .expect(&rt, "memory");
+        let mut registry = Registry::new(rt.alloc());
+        let id = registry.register(Transit::new(2, call)).expect(&rt, "room");
+        let answer = judged(&rt, rt.alloc(), registry, id, fixed, Range { lo, hi });
+        compare_fault(&rt, answer, wanted);
+    }
+}
