@@ -226,6 +226,7 @@ fn json<R, F: Front<R>>(
 
 /// Has the front do what a line says, and tells what is to be written for it; where that is a text, it stands in the text, which is
 /// empty before.
+#[inline(always)]
 pub(crate) fn obey<R, F: Front<R>>(
     rt: &R,
     front: &mut F,

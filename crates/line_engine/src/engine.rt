@@ -44,6 +44,7 @@ fn ask<R, F: Front<R>>(
 }
 
 /// Asks the front what a line of these words says, and puts the text of what it answers in the place of the text.
+#[inline(always)]
 fn answer_words<R, F: Front<R>>(
     rt: &R,
     alloc: Global,
