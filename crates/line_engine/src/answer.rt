@@ -73,6 +73,7 @@ fn refused_line(text: &mut String, fault: AskFault) -> Result<(), AllocError>
 
 // ---- commands, each with an empty text before
 
+#[inline(always)]
 fn submit<R, F: Front<R>>(
     rt: &R,
     front: &mut F,
