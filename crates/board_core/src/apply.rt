@@ -68,10 +68,9 @@ impl Core {
         let alloc = *self.journal.allocator();
         make_room(&mut self.journal, most)?;
         let reply = self.state.apply(alloc, setup, &event.call, meter)?;
-        let Event { desk, turn, call } = event;
-        self.turns[desk as usize - 1] = turn;
+        self.turns[event.desk as usize - 1] = event.turn;
         let answer = copy_of(&reply);
-        record(&mut self.journal, desk, turn, call, reply);
+        record(&mut self.journal, event, reply);
         Ok(answer)
     }
 }

@@ -179,7 +179,7 @@ impl Core {
         let reply = self.state.settle(judged);
         self.turns[desk as usize - 1] = turn;
         let answer = copy_of(&reply);
-        record(&mut self.journal, desk, turn, call, reply);
+        record(&mut self.journal, Event { desk, turn, call }, reply);
         answer
     }
 }
@@ -198,16 +198,17 @@ pub(crate) fn make_room(journal: &mut Vec<Entry>, most: u32) -> Result<(), Alloc
     journal.reserve_exact(len.max(16).min(most as usize - len))
 }
 
-/// Puts an entry at the end, where there is room for it.
-pub(crate) fn record(journal: &mut Vec<Entry>, desk: u32, turn: u32, call: Call, reply: Reply)
+/// Puts an event with its reply at the end, where there is room for it.
+#[inline(always)]
+pub(crate) fn record(journal: &mut Vec<Entry>, event: Event, reply: Reply)
     requires { vec_len journal.old < vec_capacity journal.old }
-    ensures items { journal.new.items ≡ journal.old.items ++ record { desk = desk; turn = turn; call = call; reply = reply } ∷ [] }
+    ensures items { journal.new.items ≡ journal.old.items ++ entry_of event reply ∷ [] }
     ensures capacity { vec_capacity journal.new ≡ vec_capacity journal.old }
 {
     journal.push_reserved(Entry {
-        desk,
-        turn,
-        call,
+        desk: event.desk,
+        turn: event.turn,
+        call: event.call,
         reply,
     });
 }

@@ -1,5 +1,5 @@
 -- What a line says, from left to right, with the first fault that is met.
-use Rattle.std.specs.Prelude.{◌≡◌, ℕ, List, [], ◌∷◌, Bool, false, Option, None, Some, Result, Ok, Err, ◌==◌, if◌then◌else◌}
+use Rattle.std.specs.Prelude.{◌≡◌, ℕ, List, [], ◌∷◌, map, Bool, false, Option, None, Some, Result, Ok, Err, ◌==◌, if◌then◌else◌}
 use Rattle.text_words.specs.Words.{words}
 use Rattle.move_core.specs.declared.moves.Move.TheVariants as plan
 use Rattle.rbac_core.specs.declared.command.Command.{Command as PolicyCommand}
@@ -21,6 +21,8 @@ use Rattle.board_lines.specs.declared.word.ManageWord.TheVariants as manages
 use Rattle.board_lines.specs.declared.word.SetWord.TheVariants as sets
 use Rattle.board_lines.specs.declared.word.SessionWord.TheVariants as sessions
 use Rattle.board_lines.specs.declared.word.AskWord.TheVariants as asks
+use Rattle.board_lines.specs.declared.reading.Head.{Head}
+use Rattle.board_lines.specs.declared.reading.Head.TheVariants as heads
 use Rattle.board_lines.specs.Table.{row_of, word_of}
 use Rattle.board_lines.specs.Arguments.{Arguments, no_more, the_object, the_range, the_names, a_number, a_name, an_operation, ◌>>=◌, number_arg, arguments_of}
 
@@ -112,3 +114,10 @@ words_read (first ∷ rest) = if is_comment first then Ok Skip else (number_arg 
 -- what the line says
 abbrev pub read_of : List ℕ → Result Command LineFault
 read_of line = words_read (words line)
+
+-- What a function returned is what the line begins with, where this is what it says: a fault is the line's, and with the session and the
+-- command the words behind them say the rest.
+abbrev pub Begins : Result Head LineFault → Result Command LineFault → Type 0
+Begins (Err fault) read = read ≡ Err fault
+Begins (Ok heads.Skip) read = read ≡ Ok Skip
+Begins (Ok (heads.Asks session word args)) read = read ≡ after_word session word (map (λ w. w.now) args.now)

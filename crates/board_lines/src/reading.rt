@@ -5,7 +5,7 @@ ghost use Rattle.board_rules.specs.declared.call.Call.TheVariants as calls;
 ghost use Rattle.board_lines.specs.declared.command.Command.TheVariants.{Submit};
 ghost use Rattle.board_lines.specs.declared.word.Word.TheVariants.{Propose, Hold, Manage, Separate, Session, Ask};
 ghost use Rattle.board_lines.specs.declared.word.Separation.TheVariants.{Static, Dynamic};
-ghost use Rattle.board_lines.specs.Reading.{Says, by_policy, after_word, words_read, read_of};
+ghost use Rattle.board_lines.specs.Reading.{Says, Begins, by_policy, after_word, words_read, read_of};
 
 use crate::arguments::{
     access, five_numbers, four_numbers, name_and_names, name_and_number, name_number_and_names,
@@ -397,9 +397,10 @@ fn question(session: u32, word: AskWord, arguments: &[&[u8]]) -> Result<Command,
 
 // ---- lines
 
+/// What a line says whose session and command are known, by the words behind the command's; or its first fault.
 // Within its caller, which holds the large result: apart, it would be copied once more.
 #[inline(always)]
-fn command(
+pub fn read_command(
     alloc: Global,
     session: u32,
     word: Word,
@@ -422,30 +423,62 @@ fn command(
     }
 }
 
+/// What a line begins with, before its arguments are looked at.
+#[derive(Clone, Copy, Drop)]
+pub enum Head<'a> {
+    /// A line without words, or a comment.
+    Skip,
+    /// The session, the command, and the words behind the command's.
+    Asks {
+        session: u32,
+        word: Word,
+        arguments: &'a [&'a [u8]],
+    },
+}
+
+/// What the words of a line begin with, or the first fault: the session is no number, or there is no such command. What a
+/// line says is large, and most bad lines are told by this alone.
+#[tactic(auto, unfolding(crate::specs::Reading::words_read))]
+#[inline(always)]
+pub fn read_head<'a>(words: &'a [&'a [u8]]) -> Result<Head<'a>, LineFault>
+    ensures { Begins result (words_read (map (λ w. w.now) words.now)) }
+{
+    let [first, rest @ ..] = words else {
+        return Ok(Head::Skip);
+    };
+    if let [b'#', ..] = first {
+        return Ok(Head::Skip);
+    }
+    let session = number_argument(first)?;
+    let [word, arguments @ ..] = rest else {
+        return Err(LineFault::Word);
+    };
+    let Some(word) = Word::of(word) else {
+        return Err(LineFault::Word);
+    };
+    Ok(Head::Asks {
+        session,
+        word,
+        arguments,
+    })
+}
+
 /// What the words of a line say, or the first fault. Only the names that a set or a session is made of take memory.
 ///
 /// A line without words, or whose first word begins with `#`, is skipped. Any other is `SESSION COMMAND ARGUMENTS`.
 /// The faults, in the order in which they are looked for: the session is no number, the command's word, the count of
 /// words (without the words of an object whose kind is none), then from the left the first argument that does not fit.
-#[tactic(auto, unfolding(crate::specs::Reading::words_read))]
-#[inline(always)]
 pub fn read_words(alloc: Global, words: &[&[u8]]) -> Result<Command, ReadFault>
     ensures { Says result (words_read (map (λ w. w.now) words.now)) }
 {
-    let [first, rest @ ..] = words else {
-        return Ok(Command::Skip);
-    };
-    if let [b'#', ..] = first {
-        return Ok(Command::Skip);
+    match read_head(words)? {
+        Head::Skip => Ok(Command::Skip),
+        Head::Asks {
+            session,
+            word,
+            arguments,
+        } => read_command(alloc, session, word, arguments),
     }
-    let session = number_argument(first)?;
-    let [word, arguments @ ..] = rest else {
-        return Err(ReadFault::Line(LineFault::Word));
-    };
-    let Some(word) = Word::of(word) else {
-        return Err(ReadFault::Line(LineFault::Word));
-    };
-    command(alloc, session, word, arguments)
 }
 
 /// What a line says, or its first fault. The line comes without its line end. Words are parted by spaces and tabs, and stand

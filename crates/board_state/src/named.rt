@@ -49,11 +49,24 @@ impl State {
         ensures work { WorksAtMost meter.old meter.new 0 (length (named.0 ∷ option_to_list named.1)) }
     {
         let (first, second) = named;
-        if !self.may(session, Operation::Move, Object::Vehicle(first), meter) {
+        let found = self.session_rows(session);
+        if !self.may_by(
+            session,
+            found,
+            Operation::Move,
+            Object::Vehicle(first),
+            meter,
+        ) {
             return Some(first);
         }
         let vehicle = second?;
-        if !self.may(session, Operation::Move, Object::Vehicle(vehicle), meter) {
+        if !self.may_by(
+            session,
+            found,
+            Operation::Move,
+            Object::Vehicle(vehicle),
+            meter,
+        ) {
             return Some(vehicle);
         }
         None

@@ -63,9 +63,11 @@ impl State {
         ensures first { result ≡ find (λ t. not (allows self.now.tables session operations.Move (objects.Customer t.customer))) touched.now }
         ensures work { WorksAtMost meter.old meter.new 0 (length touched.now) }
     {
+        let found = self.session_rows(session);
         for touch in touched {
-            if !self.may(
+            if !self.may_by(
                 session,
+                found,
                 Operation::Move,
                 Object::Customer(touch.customer),
                 meter,

@@ -133,7 +133,27 @@ impl State {
         self.policy.policy().is_session(session)
     }
 
+    /// CheckAccess for a session whose permissions were found: one probe.
+    #[inline(always)]
+    pub(crate) fn may_by(
+        &self,
+        session: u32,
+        found: Option<&SessionRows>,
+        operation: Operation,
+        object: Object,
+        meter: &mut Meter,
+    ) -> bool
+        requires { option_map (λ rows. rows.now) found ≡ rows_of self.now.tables session }
+        ensures value { result ≡ allows self.now.tables session operation object }
+        ensures work { WorksAtMost meter.old meter.new 0 1 }
+    {
+        let _few = meter.probes;
+        meter.probe();
+        self.tables.allows(found, operation, object)
+    }
+
     /// CheckAccess: one probe.
+    #[inline(always)]
     pub(crate) fn may(
         &self,
         session: u32,
@@ -144,8 +164,8 @@ impl State {
         ensures value { result ≡ allows self.now.tables session operation object }
         ensures work { WorksAtMost meter.old meter.new 0 1 }
     {
-        let _few = meter.probes;
-        self.tables.check(session, operation, object, meter)
+        let found = self.session_rows(session);
+        self.may_by(session, found, operation, object, meter)
     }
 }
 

@@ -9,6 +9,7 @@ use Rattle.board_lines.specs.Reading.{Says}
 use Rattle.line_engine.specs.Answers.{Answer, Said, Bad}
 use Rattle.line_engine.specs.Fronts.{Does, Gives, Fails, Drops, Loses, as_json}
 use Rattle.line_engine.specs.declared.mark.Mark.{Mark}
+use Rattle.line_engine.specs.declared.mark.Mark.TheVariants as marks
 use Rattle.line_engine.specs.Marks.{Marks, Obeys, Tells, TellsJson, IsUnread}
 
 -- a command whose outcome is what the front answers to it
@@ -75,3 +76,9 @@ untold {E = E} step old read got fault is says text r h = of_fault fault (subst 
 -- what was read, by what reading returned
 pub read_whole : (r : Result Command ReadFault) (read : Result Command LineFault) (command : Command) → r ≡ Ok command → Says r read → read ≡ Ok command
 read_whole r read command is h = subst (λ (x : Result Command ReadFault). Says x read) is h
+
+-- a line that its head shows to be bad
+pub bad_head : {S : Type 0} (step : S → Command → Answer → S → Type 0) (old : S) (read : Result Command LineFault) (fault : LineFault) → read ≡ Err fault
+    → (text : List ℕ) → Marks (λ outcome. Gives step old read outcome old) text (marks.Bad fault)
+bad_head step old read fault is text =
+    record { outcome = Bad fault; holds = subst (λ (x : Result Command LineFault). Gives step old x (Bad fault) old) (sym is) (refl, refl); told = refl; replied = refl; refused = refl }

@@ -73,6 +73,7 @@ fn refused_line(text: &mut String, fault: AskFault) -> Result<(), AllocError>
 
 // ---- commands, each with an empty text before
 
+#[inline(always)]
 fn submit<R, F: Front<R>>(
     rt: &R,
     front: &mut F,
@@ -226,6 +227,7 @@ fn json<R, F: Front<R>>(
 
 /// Has the front do what a line says, and tells what is to be written for it; where that is a text, it stands in the text, which is
 /// empty before.
+#[inline(always)]
 pub(crate) fn obey<R, F: Front<R>>(
     rt: &R,
     front: &mut F,

@@ -3,7 +3,7 @@
 ghost use Rattle.std.specs.Prelude.{◌≡◌, ◌<◌, ◌⊎◌, ◌∷◌, [], ◌++◌, List, ℕ, length, map, OnOk, OnErr, IfOk, IfErr, string_bytes};
 ghost use Rattle.std.specs.Io.KnownBytes.{Appends};
 ghost use Rattle.text_words.specs.Words.{words as line_words};
-ghost use Rattle.board_lines.specs.Reading.{read_of, Says};
+ghost use Rattle.board_lines.specs.Reading.{after_word, read_of, words_read};
 ghost use Rattle.line_engine.specs.Fronts.{Gives, Drops};
 ghost use Rattle.line_engine.specs.Marks.{Marks};
 ghost use Rattle.line_engine.specs.Running.{body, Grows, Served, ServeBroken, Progress, Broken, IsLine, HasNoEnd, BrokenWithin, Finished, Reaches, Answered, Stopped};
@@ -13,31 +13,85 @@ use crate::front::Front;
 use crate::mark::Mark;
 use crate::outbox::Outbox;
 use crate::run_fault::{Counts, RunFault};
-use board_lines::{Command, ReadFault, read_line, read_words};
+use board_lines::{Head, Word, read_command, read_head};
 use std::alloc::Global;
 use std::io::{Read, Write};
 use text_words::{keep_all_words, keep_line};
 
-// Apart, since few lines end so.
+/// Asks the front what a line says whose session and command are known, and puts the text of what it answers in the place of
+/// the text.
+// Apart, since what a line says is large: a line that is skipped or bad by its head pays nothing for it.
 #[inline(never)]
-fn read_returned(alloc: Global, text: &[u8]) -> Result<Command, ReadFault>
-    ensures { Says result (read_of text.now) }
+fn ask<R, F: Front<R>>(
+    rt: &R,
+    alloc: Global,
+    front: &mut F,
+    text: &mut String,
+    session: u32,
+    word: Word,
+    arguments: &[&[u8]],
+) -> Result<Mark, OutOfMemory>
+    requires ready { F.ready front.old }
+    ensures ready { F.ready front.new }
+    ensures ok { IfOk result (Marks (λ outcome. Gives F.step front.old (after_word session word (map (λ w. w.now) arguments.now)) outcome front.new) (string_bytes text.new)) }
+    ensures err { OnErr result (Drops F.step F.refuses front.old (after_word session word (map (λ w. w.now) arguments.now)) front.new) }
 {
-    read_line(alloc, text)
-}
-
-/// What a line says, without the one carriage return at its end. The words of a line that has none are cut already.
-fn read(alloc: Global, words: &[&[u8]], line: &[u8]) -> Result<Command, ReadFault>
-    requires { map (λ w. w.now) words.now ≡ line_words line.now }
-    ensures { Says result (read_of (body line.now)) }
-{
-    match line.strip_suffix(b"\r".as_slice()) {
-        Some(text) => read_returned(alloc, text),
-        None => read_words(alloc, words),
+    text.clear();
+    match read_command(alloc, session, word, arguments) {
+        Ok(command) => obey(rt, front, text, command),
+        Err(fault) => unread(fault),
     }
 }
 
-/// Asks the front what a line says, and puts the text of what it answers in the place of the text.
+/// Asks the front what a line of these words says, and puts the text of what it answers in the place of the text.
+#[inline(always)]
+fn answer_words<R, F: Front<R>>(
+    rt: &R,
+    alloc: Global,
+    front: &mut F,
+    text: &mut String,
+    words: &[&[u8]],
+) -> Result<Mark, OutOfMemory>
+    requires ready { F.ready front.old }
+    ensures ready { F.ready front.new }
+    ensures ok { IfOk result (Marks (λ outcome. Gives F.step front.old (words_read (map (λ w. w.now) words.now)) outcome front.new) (string_bytes text.new)) }
+    ensures err { OnErr result (Drops F.step F.refuses front.old (words_read (map (λ w. w.now) words.now)) front.new) }
+{
+    match read_head(words) {
+        Ok(Head::Skip) => Ok(Mark::Nothing),
+        Ok(
+            Head::Asks {
+                session,
+                word,
+                arguments,
+            },
+        ) => ask(rt, alloc, front, text, session, word, arguments),
+        Err(fault) => Ok(Mark::Bad(fault)),
+    }
+}
+
+/// Answers a line that had a carriage return at its end, by what stands before that.
+// Apart, since few lines end so.
+#[inline(never)]
+fn answer_returned<R, F: Front<R>>(
+    rt: &R,
+    alloc: Global,
+    front: &mut F,
+    text: &mut String,
+    line: &[u8],
+) -> Result<Mark, OutOfMemory>
+    requires ready { F.ready front.old }
+    ensures ready { F.ready front.new }
+    ensures ok { IfOk result (Marks (λ outcome. Gives F.step front.old (read_of line.now) outcome front.new) (string_bytes text.new)) }
+    ensures err { OnErr result (Drops F.step F.refuses front.old (read_of line.now) front.new) }
+{
+    let mut words = Vec::new(alloc);
+    keep_all_words(&mut words, line)?;
+    answer_words(rt, alloc, front, text, words.as_slice())
+}
+
+/// Asks the front what a line says, without the one carriage return at its end, and puts the text of what it answers in the
+/// place of the text. The words of a line that has none are cut already.
 fn answer<R, F: Front<R>>(
     rt: &R,
     alloc: Global,
@@ -52,10 +106,9 @@ fn answer<R, F: Front<R>>(
     ensures ok { IfOk result (Marks (λ outcome. Gives F.step front.old (read_of (body line.now)) outcome front.new) (string_bytes text.new)) }
     ensures err { OnErr result (Drops F.step F.refuses front.old (read_of (body line.now)) front.new) }
 {
-    text.clear();
-    match read(alloc, words, line) {
-        Ok(command) => obey(rt, front, text, command),
-        Err(fault) => unread(fault),
+    match line.strip_suffix(b"\r".as_slice()) {
+        Some(line) => answer_returned(rt, alloc, front, text, line),
+        None => answer_words(rt, alloc, front, text, words),
     }
 }
 

@@ -1,5 +1,5 @@
 //! A policy with a spare one, on which a command is tried.
-ghost use Rattle.std.specs.Prelude.{◌≡◌, None, OnOk, IfOk, IfErr, true};
+ghost use Rattle.std.specs.Prelude.{◌≡◌, None, OnOk, IfOk, IfErr, true, false};
 ghost use Rattle.policy_core.specs.Commands.{Says};
 ghost use Rattle.rbac_core.specs.Step.{refusal_of, after, outcome_of, guard, guard_by};
 ghost use Rattle.rbac_core.specs.Twins.{Follows};
@@ -121,6 +121,22 @@ impl Twin {
     }
 }
 
+/// Makes the spare policy a copy of the other; `false` where a growth was refused.
+// Apart, since a policy is large, and room for one is cleared wherever one may stand.
+#[inline(never)]
+fn copy_over(policy: &Policy, spare: &mut Policy) -> bool
+    ensures copied { (result ≡ true) → spare.new ≡ policy.now }
+    ensures kept { (result ≡ false) → spare.new ≡ spare.old }
+{
+    match policy.copy() {
+        Ok(copy) => {
+            *spare = copy;
+            true
+        }
+        Err(_) => false,
+    }
+}
+
 /// Makes the spare policy equal to the other, by the command that it lacks, or by a copy; `false`
 /// where a growth was refused.
 fn even_out(policy: &Policy, spare: &mut Policy, lag: &mut Lag) -> bool
@@ -131,13 +147,7 @@ fn even_out(policy: &Policy, spare: &mut Policy, lag: &mut Lag) -> bool
     let even = match lag {
         Lag::Even => true,
         Lag::Behind(command) => change(spare, command).is_ok(),
-        Lag::Ahead => match policy.copy() {
-            Ok(copy) => {
-                *spare = copy;
-                true
-            }
-            Err(_) => false,
-        },
+        Lag::Ahead => copy_over(policy, spare),
     };
     if even {
         *lag = Lag::Even;

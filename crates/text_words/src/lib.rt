@@ -106,7 +106,7 @@ fn keep_part<'a>(
 
 /// Makes `kept` the words of a text's first line, and gives the place of the line feed that ends it. Line and words are cut
 /// in one pass. Where the text has no line feed, there is no such place, and no more is said of `kept`.
-#[inline(never)]
+#[inline(always)]
 pub fn keep_line<'a>(kept: &mut Vec<&'a [u8]>, text: &'a [u8]) -> Result<Option<usize>, AllocError>
     ensures end { IfOk result (λ end. MatchOption end (HasNoLineFeed text.now) (IsLineEnd text.now)) }
     ensures words { IfOk result (λ end. IfSome end (λ i. map (λ w. w.now) kept.new.items ≡ words (take i text.now))) }
