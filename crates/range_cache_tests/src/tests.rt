@@ -167,18 +167,13 @@ fn made_anew(
 }
 
 /// One customer after the other, each with at most four asks.
-fn inserts(
-    rt: &impl Abort,
-    alloc: Global,
-    setup: &Setup,
-    meter: &mut Meter,
-) -> Result<(), AllocError>
+fn inserts(rt: &impl Abort, alloc: Global, setup: &Setup, meter: &mut Meter)
     requires customers { (setting setup.now).customers ≡ 4 }
     requires vehicles { (setting setup.now).vehicles ≡ 2 }
 {
     plans_are_tested();
-    let mut plan = Plan::new(alloc, 4, 2)?;
-    let mut cache = Cache::new(alloc, setup)?;
+    let mut plan = Plan::new(alloc, 4, 2).expect(rt, "memory");
+    let mut cache = Cache::new(alloc, setup).expect(rt, "memory");
     let begun = meter.asks;
     commit(alloc, setup, &mut cache, &mut plan, 1, &[1], meter).expect(rt, "one");
     asked(rt, meter.asks.wrapping_sub(begun), 4);
@@ -187,46 +182,34 @@ fn inserts(
     commit(alloc, setup, &mut cache, &mut plan, 1, &[1, 2, 3], meter).expect(rt, "three");
     asked(rt, meter.asks.wrapping_sub(begun), 12);
     compare_earlies(rt, alloc, setup, &cache, &plan, &[0, 4, 7, 28, 84, 140]);
-    Ok(())
 }
 
 /// The cache of the whole plan, made at once.
-fn of_a_plan(
-    rt: &impl Abort,
-    alloc: Global,
-    setup: &Setup,
-    meter: &mut Meter,
-) -> Result<(), AllocError>
+fn of_a_plan(rt: &impl Abort, alloc: Global, setup: &Setup, meter: &mut Meter)
     requires customers { (setting setup.now).customers ≡ 4 }
     requires vehicles { (setting setup.now).vehicles ≡ 2 }
 {
     plans_are_tested();
-    let mut plan = Plan::new(alloc, 4, 2)?;
-    plan.replace(one_change(alloc, 1, &[1, 2, 3])?);
+    let mut plan = Plan::new(alloc, 4, 2).expect(rt, "memory");
+    plan.replace(one_change(alloc, 1, &[1, 2, 3]).expect(rt, "memory"));
     let begun = meter.asks;
-    let made = made_anew(alloc, setup, &plan, meter)?;
+    let made = made_anew(alloc, setup, &plan, meter).expect(rt, "memory");
     asked(rt, meter.asks.wrapping_sub(begun), 16);
     let made = made.expect(rt, "in bounds");
     compare_earlies(rt, alloc, setup, &made, &plan, &[0, 4, 7, 28, 84, 140]);
-    Ok(())
 }
 
 /// Customers that leave a route: the travel past the second is too long, the first and then all may go.
-fn removals(
-    rt: &impl Abort,
-    alloc: Global,
-    setup: &Setup,
-    meter: &mut Meter,
-) -> Result<(), AllocError>
+fn removals(rt: &impl Abort, alloc: Global, setup: &Setup, meter: &mut Meter)
     requires customers { (setting setup.now).customers ≡ 4 }
     requires vehicles { (setting setup.now).vehicles ≡ 2 }
 {
     plans_are_tested();
-    let mut plan = Plan::new(alloc, 4, 2)?;
-    let mut cache = Cache::new(alloc, setup)?;
+    let mut plan = Plan::new(alloc, 4, 2).expect(rt, "memory");
+    let mut cache = Cache::new(alloc, setup).expect(rt, "memory");
     commit(alloc, setup, &mut cache, &mut plan, 1, &[1, 2, 3], meter).expect(rt, "all");
     let begun = meter.asks;
-    let late = one_change(alloc, 1, &[1, 3])?;
+    let late = one_change(alloc, 1, &[1, 3]).expect(rt, "memory");
     let answer = fault_of(setup, &cache, &plan, &late, meter);
     compare_fault(rt, answer, Some(JudgeFault::Bound(1, 2)));
     asked(rt, meter.asks.wrapping_sub(begun), 3);
@@ -236,37 +219,32 @@ fn removals(
     commit(alloc, setup, &mut cache, &mut plan, 1, &[], meter).expect(rt, "none");
     asked(rt, meter.asks.wrapping_sub(begun), 9);
     compare_earlies(rt, alloc, setup, &cache, &plan, &[]);
-    Ok(())
 }
 
 /// Two new routes, of which the first is in bounds and the second is too heavy.
-fn the_second_is_out(
-    rt: &impl Abort,
-    alloc: Global,
-    setup: &Setup,
-    meter: &mut Meter,
-) -> Result<(), AllocError>
+fn the_second_is_out(rt: &impl Abort, alloc: Global, setup: &Setup, meter: &mut Meter)
     requires customers { (setting setup.now).customers ≡ 4 }
     requires vehicles { (setting setup.now).vehicles ≡ 2 }
 {
-    let plan = Plan::new(alloc, 4, 2)?;
-    let cache = Cache::new(alloc, setup)?;
-    let mut changes = one_change(alloc, 2, &[4])?;
-    let route = Route::new(Vec::from_slice(alloc, [1, 2, 3, 4].as_slice())?);
-    changes.push((1, Arc::new(alloc, route)?))?;
+    let plan = Plan::new(alloc, 4, 2).expect(rt, "memory");
+    let cache = Cache::new(alloc, setup).expect(rt, "memory");
+    let mut changes = one_change(alloc, 2, &[4]).expect(rt, "memory");
+    let route = Route::new(Vec::from_slice(alloc, [1, 2, 3, 4].as_slice()).expect(rt, "memory"));
+    changes
+        .push((1, Arc::new(alloc, route).expect(rt, "memory")))
+        .expect(rt, "memory");
     let answer = fault_of(setup, &cache, &plan, &changes, meter);
     compare_fault(rt, answer, Some(JudgeFault::Bound(1, 1)));
-    Ok(())
 }
 
 fn in_turn(rt: &impl Abort, alloc: Global, setup: &Setup, meter: &mut Meter)
     requires customers { (setting setup.now).customers ≡ 4 }
     requires vehicles { (setting setup.now).vehicles ≡ 2 }
 {
-    inserts(rt, alloc, setup, meter).expect(rt, "memory");
-    of_a_plan(rt, alloc, setup, meter).expect(rt, "memory");
-    removals(rt, alloc, setup, meter).expect(rt, "memory");
-    the_second_is_out(rt, alloc, setup, meter).expect(rt, "memory");
+    inserts(rt, alloc, setup, meter);
+    of_a_plan(rt, alloc, setup, meter);
+    removals(rt, alloc, setup, meter);
+    the_second_is_out(rt, alloc, setup, meter);
 }
 
 /// Compares the meter with the calls that the closures counted.

@@ -180,23 +180,24 @@ fn the_last_line_needs_no_end(rt: HostRuntime) -> Result<(), Fail> {
     Ok(())
 }
 
+const FORMS: &[(usize, &str)] = &[
+    (1, " \tA\t "),
+    (2, " \t "),
+    (3, "vehicle"),
+    (4, "\tNumber Capacity "),
+    (5, "2.0 10.000"),
+    (7, "CusTomer"),
+    (8, "cust"),
+    (9, "\n \n\n"),
+    (11, "1 2.00 2 4 0 50 0"),
+    (11, "0000001\t0000002.0\t2\t4\t0\t50\t0"),
+    (14, "4 3 4 5 0 50 0.000000000"),
+];
+
 #[test]
 fn forms_that_mean_the_same(rt: HostRuntime) -> Result<(), Fail> {
-    let forms = [
-        (1, " \tA\t "),
-        (2, " \t "),
-        (3, "vehicle"),
-        (4, "\tNumber Capacity "),
-        (5, "2.0 10.000"),
-        (7, "CusTomer"),
-        (8, "cust"),
-        (9, "\n \n\n"),
-        (11, "1 2.00 2 4 0 50 0"),
-        (11, "0000001\t0000002.0\t2\t4\t0\t50\t0"),
-        (14, "4 3 4 5 0 50 0.000000000"),
-    ];
-    for (line, form) in forms {
-        assert!(rt; changed_is_whole(rt.alloc(), line, form, "\n")?, "{form}");
+    for (line, form) in FORMS {
+        assert!(rt; changed_is_whole(rt.alloc(), *line, form, "\n")?, "{form}");
     }
     Ok(())
 }
@@ -209,47 +210,49 @@ fn compare_fault(rt: &impl Abort, got: Found, kind: Kind, line: usize, form: &st
     assert_eq!(rt; got, Some((kind, line)), "{form}");
 }
 
+const FAULTS: &[(usize, &str, Kind)] = &[
+    (1, "A\tB", Kind::Name),
+    (1, "A\x7f", Kind::Name),
+    (1, "A\r\r", Kind::Name),
+    (2, "\r\r", Kind::Vehicle),
+    (3, "VEHICLES", Kind::Vehicle),
+    (3, "VEHICLE 1", Kind::Vehicle),
+    (3, "VEHICLE\r\r", Kind::Vehicle),
+    (4, "NUMBER", Kind::Fleet),
+    (4, "NUMBER CAPACITY 2", Kind::Fleet),
+    (4, "CAPACITY NUMBER", Kind::Fleet),
+    (5, "2", Kind::Fleet),
+    (5, "2 10 1", Kind::Fleet),
+    (5, "2 x", Kind::Number),
+    (5, "0 x", Kind::Number),
+    (5, "0 10", Kind::Count),
+    (5, "1001 10", Kind::Count),
+    (7, "CUSTOMERS", Kind::Customer),
+    (7, "CUSTOMER 5", Kind::Customer),
+    (8, "CUSTNO.", Kind::Heading),
+    (10, "0 0 0 0 0 100", Kind::Fields),
+    (10, "0 0 0 0 0 100 0 0", Kind::Fields),
+    (11, "1 2.50 2 4 0 50 0", Kind::Number),
+    (11, "1 2. 2 4 0 50 0", Kind::Number),
+    (11, "1 .0 2 4 0 50 0", Kind::Number),
+    (11, "1 2.0.0 2 4 0 50 0", Kind::Number),
+    (11, "1 12345678 2 4 0 50 0", Kind::Number),
+    (11, "1 -2 2 4 0 50 0", Kind::Number),
+    (11, "1 2e0 2 4 0 50 0", Kind::Number),
+    (11, "2 x 2 4 0 50 0", Kind::Number),
+    (12, "3 6 6 3 0 50 0", Kind::Order),
+    (12, "3 6 6 3 51 50 0", Kind::Order),
+    (13, "3 10 10 3 15 14 0", Kind::Window),
+    (10, "0 0 0 1 101 100 0", Kind::Window),
+    (10, "0 0 0 1 0 100 0", Kind::Depot),
+];
+
 #[test]
 fn each_check_answers_its_fault(rt: HostRuntime) -> Result<(), Fail> {
     let alloc = rt.alloc();
-    let faults = [
-        (1, "A\tB", Kind::Name),
-        (1, "A\x7f", Kind::Name),
-        (1, "A\r\r", Kind::Name),
-        (2, "\r\r", Kind::Vehicle),
-        (3, "VEHICLES", Kind::Vehicle),
-        (3, "VEHICLE 1", Kind::Vehicle),
-        (3, "VEHICLE\r\r", Kind::Vehicle),
-        (4, "NUMBER", Kind::Fleet),
-        (4, "NUMBER CAPACITY 2", Kind::Fleet),
-        (4, "CAPACITY NUMBER", Kind::Fleet),
-        (5, "2", Kind::Fleet),
-        (5, "2 10 1", Kind::Fleet),
-        (5, "2 x", Kind::Number),
-        (5, "0 x", Kind::Number),
-        (5, "0 10", Kind::Count),
-        (5, "1001 10", Kind::Count),
-        (7, "CUSTOMERS", Kind::Customer),
-        (7, "CUSTOMER 5", Kind::Customer),
-        (8, "CUSTNO.", Kind::Heading),
-        (10, "0 0 0 0 0 100", Kind::Fields),
-        (10, "0 0 0 0 0 100 0 0", Kind::Fields),
-        (11, "1 2.50 2 4 0 50 0", Kind::Number),
-        (11, "1 2. 2 4 0 50 0", Kind::Number),
-        (11, "1 .0 2 4 0 50 0", Kind::Number),
-        (11, "1 2.0.0 2 4 0 50 0", Kind::Number),
-        (11, "1 12345678 2 4 0 50 0", Kind::Number),
-        (11, "1 -2 2 4 0 50 0", Kind::Number),
-        (11, "1 2e0 2 4 0 50 0", Kind::Number),
-        (11, "2 x 2 4 0 50 0", Kind::Number),
-        (12, "3 6 6 3 0 50 0", Kind::Order),
-        (12, "3 6 6 3 51 50 0", Kind::Order),
-        (13, "3 10 10 3 15 14 0", Kind::Window),
-        (10, "0 0 0 1 101 100 0", Kind::Window),
-        (10, "0 0 0 1 0 100 0", Kind::Depot),
-    ];
-    for (line, form, kind) in faults {
-        compare_fault(&rt, fault_in_changed(alloc, line, form)?, kind, line, form);
+    for (line, form, kind) in FAULTS {
+        let found = fault_in_changed(alloc, *line, form)?;
+        compare_fault(&rt, found, *kind, *line, form);
     }
     compare_fault(&rt, fault_without(alloc, 12)?, Kind::Order, 12, "");
     compare_fault(&rt, fault_without(alloc, 1)?, Kind::Vehicle, 3, "");
@@ -277,24 +280,25 @@ fn a_name_has_at_most_64_bytes(rt: HostRuntime) -> Result<(), Fail> {
     Ok(())
 }
 
+const CUTS: &[(usize, Kind, usize)] = &[
+    (0, Kind::Name, 1),
+    (1, Kind::Vehicle, 2),
+    (2, Kind::Vehicle, 3),
+    (3, Kind::Fleet, 4),
+    (4, Kind::Fleet, 5),
+    (5, Kind::Customer, 6),
+    (6, Kind::Customer, 7),
+    (7, Kind::Heading, 8),
+    (8, Kind::End, 9),
+    (9, Kind::End, 10),
+    (10, Kind::End, 11),
+];
+
 #[test]
 fn a_text_cut_after_a_line(rt: HostRuntime) -> Result<(), Fail> {
     let alloc = rt.alloc();
-    let cuts = [
-        (0, Kind::Name, 1),
-        (1, Kind::Vehicle, 2),
-        (2, Kind::Vehicle, 3),
-        (3, Kind::Fleet, 4),
-        (4, Kind::Fleet, 5),
-        (5, Kind::Customer, 6),
-        (6, Kind::Customer, 7),
-        (7, Kind::Heading, 8),
-        (8, Kind::End, 9),
-        (9, Kind::End, 10),
-        (10, Kind::End, 11),
-    ];
-    for (lines, kind, line) in cuts {
-        compare_fault(&rt, fault_in_front(alloc, lines)?, kind, line, "");
+    for (lines, kind, line) in CUTS {
+        compare_fault(&rt, fault_in_front(alloc, *lines)?, *kind, *line, "");
     }
     compare_count(&rt, nodes_in_front(alloc, 13)?, 4);
     compare_fault(&rt, fault_in(alloc, b"\n\r"), Kind::Name, 3, "");
@@ -380,25 +384,26 @@ fn fault_is_text(alloc: Global, fault: ReadFault, text: &str) -> Result<bool, Fa
     Ok(format!(in alloc; "{fault}")?.as_str() == text)
 }
 
+const KINDS: &[(Kind, &str)] = &[
+    (Kind::Name, "name"),
+    (Kind::Vehicle, "vehicle"),
+    (Kind::Fleet, "fleet"),
+    (Kind::Customer, "customer"),
+    (Kind::Heading, "heading"),
+    (Kind::Fields, "fields"),
+    (Kind::Number, "number"),
+    (Kind::Order, "order"),
+    (Kind::Window, "window"),
+    (Kind::Depot, "depot"),
+    (Kind::Count, "count"),
+    (Kind::End, "end"),
+];
+
 #[test]
 fn faults_in_words(rt: HostRuntime) -> Result<(), Fail> {
     let alloc = rt.alloc();
-    let kinds = [
-        (Kind::Name, "name"),
-        (Kind::Vehicle, "vehicle"),
-        (Kind::Fleet, "fleet"),
-        (Kind::Customer, "customer"),
-        (Kind::Heading, "heading"),
-        (Kind::Fields, "fields"),
-        (Kind::Number, "number"),
-        (Kind::Order, "order"),
-        (Kind::Window, "window"),
-        (Kind::Depot, "depot"),
-        (Kind::Count, "count"),
-        (Kind::End, "end"),
-    ];
-    for (kind, text) in kinds {
-        assert!(rt; kind_is_text(alloc, kind, text)?, "{text}");
+    for (kind, text) in KINDS {
+        assert!(rt; kind_is_text(alloc, *kind, text)?, "{text}");
     }
     let count = ReadFault::At(Kind::Count, 1011);
     assert!(rt; fault_is_text(alloc, count, "count line 1011")?);
