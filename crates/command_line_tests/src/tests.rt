@@ -7,7 +7,7 @@ fn compare(rt: &impl Abort, alloc: Global, words: &[&str], wanted: Options) {
     assert_eq!(rt; asked, wanted);
 }
 
-/// The fault as text, and whether it is help.
+/// The text of the fault, once it is seen to be help or not, and to end with that status.
 fn refused(rt: &impl Abort, alloc: Global, words: &[&str], wanted: u8) -> String {
     let fault = options(alloc, words).expect_err(rt, "a fault");
     let is_help = matches!(fault, OptionFault::Help(_));
@@ -25,108 +25,124 @@ fn has_the_lines(rt: &impl Abort, text: &str) {
     assert!(rt; text.ends_with("docs/INSTANCES.md the format of instances.\n"));
 }
 
+const JOINED: &[&[&str]] = &[&["dispatch"], &["/usr/bin/dispatch", "--"]];
+
+const CHECKED: &[(&[&str], &str)] = &[
+    (&["dispatch", "check", "a.txt"], "a.txt"),
+    (&["dispatch", "check", "-"], "-"),
+    (&["dispatch", "check", "help"], "help"),
+    (&["dispatch", "check", "--", "-a"], "-a"),
+    (&["dispatch", "check", "a.txt", "--"], "a.txt"),
+];
+
+const RUN: &[(&[&str], &str, &str)] = &[
+    (&["dispatch", "run", "a", "b"], "a", "b"),
+    (&["dispatch", "run", "run", "-"], "run", "-"),
+    (&["dispatch", "run", "--", "-a", "-b"], "-a", "-b"),
+    (&["dispatch", "run", "a", "--", "-b"], "a", "-b"),
+    (&["dispatch", "run", "a", "b", "--"], "a", "b"),
+];
+
 #[test]
 fn words_of_the_command_line(rt: HostRuntime) {
-    for words in [
-        ["dispatch"].as_slice(),
-        ["/usr/bin/dispatch", "--"].as_slice(),
-    ] {
+    for words in JOINED {
         compare(&rt, rt.alloc(), words, Options::Joined);
     }
-    for (words, instance) in [
-        (["dispatch", "check", "a.txt"].as_slice(), "a.txt"),
-        (["dispatch", "check", "-"].as_slice(), "-"),
-        (["dispatch", "check", "help"].as_slice(), "help"),
-        (["dispatch", "check", "--", "-a"].as_slice(), "-a"),
-        (["dispatch", "check", "a.txt", "--"].as_slice(), "a.txt"),
-    ] {
-        compare(&rt, rt.alloc(), words, Options::Check { instance });
+    for (words, instance) in CHECKED {
+        compare(
+            &rt,
+            rt.alloc(),
+            words,
+            Options::Check {
+                instance: *instance,
+            },
+        );
     }
-    for (words, instance, script) in [
-        (["dispatch", "run", "a", "b"].as_slice(), "a", "b"),
-        (["dispatch", "run", "run", "-"].as_slice(), "run", "-"),
-        (["dispatch", "run", "--", "-a", "-b"].as_slice(), "-a", "-b"),
-        (["dispatch", "run", "a", "--", "-b"].as_slice(), "a", "-b"),
-        (["dispatch", "run", "a", "b", "--"].as_slice(), "a", "b"),
-    ] {
-        compare(&rt, rt.alloc(), words, Options::Run { instance, script });
+    for (words, instance, script) in RUN {
+        let wanted = Options::Run {
+            instance: *instance,
+            script: *script,
+        };
+        compare(&rt, rt.alloc(), words, wanted);
     }
 }
 
+const NOTHING: &[(&[&str], u8, &str)] = &[
+    (
+        &["dispatch", "chek"],
+        2,
+        "error: unrecognized subcommand 'chek'\n\n  tip: a similar subcommand exists: 'check'\n\nUsage: dispatch [COMMAND]\n",
+    ),
+    (
+        &["dispatch", "run", "a"],
+        2,
+        "error: the following required arguments were not provided:\n  <SCRIPT>\n\nUsage: dispatch run <INSTANCE> <SCRIPT>\n",
+    ),
+    (
+        &["dispatch", "run", "a", "b", "c"],
+        2,
+        "error: unexpected argument 'c' found\n",
+    ),
+    (
+        &["dispatch", "run", "a", "b", "--workers", "2"],
+        2,
+        "error: unexpected argument '--workers' found\n",
+    ),
+    (
+        &["dispatch", "check"],
+        2,
+        "error: the following required arguments were not provided:\n  <INSTANCE>\n\nUsage: dispatch check <INSTANCE>\n",
+    ),
+    (
+        &["dispatch", "check", "a", "b"],
+        2,
+        "error: unexpected argument 'b' found\n",
+    ),
+    (
+        &["dispatch", "--workers=2"],
+        2,
+        "error: unexpected argument '--workers' found\n",
+    ),
+    (
+        &["dispatch", "--help"],
+        0,
+        "A dispatch board: one fleet, one plan, and who may change it.\n",
+    ),
+    (&["dispatch", "--version"], 0, "dispatch 0.1.0\n"),
+    (&["dispatch", "-V"], 0, "dispatch 0.1.0\n"),
+    (
+        &["dispatch", "check", "--version"],
+        2,
+        "error: unexpected argument '--version' found\n",
+    ),
+    (&["dispatch", "-h"], 0, "A dispatch board"),
+    (&["dispatch", "help"], 0, "A dispatch board"),
+    (
+        &["dispatch", "check", "--help"],
+        0,
+        "Reads an instance and prints its name, sizes and horizon.\n",
+    ),
+    (
+        &["dispatch", "check", "-h"],
+        0,
+        "Reads an instance and prints its name, sizes and horizon\n\nUsage: dispatch check <INSTANCE>\n",
+    ),
+    (
+        &["dispatch", "run", "--help"],
+        0,
+        "Opens the board of an instance, and answers the lines of a script.\n",
+    ),
+    (
+        &["dispatch", "help", "run"],
+        0,
+        "Opens the board of an instance, and answers the lines of a script.\n",
+    ),
+];
+
 #[test]
 fn words_that_ask_for_nothing(rt: HostRuntime) {
-    for (words, wanted, front) in [
-        (
-            ["dispatch", "chek"].as_slice(),
-            2,
-            "error: unrecognized subcommand 'chek'\n\n  tip: a similar subcommand exists: 'check'\n\nUsage: dispatch [COMMAND]\n",
-        ),
-        (
-            ["dispatch", "run", "a"].as_slice(),
-            2,
-            "error: the following required arguments were not provided:\n  <SCRIPT>\n\nUsage: dispatch run <INSTANCE> <SCRIPT>\n",
-        ),
-        (
-            ["dispatch", "run", "a", "b", "c"].as_slice(),
-            2,
-            "error: unexpected argument 'c' found\n",
-        ),
-        (
-            ["dispatch", "run", "a", "b", "--workers", "2"].as_slice(),
-            2,
-            "error: unexpected argument '--workers' found\n",
-        ),
-        (
-            ["dispatch", "check"].as_slice(),
-            2,
-            "error: the following required arguments were not provided:\n  <INSTANCE>\n\nUsage: dispatch check <INSTANCE>\n",
-        ),
-        (
-            ["dispatch", "check", "a", "b"].as_slice(),
-            2,
-            "error: unexpected argument 'b' found\n",
-        ),
-        (
-            ["dispatch", "--workers=2"].as_slice(),
-            2,
-            "error: unexpected argument '--workers' found\n",
-        ),
-        (
-            ["dispatch", "--help"].as_slice(),
-            0,
-            "A dispatch board: one fleet, one plan, and who may change it.\n",
-        ),
-        (["dispatch", "--version"].as_slice(), 0, "dispatch 0.1.0\n"),
-        (["dispatch", "-V"].as_slice(), 0, "dispatch 0.1.0\n"),
-        (
-            ["dispatch", "check", "--version"].as_slice(),
-            2,
-            "error: unexpected argument '--version' found\n",
-        ),
-        (["dispatch", "-h"].as_slice(), 0, "A dispatch board"),
-        (["dispatch", "help"].as_slice(), 0, "A dispatch board"),
-        (
-            ["dispatch", "check", "--help"].as_slice(),
-            0,
-            "Reads an instance and prints its name, sizes and horizon.\n",
-        ),
-        (
-            ["dispatch", "check", "-h"].as_slice(),
-            0,
-            "Reads an instance and prints its name, sizes and horizon\n\nUsage: dispatch check <INSTANCE>\n",
-        ),
-        (
-            ["dispatch", "run", "--help"].as_slice(),
-            0,
-            "Opens the board of an instance, and answers the lines of a script.\n",
-        ),
-        (
-            ["dispatch", "help", "run"].as_slice(),
-            0,
-            "Opens the board of an instance, and answers the lines of a script.\n",
-        ),
-    ] {
-        begins(&rt, &refused(&rt, rt.alloc(), words, wanted), front);
+    for (words, wanted, front) in NOTHING {
+        begins(&rt, &refused(&rt, rt.alloc(), words, *wanted), front);
     }
 }
 

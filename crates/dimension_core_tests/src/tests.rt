@@ -23,6 +23,15 @@ fn compare_answer(rt: &impl Abort, found: bool, wanted: bool, what: Range) {
     assert_eq!(rt; found, wanted, "{what:?}");
 }
 
+const RANGES: &[(bool, u64, u64, bool)] = &[
+    (false, 50, 60, true),
+    (true, 50, 60, false),
+    (true, 10, 60, true),
+    (false, 5, 9, false),
+    (false, 90, 100, true),
+    (false, 91, 100, false),
+];
+
 /// One customer, one vehicle of capacity 1,000, each transit 10, no slack, and the depot's range 0 to 100.
 #[test]
 fn the_earliest_cumul_alone_does_not_decide(rt: HostRuntime) {
@@ -36,21 +45,13 @@ fn the_earliest_cumul_alone_does_not_decide(rt: HostRuntime) {
     let mut registry = Registry::new(rt.alloc());
     let id = registry.register(Transit::new(2, call)).expect(&rt, "room");
     let mut meter = Meter::new();
-    let cases = [
-        (false, 50u64, 60u64, true),
-        (true, 50, 60, false),
-        (true, 10, 60, true),
-        (false, 5, 9, false),
-        (false, 90, 100, true),
-        (false, 91, 100, false),
-    ];
-    for (fixed, lo, hi, wanted) in cases {
+    for (fixed, lo, hi, wanted) in RANGES {
         let caps = vec![in rt.alloc(); 1000u64].expect(&rt, "memory");
-        let range = Range { lo, hi };
+        let range = Range { lo: *lo, hi: *hi };
         let ranges = vec![in rt.alloc(); Range { lo: 0, hi: 100 }, range].expect(&rt, "memory");
-        let time = Dimension::new(&registry, id, 0, caps, fixed, ranges).expect(&rt, "bounds");
+        let time = Dimension::new(&registry, id, 0, caps, *fixed, ranges).expect(&rt, "bounds");
         let answer = time.in_bounds(&registry, &[1], 1, &mut meter);
-        compare_answer(&rt, answer, wanted, range);
+        compare_answer(&rt, answer, *wanted, range);
     }
     compare(&rt, meter.asks, 10, "asks");
 }
@@ -64,6 +65,33 @@ fn compare_fault(
 ) {
     assert_eq!(rt; found, wanted, "{vehicles} capacities, {nodes} ranges");
 }
+
+/// Whether its callback is registered, its slack, how many vehicles of which capacity, how many nodes with a range from where to where,
+/// and why it is refused, if it is.
+type Case = (
+    bool,
+    u64,
+    usize,
+    u64,
+    usize,
+    u64,
+    u64,
+    Option<DimensionFault>,
+);
+
+const DIMENSIONS: &[Case] = &[
+    (true, 0, 1, 9, 2, 4, 5, None),
+    (true, LIMIT, 1000, LIMIT, 2, LIMIT, LIMIT, None),
+    (false, 0, 0, 9, 2, 5, 4, Some(DimensionFault::NoTransit)),
+    (true, 0, 0, 9, 2, 4, 5, Some(DimensionFault::Size)),
+    (true, 0, 1001, 9, 2, 4, 5, Some(DimensionFault::Size)),
+    (true, 0, 1, 9, 1, 4, 5, Some(DimensionFault::Size)),
+    (true, 0, 1, 9, 3, 5, 4, Some(DimensionFault::Size)),
+    (true, 0, 1, 9, 2, 5, 4, Some(DimensionFault::Range)),
+    (true, 0, 1, 9, 2, 4, LIMIT + 1, Some(DimensionFault::Range)),
+    (true, 0, 1, LIMIT + 1, 2, 4, 5, Some(DimensionFault::Range)),
+    (true, LIMIT + 1, 1, 9, 2, 4, 5, Some(DimensionFault::Range)),
+];
 
 #[test]
 fn a_dimension_is_refused(rt: HostRuntime) {
@@ -79,25 +107,13 @@ fn a_dimension_is_refused(rt: HostRuntime) {
     let id = registry
         .register_unary(Unary::new(2, call))
         .expect(&rt, "room");
-    let cases = [
-        (true, 0u64, 1usize, 9u64, 2usize, 4u64, 5u64, None),
-        (true, LIMIT, 1000, LIMIT, 2, LIMIT, LIMIT, None),
-        (false, 0, 0, 9, 2, 5, 4, Some(DimensionFault::NoTransit)),
-        (true, 0, 0, 9, 2, 4, 5, Some(DimensionFault::Size)),
-        (true, 0, 1001, 9, 2, 4, 5, Some(DimensionFault::Size)),
-        (true, 0, 1, 9, 1, 4, 5, Some(DimensionFault::Size)),
-        (true, 0, 1, 9, 3, 5, 4, Some(DimensionFault::Size)),
-        (true, 0, 1, 9, 2, 5, 4, Some(DimensionFault::Range)),
-        (true, 0, 1, 9, 2, 4, LIMIT + 1, Some(DimensionFault::Range)),
-        (true, 0, 1, LIMIT + 1, 2, 4, 5, Some(DimensionFault::Range)),
-        (true, LIMIT + 1, 1, 9, 2, 4, 5, Some(DimensionFault::Range)),
-    ];
-    for (registered, slack_max, vehicles, cap, nodes, lo, hi, wanted) in cases {
-        let registry = if registered { &registry } else { &empty };
-        let caps = vec![in rt.alloc(); cap; vehicles].expect(&rt, "memory");
-        let ranges = vec![in rt.alloc(); Range { lo, hi }; nodes].expect(&rt, "memory");
-        let answer = Dimension::new(registry, id, slack_max, caps, false, ranges);
-        compare_fault(&rt, answer.err(), wanted, vehicles, nodes);
+    for (registered, slack_max, vehicles, cap, nodes, lo, hi, wanted) in DIMENSIONS {
+        let registry = if *registered { &registry } else { &empty };
+        let caps = vec![in rt.alloc(); *cap; *vehicles].expect(&rt, "memory");
+        let range = Range { lo: *lo, hi: *hi };
+        let ranges = vec![in rt.alloc(); range; *nodes].expect(&rt, "memory");
+        let answer = Dimension::new(registry, id, *slack_max, caps, false, ranges);
+        compare_fault(&rt, answer.err(), *wanted, *vehicles, *nodes);
     }
 }
 
@@ -129,23 +145,25 @@ fn compare_refusal(
     assert_eq!(rt; found, wanted, "{customers} customers, {count} dimensions");
 }
 
+/// Customers, vehicles, dimensions, whether the callbacks are lost, the greatest number of events, and why the setup is refused, if it is.
+const SETUPS: &[(u32, u32, u32, bool, u32, Option<SetupFault>)] = &[
+    (1, 1, 8, false, 1, None),
+    (1, 1, 0, false, 16_777_216, None),
+    (0, 1, 0, false, 10, Some(SetupFault::Size)),
+    (1001, 1, 0, false, 10, Some(SetupFault::Size)),
+    (1, 0, 0, false, 10, Some(SetupFault::Size)),
+    (1, 1001, 0, false, 10, Some(SetupFault::Size)),
+    (2, 1, 0, false, 10, Some(SetupFault::Size)),
+    (1, 2, 9, true, 0, Some(SetupFault::Size)),
+    (1, 1, 9, true, 0, Some(SetupFault::NoTransit)),
+    (1, 1, 9, false, 0, Some(SetupFault::Many)),
+    (1, 1, 8, false, 0, Some(SetupFault::Limit)),
+    (1, 1, 8, false, 16_777_217, Some(SetupFault::Limit)),
+];
+
 #[test]
 fn a_setup_is_refused(rt: HostRuntime) {
-    let cases = [
-        (1u32, 1u32, 8u32, false, 1u32, None),
-        (1, 1, 0, false, 16_777_216, None),
-        (0, 1, 0, false, 10, Some(SetupFault::Size)),
-        (1001, 1, 0, false, 10, Some(SetupFault::Size)),
-        (1, 0, 0, false, 10, Some(SetupFault::Size)),
-        (1, 1001, 0, false, 10, Some(SetupFault::Size)),
-        (2, 1, 0, false, 10, Some(SetupFault::Size)),
-        (1, 2, 9, true, 0, Some(SetupFault::Size)),
-        (1, 1, 9, true, 0, Some(SetupFault::NoTransit)),
-        (1, 1, 9, false, 0, Some(SetupFault::Many)),
-        (1, 1, 8, false, 0, Some(SetupFault::Limit)),
-        (1, 1, 8, false, 16_777_217, Some(SetupFault::Limit)),
-    ];
-    for (customers, vehicles, count, loses_callbacks, max_events, wanted) in cases {
+    for (customers, vehicles, count, loses_callbacks, max_events, wanted) in SETUPS {
         let call = Box::new(
             rt.alloc(),
             move |_i: u32| -> u64
@@ -157,14 +175,14 @@ fn a_setup_is_refused(rt: HostRuntime) {
         let id = registry
             .register_unary(Unary::new(2, call))
             .expect(&rt, "room");
-        let dimensions = loads(&rt, rt.alloc(), &registry, id, count);
-        let registry = if loses_callbacks {
+        let dimensions = loads(&rt, rt.alloc(), &registry, id, *count);
+        let registry = if *loses_callbacks {
             Registry::new(rt.alloc())
         } else {
             registry
         };
-        let answer = Setup::new(customers, vehicles, registry, dimensions, id, max_events);
-        compare_refusal(&rt, answer.err(), wanted, customers, count);
+        let answer = Setup::new(*customers, *vehicles, registry, dimensions, id, *max_events);
+        compare_refusal(&rt, answer.err(), *wanted, *customers, *count);
     }
 }
 

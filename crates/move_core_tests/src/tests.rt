@@ -10,7 +10,6 @@ use plan_core::{Plan, Route, Touch, plans_are_tested};
 use std::alloc::{AllocError, Global};
 use std::process::Abort;
 use std::sync::Arc;
-use std::test::Fail;
 
 /// New routes for vehicles 1 and 2.
 fn pair(alloc: Global, first: &[u32], second: &[u32]) -> Result<Vec<(u32, Arc<Route>)>, AllocError>
@@ -199,9 +198,9 @@ fn names_each_vehicle_once(rt: HostRuntime) {
 }
 
 #[test]
-fn inserts_and_removes(rt: HostRuntime) -> Result<(), Fail> {
+fn inserts_and_removes(rt: HostRuntime) {
     let alloc = rt.alloc();
-    let plan = three_on_one(alloc)?;
+    let plan = three_on_one(alloc).expect(&rt, "memory");
     compare(
         &rt,
         alloc,
@@ -218,7 +217,7 @@ fn inserts_and_removes(rt: HostRuntime) -> Result<(), Fail> {
         (&[2, 3], &[]),
         &[at(1, 1, 1)],
     );
-    let plan = two_and_one(alloc)?;
+    let plan = two_and_one(alloc).expect(&rt, "memory");
     compare(
         &rt,
         alloc,
@@ -235,13 +234,12 @@ fn inserts_and_removes(rt: HostRuntime) -> Result<(), Fail> {
         (&[1, 2, 3], &[]),
         &[at(1, 3, 3)],
     );
-    Ok(())
 }
 
 #[test]
-fn shifts_within_and_across(rt: HostRuntime) -> Result<(), Fail> {
+fn shifts_within_and_across(rt: HostRuntime) {
     let alloc = rt.alloc();
-    let plan = three_on_one(alloc)?;
+    let plan = three_on_one(alloc).expect(&rt, "memory");
     refuse(&rt, alloc, &plan, shift(1, 1, 1, 1, 1));
     compare(
         &rt,
@@ -251,7 +249,7 @@ fn shifts_within_and_across(rt: HostRuntime) -> Result<(), Fail> {
         (&[2, 3, 1], &[]),
         &[at(1, 1, 1)],
     );
-    let plan = turned_on_one(alloc)?;
+    let plan = turned_on_one(alloc).expect(&rt, "memory");
     compare(
         &rt,
         alloc,
@@ -260,13 +258,12 @@ fn shifts_within_and_across(rt: HostRuntime) -> Result<(), Fail> {
         (&[2, 3], &[1]),
         &[at(1, 3, 1)],
     );
-    Ok(())
 }
 
 #[test]
-fn shifts_more_than_one(rt: HostRuntime) -> Result<(), Fail> {
+fn shifts_more_than_one(rt: HostRuntime) {
     let alloc = rt.alloc();
-    let plan = four_and_two(alloc)?;
+    let plan = four_and_two(alloc).expect(&rt, "memory");
     let two = &[at(1, 2, 2), at(1, 3, 3)];
     compare(
         &rt,
@@ -301,28 +298,26 @@ fn shifts_more_than_one(rt: HostRuntime) -> Result<(), Fail> {
         (&[5], &[4, 6, 1, 2, 3]),
         three,
     );
-    Ok(())
 }
 
 #[test]
-fn swaps(rt: HostRuntime) -> Result<(), Fail> {
+fn swaps(rt: HostRuntime) {
     let alloc = rt.alloc();
-    let plan = turned_on_one(alloc)?;
+    let plan = turned_on_one(alloc).expect(&rt, "memory");
     let both = &[at(1, 1, 2), at(1, 3, 1)];
     compare(&rt, alloc, &plan, swap(1, 1, 1, 3), (&[1, 3, 2], &[]), both);
-    let plan = two_and_one(alloc)?;
+    let plan = two_and_one(alloc).expect(&rt, "memory");
     let both = &[at(2, 1, 4), at(1, 2, 2)];
     compare(&rt, alloc, &plan, swap(2, 1, 1, 2), (&[2], &[1, 4]), both);
-    Ok(())
 }
 
 #[test]
-fn reverses(rt: HostRuntime) -> Result<(), Fail> {
+fn reverses(rt: HostRuntime) {
     let alloc = rt.alloc();
-    let plan = turned_on_one(alloc)?;
+    let plan = turned_on_one(alloc).expect(&rt, "memory");
     let all = &[at(1, 1, 2), at(1, 2, 3), at(1, 3, 1)];
     compare(&rt, alloc, &plan, reverse(1, 1, 3), (&[1, 3, 2], &[]), all);
-    let plan = four_and_two(alloc)?;
+    let plan = four_and_two(alloc).expect(&rt, "memory");
     let inner = &[at(1, 2, 2), at(1, 3, 3)];
     compare(
         &rt,
@@ -332,13 +327,12 @@ fn reverses(rt: HostRuntime) -> Result<(), Fail> {
         (&[1, 3, 2, 5], &[]),
         inner,
     );
-    Ok(())
 }
 
 #[test]
-fn crosses_tails(rt: HostRuntime) -> Result<(), Fail> {
+fn crosses_tails(rt: HostRuntime) {
     let alloc = rt.alloc();
-    let plan = two_and_one(alloc)?;
+    let plan = two_and_one(alloc).expect(&rt, "memory");
     let tails = &[at(1, 2, 2), at(2, 1, 4)];
     compare(&rt, alloc, &plan, cross(1, 1, 2, 0), (&[1, 4], &[2]), tails);
     let tail = &[at(1, 1, 1), at(1, 2, 2)];
@@ -358,13 +352,12 @@ fn crosses_tails(rt: HostRuntime) -> Result<(), Fail> {
         (&[1, 2, 4], &[]),
         &[at(2, 1, 4)],
     );
-    Ok(())
 }
 
 #[test]
-fn has_no_effect_by_one(rt: HostRuntime) -> Result<(), Fail> {
+fn has_no_effect_by_one(rt: HostRuntime) {
     let alloc = rt.alloc();
-    let plan = two_and_one(alloc)?;
+    let plan = two_and_one(alloc).expect(&rt, "memory");
     let bad = [
         insert(3, 0, 1),
         insert(3, 3, 1),
@@ -388,13 +381,12 @@ fn has_no_effect_by_one(rt: HostRuntime) -> Result<(), Fail> {
         cross(1, 0, 1, 1),
     ];
     refuse_all(&rt, alloc, &plan, &bad);
-    Ok(())
 }
 
 #[test]
-fn great_numbers_do_not_wrap(rt: HostRuntime) -> Result<(), Fail> {
+fn great_numbers_do_not_wrap(rt: HostRuntime) {
     let alloc = rt.alloc();
-    let plan = two_and_one(alloc)?;
+    let plan = two_and_one(alloc).expect(&rt, "memory");
     let most = 4294967295;
     let bad = [
         insert(most, 1, 1),
@@ -407,5 +399,4 @@ fn great_numbers_do_not_wrap(rt: HostRuntime) -> Result<(), Fail> {
         cross(1, most, 2, most),
     ];
     refuse_all(&rt, alloc, &plan, &bad);
-    Ok(())
 }

@@ -204,23 +204,32 @@ fn is_answer(rt: &impl Abort, answer: Result<Outcome, Refusal>, text: &str) -> b
     match answer {
         Ok(Outcome::Done) => word == "done",
         Ok(Outcome::Session(opened)) => word == "session" && opened == number(rt, which),
-        Err(refusal) => is_refusal(refusal, word, which),
+        Err(refusal) => word_of(&refusal) == word && is_set(&refusal, which),
     }
 }
 
-fn is_refusal(refusal: Refusal, word: &str, which: &str) -> bool {
+fn word_of(refusal: &Refusal) -> &'static str {
     match refusal {
-        Refusal::NoSession => word == "no-session",
-        Refusal::NoAccess => word == "no-access",
-        Refusal::NotAuthorized => word == "not-authorized",
-        Refusal::Cycle => word == "cycle",
-        Refusal::InSet => word == "in-set",
-        Refusal::Number => word == "number",
-        Refusal::Already => word == "already",
-        Refusal::NotThere => word == "not-there",
-        Refusal::Ssd(set) => word == "ssd" && set.as_bytes() == which.as_bytes(),
-        Refusal::Dsd(set) => word == "dsd" && set.as_bytes() == which.as_bytes(),
-        _ => false,
+        Refusal::NoSession => "no-session",
+        Refusal::NoAccess => "no-access",
+        Refusal::NotAuthorized => "not-authorized",
+        Refusal::Cycle => "cycle",
+        Refusal::InSet => "in-set",
+        Refusal::Number => "number",
+        Refusal::Already => "already",
+        Refusal::NotThere => "not-there",
+        Refusal::Ssd(_) => "ssd",
+        Refusal::Dsd(_) => "dsd",
+        _ => "none of these",
+    }
+}
+
+/// Whether the refusal names this set, if it names one.
+fn is_set(refusal: &Refusal, which: &str) -> bool {
+    match refusal {
+        Refusal::Ssd(set) => set.as_bytes() == which.as_bytes(),
+        Refusal::Dsd(set) => set.as_bytes() == which.as_bytes(),
+        _ => true,
     }
 }
 
@@ -239,6 +248,25 @@ fn opening(rt: &impl Abort, alloc: Global) -> Policy {
 
 fn may(policy: &Policy, session: u32, operation: Operation, object: Object) -> bool {
     policy.check_plain(session, operation, object, &mut Meter::new())
+}
+
+fn compare_access(
+    rt: &impl Abort,
+    policy: &Policy,
+    operation: Operation,
+    object: Object,
+    wanted: bool,
+) {
+    assert_eq!(rt; may(policy, 2, operation, object), wanted, "{object:?}");
+}
+
+/// Compares how many roles are active in a session.
+fn compare_count(rt: &impl Abort, policy: &Policy, session: u32, wanted: u32) {
+    assert_eq!(rt;
+        policy.active_roles(session).count(),
+        wanted,
+        "session {session}"
+    );
 }
 
 fn compare(rt: &impl Abort, found: &[Name], wanted: &[&str]) {
@@ -306,17 +334,17 @@ const DSD_MET: &[(u32, &str, &str)] = &[
 fn ann_loses_her_role_and_meets_a_dsd_set(rt: HostRuntime) {
     let mut policy = opening(&rt, rt.alloc());
     answers(&rt, rt.alloc(), &mut policy, WITH_ROLE);
-    assert!(rt; may(&policy, 2, Operation::Move, Object::Vehicle(1)));
-    assert!(rt; may(&policy, 2, Operation::Move, Object::Customer(4)));
-    assert!(rt; !may(&policy, 2, Operation::Move, Object::Vehicle(2)));
-    assert!(rt; !may(&policy, 2, Operation::View, Object::Vehicle(1)));
+    compare_access(&rt, &policy, Operation::Move, Object::Vehicle(1), true);
+    compare_access(&rt, &policy, Operation::Move, Object::Customer(4), true);
+    compare_access(&rt, &policy, Operation::Move, Object::Vehicle(2), false);
+    compare_access(&rt, &policy, Operation::View, Object::Vehicle(1), false);
     answers(
         &rt,
         rt.alloc(),
         &mut policy,
         &[(1, "deassign ann d", "done")],
     );
-    assert!(rt; !may(&policy, 2, Operation::Move, Object::Vehicle(1)));
+    compare_access(&rt, &policy, Operation::Move, Object::Vehicle(1), false);
     answers(&rt, rt.alloc(), &mut policy, DSD_MET);
 }
 
@@ -353,24 +381,24 @@ const CHAIN: &[(u32, &str, &str)] = &[
 fn a_pair_less_and_a_chain_more(rt: HostRuntime) {
     let mut policy = opening(&rt, rt.alloc());
     answers(&rt, rt.alloc(), &mut policy, PAIRS);
-    assert!(rt; may(&policy, 2, Operation::Move, Object::Customer(1)));
+    compare_access(&rt, &policy, Operation::Move, Object::Customer(1), true);
     answers(
         &rt,
         rt.alloc(),
         &mut policy,
         &[(1, "uninherit a b", "done")],
     );
-    assert!(rt; !may(&policy, 2, Operation::Move, Object::Customer(1)));
+    compare_access(&rt, &policy, Operation::Move, Object::Customer(1), false);
     answers(&rt, rt.alloc(), &mut policy, CHAIN);
-    assert!(rt; may(&policy, 2, Operation::Move, Object::Customer(1)));
+    compare_access(&rt, &policy, Operation::Move, Object::Customer(1), true);
     answers(
         &rt,
         rt.alloc(),
         &mut policy,
         &[(1, "delete-role c", "done")],
     );
-    assert_eq!(rt; policy.active_roles(2).count(), 1);
-    assert!(rt; !may(&policy, 2, Operation::Move, Object::Customer(1)));
+    compare_count(&rt, &policy, 2, 1);
+    compare_access(&rt, &policy, Operation::Move, Object::Customer(1), false);
 }
 
 /// Ann with the roles top, which inherits d, and e; d and e exclude each other in a session.
@@ -407,8 +435,8 @@ fn dsd_counts_what_is_inherited(rt: HostRuntime) {
     let mut policy = opening(&rt, rt.alloc());
     answers(&rt, rt.alloc(), &mut policy, ANN);
     answers(&rt, rt.alloc(), &mut policy, MIGRATED);
-    assert_eq!(rt; policy.active_roles(1).count(), 1);
-    assert_eq!(rt; policy.active_roles(2).count(), 2);
+    compare_count(&rt, &policy, 1, 1);
+    compare_count(&rt, &policy, 2, 2);
     assert_eq!(rt; policy.counting(), Counting::Inherited);
 }
 
@@ -452,7 +480,7 @@ fn counts(
     left: u32,
 ) {
     answers(rt, alloc, policy, &[(1, line, "done")]);
-    assert_eq!(rt; policy.active_roles(session).count(), left);
+    compare_count(rt, policy, session, left);
 }
 
 // The sessions of Ann after each command that takes roles from her.
@@ -511,6 +539,13 @@ fn compare_active(rt: &impl Abort, policy: &Policy, session: u32, wanted: &[&str
     }
 }
 
+/// Reviews of what is not there.
+fn refuse_reviews(rt: &impl Abort, policy: &Policy) {
+    assert!(rt; policy.assigned_roles(name(rt, "bob")).is_err());
+    assert!(rt; policy.assigned_users(name(rt, "f")).is_err());
+    assert!(rt; policy.session_roles(2).is_err());
+}
+
 #[test]
 fn reviews_in_order_of_creation(rt: HostRuntime) {
     let mut policy = opening(&rt, rt.alloc());
@@ -518,9 +553,7 @@ fn reviews_in_order_of_creation(rt: HostRuntime) {
     compare_users(&rt, &policy, "d", &["ann", "bea"]);
     compare_roles(&rt, &policy, "ann", &["e", "d"]);
     compare_active(&rt, &policy, 1, &["root"]);
-    assert!(rt; policy.assigned_roles(name(&rt, "bob")).is_err());
-    assert!(rt; policy.assigned_users(name(&rt, "f")).is_err());
-    assert!(rt; policy.session_roles(2).is_err());
+    refuse_reviews(&rt, &policy);
 }
 
 #[test]

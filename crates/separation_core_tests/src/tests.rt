@@ -2,7 +2,6 @@ use role_hierarchy::{Hierarchy, RoleSet};
 use separation_core::{Limit, Name, SetFault, Sets};
 use std::alloc::Global;
 use std::process::Abort;
-use std::test::Fail;
 
 fn name(rt: &impl Abort, text: &[u8]) -> Name {
     Name::new(text).expect(rt, "the bytes of a name")
@@ -60,46 +59,46 @@ fn bytes(rt: &impl Abort, text: &[u8]) {
     assert_eq!(rt; made.as_str().as_bytes(), text);
 }
 
+const TEXTS: &[(&[u8], bool)] = &[
+    (b"", false),
+    (b"a", true),
+    (b"abcdefghijklmnopqrstuvwxyz012345", true),
+    (b"abcdefghijklmnopqrstuvwxyz0123456", false),
+    (b"A-z_0.9", true),
+    (b"a b", false),
+    (b"a/b", false),
+    (b"@", false),
+    (b"\xc3\xa9", false),
+];
+
 #[test]
-fn names(rt: HostRuntime) -> Result<(), Fail> {
-    let long = b"abcdefghijklmnopqrstuvwxyz0123456";
-    for (text, valid) in [
-        (&long[..0], false),
-        (&long[..1], true),
-        (&long[..32], true),
-        (&long[..33], false),
-        (&b"A-z_0.9"[..], true),
-        (&b"a b"[..], false),
-        (&b"a/b"[..], false),
-        (&b"@"[..], false),
-        (&b"\xc3\xa9"[..], false),
-    ] {
-        assert_eq!(rt; Name::new(text).is_some(), valid);
+fn names(rt: HostRuntime) {
+    for (text, valid) in TEXTS {
+        assert_eq!(rt; Name::new(text).is_some(), *valid);
     }
-    bytes(&rt, &long[..32]);
+    bytes(&rt, b"abcdefghijklmnopqrstuvwxyz012345");
     bytes(&rt, b"ann.b-2_c");
     assert_eq!(rt; name(&rt, b"ann") == name(&rt, b"anna"), false);
-    let text = format!(in rt.alloc(); "{:>4}|", name(&rt, b"ann"))?;
+    let text = format!(in rt.alloc(); "{:>4}|", name(&rt, b"ann")).expect(&rt, "memory");
     assert_eq!(rt; text.as_str(), " ann|");
-    Ok(())
 }
 
 // Slots 0 to 3 are the roles a, b, c, d. A user has b and c; a and b exclude each other. A pair
 // of c above a would give the user both.
 #[test]
-fn set_of_two_roles_and_a_pair(rt: HostRuntime) -> Result<(), Fail> {
-    let mut order = Hierarchy::new(rt.alloc())?;
+fn set_of_two_roles_and_a_pair(rt: HostRuntime) {
+    let mut order = Hierarchy::new(rt.alloc()).expect(&rt, "memory");
     for _ in 0..4u8 {
-        order.add_role()?;
+        order.add_role().expect(&rt, "the order");
     }
     let mut sets = Sets::new(rt.alloc());
     created(&rt, &mut sets, b"s", &[0, 1], 2);
     let held = roles(&[1, 2]);
     broken(&rt, &sets, order.closure(held), b"");
-    order.add_inheritance(2, 0)?;
+    order.add_inheritance(2, 0).expect(&rt, "the order");
     broken(&rt, &sets, held, b"");
     broken(&rt, &sets, order.closure(held), b"s");
-    order.delete_inheritance(2, 0)?;
+    order.delete_inheritance(2, 0).expect(&rt, "the order");
     broken(&rt, &sets, order.closure(held), b"");
     answer(
         &rt,
@@ -107,7 +106,6 @@ fn set_of_two_roles_and_a_pair(rt: HostRuntime) -> Result<(), Fail> {
         Err(SetFault::Large),
     );
     assert!(rt; sets.has_role(0) && !sets.has_role(2));
-    Ok(())
 }
 
 /// A set x of the roles 0, 1 and 2, of which fewer than two may come together.
@@ -175,7 +173,7 @@ fn fill(rt: &impl Abort, sets: &mut Sets) {
 }
 
 #[test]
-fn sixty_four_sets(rt: HostRuntime) -> Result<(), Fail> {
+fn sixty_four_sets(rt: HostRuntime) {
     let mut sets = Sets::new(rt.alloc());
     fill(&rt, &mut sets);
     assert_eq!(rt; sets.len(), 64);
@@ -184,14 +182,13 @@ fn sixty_four_sets(rt: HostRuntime) -> Result<(), Fail> {
     assert!(rt; sets.refusal_of_create(more, both, 2).is_none());
     answer(&rt, sets.create(more, both, 2), Err(SetFault::Full));
     broken(&rt, &sets, both, b"a0");
-    let whole = sets.copy()?;
+    let whole = sets.copy().expect(&rt, "memory");
     answer(&rt, sets.delete(name(&rt, b"a0")), Ok(()));
     broken(&rt, &sets, both, b"a1");
     place(&rt, &sets, b"h7", 63);
     place(&rt, &whole, b"h7", 64);
     answer(&rt, sets.create(more, all_roles(), 256), Ok(()));
     place(&rt, &sets, b"more", 64);
-    Ok(())
 }
 
 #[test]
@@ -206,26 +203,28 @@ fn set_of_256_roles(rt: HostRuntime) {
     broken(&rt, &sets, all_roles(), b"x");
 }
 
+const FAULTS: &[(SetFault, &str)] = &[
+    (SetFault::NoSet, "no set has the name"),
+    (SetFault::Already, "a set has the name"),
+    (
+        SetFault::Member,
+        "the role is in the set already, or is not in it",
+    ),
+    (SetFault::Small, "the number is below 2"),
+    (
+        SetFault::Large,
+        "the number is above the number of the set's roles",
+    ),
+    (SetFault::Full, "there are 64 sets"),
+    (SetFault::NoMemory, "out of memory"),
+];
+
 #[test]
-fn texts_of_the_faults(rt: HostRuntime) -> Result<(), Fail> {
-    for (fault, text) in [
-        (SetFault::NoSet, "no set has the name"),
-        (SetFault::Already, "a set has the name"),
-        (
-            SetFault::Member,
-            "the role is in the set already, or is not in it",
-        ),
-        (SetFault::Small, "the number is below 2"),
-        (
-            SetFault::Large,
-            "the number is above the number of the set's roles",
-        ),
-        (SetFault::Full, "there are 64 sets"),
-        (SetFault::NoMemory, "out of memory"),
-    ] {
-        assert_eq!(rt; format!(in rt.alloc(); "{fault}")?.as_str(), text);
+fn texts_of_the_faults(rt: HostRuntime) {
+    for (fault, text) in FAULTS {
+        let found = format!(in rt.alloc(); "{fault}").expect(&rt, "memory");
+        assert_eq!(rt; found.as_str(), *text);
     }
-    Ok(())
 }
 
 fn limit_breaks(rt: &impl Abort, limit: Limit) {
@@ -313,7 +312,7 @@ const OF_THE_COPY: &[(&[u8], &[u8], &[u8])] = &[(&[2, 64], &[2], b""), (&[3, 4],
 
 // The sets that have the coming roles are found after each change, also where they moved up.
 #[test]
-fn sets_of_the_coming_roles_after_each_change(rt: HostRuntime) -> Result<(), Fail> {
+fn sets_of_the_coming_roles_after_each_change(rt: HostRuntime) {
     let mut sets = Sets::new(rt.alloc());
     let (a, b, c) = (name(&rt, b"a"), name(&rt, b"b"), name(&rt, b"c"));
     answers(&rt, &sets, OF_NONE);
@@ -323,7 +322,7 @@ fn sets_of_the_coming_roles_after_each_change(rt: HostRuntime) -> Result<(), Fai
     answers(&rt, &sets, OF_THREE);
     answer(&rt, sets.add_member(c, 64), Ok(()));
     answer(&rt, sets.delete_member(b, 2), Ok(()));
-    let before = sets.copy()?;
+    let before = sets.copy().expect(&rt, "memory");
     answer(&rt, sets.delete(a), Ok(()));
     answers(&rt, &before, OF_BOTH);
     answers(&rt, &sets, OF_BOTH);
@@ -333,5 +332,4 @@ fn sets_of_the_coming_roles_after_each_change(rt: HostRuntime) -> Result<(), Fai
     created(&rt, &mut sets, b"a", &[2, 64], 2);
     answers(&rt, &sets, OF_THE_LAST);
     answers(&rt, &before, OF_THE_COPY);
-    Ok(())
 }
