@@ -1,9 +1,11 @@
-//! The words of the program's command line.
+//! The words of the program's command line, and what is said of those that ask for no board.
 #![tactic(auto)]
 
 mod form;
 mod help;
 mod parse;
+mod saying;
 
 pub use form::{OptionFault, Options};
 pub use parse::{options, status};
+pub use saying::told;

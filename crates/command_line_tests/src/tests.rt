@@ -1,5 +1,6 @@
-use command_line::{OptionFault, Options, options, status};
+use command_line::{OptionFault, Options, options, status, told};
 use std::alloc::Global;
+use std::io::{self, ErrorKind, Write};
 use std::process::Abort;
 
 fn compare(rt: &impl Abort, alloc: Global, words: &[&str], wanted: Options) {
@@ -153,5 +154,68 @@ fn help_has_the_lines(rt: HostRuntime) {
         ["dispatch", "run", "--help"].as_slice(),
     ] {
         has_the_lines(&rt, &refused(&rt, rt.alloc(), words, 0));
+    }
+}
+
+/// Takes so many writes, and so many flushes, and fails at the next.
+#[derive(Drop)]
+struct Narrow {
+    writes: usize,
+    flushes: usize,
+}
+
+impl Write for Narrow {
+    fn write(&mut self, buf: &[u8]) -> io::Result<usize> {
+        if self.writes == 0 {
+            return Err(io::Error::from(ErrorKind::Other));
+        }
+        self.writes -= 1;
+        Ok(buf.len())
+    }
+
+    fn flush(&mut self) -> io::Result<()> {
+        if self.flushes == 0 {
+            return Err(io::Error::from(ErrorKind::Other));
+        }
+        self.flushes -= 1;
+        Ok(())
+    }
+}
+
+/// Compares what was said of words, and the status.
+fn compare_said(rt: &impl Abort, faults: &[u8], status: u8, begins: &str, wanted: u8) {
+    assert_eq!(rt; status, wanted);
+    assert_eq!(rt; faults.is_empty(), wanted == 0);
+    assert!(rt; faults.starts_with(begins.as_bytes()));
+}
+
+/// What is said of words on the faults' stream begins so, where their text goes to a writer that may fail.
+fn tells<H: AllocGlobal + Abort>(
+    rt: &H,
+    words: &[&str],
+    mut output: Narrow,
+    begins: &str,
+    wanted: u8,
+) {
+    let mut faults = Vec::new(rt.alloc());
+    let fault = options(rt.alloc(), words).expect_err(rt, "no options");
+    let status = told(&fault, &mut output, &mut faults);
+    compare_said(rt, faults.as_slice(), status, begins, wanted);
+}
+
+/// Help that cannot be written is a fault.
+#[test]
+fn tells_of_words(rt: HostRuntime) {
+    let unwritten = "dispatch: run fault write\n";
+    let unknown = "error: unrecognized subcommand 'chek'\n";
+    for (words, writes, flushes, begins, wanted) in [
+        (["dispatch", "--version"].as_slice(), 9, 9, "", 0),
+        (["dispatch", "--version"].as_slice(), 0, 9, unwritten, 3),
+        (["dispatch", "--version"].as_slice(), 9, 0, unwritten, 3),
+        (["dispatch", "--help"].as_slice(), 0, 9, unwritten, 3),
+        (["dispatch", "chek"].as_slice(), 0, 0, unknown, 2),
+    ] {
+        let output = Narrow { writes, flushes };
+        tells(&rt, words, output, begins, wanted);
     }
 }

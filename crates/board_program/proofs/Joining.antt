@@ -1,0 +1,164 @@
+-- From the parts of the input and what came of its board to all bytes.
+use Rattle.std.proofs.Common.{◌≡◌, ◌∙◌, ℕ, ◌≤◌, Bool, true, false, eqb, List, [], ◌++◌, length, Option, Some, None, Result, Ok, Err, refl, sym, ap, subst, append_assoc, append-nil, inl, inr}
+use Rattle.std.specs.Prelude.{◌⊎◌, ◌==◌, IfOk, IfErr, IfSome, count_by, if◌then◌else◌}
+use Rattle.std.specs.Io.KnownBytes.{Keeps, Consumes, IsAtEnd}
+use Rattle.std.specs.Fmt.{option_append}
+use Rattle.solomon_reader.specs.Checks.{Fault, fault}
+use Rattle.solomon_reader.specs.Instances.{Plain}
+use Rattle.solomon_reader.specs.Reading.{read_of}
+use Rattle.line_engine.specs.Answers.{is_refusal}
+use Rattle.board_text.specs.BoardRuns.{AreOutcomes}
+use Rattle.line_engine.specs.declared.run_fault.Counts.{Counts}
+use Rattle.line_engine.specs.declared.run_fault.RunFault.{RunFault}
+use Rattle.line_engine.specs.declared.run_fault.RunFault.TheVariants as runs
+use Rattle.solomon_reader.specs.Reading.{Fails}
+use Rattle.solomon_reader.specs.declared.fault.ReadFault.{ReadFault}
+use Rattle.solomon_reader.specs.declared.fault.ReadFault.TheVariants as reads
+use Rattle.board_program.specs.Head.{Halves, halves, AreRead}
+use Rattle.board_program.specs.Stops.{IsStopOf, IsUnread, end_status}
+use Rattle.board_program.specs.Joined.{IsRun, IsCutOff, IsUnfinished, IsDone, IsBrokenOff, Ended, IsEnd, Says, IsJoined, IsScripted}
+use Rattle.board_program.specs.Standard.{opened}
+use Rattle.board_program.specs.declared.stop.Stop.{Stop}
+use Rattle.board_program.specs.declared.stop.Stop.TheVariants as stops
+
+-- ---- readers and writers
+
+keeps : (was : Option (List ℕ)) → Keeps was was
+keeps None = tt
+keeps (Some xs) = refl
+
+-- all bytes of a reader at its end
+all_given : (script : List ℕ) (now : Option (List ℕ)) (bytes : List ℕ) → Consumes (Some script) now bytes → IsAtEnd now → script ≡ bytes
+all_given script None bytes c e = absurd c
+all_given script (Some ys) bytes c e = c ∙ ap (λ (xs : List ℕ). bytes ++ xs) e ∙ append-nil bytes
+
+-- a front of a reader's bytes
+abbrev IsFront : List ℕ → Option (List ℕ) → List ℕ → List ℕ → Type 0
+IsFront script now bytes more = (rest : List ℕ) × (script ≡ bytes ++ rest) × (more ≡ [] → IsAtEnd now → rest ≡ [])
+
+front_given : (script : List ℕ) (now : Option (List ℕ)) (bytes more : List ℕ) → Consumes (Some script) now (bytes ++ more) → IsFront script now bytes more
+front_given script None bytes more c = absurd c
+front_given script (Some ys) bytes more c = (more ++ ys, c ∙ append_assoc bytes more ys, λ e f. ap (λ (l : List ℕ). l ++ ys) e ∙ f)
+
+-- ---- what was answered
+
+abbrev status_at : ℕ → ℕ
+status_at n = if n == 0 then 0 else 1
+
+status_by : (refused count : ℕ) → refused ≡ count → status_at refused ≡ status_at count
+status_by refused count e = ap status_at e
+
+done : (i : Plain) (script : List ℕ) (left now_left was now : Option (List ℕ)) (counts : Counts) → left ≡ Some script → IsRun i left now_left was now counts → IsDone i script was now (if counts.refused == 0 then 0 else 1)
+done i script left now_left was now counts known h =
+    let a = h.answered in
+    let given = subst (λ (k : Option (List ℕ)). Consumes k now_left a.bytes) known a.given in
+    let all : script ≡ a.bytes = all_given script now_left a.bytes given a.at_end in (
+      a.outcomes,
+      record { sites = h.sites; of = h.of; new = h.new; run = subst (λ (l : List ℕ). AreOutcomes (opened h.sites) l a.outcomes h.new) (sym all) a.run },
+      a.text,
+      status_by counts.refused (count_by is_refusal a.outcomes) a.refused,
+    )
+
+-- ---- what was answered before the run ended early
+
+cut_off : (fault : RunFault) (i : Plain) (script : List ℕ) (left now_left was now : Option (List ℕ)) → left ≡ Some script → IsCutOff i left now_left was now fault → IsBrokenOff fault i script was now
+cut_off fault i script left now_left was now known h =
+    let s = h.stopped in
+    let front = front_given script now_left s.used s.more (subst (λ (k : Option (List ℕ)). Consumes k now_left (s.used ++ s.more)) known s.given) in (
+      s.used,
+      front.0,
+      front.1,
+      elim s.whole [ inl lines ↦ inl lines | inr end ↦ inr (front.2 end.0 end.1) ],
+      s.outcomes,
+      record { sites = h.sites; of = h.of; new = s.mid; run = s.run },
+      s.text,
+    )
+
+-- ---- all bytes
+
+-- the parts of the known bytes
+pub parts_on : (bytes : List ℕ) (left : Option (List ℕ)) (instance behind : List ℕ) → AreRead (Some bytes) left instance behind true → (script : List ℕ) × (halves bytes ≡ record { instance = instance; script = script }) × (option_append (Some behind) left ≡ Some script)
+parts_on bytes None instance behind h = absurd h.1
+parts_on bytes (Some left) instance behind h = (behind ++ left, ap halves h.1 ∙ h.2 left, refl)
+
+pub parts_off : (bytes : List ℕ) (left : Option (List ℕ)) (instance behind : List ℕ) → AreRead (Some bytes) left instance behind false → (halves bytes ≡ record { instance = instance; script = [] }) × (Some behind ≡ Some [])
+parts_off bytes None instance behind h = absurd h.1
+parts_off bytes (Some left) instance behind h = (ap halves (all_given bytes (Some left) h.0 h.1 h.2.0) ∙ h.2.2, ap (λ (x : List ℕ). Some x) h.2.1)
+
+-- what came of the board
+pub board_end : (result : Result Counts Stop) (h : Halves) (i : Plain) (instance script : List ℕ) (left now_left was now : Option (List ℕ)) → h ≡ record { instance = instance; script = script } → read_of instance ≡ Ok i → length instance ≤ 16777216 → left ≡ Some script → IfOk result (λ counts. IsRun i left now_left was now counts) → IfErr result (λ stop. IsUnfinished i left now_left was now stop) → IsEnd h was now result
+board_end (Ok counts) h i instance script left now_left was now e r short known ok err =
+    subst (λ (x : Halves). IsEnd x was now (Ok counts)) (sym e) (i, r, short, done i script left now_left was now counts known ok)
+board_end (Err (stops.Instance kind line)) h i instance script left now_left was now e r short known ok err = absurd err
+board_end (Err stops.Open) h i instance script left now_left was now e r short known ok err = err.1
+board_end (Err (stops.Run fault)) h i instance script left now_left was now e r short known ok err =
+    subst (λ (x : Halves). IsEnd x was now (Err (stops.Run fault))) (sym e) (inr (i, r, cut_off fault i script left now_left was now known err))
+
+-- nothing came of the head
+pub head_end : (stop : Stop) (h : Halves) (was : Option (List ℕ)) → IsUnread stop → Ended h was was stop
+head_end (stops.Instance kind line) h was u = absurd u
+head_end stops.Open h was u = keeps was
+head_end (stops.Run runs.Read) h was u = inl (refl, keeps was)
+head_end (stops.Run runs.Write) h was u = absurd u
+head_end (stops.Run runs.LongLine) h was u = absurd u
+head_end (stops.Run runs.NoMemory) h was u = absurd u
+
+-- the instance has a fault, or could not be kept
+pub read_end : (e : ReadFault) (stop : Stop) (h : Halves) (instance : List ℕ) (was : Option (List ℕ)) → h.instance ≡ instance → IsStopOf e stop → Fails e (read_of instance) → Ended h was was stop
+read_end reads.NoMemory stop h instance was same s f = subst (λ (x : Stop). Ended h was was x) (sym s) (keeps was)
+read_end (reads.At kind line) stop h instance was same s f = subst (λ (x : Stop). Ended h was was x) (sym s) (ap read_of same ∙ f, keeps was)
+
+pub if_known : (known : Option (List ℕ)) (P : List ℕ → Type 0) → ((bytes : List ℕ) → known ≡ Some bytes → P bytes) → IfSome known P
+if_known None P f = tt
+if_known (Some bytes) P f = f bytes refl
+
+-- ---- the status
+
+abbrev chosen : Bool → ℕ
+chosen b = if b then 0 else 1
+
+some_chosen : (b : Bool) → (chosen b ≡ 0) ⊎ ((chosen b ≡ 1) ⊎ (chosen b ≡ 3))
+some_chosen true = inl refl
+some_chosen false = inr (inl refl)
+
+some_status : (r : Result Counts Stop) → (end_status r ≡ 0) ⊎ ((end_status r ≡ 1) ⊎ (end_status r ≡ 3))
+some_status (Ok counts) = some_chosen (eqb counts.refused 0)
+some_status (Err stop) = inr (inr refl)
+
+pub status_among : (r : Result Counts Stop) (status : ℕ) → status ≡ end_status r → (status ≡ 0) ⊎ ((status ≡ 1) ⊎ (status ≡ 3))
+status_among r status s = subst (λ (n : ℕ). (n ≡ 0) ⊎ ((n ≡ 1) ⊎ (n ≡ 3))) (sym s) (some_status r)
+
+quiet : (r : Result Plain Fault) (script : List ℕ) (was now : Option (List ℕ)) → Keeps was now → Says r script was now 3
+quiet (Err fault) script was now k = (refl, k)
+quiet (Ok i) script was now k = inr (refl, inl k)
+
+-- nothing came of the instance
+pub quiet_known : (r : Result Plain Fault) (known was : Option (List ℕ)) → IfSome known (λ script. Says r script was was 3)
+quiet_known r None was = tt
+quiet_known r (Some script) was = quiet r script was was (keeps was)
+
+broke : (r : Result Plain Fault) (fault : RunFault) (i : Plain) (script : List ℕ) (was now : Option (List ℕ)) → r ≡ Ok i → IsBrokenOff fault i script was now → Says r script was now 3
+broke r fault i script was now e b = subst (λ (x : Result Plain Fault). Says x script was now 3) (sym e) (inr (refl, inr (fault, b)))
+
+ended_says : (stop : Stop) (h : Halves) (was now : Option (List ℕ)) → Ended h was now stop → Says (read_of h.instance) h.script was now 3
+ended_says (stops.Instance kind line) h was now e = quiet (read_of h.instance) h.script was now e.1
+ended_says stops.Open h was now e = quiet (read_of h.instance) h.script was now e
+ended_says (stops.Run f) h was now e = elim e [
+  | inl k ↦ quiet (read_of h.instance) h.script was now k.1
+  | inr b ↦ broke (read_of h.instance) f b.0 h.script was now b.1 b.2
+]
+
+-- by what came of the joined input
+pub joined_by : (r : Result Counts Stop) (status : ℕ) (known was now : Option (List ℕ)) → status ≡ end_status r → IfSome known (λ bytes. IsEnd (halves bytes) was now r) → IfSome known (λ bytes. IsJoined bytes was now status)
+joined_by r status None was now s e = tt
+joined_by (Ok counts) status (Some bytes) was now s e =
+    subst (λ (n : ℕ). IsJoined bytes was now n) (sym s) (subst (λ (r : Result Plain Fault). Says r (halves bytes).script was now (end_status (Ok counts))) (sym e.1) (inl e.3), inr e.2)
+joined_by (Err stop) status (Some bytes) was now s e = subst (λ (n : ℕ). IsJoined bytes was now n) (sym s) (ended_says stop (halves bytes) was now e, inl refl)
+
+-- by what came of an instance's board
+pub scripted_by : (r : Result Counts Stop) (status : ℕ) (i : Plain) (left now_left was now : Option (List ℕ)) → status ≡ end_status r → IfOk r (λ counts. IsRun i left now_left was now counts) → IfErr r (λ stop. IsUnfinished i left now_left was now stop) → IfSome left (λ script. Says (Ok i) script was now status)
+scripted_by r status i None now_left was now s ok err = tt
+scripted_by (Ok counts) status i (Some script) now_left was now s ok err = subst (λ (n : ℕ). Says (Ok i) script was now n) (sym s) (inl (done i script (Some script) now_left was now counts refl ok))
+scripted_by (Err (stops.Instance kind line)) status i (Some script) now_left was now s ok err = absurd err
+scripted_by (Err stops.Open) status i (Some script) now_left was now s ok err = subst (λ (n : ℕ). Says (Ok i) script was now n) (sym s) (inr (refl, inl err.1))
+scripted_by (Err (stops.Run fault)) status i (Some script) now_left was now s ok err = subst (λ (n : ℕ). Says (Ok i) script was now n) (sym s) (inr (refl, inr (fault, cut_off fault i script (Some script) now_left was now refl err)))

@@ -1,0 +1,91 @@
+-- What the program writes, and the status that it ends with, by the bytes that it reads.
+use Rattle.std.specs.Prelude.{◌≡◌, ℕ, ◌==◌, ◌≤◌, ◌⊎◌, List, [], ◌++◌, length, count_by, Option, Result, Ok, Err, if◌then◌else◌}
+use Rattle.std.specs.List.{flat_map}
+use Rattle.std.specs.Io.KnownBytes.{Appends, Keeps}
+use Rattle.solomon_reader.specs.Checks.{Fault, fault}
+use Rattle.solomon_reader.specs.Instances.{Plain}
+use Rattle.solomon_reader.specs.Reading.{read_of}
+use Rattle.board_lines.specs.Replies.{ended}
+use Rattle.line_engine.specs.Answers.{Outcome, written, is_refusal}
+use Rattle.board_text.specs.BoardRuns.{AreOutcomes, IsAnswered, IsStopped}
+use Rattle.board_text.specs.BoardSteps.{DeskState}
+use Rattle.line_engine.specs.Running.{Reaches}
+use Rattle.line_engine.specs.declared.run_fault.Counts.{Counts}
+use Rattle.line_engine.specs.declared.run_fault.RunFault.{RunFault}
+use Rattle.line_engine.specs.declared.run_fault.RunFault.TheVariants as runs
+use Rattle.board_program.specs.Head.{Halves, halves}
+use Rattle.board_program.specs.Network.{Sites}
+use Rattle.board_program.specs.Standard.{AreSitesOf, opened}
+use Rattle.board_program.specs.declared.stop.Stop.{Stop}
+use Rattle.board_program.specs.declared.stop.Stop.TheVariants as stops
+
+-- ---- a board over a reader and a writer
+
+-- the whole script was answered on the board of the instance
+pub record IsRun (i : Plain) (left_old left_new was now : Option (List ℕ)) (counts : Counts) : Type 0 where
+  pub sites : Sites
+  pub of : AreSitesOf i sites
+  pub new : DeskState
+  pub answered : IsAnswered (opened sites) new left_old left_new was now counts.lines counts.refused
+
+-- the board was opened, and the run on it ended early
+pub record IsCutOff (i : Plain) (left_old left_new was now : Option (List ℕ)) (fault : RunFault) : Type 0 where
+  pub sites : Sites
+  pub of : AreSitesOf i sites
+  pub new : DeskState
+  pub stopped : IsStopped fault (opened sites) new left_old left_new was now
+
+-- Why no more came of a board: it was not opened, and nothing was read or written, or the run on it ended early.
+abbrev pub IsUnfinished : Plain → Option (List ℕ) → Option (List ℕ) → Option (List ℕ) → Option (List ℕ) → Stop → Type 0
+IsUnfinished i left_old left_new was now (stops.Instance kind line) = ⊥
+IsUnfinished i left_old left_new was now stops.Open = Keeps left_old left_new × Keeps was now
+IsUnfinished i left_old left_new was now (stops.Run fault) = IsCutOff i left_old left_new was now fault
+
+-- ---- all bytes
+
+-- The instance's board gives these outcomes to the lines of a script, one after another.
+pub record Replies (i : Plain) (script : List ℕ) (outcomes : List Outcome) : Type 0 where
+  pub sites : Sites
+  pub of : AreSitesOf i sites
+  pub new : DeskState
+  pub run : AreOutcomes (opened sites) script outcomes new
+
+-- 1 where a line counted as refused
+abbrev pub status_of : List Outcome → ℕ
+status_of outcomes = if count_by is_refusal outcomes == 0 then 0 else 1
+
+-- each line of the script was answered
+abbrev pub IsDone : Plain → List ℕ → Option (List ℕ) → Option (List ℕ) → ℕ → Type 0
+IsDone i script was now status = (outcomes : List Outcome) × Replies i script outcomes × Appends was now (written outcomes) × (status ≡ status_of outcomes)
+
+-- a front of the script, of whole lines, was answered, and its replies were written, or a front of them where the writer failed
+abbrev pub IsBrokenOff : RunFault → Plain → List ℕ → Option (List ℕ) → Option (List ℕ) → Type 0
+IsBrokenOff fault i script was now = (used : List ℕ) × (more : List ℕ) × (script ≡ used ++ more)
+    × (((lines : List (List ℕ)) × (used ≡ flat_map ended lines)) ⊎ (more ≡ []))
+    × (outcomes : List Outcome) × Replies i used outcomes × Reaches fault was now (written outcomes)
+
+-- Why a run ended early, with what it wrote. Nothing: the instance has a fault; memory ran out before the script; or a read
+-- failed, or more than the limit came, before the mark. Or the run on its board ended early.
+abbrev pub Ended : Halves → Option (List ℕ) → Option (List ℕ) → Stop → Type 0
+Ended h was now (stops.Instance kind line) = (read_of h.instance ≡ fault kind line) × Keeps was now
+Ended h was now stops.Open = Keeps was now
+Ended h was now (stops.Run f) = ((f ≡ runs.Read) × Keeps was now) ⊎ ((i : Plain) × (read_of h.instance ≡ Ok i) × IsBrokenOff f i h.script was now)
+
+-- the same of a run that was not ended early
+abbrev pub IsEnd : Halves → Option (List ℕ) → Option (List ℕ) → Result Counts Stop → Type 0
+IsEnd h was now (Ok counts) = (i : Plain) × (read_of h.instance ≡ Ok i) × (length h.instance ≤ 16777216) × IsDone i h.script was now (if counts.refused == 0 then 0 else 1)
+IsEnd h was now (Err stop) = Ended h was now stop
+
+-- By what the instance's bytes say. No instance: nothing is written, and 3. An instance: the replies to the script, and 0 or 1. Or 3, and
+-- nothing or the replies to a front of the script, or a front of those.
+abbrev pub Says : Result Plain Fault → List ℕ → Option (List ℕ) → Option (List ℕ) → ℕ → Type 0
+Says (Err fault) script was now status = (status ≡ 3) × Keeps was now
+Says (Ok i) script was now status = IsDone i script was now status ⊎ ((status ≡ 3) × (Keeps was now ⊎ ((fault : RunFault) × IsBrokenOff fault i script was now)))
+
+-- an instance and a script, each in bytes of its own
+abbrev pub IsScripted : List ℕ → List ℕ → Option (List ℕ) → Option (List ℕ) → ℕ → Type 0
+IsScripted instance script was now status = Says (read_of instance) script was now status
+
+-- The instance before the mark and the script behind it; where more than 16,777,216 bytes stand before it, the status is 3.
+abbrev pub IsJoined : List ℕ → Option (List ℕ) → Option (List ℕ) → ℕ → Type 0
+IsJoined bytes was now status = IsScripted (halves bytes).instance (halves bytes).script was now status × ((status ≡ 3) ⊎ (length (halves bytes).instance ≤ 16777216))

@@ -1,0 +1,58 @@
+//! The joined form: an instance, a line `%%` and a script in one input.
+
+ghost use Rattle.std.specs.Prelude.{◌≡◌, ◌⊎◌, IfSome};
+ghost use Rattle.board_program.specs.Head.{halves};
+ghost use Rattle.board_program.specs.Joined.{IsEnd, IsJoined};
+
+use crate::head::{Parts, read_parts};
+use crate::standard::run_board;
+use crate::stop::{Stop, ended};
+use board_text::Counts;
+use solomon_reader::read;
+use std::alloc::Global;
+use std::io::{Read, Write};
+
+/// Reads the instance, opens its board, and answers the script behind it.
+fn run_joined<R, I: Read, W: Write>(
+    rt: &R,
+    alloc: Global,
+    reader: &mut I,
+    writer: &mut W,
+) -> Result<Counts, Stop>
+    ensures { IfSome (I.remaining reader.old) (λ bytes. IsEnd (halves bytes) (W.contents writer.old) (W.contents writer.new) result) }
+{
+    let Parts {
+        instance,
+        behind,
+        goes_on,
+    } = read_parts(alloc, reader)?;
+    let instance = read(alloc, instance.as_slice())?;
+    if goes_on {
+        let mut script = behind.as_slice().chain(reader);
+        run_board(rt, alloc, instance, &mut script, writer)
+    } else {
+        let mut script = behind.as_slice();
+        run_board(rt, alloc, instance, &mut script, writer)
+    }
+}
+
+/// The joined form of the program: its input is an instance in Solomon's format, a line that is exactly `%%` and a script
+/// of lines for desk 1. Without the line `%%` the script is empty. One carriage return before the line's line feed is
+/// dropped. The replies go to `writer`, which is flushed before each read.
+///
+/// The status is 0 where each line was done, 1 where a line counted as refused, and 3 where the run ended early. `faults`
+/// then has one line, which begins with `dispatch: `: `instance fault KIND line N`; `open fault`, where memory ran out
+/// before the script, or the instance's numbers are out of a dimension's; or `run fault KIND`, where `read` also stands
+/// for a read that fails before the line `%%`, and for more than 16,777,216 bytes before it.
+pub fn joined<R, I: Read, W: Write, F: Write>(
+    rt: &R,
+    alloc: Global,
+    reader: &mut I,
+    writer: &mut W,
+    faults: &mut F,
+) -> u8
+    ensures status { (result ≡ 0) ⊎ (result ≡ 1) ⊎ (result ≡ 3) }
+    ensures joined { IfSome (I.remaining reader.old) (λ bytes. IsJoined bytes (W.contents writer.old) (W.contents writer.new) result) }
+{
+    ended(faults, run_joined(rt, alloc, reader, writer))
+}

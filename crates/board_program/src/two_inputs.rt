@@ -1,0 +1,78 @@
+//! An instance and a script, each in an input or a file of its own: `dispatch run`.
+
+ghost use Rattle.std.specs.Prelude.{◌≡◌, ◌⊎◌, Ok, IfSome};
+ghost use Rattle.solomon_reader.specs.Instances.{view, IsSound};
+ghost use Rattle.board_program.specs.Joined.{IsScripted, Says};
+
+use crate::files::{read_path, unread};
+use crate::standard::run_board;
+use crate::stop::{Stop, ended, stopped};
+use solomon_reader::{Instance, read};
+use std::alloc::Global;
+use std::fs;
+use std::io::{Read, Write};
+use std::rt::Files;
+
+/// Answers a script on the board of an instance, with the status and the fault line that `scripted` has.
+fn answered<R, I: Read, W: Write, F: Write>(
+    rt: &R,
+    alloc: Global,
+    instance: Instance,
+    script: &mut I,
+    writer: &mut W,
+    faults: &mut F,
+) -> u8
+    requires { IsSound (view instance) }
+    ensures status { (result ≡ 0) ⊎ (result ≡ 1) ⊎ (result ≡ 3) }
+    ensures says { IfSome (I.remaining script.old) (λ bytes. Says (Ok (view instance)) bytes (W.contents writer.old) (W.contents writer.new) result) }
+{
+    ended(faults, run_board(rt, alloc, instance, script, writer))
+}
+
+/// The program over two inputs: the bytes of an instance in Solomon's format, and a script of lines for desk 1. The replies
+/// go to `writer`, which is flushed before each read.
+///
+/// The status is 0 where each line was done, 1 where a line counted as refused, and 3 where the run ended early. `faults`
+/// then has one line, which begins with `dispatch: `: `instance fault KIND line N`; `open fault`, where memory ran out
+/// before the script, or the instance's numbers are out of a dimension's; or `run fault KIND`.
+pub fn scripted<R, I: Read, W: Write, F: Write>(
+    rt: &R,
+    alloc: Global,
+    instance: &[u8],
+    script: &mut I,
+    writer: &mut W,
+    faults: &mut F,
+) -> u8
+    ensures status { (result ≡ 0) ⊎ (result ≡ 1) ⊎ (result ≡ 3) }
+    ensures scripted { IfSome (I.remaining script.old) (λ bytes. IsScripted instance.now bytes (W.contents writer.old) (W.contents writer.new) result) }
+{
+    match read(alloc, instance) {
+        Ok(instance) => answered(rt, alloc, instance, script, writer, faults),
+        Err(fault) => stopped(faults, Stop::from(fault)),
+    }
+}
+
+/// `dispatch run` of two files: the instance is read and judged before the script is opened. A file that cannot be opened,
+/// and an instance's file that fails while it is read or has more than 16,777,216 bytes, give `dispatch: cannot read PATH`
+/// and status 3; else it is as `scripted` has it.
+pub fn run_files<R: Files, W: Write, F: Write>(
+    rt: &R,
+    alloc: Global,
+    instance: &str,
+    script: &str,
+    writer: &mut W,
+    faults: &mut F,
+) -> u8 {
+    let text = match read_path(rt, alloc, instance) {
+        Ok(text) => text,
+        Err(error) => return unread(faults, instance, &error),
+    };
+    let judged = match read(alloc, text.as_slice()) {
+        Ok(judged) => judged,
+        Err(fault) => return stopped(faults, Stop::from(fault)),
+    };
+    match fs::open(rt, script) {
+        Ok(mut file) => answered(rt, alloc, judged, &mut file, writer, faults),
+        Err(error) => unread(faults, script, &error),
+    }
+}

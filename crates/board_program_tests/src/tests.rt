@@ -1,0 +1,502 @@
+ghost use Rattle.std.specs.Prelude.{◌≡◌};
+
+mod devices;
+mod examples;
+mod rows;
+
+use board_core::Board;
+use board_program::{check_bytes, check_file, joined, read_file, run_files, scripted};
+use board_text::{BoardFront, Counts, run_lines};
+use callback_store::{Registry, Transit};
+use devices::{make_drip, make_line_by_line, make_narrow};
+use dimension_core::Setup;
+use examples::EXAMPLES;
+use rows::{CASES, LISTED};
+use std::alloc::AllocError;
+use std::io::{Read, Write};
+use std::process::Abort;
+use std::str;
+use std::sync::Arc;
+use std::test::Fail;
+
+/// An instance of four customers and two vehicles.
+const A: &str =
+    "A\n\nVEHICLE\nNUMBER     CAPACITY\n  2          10\n\nCUSTOMER\nCUST NO.  XCOORD.  YCOORD.  DEMAND  READY TIME  DUE DATE  SERVICE TIME\n\n    0      0      0      0      0     100      0\n    1      2      2      4      0      50      0\n    2      6      6      3      0      50      0\n    3     10     10      3      0      14      0\n    4      3      4      5      0      50      0\n";
+
+/// What a check says of it.
+const REPORT: &str = "name A\ncustomers 4\nvehicles 2\ncapacity 10\nhorizon 1000\n";
+
+/// What a run is to write, to say on the faults' stream, and to end with.
+type Wanted<'a> = (&'a str, &'a str, u8);
+
+// What compares owns nothing: each `assert` of a function that holds values is a way out at which all of them are dropped.
+
+/// Compares what a run said and ended with.
+fn compare_end(rt: &impl Abort, faults: &[u8], status: u8, wanted: Wanted<'_>) {
+    assert_eq!(rt; str::from_utf8(faults).expect(rt, "text"), wanted.1);
+    assert_eq!(rt; status, wanted.2);
+}
+
+/// Compares what a run wrote, said and ended with.
+fn compare(rt: &impl Abort, output: &[u8], faults: &[u8], status: u8, wanted: Wanted<'_>) {
+    assert_eq!(rt; str::from_utf8(output).expect(rt, "text"), wanted.0);
+    compare_end(rt, faults, status, wanted);
+}
+
+/// A run wrote a front of these replies, of a length that fits.
+fn compare_front(rt: &impl Abort, output: &[u8], replies: &str, fits: bool) {
+    assert!(rt; replies.as_bytes().starts_with(output));
+    assert!(rt; fits);
+}
+
+/// The run of a joined input gives what is wanted.
+fn joined_gives<H: AllocGlobal + Abort, I: Read>(rt: &H, reader: &mut I, wanted: Wanted<'_>) {
+    let mut output = Vec::new(rt.alloc());
+    let mut faults = Vec::new(rt.alloc());
+    let status = joined(rt, rt.alloc(), reader, &mut output, &mut faults);
+    compare(rt, output.as_slice(), faults.as_slice(), status, wanted);
+}
+
+/// The run of an instance and what stands behind it gives what is wanted.
+fn gives<H: AllocGlobal + Abort>(
+    rt: &H,
+    instance: &str,
+    behind: &str,
+    wanted: Wanted<'_>,
+) -> Result<(), AllocError> {
+    let input = format!(in rt.alloc(); "{instance}{behind}")?;
+    joined_gives(rt, &mut input.as_bytes(), wanted);
+    Ok(())
+}
+
+/// The run of a script in an input of its own gives what is wanted.
+fn scripted_gives<H: AllocGlobal + Abort, I: Read>(rt: &H, script: &mut I, wanted: Wanted<'_>) {
+    let mut output = Vec::new(rt.alloc());
+    let mut faults = Vec::new(rt.alloc());
+    let status = scripted(
+        rt,
+        rt.alloc(),
+        A.as_bytes(),
+        script,
+        &mut output,
+        &mut faults,
+    );
+    compare(rt, output.as_slice(), faults.as_slice(), status, wanted);
+}
+
+/// A check of an instance's text gives what is wanted.
+fn check_gives<H: AllocGlobal + Abort>(rt: &H, instance: &str, wanted: Wanted<'_>) {
+    let mut output = Vec::new(rt.alloc());
+    let mut faults = Vec::new(rt.alloc());
+    let status = check_bytes(rt.alloc(), instance.as_bytes(), &mut output, &mut faults);
+    compare(rt, output.as_slice(), faults.as_slice(), status, wanted);
+}
+
+/// Puts the line of a row to a script, and its reply to the replies.
+fn put_row(script: &mut String, replies: &mut String, row: &str) -> Result<(), AllocError> {
+    let reply = match row.split_once(" => ") {
+        Some((line, reply)) => {
+            write!(script, "{line}\n")?;
+            reply
+        }
+        None => row,
+    };
+    if !reply.is_empty() {
+        write!(replies, "{reply}\n")?;
+    }
+    Ok(())
+}
+
+/// The lines of a script, and the replies to them.
+fn texts<H: AllocGlobal>(rt: &H, parts: [&str; 4]) -> Result<(String, String), AllocError> {
+    let mut script = String::new(rt.alloc());
+    let mut replies = String::new(rt.alloc());
+    for part in parts {
+        for row in part.split('\n') {
+            put_row(&mut script, &mut replies, row)?;
+        }
+    }
+    Ok((script, replies))
+}
+
+/// The script in an input of its own, and behind an instance.
+fn answers<H: AllocGlobal + Abort>(rt: &H, parts: [&str; 4], status: u8) -> Result<(), AllocError> {
+    let (script, replies) = texts(rt, parts)?;
+    let wanted = (replies.as_str(), "", status);
+    scripted_gives(rt, &mut script.as_bytes(), wanted);
+    let input = format!(in rt.alloc(); "{A}%%\n{script}")?;
+    joined_gives(rt, &mut input.as_bytes(), wanted);
+    Ok(())
+}
+
+#[test]
+fn answers_scripts(rt: HostRuntime) -> Result<(), Fail> {
+    for (parts, status) in CASES {
+        answers(&rt, parts, status)?;
+    }
+    Ok(())
+}
+
+/// The examples of the pages give what stands beside them, and each has a line that counts as refused.
+#[test]
+fn the_examples_of_the_pages(rt: HostRuntime) {
+    for (input, wanted) in EXAMPLES {
+        joined_gives(&rt, &mut input.as_bytes(), (*wanted, "", 1));
+    }
+}
+
+/// Bytes that come and go one at a time give the same.
+#[test]
+fn a_byte_at_a_time(rt: HostRuntime) -> Result<(), Fail> {
+    let (script, replies) = texts(&rt, LISTED)?;
+    let input = format!(in rt.alloc(); "{A}%%\n{script}")?;
+    let mut reader = make_drip(input.as_bytes(), 1, usize::MAX);
+    let mut output = make_narrow(Vec::new(rt.alloc()), 1, usize::MAX, usize::MAX);
+    let mut faults = Vec::new(rt.alloc());
+    let status = joined(&rt, rt.alloc(), &mut reader, &mut output, &mut faults);
+    let wanted = (replies.as_str(), "", 0);
+    compare(
+        &rt,
+        output.taken.as_slice(),
+        faults.as_slice(),
+        status,
+        wanted,
+    );
+    Ok(())
+}
+
+/// A script whose reads fail after so many: what was written is longer than was told before, and how long it is.
+fn reads_fail<H: AllocGlobal + Abort>(
+    rt: &H,
+    script: &str,
+    reads: usize,
+    replies: &str,
+    told: usize,
+) -> usize {
+    let mut reader = make_line_by_line(script.as_bytes(), reads);
+    let mut output = Vec::new(rt.alloc());
+    let mut faults = Vec::new(rt.alloc());
+    let status = scripted(
+        rt,
+        rt.alloc(),
+        A.as_bytes(),
+        &mut reader,
+        &mut output,
+        &mut faults,
+    );
+    let fits = reads == 0 || told < output.len();
+    compare_front(rt, output.as_slice(), replies, fits);
+    let wanted = ("", "dispatch: run fault read\n", 3);
+    compare_end(rt, faults.as_slice(), status, wanted);
+    output.len()
+}
+
+/// Where the n-th read fails, the replies to the lines before it were written.
+#[test]
+fn a_reader_that_fails(rt: HostRuntime) -> Result<(), Fail> {
+    let (script, replies) = texts(&rt, LISTED)?;
+    let mut told = 0;
+    for reads in 0..9 {
+        told = reads_fail(&rt, script.as_str(), reads, replies.as_str(), told);
+    }
+    let mut reader = make_line_by_line(script.as_bytes(), 9);
+    scripted_gives(&rt, &mut reader, (replies.as_str(), "", 0));
+    Ok(())
+}
+
+/// A script whose replies go to a writer that fails after so many writes, or so many flushes.
+fn writes_fail<H: AllocGlobal + Abort>(
+    rt: &H,
+    script: &str,
+    writes: usize,
+    flushes: usize,
+    replies: &str,
+) {
+    let mut reader = make_line_by_line(script.as_bytes(), usize::MAX);
+    let mut output = make_narrow(Vec::new(rt.alloc()), usize::MAX, writes, flushes);
+    let mut faults = Vec::new(rt.alloc());
+    let status = scripted(
+        rt,
+        rt.alloc(),
+        A.as_bytes(),
+        &mut reader,
+        &mut output,
+        &mut faults,
+    );
+    let fits = writes == 9 || output.taken.len() < replies.len();
+    compare_front(rt, output.taken.as_slice(), replies, fits);
+    let wanted = ("", "dispatch: run fault write\n", 3);
+    compare_end(rt, faults.as_slice(), status, wanted);
+}
+
+/// Where a write or a flush fails, a front of the replies was written.
+#[test]
+fn a_writer_that_fails(rt: HostRuntime) -> Result<(), Fail> {
+    let (script, replies) = texts(&rt, LISTED)?;
+    for (writes, flushes) in [
+        (0, 9),
+        (1, 9),
+        (2, 9),
+        (5, 9),
+        (7, 9),
+        (9, 0),
+        (9, 1),
+        (9, 4),
+        (9, 8),
+    ] {
+        writes_fail(&rt, script.as_str(), writes, flushes, replies.as_str());
+    }
+    Ok(())
+}
+
+#[test]
+fn the_line_between(rt: HostRuntime) -> Result<(), Fail> {
+    for (between, wanted) in [
+        ("", ""),
+        ("%%", ""),
+        ("%%\n", ""),
+        ("%%\r\n", ""),
+        ("%%\n1 fly\n", "bad word\n"),
+        ("%%\r\n1 fly\r\n", "bad word\n"),
+        ("%%\n%%\n", "bad number\n"),
+    ] {
+        let status = u8::from(!wanted.is_empty());
+        gives(&rt, A, between, (wanted, "", status))?;
+    }
+    // A carriage return is dropped only before a line feed: these are node rows with too few fields.
+    for between in ["%%\r", "%% \n", " %%\n", "%%\r\r\n"] {
+        let wanted = ("", "dispatch: instance fault fields line 15\n", 3);
+        gives(&rt, A, between, wanted)?;
+    }
+    Ok(())
+}
+
+/// A text that is no instance has the same fault in a check and before a script.
+fn has_fault<H: AllocGlobal + Abort>(
+    rt: &H,
+    instance: &str,
+    fault: &str,
+) -> Result<(), AllocError> {
+    check_gives(rt, instance, ("", fault, 3));
+    gives(rt, instance, "%%\n1 list\n", ("", fault, 3))
+}
+
+/// The same of an instance with one part exchanged.
+fn has_fault_with<H: AllocGlobal + Abort>(
+    rt: &H,
+    part: &str,
+    other: &str,
+    fault: &str,
+) -> Result<(), AllocError> {
+    let text = A.replace(rt.alloc(), part, other)?;
+    has_fault(rt, text.as_str(), fault)
+}
+
+#[test]
+fn faults_of_an_instance(rt: HostRuntime) -> Result<(), Fail> {
+    for (part, other, fault) in [
+        (
+            "1      2      2      4",
+            "1      2.50   2      4",
+            "dispatch: instance fault number line 11\n",
+        ),
+        (
+            "    2      6      6      3      0      50      0\n",
+            "",
+            "dispatch: instance fault order line 12\n",
+        ),
+    ] {
+        has_fault_with(&rt, part, other, fault)?;
+    }
+    has_fault(
+        &rt,
+        "A\n\nVEHICLE\n",
+        "dispatch: instance fault fleet line 4\n",
+    )?;
+    let mut long = String::from_str(rt.alloc(), A)?;
+    for customer in 5..1002 {
+        write!(long, "{customer} 3 4 0 0 50 0\n")?;
+    }
+    let fault = "dispatch: instance fault count line 1011\n";
+    Ok(has_fault(&rt, long.as_str(), fault)?)
+}
+
+/// An instance with one part exchanged is the same instance, to a check and before a script.
+fn is_the_same<H: AllocGlobal + Abort>(rt: &H, part: &str, other: &str) -> Result<(), AllocError> {
+    let text = A.replace(rt.alloc(), part, other)?;
+    check_gives(rt, text.as_str(), (REPORT, "", 0));
+    gives(rt, text.as_str(), "%%\n1 list\n", ("end\n", "", 0))
+}
+
+#[test]
+fn checks_an_instance(rt: HostRuntime) -> Result<(), Fail> {
+    check_gives(&rt, A, (REPORT, "", 0));
+    check_gives(&rt, A.trim_end(), (REPORT, "", 0));
+    is_the_same(&rt, "\n", "\r\n")?;
+    Ok(is_the_same(&rt, "1      2      2      4", "1      2.00   2      4")?)
+}
+
+#[test]
+fn a_failing_reader(rt: HostRuntime) -> Result<(), Fail> {
+    let fault = "dispatch: run fault read\n";
+    joined_gives(&rt, &mut make_drip(A.as_bytes(), 7, 9), ("", fault, 3));
+    let input = format!(in rt.alloc(); "{A}%%\n1 list\n")?;
+    let reads = (input.len() + 6) / 7;
+    joined_gives(
+        &rt,
+        &mut make_drip(input.as_bytes(), 7, reads),
+        ("end\n", fault, 3),
+    );
+    Ok(())
+}
+
+/// A script that is one comment of so many bytes gives what is wanted.
+fn long_line<H: AllocGlobal + Abort>(
+    rt: &H,
+    length: usize,
+    wanted: Wanted<'_>,
+) -> Result<(), AllocError> {
+    let line = "#".repeat(rt.alloc(), length)?;
+    let input = format!(in rt.alloc(); "{A}%%\n{line}")?;
+    joined_gives(rt, &mut input.as_bytes(), wanted);
+    Ok(())
+}
+
+#[test]
+fn long_lines(rt: HostRuntime) -> Result<(), Fail> {
+    long_line(&rt, 4096, ("", "", 0))?;
+    let fault = "dispatch: run fault long-line\n";
+    Ok(long_line(&rt, 4097, ("", fault, 3))?)
+}
+
+/// Compares what a run of lines wrote, and how many lines it answered and refused.
+fn compare_counts(
+    rt: &impl Abort,
+    output: &[u8],
+    counts: &Counts,
+    wanted: &str,
+    numbers: (u64, u64),
+) {
+    assert_eq!(rt; str::from_utf8(output).expect(rt, "text"), wanted);
+    assert_eq!(rt; counts.lines, numbers.0);
+    assert_eq!(rt; counts.refused, numbers.1);
+}
+
+/// A journal of three events: the fourth is not taken, and a question still is.
+#[test]
+fn a_full_journal(rt: HostRuntime) -> Result<(), Fail> {
+    let call = Box::new(
+        rt.alloc(),
+        move |_i: u32, _j: u32| -> u64
+            ensures { result ≡ 10 }
+        { 10 },
+    )?;
+    let transit = Transit::new(2, call);
+    let mut registry = Registry::new(rt.alloc());
+    let cost = registry.register(transit).expect(&rt, "room");
+    let setup = Setup::new(1, 1, registry, Vec::new(rt.alloc()), cost, 3).expect(&rt, "setup");
+    let setup = Arc::new(rt.alloc(), setup)?;
+    let board = Board::new(rt.alloc(), setup, 1)?;
+    let mut front = BoardFront {
+        board,
+        desk: 1,
+        turn: 1,
+    };
+    let script = "1 add-user a\n1 add-user b\n1 add-user c\n1 add-user d\n1 list\n";
+    let mut reader = script.as_bytes();
+    let mut output = Vec::new(rt.alloc());
+    let counts = run_lines(&(), rt.alloc(), &mut front, &mut reader, &mut output);
+    let counts = counts.expect(&rt, "a whole run");
+    compare_counts(
+        &rt,
+        output.as_slice(),
+        &counts,
+        "done\ndone\ndone\nfault full\nend\n",
+        (5, 1),
+    );
+    Ok(())
+}
+
+#[test]
+fn a_failing_writer(rt: HostRuntime) {
+    let mut output = make_narrow(Vec::new(rt.alloc()), 0, 0, 0);
+    let mut faults = Vec::new(rt.alloc());
+    let status = check_bytes(rt.alloc(), A.as_bytes(), &mut output, &mut faults);
+    let wanted = ("", "dispatch: run fault write\n", 3);
+    compare_end(&rt, faults.as_slice(), status, wanted);
+}
+
+/// How many bytes are read of a file of so many, or none where it is too long.
+fn read_of<H: AllocGlobal>(rt: &H, length: usize) -> Result<Option<usize>, AllocError> {
+    let text = vec![in rt.alloc(); b'x'; length]?;
+    match read_file(rt.alloc(), text.as_slice()) {
+        Ok(read) => Ok(Some(read.len())),
+        Err(_) => Ok(None),
+    }
+}
+
+#[test]
+fn files_of_an_instance(rt: HostRuntime) -> Result<(), Fail> {
+    assert_eq!(rt; read_of(&rt, 16_777_216)?, Some(16_777_216));
+    assert_eq!(rt; read_of(&rt, 16_777_217)?, None);
+    assert!(rt; read_file(rt.alloc(), make_drip(A.as_bytes(), 7, 9)).is_err());
+    Ok(())
+}
+
+#[test]
+fn paths_that_cannot_be_read(rt: HostRuntime) {
+    // The second is a folder: it opens, and the first read fails.
+    for (path, wanted) in [
+        ("no such file", "dispatch: cannot read no such file\n"),
+        ("/", "dispatch: cannot read /\n"),
+    ] {
+        let mut output = Vec::new(rt.alloc());
+        let mut faults = Vec::new(rt.alloc());
+        let status = check_file(&rt, rt.alloc(), path, &mut output, &mut faults);
+        compare(
+            &rt,
+            output.as_slice(),
+            faults.as_slice(),
+            status,
+            ("", wanted, 3),
+        );
+    }
+}
+
+#[test]
+fn a_long_instance(rt: HostRuntime) -> Result<(), Fail> {
+    // One byte more than 16,777,216 stands before the line `%%`.
+    let mut input = vec![in rt.alloc(); b' '; 16_777_216]?;
+    input.extend_from_slice(b"\n%%\n")?;
+    let wanted = ("", "dispatch: run fault read\n", 3);
+    joined_gives(&rt, &mut input.as_slice(), wanted);
+    Ok(())
+}
+
+/// The instance is judged before the script is opened.
+#[test]
+fn files_of_a_run(rt: HostRuntime) {
+    for (instance, wanted) in [
+        ("no such file", "dispatch: cannot read no such file\n"),
+        ("/", "dispatch: cannot read /\n"),
+        ("/dev/null", "dispatch: instance fault name line 1\n"),
+    ] {
+        let mut output = Vec::new(rt.alloc());
+        let mut faults = Vec::new(rt.alloc());
+        let status = run_files(
+            &rt,
+            rt.alloc(),
+            instance,
+            "no script",
+            &mut output,
+            &mut faults,
+        );
+        compare(
+            &rt,
+            output.as_slice(),
+            faults.as_slice(),
+            status,
+            ("", wanted, 3),
+        );
+    }
+}

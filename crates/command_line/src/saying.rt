@@ -1,0 +1,34 @@
+//! What the program says of words that ask for no board.
+
+ghost use Rattle.std.specs.Prelude.{◌≡◌, ◌⊎◌};
+ghost use Rattle.command_line.specs.CommandLine.{status_of};
+
+use crate::form::OptionFault;
+use crate::parse::status;
+use std::io::{self, Write};
+
+/// Writes a text and flushes it.
+fn say<W: Write>(output: &mut W, fault: &OptionFault) -> io::Result<()> {
+    write!(output, "{fault}")?;
+    output.flush()
+}
+
+/// Writes help or the version to `output`, and a fault of usage to `faults`, and gives the status: that of the words, or
+/// 3 where help or the version could not be written, which is told as `dispatch: run fault write`.
+pub fn told<W: Write, F: Write>(fault: &OptionFault, output: &mut W, faults: &mut F) -> u8
+    ensures { (result ≡ status_of fault.now) ⊎ (result ≡ 3) }
+{
+    match fault {
+        OptionFault::Help(_) => match say(output, fault) {
+            Ok(()) => status(fault),
+            Err(_) => {
+                let _ = writeln!(faults, "dispatch: run fault write");
+                3
+            }
+        },
+        _ => {
+            let _ = write!(faults, "{fault}");
+            status(fault)
+        }
+    }
+}
