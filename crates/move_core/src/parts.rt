@@ -201,6 +201,16 @@ pub(crate) fn two_changes(
     Ok(changes)
 }
 
+/// A list of no touch in the memory of another, with room for so many.
+pub(crate) fn emptied(room: Vec<Touch>, count: usize) -> Result<Vec<Touch>, AllocError>
+    ensures { IfOk result (λ touched. touched.items ≡ []) }
+{
+    let mut touched = room;
+    touched.clear();
+    touched.reserve(count)?;
+    Ok(touched)
+}
+
 /// Adds customers that stand on a vehicle one after the other, the first of them at `place`.
 pub(crate) fn push_touches(
     touched: &mut Vec<Touch>,
