@@ -8,8 +8,25 @@ use plan_core::{Route, Touch};
 use std::alloc::{AllocError, Global};
 use std::sync::Arc;
 
-/// A route of four parts. Its memory is asked for once.
+/// A route of three parts. Its memory is asked for once.
 fn joined(
+    alloc: Global,
+    first: &[u32],
+    second: &[u32],
+    third: &[u32],
+) -> Result<Arc<Route>, AllocError>
+    ensures { IfOk result (λ route. route.value ≡ first.now ++ (second.now ++ third.now)) }
+{
+    let mut customers = Vec::with_capacity(alloc, first.len() + second.len() + third.len())?;
+    customers.extend_from_slice(first)?;
+    customers.extend_from_slice(second)?;
+    customers.extend_from_slice(third)?;
+    let route = Arc::new(alloc, Route::new(customers))?;
+    Ok(route)
+}
+
+/// A route of four parts. Its memory is asked for once.
+fn joined_four(
     alloc: Global,
     first: &[u32],
     second: &[u32],
@@ -40,7 +57,7 @@ pub(crate) fn with_stretch(
     ensures { IfOk result (λ made. made.value ≡ with_stretch route.now place customers.now) }
 {
     let (front, back) = route.split_at(place as usize - 1);
-    joined(alloc, front, customers, back, &[])
+    joined(alloc, front, customers, back)
 }
 
 /// The route without so many customers from `place` on.
@@ -56,7 +73,7 @@ pub(crate) fn without(
 {
     let first = place as usize - 1;
     let back = &route[first + count as usize..];
-    joined(alloc, &route[..first], back, &[], &[])
+    joined(alloc, &route[..first], back, &[])
 }
 
 /// So many customers of a route from `place` on.
@@ -89,10 +106,10 @@ pub(crate) fn moved_within(
     let to = at as usize - 1;
     let moved = &route[first..end];
     if to <= first {
-        return joined(alloc, &route[..to], moved, &route[to..first], &route[end..]);
+        return joined_four(alloc, &route[..to], moved, &route[to..first], &route[end..]);
     }
     let reach = to + count as usize;
-    joined(
+    joined_four(
         alloc,
         &route[..first],
         &route[end..reach],
@@ -169,7 +186,7 @@ pub(crate) fn crossed(
     ensures { IfOk result (λ made. made.value ≡ crossed route.now keep other.now keep_other) }
 {
     let back = &other[keep_other as usize..];
-    joined(alloc, &route[..keep as usize], back, &[], &[])
+    joined(alloc, &route[..keep as usize], back, &[])
 }
 
 /// New routes for one vehicle.
