@@ -8,6 +8,17 @@ use plan_core::{Route, Touch};
 use std::alloc::{AllocError, Global};
 use std::sync::Arc;
 
+/// Puts a part of a route behind what is there. Parts at the ends are often empty, and then nothing is called.
+#[inline(always)]
+fn push_part(customers: &mut Vec<u32>, part: &[u32]) -> Result<(), AllocError>
+    ensures { OnOk result (customers.new.items ≡ customers.old.items ++ part.now) }
+{
+    if part.is_empty() {
+        return Ok(());
+    }
+    customers.extend_from_slice(part)
+}
+
 /// A route of three parts. Its memory is asked for once.
 fn joined(
     alloc: Global,
@@ -18,9 +29,9 @@ fn joined(
     ensures { IfOk result (λ route. route.value ≡ first.now ++ (second.now ++ third.now)) }
 {
     let mut customers = Vec::with_capacity(alloc, first.len() + second.len() + third.len())?;
-    customers.extend_from_slice(first)?;
-    customers.extend_from_slice(second)?;
-    customers.extend_from_slice(third)?;
+    push_part(&mut customers, first)?;
+    push_part(&mut customers, second)?;
+    push_part(&mut customers, third)?;
     let route = Arc::new(alloc, Route::new(customers))?;
     Ok(route)
 }
