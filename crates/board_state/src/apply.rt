@@ -110,7 +110,8 @@ impl State {
         moves_name_vehicles();
         stamps_by_one_more();
         let version = self.plan.version();
-        match self.judge_proposal(alloc, setup, session, base, mv, meter) {
+        let room = self.room_for_touched(alloc);
+        match self.judge_proposal(alloc, setup, session, base, mv, room, meter) {
             Ok(commit) => {
                 self.enact(Change::Replace(commit));
                 Ok(Reply::Committed(version + 1))

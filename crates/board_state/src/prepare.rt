@@ -124,7 +124,7 @@ impl State {
         moves_name_vehicles();
         stamps_by_one_more();
         let version = self.plan.version();
-        match self.judge_proposal(alloc, setup, session, base, mv, meter) {
+        match self.judge_proposal(alloc, setup, session, base, mv, Vec::new(alloc), meter) {
             Ok(commit) => Ok((Reply::Committed(version + 1), Change::Replace(commit))),
             Err(Stop::Denied(denial)) => Ok((Reply::Denied(denial), Change::Nothing)),
             Err(Stop::NoMemory) => Err(AllocError),

@@ -32,7 +32,8 @@ use std::alloc::{AllocError, Global};
 use std::sync::Arc;
 
 impl State {
-    /// Judges a proposal: the new routes that it may put in place, or the first rule that it fails.
+    /// Judges a proposal: the new routes that it may put in place, or the first rule that it fails. The touched customers are listed in the
+    /// memory of `room`.
     pub(crate) fn judge_proposal(
         &self,
         alloc: Global,
@@ -40,6 +41,7 @@ impl State {
         session: u32,
         base: u32,
         mv: &Move,
+        room: Vec<Touch>,
         meter: &mut Meter,
     ) -> Result<Commit, Stop>
         requires { IsReady (setting setup.now) self.now }
@@ -54,7 +56,7 @@ impl State {
         if let Some(denial) = self.base_denial(setup, session, base, mv, meter) {
             return Err(Stop::Denied(denial));
         }
-        self.judge_move(alloc, setup, session, base, mv, meter)
+        self.judge_move(alloc, setup, session, base, mv, room, meter)
     }
 
     /// The rules from the effect of the move on. It is kept out of line, so that a proposal that an earlier rule denies pays nothing for the
@@ -67,6 +69,7 @@ impl State {
         session: u32,
         base: u32,
         mv: &Move,
+        room: Vec<Touch>,
         meter: &mut Meter,
     ) -> Result<Commit, Stop>
         requires ready { IsReady (setting setup.now) self.now }
@@ -79,7 +82,7 @@ impl State {
         ensures work { WorksAtMost meter.old meter.new (result_asks (judge_asks (length (setting setup.now).dimensions) self.now.plan.routes (changes_by self.now.plan.routes mv.now)) result)
             (length (touched_by self.now.plan.routes mv.now) + leaving self.now.pins (routes_after self.now.plan.routes mv.now) (touched_by self.now.plan.routes mv.now)) }
     {
-        let touched = match mv.touched(alloc, &self.plan) {
+        let touched = match mv.touched_in(room, &self.plan) {
             Ok(touched) => touched,
             Err(MoveFault::BadPlace) => return Err(Stop::Denied(Denial::BadPlace)),
             Err(MoveFault::NoMemory) => return Err(Stop::NoMemory),

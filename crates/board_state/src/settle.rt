@@ -81,5 +81,6 @@ impl State {
         self.plan.replace(changes);
         self.pins.release(&self.plan, &touched);
         self.cache.take(pending);
+        self.touched = touched;
     }
 }

@@ -17,11 +17,12 @@ use callback_store::Meter;
 use dimension_core::Setup;
 use permission_table::{SessionRows, Tables};
 use pin_core::Pins;
-use plan_core::Plan;
+use plan_core::{Plan, Touch};
 use range_cache::Cache;
 use rbac_core::{Object, Operation, Policy, Twin};
 use std::alloc::{AllocError, Global};
 use std::marker::Model;
+use std::mem::replace;
 
 /// The policy, its compiled permissions, the plan, its pins and freezes, and the ranges along its routes.
 pub struct State {
@@ -30,6 +31,8 @@ pub struct State {
     pub(crate) plan: Plan,
     pub(crate) pins: Pins,
     pub(crate) cache: Cache,
+    /// No part of what is held: the memory of the last commit's list of touched customers, for the next one's.
+    pub(crate) touched: Vec<Touch>,
 }
 
 // By hand, since a derived drop is written out, down to each list, at every place where a value is dropped.
@@ -41,6 +44,7 @@ impl Drop for State {
             plan: _,
             pins: _,
             cache: _,
+            touched: _,
         } = self;
     }
 }
@@ -66,6 +70,7 @@ impl State {
             plan,
             pins,
             cache,
+            touched: Vec::new(alloc),
         })
     }
 
@@ -150,6 +155,13 @@ impl State {
         let _few = meter.probes;
         meter.probe();
         self.tables.allows(found, operation, object)
+    }
+
+    /// The memory that is kept for a list of touched customers.
+    pub(crate) fn room_for_touched(&mut self, alloc: Global) -> Vec<Touch>
+        ensures { self.new ≡ self.old }
+    {
+        replace(&mut self.touched, Vec::new(alloc))
     }
 
     /// CheckAccess: one probe.

@@ -116,10 +116,19 @@ impl Move {
         ensures possible { IfOk result (λ _. effect plan.now.customers plan.now.routes self.now ≡ Some (changes_by plan.now.routes self.now)) }
         ensures bad_place { IsErrOf result MoveFault.BadPlace ↔ (effect plan.now.customers plan.now.routes self.now ≡ None) }
     {
+        self.touched_in(Vec::new(alloc), plan)
+    }
+
+    /// What `touched` gives, in the memory of a list that is given up: it takes more only where that is too small.
+    pub fn touched_in(&self, room: Vec<Touch>, plan: &Plan) -> Result<Vec<Touch>, MoveFault>
+        ensures ok { IfOk result (λ touched. touched.items ≡ touched_by plan.now.routes self.now) }
+        ensures possible { IfOk result (λ _. effect plan.now.customers plan.now.routes self.now ≡ Some (changes_by plan.now.routes self.now)) }
+        ensures bad_place { IsErrOf result MoveFault.BadPlace ↔ (effect plan.now.customers plan.now.routes self.now ≡ None) }
+    {
         if !self.is_possible(plan) {
             return Err(MoveFault::BadPlace);
         }
-        let touched = self.touches(alloc, plan)?;
+        let touched = self.touches_in(room, plan)?;
         Ok(touched)
     }
 
@@ -144,37 +153,45 @@ impl Move {
         requires { is_possible plan.now.customers plan.now.routes self.now ≡ true }
         ensures { IfOk result (λ touched. touched.items ≡ touched_by plan.now.routes self.now) }
     {
+        self.touches_in(Vec::new(alloc), plan)
+    }
+
+    /// The same in the memory of a list that is given up.
+    fn touches_in(&self, room: Vec<Touch>, plan: &Plan) -> Result<Vec<Touch>, AllocError>
+        requires { is_possible plan.now.customers plan.now.routes self.now ≡ true }
+        ensures { IfOk result (λ touched. touched.items ≡ touched_by plan.now.routes self.now) }
+    {
         match *self {
             Move::Insert {
                 customer,
                 vehicle,
                 place,
-            } => touches::of_insert(alloc, plan, customer, vehicle, place),
-            Move::Remove { vehicle, place } => touches::of_remove(alloc, plan, vehicle, place),
+            } => touches::of_insert(room, plan, customer, vehicle, place),
+            Move::Remove { vehicle, place } => touches::of_remove(room, plan, vehicle, place),
             Move::Shift {
                 vehicle,
                 place,
                 length,
                 to,
                 at,
-            } => touches::of_shift(alloc, plan, vehicle, place, length, to, at),
+            } => touches::of_shift(room, plan, vehicle, place, length, to, at),
             Move::Swap {
                 vehicle,
                 place,
                 other,
                 at,
-            } => touches::of_swap(alloc, plan, vehicle, place, other, at),
+            } => touches::of_swap(room, plan, vehicle, place, other, at),
             Move::Reverse {
                 vehicle,
                 first,
                 last,
-            } => touches::of_reverse(alloc, plan, vehicle, first, last),
+            } => touches::of_reverse(room, plan, vehicle, first, last),
             Move::Cross {
                 vehicle,
                 keep,
                 other,
                 keep_other,
-            } => touches::of_cross(alloc, plan, vehicle, keep, other, keep_other),
+            } => touches::of_cross(room, plan, vehicle, keep, other, keep_other),
         }
     }
 

@@ -8,8 +8,36 @@ use plan_core::{Route, Touch};
 use std::alloc::{AllocError, Global};
 use std::sync::Arc;
 
-/// A route of four parts. Its memory is asked for once.
+/// Puts a part of a route behind what is there. Parts at the ends are often empty, and then nothing is called.
+#[inline(always)]
+fn push_part(customers: &mut Vec<u32>, part: &[u32]) -> Result<(), AllocError>
+    ensures { OnOk result (customers.new.items ≡ customers.old.items ++ part.now) }
+{
+    if part.is_empty() {
+        return Ok(());
+    }
+    customers.extend_from_slice(part)
+}
+
+/// A route of three parts. Its memory is asked for once.
 fn joined(
+    alloc: Global,
+    first: &[u32],
+    second: &[u32],
+    third: &[u32],
+) -> Result<Arc<Route>, AllocError>
+    ensures { IfOk result (λ route. route.value ≡ first.now ++ (second.now ++ third.now)) }
+{
+    let mut customers = Vec::with_capacity(alloc, first.len() + second.len() + third.len())?;
+    push_part(&mut customers, first)?;
+    push_part(&mut customers, second)?;
+    push_part(&mut customers, third)?;
+    let route = Arc::new(alloc, Route::new(customers))?;
+    Ok(route)
+}
+
+/// A route of four parts. Its memory is asked for once.
+fn joined_four(
     alloc: Global,
     first: &[u32],
     second: &[u32],
@@ -40,7 +68,7 @@ pub(crate) fn with_stretch(
     ensures { IfOk result (λ made. made.value ≡ with_stretch route.now place customers.now) }
 {
     let (front, back) = route.split_at(place as usize - 1);
-    joined(alloc, front, customers, back, &[])
+    joined(alloc, front, customers, back)
 }
 
 /// The route without so many customers from `place` on.
@@ -56,7 +84,7 @@ pub(crate) fn without(
 {
     let first = place as usize - 1;
     let back = &route[first + count as usize..];
-    joined(alloc, &route[..first], back, &[], &[])
+    joined(alloc, &route[..first], back, &[])
 }
 
 /// So many customers of a route from `place` on.
@@ -89,10 +117,10 @@ pub(crate) fn moved_within(
     let to = at as usize - 1;
     let moved = &route[first..end];
     if to <= first {
-        return joined(alloc, &route[..to], moved, &route[to..first], &route[end..]);
+        return joined_four(alloc, &route[..to], moved, &route[to..first], &route[end..]);
     }
     let reach = to + count as usize;
-    joined(
+    joined_four(
         alloc,
         &route[..first],
         &route[end..reach],
@@ -169,7 +197,7 @@ pub(crate) fn crossed(
     ensures { IfOk result (λ made. made.value ≡ crossed route.now keep other.now keep_other) }
 {
     let back = &other[keep_other as usize..];
-    joined(alloc, &route[..keep as usize], back, &[], &[])
+    joined(alloc, &route[..keep as usize], back, &[])
 }
 
 /// New routes for one vehicle.
@@ -199,6 +227,16 @@ pub(crate) fn two_changes(
     changes.push((vehicle, route))?;
     changes.push((other, other_route))?;
     Ok(changes)
+}
+
+/// A list of no touch in the memory of another, with room for so many.
+pub(crate) fn emptied(room: Vec<Touch>, count: usize) -> Result<Vec<Touch>, AllocError>
+    ensures { IfOk result (λ touched. touched.items ≡ []) }
+{
+    let mut touched = room;
+    touched.clear();
+    touched.reserve(count)?;
+    Ok(touched)
 }
 
 /// Adds customers that stand on a vehicle one after the other, the first of them at `place`.

@@ -1,4 +1,4 @@
-//! The touches of a move of each kind.
+//! The touches of a move of each kind, in the memory of a list that is given up.
 ghost use Rattle.std.specs.Prelude.{◌≡◌, true, IfOk};
 ghost use Rattle.move_core.specs.Moves.{is_possible};
 ghost use Rattle.move_core.specs.Touched.{touched_by};
@@ -6,10 +6,10 @@ ghost use Rattle.move_core.specs.Touched.{touched_by};
 use crate::moves::Move;
 use crate::parts;
 use plan_core::{Plan, Touch};
-use std::alloc::{AllocError, Global};
+use std::alloc::AllocError;
 
 pub(crate) fn of_insert(
-    alloc: Global,
+    room: Vec<Touch>,
     plan: &Plan,
     customer: u32,
     vehicle: u32,
@@ -18,7 +18,7 @@ pub(crate) fn of_insert(
     requires { is_possible plan.now.customers plan.now.routes (Move.Insert customer vehicle place) ≡ true }
     ensures { IfOk result (λ touched. touched.items ≡ touched_by plan.now.routes (Move.Insert customer vehicle place)) }
 {
-    let mut touched = Vec::with_capacity(alloc, 1)?;
+    let mut touched = parts::emptied(room, 1)?;
     touched.push(Touch {
         vehicle,
         place,
@@ -28,7 +28,7 @@ pub(crate) fn of_insert(
 }
 
 pub(crate) fn of_remove(
-    alloc: Global,
+    room: Vec<Touch>,
     plan: &Plan,
     vehicle: u32,
     place: u32,
@@ -36,14 +36,14 @@ pub(crate) fn of_remove(
     requires { is_possible plan.now.customers plan.now.routes (Move.Remove vehicle place) ≡ true }
     ensures { IfOk result (λ touched. touched.items ≡ touched_by plan.now.routes (Move.Remove vehicle place)) }
 {
-    let mut touched = Vec::with_capacity(alloc, 1)?;
+    let mut touched = parts::emptied(room, 1)?;
     let route = plan.route(vehicle).customers();
     parts::push_touches(&mut touched, vehicle, place, &[route[place as usize - 1]])?;
     Ok(touched)
 }
 
 pub(crate) fn of_shift(
-    alloc: Global,
+    room: Vec<Touch>,
     plan: &Plan,
     vehicle: u32,
     place: u32,
@@ -54,7 +54,7 @@ pub(crate) fn of_shift(
     requires { is_possible plan.now.customers plan.now.routes (Move.Shift vehicle place count to at) ≡ true }
     ensures { IfOk result (λ touched. touched.items ≡ touched_by plan.now.routes (Move.Shift vehicle place count to at)) }
 {
-    let mut touched = Vec::with_capacity(alloc, count as usize)?;
+    let mut touched = parts::emptied(room, count as usize)?;
     let route = plan.route(vehicle).customers();
     parts::push_touches(
         &mut touched,
@@ -66,7 +66,7 @@ pub(crate) fn of_shift(
 }
 
 pub(crate) fn of_swap(
-    alloc: Global,
+    room: Vec<Touch>,
     plan: &Plan,
     vehicle: u32,
     place: u32,
@@ -76,7 +76,7 @@ pub(crate) fn of_swap(
     requires { is_possible plan.now.customers plan.now.routes (Move.Swap vehicle place other at) ≡ true }
     ensures { IfOk result (λ touched. touched.items ≡ touched_by plan.now.routes (Move.Swap vehicle place other at)) }
 {
-    let mut touched = Vec::with_capacity(alloc, 2)?;
+    let mut touched = parts::emptied(room, 2)?;
     let route = plan.route(vehicle).customers();
     let there = plan.route(other).customers();
     parts::push_touches(&mut touched, vehicle, place, &[route[place as usize - 1]])?;
@@ -85,7 +85,7 @@ pub(crate) fn of_swap(
 }
 
 pub(crate) fn of_reverse(
-    alloc: Global,
+    room: Vec<Touch>,
     plan: &Plan,
     vehicle: u32,
     first: u32,
@@ -95,7 +95,7 @@ pub(crate) fn of_reverse(
     ensures { IfOk result (λ touched. touched.items ≡ touched_by plan.now.routes (Move.Reverse vehicle first last)) }
 {
     let count = last - first + 1;
-    let mut touched = Vec::with_capacity(alloc, count as usize)?;
+    let mut touched = parts::emptied(room, count as usize)?;
     let route = plan.route(vehicle).customers();
     parts::push_touches(
         &mut touched,
@@ -107,7 +107,7 @@ pub(crate) fn of_reverse(
 }
 
 pub(crate) fn of_cross(
-    alloc: Global,
+    room: Vec<Touch>,
     plan: &Plan,
     vehicle: u32,
     keep: u32,
@@ -119,7 +119,7 @@ pub(crate) fn of_cross(
 {
     let tail = &plan.route(vehicle).customers()[keep as usize..];
     let other_tail = &plan.route(other).customers()[keep_other as usize..];
-    let mut touched = Vec::with_capacity(alloc, tail.len() + other_tail.len())?;
+    let mut touched = parts::emptied(room, tail.len() + other_tail.len())?;
     parts::push_touches(&mut touched, vehicle, keep + 1, tail)?;
     parts::push_touches(&mut touched, other, keep_other + 1, other_tail)?;
     Ok(touched)

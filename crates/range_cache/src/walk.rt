@@ -1,5 +1,5 @@
 //! A walk along a route in one dimension, from a kept range on.
-ghost use Rattle.std.specs.Prelude.{◌≡◌, ◌+◌, ◌-◌, ◌<◌, ◌≤◌, ◌↔◌, ◌++◌, [], List, length, take, None, All, IfOk, IfSome, IsTrue, MatchOption};
+ghost use Rattle.std.specs.Prelude.{◌≡◌, ◌+◌, ◌-◌, ◌<◌, ◌≤◌, ◌↔◌, ◌++◌, [], List, length, take, None, All, IfOk, OnOk, IfSome, IsTrue, MatchOption};
 ghost use Rattle.callback_store.specs.Meter.{AsksAtMost};
 ghost use Rattle.dimension_core.specs.Cumuls.{last_of};
 ghost use Rattle.dimension_core.specs.Feasible.{FitsIn};
@@ -39,6 +39,17 @@ fn begin(
     Some((kept[last], route[last]))
 }
 
+/// Puts the kept ranges behind what is there. Often there is none, and then nothing is called.
+#[inline(always)]
+fn push_kept(ranges: &mut Vec<Range>, kept: &[Range]) -> Result<(), AllocError>
+    ensures { OnOk result (ranges.new.items ≡ ranges.old.items ++ kept.now) }
+{
+    if kept.is_empty() {
+        return Ok(());
+    }
+    ranges.extend_from_slice(kept)
+}
+
 /// Walks along a route that is not empty in one dimension, from the customer behind the kept ranges to the return. True where the route is
 /// in bounds; the range of each of its customers then stands behind the others. Dimensions count from 0.
 ///
@@ -67,7 +78,7 @@ pub(crate) fn walk(
     let Some((mut range, mut from)) = begin(setup, dimension, vehicle, route, kept) else {
         return Ok(false);
     };
-    ranges.extend_from_slice(kept)?;
+    push_kept(ranges, kept)?;
     let bounds = &setup.dimensions()[dimension];
     for place in kept.len()..route.len() {
         let node = route[place];

@@ -1,0 +1,13 @@
+use Rattle.std.proofs.Common.{◌≡◌, ℕ, subst}
+use Rattle.plan_core.specs.Plan.{changes_of, with_routes}
+use Rattle.pin_core.specs.Pins.{IsHeld}
+use Rattle.board_state.specs.Held.{HeldState}
+use Rattle.board_state.proofs.Overrides.{leaves_test}
+use Rattle.board_state.proofs.state.State.may_leave.Goals as goal
+
+pub returns-clause-work : goal.returns-clause-work
+returns-clause-work c =
+    let held = c.args.self.now in
+    let others = with_routes (changes_of c.args.changes.now) held.plan.routes in
+    let out = subst (λ (h : HeldState). ¬ IsHeld h.pins (with_routes (changes_of c.args.changes.now) h.plan.routes) c.args.customer) c.self.view_is c.if-not-leaves.ensures in
+    rw (leaves_test held.pins others c.args.customer out (c.pins_after_commits.ensures.gone held.pins others c.args.customer c.requires.low out)) c.may.ensures.work
