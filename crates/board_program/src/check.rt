@@ -1,5 +1,6 @@
 //! `dispatch check`: what an instance has.
 
+ghost use Rattle.std.specs.Prelude.{◌≡◌, ◌⊎◌, ℕ, List};
 ghost use Rattle.solomon_reader.specs.Reading.{read_of};
 ghost use Rattle.board_program.specs.Report.{IsChecked, run_status};
 
@@ -52,7 +53,10 @@ pub fn check_file<R: Files, W: Write, F: Write>(
     path: &str,
     writer: &mut W,
     faults: &mut F,
-) -> u8 {
+) -> u8
+    ensures { ((result ≡ 3) × (W.contents writer.new ≡ W.contents writer.old))
+        ⊎ ((bytes : List ℕ) × IsChecked (read_of bytes) result (W.contents writer.old) (W.contents writer.new)) }
+{
     match read_path(rt, alloc, path) {
         Ok(bytes) => check_bytes(alloc, bytes.as_slice(), writer, faults),
         Err(error) => unread(faults, path, &error),

@@ -62,7 +62,9 @@ pub fn run_files<R: Files, W: Write, F: Write>(
     script: &str,
     writer: &mut W,
     faults: &mut F,
-) -> u8 {
+) -> u8
+    ensures { (result ≡ 0) ⊎ (result ≡ 1) ⊎ (result ≡ 3) }
+{
     let text = match read_path(rt, alloc, instance) {
         Ok(text) => text,
         Err(error) => return unread(faults, instance, &error),
