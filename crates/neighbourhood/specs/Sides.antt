@@ -1,20 +1,17 @@
--- What is gathered before a search: the stops of the vehicles, what the ways between them cost, and the cumuls along their routes.
+-- What is gathered before a search: the stops of the vehicles, and what the ways between them cost.
 use Rattle.std.specs.Prelude.{ℕ, ◌*◌, ◌≤◌, ◌^◌, true, false, List, length, All}
 use Rattle.callback_store.specs.Tables.{Table, table_at}
 use Rattle.dimension_core.specs.Setting.{Setting}
-use Rattle.neighbourhood.specs.Kept.{KeptSpans, AreKept}
 use Rattle.neighbourhood.specs.Ways.{AreStops, AreEdges, AreHops, AreSums}
 
--- of a vehicle beside another one: its stops, the ways from each to the next, and what is kept
+-- of a vehicle: its stops, and the ways from each to the next
 pub record SideState : Type 0 where
   pub stops : List ℕ
   pub edges : List ℕ
-  pub kept : KeptSpans
 
-pub record IsSide (s : Setting) (routes : List (List ℕ)) (v w : ℕ) (side : SideState) : Type 0 where
+pub record IsSide (s : Setting) (routes : List (List ℕ)) (v : ℕ) (side : SideState) : Type 0 where
   pub stops : AreStops s.customers routes v side.stops
   pub edges : AreEdges (table_at s.tables s.cost) side.stops side.edges
-  pub kept : AreKept s routes v w side.kept
 
 -- the ways from some stops to others, and back
 pub record TwoWays : Type 0 where

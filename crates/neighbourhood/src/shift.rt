@@ -5,6 +5,7 @@ ghost use Rattle.dimension_core.specs.Setup.{setting};
 ghost use Rattle.plan_core.specs.Plan.{route_at};
 ghost use Rattle.move_core.specs.declared.moves.Move.TheVariants.{Shift};
 ghost use Rattle.move_core.specs.Moves.{is_possible};
+ghost use Rattle.neighbourhood.specs.Scope.{scope};
 ghost use Rattle.neighbourhood.specs.View.{IsViewOf};
 ghost use Rattle.neighbourhood.specs.Kept.{AreKept};
 ghost use Rattle.neighbourhood.specs.Laws.{Laws};
@@ -28,6 +29,7 @@ use pin_core::View;
 fn shift_row(
     view: &View,
     setup: &Setup,
+    bounded: bool,
     skip: &[Move],
     v: u32,
     w: u32,
@@ -60,8 +62,8 @@ fn shift_row(
     requires fixed { (lost < 2 ^ 34) × (gained < 2 ^ 34) }
     requires possible { (at : ℕ) → first ≤ at → at < end → is_possible (setting setup.now).customers view.now.routes (Shift v place count w at) ≡ true }
     requires saving { (at : ℕ) → first ≤ at → at < end → IsSaving (setting setup.now) view.now (Shift v place count w at) (lost + slice_index edges.now (at + offset - 1)) (gained + slice_index into.now (at + offset - 1) + slice_index out.now (at + offset)) }
-    requires best { IsBestSoFar (setting setup.now) view.now skip.now v w (1 ∷ v ∷ place ∷ count ∷ w ∷ first ∷ []) best }
-    ensures { IsBestSoFar (setting setup.now) view.now skip.now v w (1 ∷ v ∷ place ∷ count ∷ w ∷ end ∷ []) result }
+    requires best { IsBestSoFar (scope bounded (setting setup.now)) view.now skip.now v w (1 ∷ v ∷ place ∷ count ∷ w ∷ first ∷ []) best }
+    ensures { IsBestSoFar (scope bounded (setting setup.now)) view.now skip.now v w (1 ∷ v ∷ place ∷ count ∷ w ∷ end ∷ []) result }
 {
     let least = wanted(gained, best);
     let begin = (first + offset) as usize - 1;
@@ -96,7 +98,7 @@ fn shift_row(
             at: next,
         };
         best = better(
-            view, setup, skip, v, w, v_kept, w_kept, mv, all_lost, all_gained, best, meter,
+            view, setup, bounded, skip, v, w, v_kept, w_kept, mv, all_lost, all_gained, best, meter,
         );
         at = next + 1;
     }
@@ -107,6 +109,7 @@ fn shift_row(
 fn shift_over(
     view: &View,
     setup: &Setup,
+    bounded: bool,
     skip: &[Move],
     v: u32,
     w: u32,
@@ -136,8 +139,8 @@ fn shift_over(
     requires to_edges { AreEdges (table_at (setting setup.now).tables (setting setup.now).cost) to.now to_edges.now }
     requires out { AreHops false (table_at (setting setup.now).tables (setting setup.now).cost) from.now to.now (length from.now * length to.now) out.now }
     requires into { AreHops true (table_at (setting setup.now).tables (setting setup.now).cost) from.now to.now (length from.now * length to.now) into.now }
-    requires best { IsBestSoFar (setting setup.now) view.now skip.now v w (1 ∷ v ∷ place ∷ count ∷ w ∷ 1 ∷ []) best }
-    ensures { IsBestSoFar (setting setup.now) view.now skip.now v w (1 ∷ v ∷ place ∷ count ∷ w ∷ (length to.now) ∷ []) result }
+    requires best { IsBestSoFar (scope bounded (setting setup.now)) view.now skip.now v w (1 ∷ v ∷ place ∷ count ∷ w ∷ 1 ∷ []) best }
+    ensures { IsBestSoFar (scope bounded (setting setup.now)) view.now skip.now v w (1 ∷ v ∷ place ∷ count ∷ w ∷ (length to.now) ∷ []) result }
 {
     if !may_leave(view, setup, v, place, count) {
         return best;
@@ -152,6 +155,7 @@ fn shift_over(
     shift_row(
         view,
         setup,
+        bounded,
         skip,
         v,
         w,
@@ -176,6 +180,7 @@ fn shift_over(
 pub(crate) fn best_shift(
     view: &View,
     setup: &Setup,
+    bounded: bool,
     skip: &[Move],
     v: u32,
     w: u32,
@@ -201,16 +206,16 @@ pub(crate) fn best_shift(
     requires to_edges { AreEdges (table_at (setting setup.now).tables (setting setup.now).cost) to.now to_edges.now }
     requires out { AreHops false (table_at (setting setup.now).tables (setting setup.now).cost) from.now to.now (length from.now * length to.now) out.now }
     requires into { AreHops true (table_at (setting setup.now).tables (setting setup.now).cost) from.now to.now (length from.now * length to.now) into.now }
-    requires best { IsBestSoFar (setting setup.now) view.now skip.now v w (1 ∷ []) best }
-    ensures { IsBestSoFar (setting setup.now) view.now skip.now v w (2 ∷ []) result }
+    requires best { IsBestSoFar (scope bounded (setting setup.now)) view.now skip.now v w (1 ∷ []) best }
+    ensures { IsBestSoFar (scope bounded (setting setup.now)) view.now skip.now v w (2 ∷ []) result }
 {
     let mut best = best;
     for place in 1..from.len() as u32 - 1 {
         for count in 1..4u32 {
             if place as usize + (count as usize) < from.len() {
                 best = shift_over(
-                    view, setup, skip, v, w, place, count, from, to, from_edges, to_edges, out,
-                    into, v_kept, w_kept, best, meter,
+                    view, setup, bounded, skip, v, w, place, count, from, to, from_edges, to_edges,
+                    out, into, v_kept, w_kept, best, meter,
                 );
             }
         }
@@ -222,6 +227,7 @@ pub(crate) fn best_shift(
 fn shift_within(
     view: &View,
     setup: &Setup,
+    bounded: bool,
     skip: &[Move],
     v: u32,
     place: u32,
@@ -243,8 +249,8 @@ fn shift_within(
     requires edges { AreEdges (table_at (setting setup.now).tables (setting setup.now).cost) from.now edges.now }
     requires out { AreHops false (table_at (setting setup.now).tables (setting setup.now).cost) from.now from.now (length from.now * length from.now) out.now }
     requires into { AreHops true (table_at (setting setup.now).tables (setting setup.now).cost) from.now from.now (length from.now * length from.now) into.now }
-    requires best { IsBestSoFar (setting setup.now) view.now skip.now v v (1 ∷ v ∷ place ∷ count ∷ v ∷ 1 ∷ []) best }
-    ensures { IsBestSoFar (setting setup.now) view.now skip.now v v (1 ∷ v ∷ place ∷ count ∷ v ∷ (length from.now - count) ∷ []) result }
+    requires best { IsBestSoFar (scope bounded (setting setup.now)) view.now skip.now v v (1 ∷ v ∷ place ∷ count ∷ v ∷ 1 ∷ []) best }
+    ensures { IsBestSoFar (scope bounded (setting setup.now)) view.now skip.now v v (1 ∷ v ∷ place ∷ count ∷ v ∷ (length from.now - count) ∷ []) result }
 {
     let begin = first_free(view, setup, v);
     if place < begin {
@@ -258,12 +264,13 @@ fn shift_within(
     let comes = row(into, from.len(), first);
     let goes = row(out, from.len(), after - 1);
     let forwards = shift_row(
-        view, setup, skip, v, v, place, count, lost, gained, edges, comes, goes, 0, begin, place,
-        kept, kept, best, meter,
+        view, setup, bounded, skip, v, v, place, count, lost, gained, edges, comes, goes, 0, begin,
+        place, kept, kept, best, meter,
     );
     shift_row(
         view,
         setup,
+        bounded,
         skip,
         v,
         v,
@@ -288,6 +295,7 @@ fn shift_within(
 pub(crate) fn best_shift_inside(
     view: &View,
     setup: &Setup,
+    bounded: bool,
     skip: &[Move],
     v: u32,
     from: &[u32],
@@ -305,15 +313,16 @@ pub(crate) fn best_shift_inside(
     requires edges { AreEdges (table_at (setting setup.now).tables (setting setup.now).cost) from.now edges.now }
     requires out { AreHops false (table_at (setting setup.now).tables (setting setup.now).cost) from.now from.now (length from.now * length from.now) out.now }
     requires into { AreHops true (table_at (setting setup.now).tables (setting setup.now).cost) from.now from.now (length from.now * length from.now) into.now }
-    requires best { IsBestSoFar (setting setup.now) view.now skip.now v v (1 ∷ []) best }
-    ensures { IsBestSoFar (setting setup.now) view.now skip.now v v (2 ∷ []) result }
+    requires best { IsBestSoFar (scope bounded (setting setup.now)) view.now skip.now v v (1 ∷ []) best }
+    ensures { IsBestSoFar (scope bounded (setting setup.now)) view.now skip.now v v (2 ∷ []) result }
 {
     let mut best = best;
     for place in 1..from.len() as u32 - 1 {
         for count in 1..4 {
             if place as usize + (count as usize) < from.len() {
                 best = shift_within(
-                    view, setup, skip, v, place, count, from, edges, out, into, kept, best, meter,
+                    view, setup, bounded, skip, v, place, count, from, edges, out, into, kept,
+                    best, meter,
                 );
             }
         }
