@@ -45,7 +45,37 @@ fn carry_back(
     Some((range, from))
 }
 
+/// The cumuls at the last of some more nodes, and that node: none where there are none. Often there are no more nodes.
+#[inline(always)]
+fn carry_on(
+    dimension: &Dimension,
+    registry: &Registry,
+    range: Range,
+    from: u32,
+    nodes: &[u32],
+    vehicle: u32,
+    meter: &mut Meter,
+) -> Option<(Range, u32)>
+    requires laws { Laws }
+    requires served { IsServed (tables registry.now) dimension.now }
+    requires from { from < length dimension.now.ranges }
+    requires known { All (λ node. node < length dimension.now.ranges) nodes.now }
+    requires low { 1 ≤ vehicle }
+    requires high { vehicle ≤ length dimension.now.caps }
+    ensures span { (done : List ℕ) → IsSpan (Some range) (Reaches (table_of (tables registry.now) dimension.now) dimension.now vehicle done) → from ≡ last_of 0 done
+        → MatchOption result
+        (IsSpan None (Reaches (table_of (tables registry.now) dimension.now) dimension.now vehicle (done ++ nodes.now)))
+        (λ r. IsSpan (Some r.0) (Reaches (table_of (tables registry.now) dimension.now) dimension.now vehicle (done ++ nodes.now)) × (r.1 ≡ last_of 0 (done ++ nodes.now))) }
+    ensures known { IfSome result (λ r. r.1 < length dimension.now.ranges) }
+{
+    if nodes.is_empty() {
+        return Some((range, from));
+    }
+    dimension.carry(registry, range, from, nodes, vehicle, meter)
+}
+
 /// The cumuls at the last of some more nodes, as they stand or driven back, and that node: none where there are none.
+#[inline(always)]
 fn carry_way(
     dimension: &Dimension,
     registry: &Registry,
@@ -71,7 +101,7 @@ fn carry_way(
     if turned {
         carry_back(dimension, registry, range, from, nodes, vehicle, meter)
     } else {
-        dimension.carry(registry, range, from, nodes, vehicle, meter)
+        carry_on(dimension, registry, range, from, nodes, vehicle, meter)
     }
 }
 
@@ -122,8 +152,8 @@ fn arrival(
     let (range, from) = carry_way(
         dimension, registry, here, from, turned, first, vehicle, meter,
     )?;
-    let (range, from) = dimension.carry(registry, range, from, second, vehicle, meter)?;
-    let (range, from) = dimension.carry(registry, range, from, third, vehicle, meter)?;
+    let (range, from) = carry_on(dimension, registry, range, from, second, vehicle, meter)?;
+    let (range, from) = carry_on(dimension, registry, range, from, third, vehicle, meter)?;
     dimension.extend(registry, range, from, next, vehicle, meter)
 }
 
@@ -256,13 +286,13 @@ fn homecoming(
     ensures { IsSpan result (Reaches (table_of (tables registry.now) dimension.now) dimension.now vehicle ((front.now ++ (way_of turned first.now ++ (second.now ++ (third.now ++ back.now)))) ++ 0 ∷ [])) }
 {
     let _nodes = dimension.nodes();
-    let (range, from) = dimension.carry(registry, here, 0, front, vehicle, meter)?;
+    let (range, from) = carry_on(dimension, registry, here, 0, front, vehicle, meter)?;
     let (range, from) = carry_way(
         dimension, registry, range, from, turned, first, vehicle, meter,
     )?;
-    let (range, from) = dimension.carry(registry, range, from, second, vehicle, meter)?;
-    let (range, from) = dimension.carry(registry, range, from, third, vehicle, meter)?;
-    let (range, from) = dimension.carry(registry, range, from, back, vehicle, meter)?;
+    let (range, from) = carry_on(dimension, registry, range, from, second, vehicle, meter)?;
+    let (range, from) = carry_on(dimension, registry, range, from, third, vehicle, meter)?;
+    let (range, from) = carry_on(dimension, registry, range, from, back, vehicle, meter)?;
     dimension.extend(registry, range, from, 0, vehicle, meter)
 }
 
@@ -385,6 +415,7 @@ fn all_meet(
 
 /// Whether a route of five parts, the second of which may be driven back, is in bounds in each dimension, where these bound it at all: by
 /// the cumuls after its first part and those before its last one where they are kept, and else by its whole way.
+#[inline(always)]
 pub(crate) fn fits(
     setup: &Setup,
     bounded: bool,

@@ -23,6 +23,7 @@ use pin_core::View;
 
 /// The better of the best so far and the swaps of a customer with those at the places from one to before another. `before` and `here`
 /// are the ways from the stop before the customer and from it, `next` and `back` those to the stop after it and to it.
+#[inline(always)]
 fn swap_row(
     view: &View,
     setup: &Setup,

@@ -52,22 +52,22 @@ returns g c =
     let s4 = c.in_ok-range-5.ensures.span (((c.args.front.now ++ way_of c.args.turned c.args.first.now) ++ c.args.second.now) ++ c.args.third.now) s3.0 s3.1 in
     stop_found law _ _ _ _ _ _ _ _ _ (append_assoc ((c.args.front.now ++ way_of c.args.turned c.args.first.now) ++ c.args.second.now) c.args.third.now c.args.back.now ∙ append_assoc (c.args.front.now ++ way_of c.args.turned c.args.first.now) c.args.second.now (c.args.third.now ++ c.args.back.now) ∙ append_assoc c.args.front.now (way_of c.args.turned c.args.first.now) (c.args.second.now ++ (c.args.third.now ++ c.args.back.now))) s4.0 s4.1 c.extend.ensures.span
 
-pub carry-requires-clause-known : goal.carry-requires-clause-known
-carry-requires-clause-known g c = all_left c.requires.laws (λ n. n < length c.args.dimension.now.ranges) c.args.front.now (way_of c.args.turned c.args.first.now ++ (c.args.second.now ++ (c.args.third.now ++ c.args.back.now))) c.requires.known
+pub carry_on-requires-clause-known : goal.carry_on-requires-clause-known
+carry_on-requires-clause-known g c = all_left c.requires.laws (λ n. n < length c.args.dimension.now.ranges) c.args.front.now (way_of c.args.turned c.args.first.now ++ (c.args.second.now ++ (c.args.third.now ++ c.args.back.now))) c.requires.known
 
 pub carry_way-requires-clause-known : goal.carry_way-requires-clause-known
 carry_way-requires-clause-known g c =
     all_way c.requires.laws (λ n. n < length c.args.dimension.now.ranges) c.args.turned c.args.first.now
     (all_left c.requires.laws (λ n. n < length c.args.dimension.now.ranges) (way_of c.args.turned c.args.first.now) (c.args.second.now ++ (c.args.third.now ++ c.args.back.now)) (all_right c.requires.laws (λ n. n < length c.args.dimension.now.ranges) c.args.front.now (way_of c.args.turned c.args.first.now ++ (c.args.second.now ++ (c.args.third.now ++ c.args.back.now))) c.requires.known))
 
-pub carry-requires-2-clause-known : goal.carry-requires-2-clause-known
-carry-requires-2-clause-known g c =
+pub carry_on-requires-2-clause-known : goal.carry_on-requires-2-clause-known
+carry_on-requires-2-clause-known g c =
     all_left c.requires.laws (λ n. n < length c.args.dimension.now.ranges) c.args.second.now (c.args.third.now ++ c.args.back.now) (all_right c.requires.laws (λ n. n < length c.args.dimension.now.ranges) (way_of c.args.turned c.args.first.now) (c.args.second.now ++ (c.args.third.now ++ c.args.back.now)) (all_right c.requires.laws (λ n. n < length c.args.dimension.now.ranges) c.args.front.now (way_of c.args.turned c.args.first.now ++ (c.args.second.now ++ (c.args.third.now ++ c.args.back.now))) c.requires.known))
 
-pub carry-requires-3-clause-known : goal.carry-requires-3-clause-known
-carry-requires-3-clause-known g c =
+pub carry_on-requires-3-clause-known : goal.carry_on-requires-3-clause-known
+carry_on-requires-3-clause-known g c =
     all_left c.requires.laws (λ n. n < length c.args.dimension.now.ranges) c.args.third.now c.args.back.now (all_right c.requires.laws (λ n. n < length c.args.dimension.now.ranges) c.args.second.now (c.args.third.now ++ c.args.back.now) (all_right c.requires.laws (λ n. n < length c.args.dimension.now.ranges) (way_of c.args.turned c.args.first.now) (c.args.second.now ++ (c.args.third.now ++ c.args.back.now)) (all_right c.requires.laws (λ n. n < length c.args.dimension.now.ranges) c.args.front.now (way_of c.args.turned c.args.first.now ++ (c.args.second.now ++ (c.args.third.now ++ c.args.back.now))) c.requires.known)))
 
-pub carry-requires-4-clause-known : goal.carry-requires-4-clause-known
-carry-requires-4-clause-known g c =
+pub carry_on-requires-4-clause-known : goal.carry_on-requires-4-clause-known
+carry_on-requires-4-clause-known g c =
     all_right c.requires.laws (λ n. n < length c.args.dimension.now.ranges) c.args.third.now c.args.back.now (all_right c.requires.laws (λ n. n < length c.args.dimension.now.ranges) c.args.second.now (c.args.third.now ++ c.args.back.now) (all_right c.requires.laws (λ n. n < length c.args.dimension.now.ranges) (way_of c.args.turned c.args.first.now) (c.args.second.now ++ (c.args.third.now ++ c.args.back.now)) (all_right c.requires.laws (λ n. n < length c.args.dimension.now.ranges) c.args.front.now (way_of c.args.turned c.args.first.now ++ (c.args.second.now ++ (c.args.third.now ++ c.args.back.now))) c.requires.known)))
