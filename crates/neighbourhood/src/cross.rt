@@ -1,5 +1,5 @@
 //! Crosses of two vehicles.
-ghost use Rattle.std.specs.Prelude.{◌≡◌, ◌≢◌, ℕ, ◌+◌, ◌-◌, ◌*◌, ◌^◌, ◌<◌, ◌≤◌, true, false, List, [], ◌∷◌, length, slice_index, Option};
+ghost use Rattle.std.specs.Prelude.{◌≡◌, ◌≢◌, ℕ, ◌+◌, ◌-◌, ◌*◌, ◌^◌, ◌<◌, ◌≤◌, true, false, List, [], ◌∷◌, length, slice_index, Option, All};
 ghost use Rattle.callback_store.specs.Tables.{table_at};
 ghost use Rattle.dimension_core.specs.Setup.{setting};
 ghost use Rattle.move_core.specs.declared.moves.Move.TheVariants.{Cross};
@@ -35,6 +35,7 @@ fn cross_row(
     keep: u32,
     lost: u64,
     edges: &[u32],
+    most: u32,
     here: &[u32],
     next: &[u32],
     first: u32,
@@ -51,6 +52,7 @@ fn cross_row(
     requires apart { v ≢ w }
     requires order { first ≤ end }
     requires edges { end ≤ length edges.now }
+    requires most { All (λ x. x ≤ most) edges.now }
     requires here { end < length here.now }
     requires next { end ≤ length next.now }
     requires short { length here.now ≤ 1002 }
@@ -61,7 +63,16 @@ fn cross_row(
     ensures { IsBestSoFar (scope bounded (setting setup.now)) view.now skip.now v w (4 ∷ v ∷ keep ∷ w ∷ end ∷ []) result }
 {
     let least = wanted(0, best);
-    if !may_gain(lost, least, edges, next, here, first as usize, end as usize) {
+    if !may_gain(
+        lost,
+        least,
+        edges,
+        most,
+        next,
+        here,
+        first as usize,
+        end as usize,
+    ) {
         return best;
     }
     let mut best = best;
@@ -105,6 +116,7 @@ fn cross_over(
     to: &[u32],
     from_edges: &[u32],
     to_edges: &[u32],
+    most: u32,
     out: &[u32],
     into: &[u32],
     v_kept: &Kept,
@@ -125,6 +137,7 @@ fn cross_over(
     requires to { AreStops (setting setup.now).customers view.now.routes w to.now }
     requires from_edges { AreEdges (table_at (setting setup.now).tables (setting setup.now).cost) from.now from_edges.now }
     requires to_edges { AreEdges (table_at (setting setup.now).tables (setting setup.now).cost) to.now to_edges.now }
+    requires most { All (λ x. x ≤ most) to_edges.now }
     requires out { AreHops false (table_at (setting setup.now).tables (setting setup.now).cost) from.now to.now (length from.now * length to.now) out.now }
     requires into { AreHops true (table_at (setting setup.now).tables (setting setup.now).cost) from.now to.now (length from.now * length to.now) into.now }
     requires best { IsBestSoFar (scope bounded (setting setup.now)) view.now skip.now v w (4 ∷ v ∷ keep ∷ w ∷ 0 ∷ []) best }
@@ -140,8 +153,8 @@ fn cross_over(
     let here = row(out, to.len(), index);
     let next = row(into, to.len(), index + 1);
     cross_row(
-        view, setup, bounded, skip, v, w, keep, lost, to_edges, here, next, begin, end as u32,
-        v_kept, w_kept, best, meter,
+        view, setup, bounded, skip, v, w, keep, lost, to_edges, most, here, next, begin,
+        end as u32, v_kept, w_kept, best, meter,
     )
 }
 
@@ -157,6 +170,7 @@ pub(crate) fn best_cross(
     to: &[u32],
     from_edges: &[u32],
     to_edges: &[u32],
+    most: u32,
     out: &[u32],
     into: &[u32],
     v_kept: &Kept,
@@ -173,6 +187,7 @@ pub(crate) fn best_cross(
     requires to { AreStops (setting setup.now).customers view.now.routes w to.now }
     requires from_edges { AreEdges (table_at (setting setup.now).tables (setting setup.now).cost) from.now from_edges.now }
     requires to_edges { AreEdges (table_at (setting setup.now).tables (setting setup.now).cost) to.now to_edges.now }
+    requires most { All (λ x. x ≤ most) to_edges.now }
     requires out { AreHops false (table_at (setting setup.now).tables (setting setup.now).cost) from.now to.now (length from.now * length to.now) out.now }
     requires into { AreHops true (table_at (setting setup.now).tables (setting setup.now).cost) from.now to.now (length from.now * length to.now) into.now }
     requires best { IsBestSoFar (scope bounded (setting setup.now)) view.now skip.now v w (4 ∷ []) best }
@@ -183,7 +198,7 @@ pub(crate) fn best_cross(
     for keep in 0..from.len() as u32 - 1 {
         best = cross_over(
             view, setup, bounded, skip, v, w, keep, least, begin, from, to, from_edges, to_edges,
-            out, into, v_kept, w_kept, best, meter,
+            most, out, into, v_kept, w_kept, best, meter,
         );
     }
     best

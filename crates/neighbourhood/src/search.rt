@@ -46,13 +46,13 @@ fn best_of_one(
     requires kept { AreKept (setting setup.now) view.now.routes v v kept.now }
     ensures { MatchOption result (IsIdle (scope bounded (setting setup.now)) view.now skip.now v v) (λ p. IsBest (scope bounded (setting setup.now)) view.now skip.now v v p.0 p.1) }
 {
-    let edges = &along.edges;
+    let (edges, most) = (&along.edges, along.most);
     let (out, into) = (&ways.out, &ways.into);
     let shifted = best_shift_inside(
-        view, setup, bounded, skip, v, from, edges, out, into, kept, None, meter,
+        view, setup, bounded, skip, v, from, edges, most, out, into, kept, None, meter,
     );
     let swapped = best_swap_inside(
-        view, setup, bounded, skip, v, from, edges, out, into, kept, shifted, meter,
+        view, setup, bounded, skip, v, from, edges, most, out, into, kept, shifted, meter,
     );
     let (sums, back_sums) = (&along.sums, &along.back_sums);
     best_reverse(
@@ -150,18 +150,18 @@ fn best_of_two(
     ensures { MatchOption result (IsIdle (scope bounded (setting setup.now)) view.now skip.now v w) (λ p. IsBest (scope bounded (setting setup.now)) view.now skip.now v w p.0 p.1) }
 {
     let (a, b) = (&from.stops, &to.stops);
-    let (a_edges, b_edges) = (&from.edges, &to.edges);
+    let (a_edges, b_edges, most) = (&from.edges, &to.edges, to.most);
     let (out, into) = (&ways.out, &ways.into);
     let shifted = best_shift(
-        view, setup, bounded, skip, v, w, a, b, a_edges, b_edges, out, into, v_kept, w_kept, None,
-        meter,
+        view, setup, bounded, skip, v, w, a, b, a_edges, b_edges, most, out, into, v_kept, w_kept,
+        None, meter,
     );
     let swapped = best_swap(
-        view, setup, bounded, skip, v, w, a, b, a_edges, b_edges, out, into, v_kept, w_kept,
+        view, setup, bounded, skip, v, w, a, b, a_edges, b_edges, most, out, into, v_kept, w_kept,
         shifted, meter,
     );
     best_cross(
-        view, setup, bounded, skip, v, w, a, b, a_edges, b_edges, out, into, v_kept, w_kept,
+        view, setup, bounded, skip, v, w, a, b, a_edges, b_edges, most, out, into, v_kept, w_kept,
         swapped, meter,
     )
 }

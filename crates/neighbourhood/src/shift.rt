@@ -1,5 +1,5 @@
 //! Shifts of one to three customers.
-ghost use Rattle.std.specs.Prelude.{◌≡◌, ◌≢◌, ℕ, ◌+◌, ◌-◌, ◌*◌, ◌^◌, ◌<◌, ◌≤◌, true, false, List, [], ◌∷◌, length, slice_index, Option};
+ghost use Rattle.std.specs.Prelude.{◌≡◌, ◌≢◌, ℕ, ◌+◌, ◌-◌, ◌*◌, ◌^◌, ◌<◌, ◌≤◌, true, false, List, [], ◌∷◌, length, slice_index, Option, All};
 ghost use Rattle.callback_store.specs.Tables.{table_at};
 ghost use Rattle.dimension_core.specs.Setup.{setting};
 ghost use Rattle.plan_core.specs.Plan.{route_at};
@@ -38,6 +38,7 @@ fn shift_row(
     lost: u64,
     gained: u64,
     edges: &[u32],
+    most: u32,
     into: &[u32],
     out: &[u32],
     offset: u32,
@@ -56,6 +57,7 @@ fn shift_row(
     requires low { 1 ≤ first }
     requires order { first ≤ end }
     requires edges { end + offset ≤ length edges.now + 1 }
+    requires most { All (λ x. x ≤ most) edges.now }
     requires into { end + offset ≤ length into.now }
     requires out { end + offset ≤ length out.now }
     requires short { length out.now ≤ 1002 }
@@ -71,6 +73,7 @@ fn shift_row(
         lost,
         least,
         edges,
+        most,
         into,
         out,
         begin,
@@ -119,6 +122,7 @@ fn shift_over(
     to: &[u32],
     from_edges: &[u32],
     to_edges: &[u32],
+    most: u32,
     out: &[u32],
     into: &[u32],
     v_kept: &Kept,
@@ -137,6 +141,7 @@ fn shift_over(
     requires to { AreStops (setting setup.now).customers view.now.routes w to.now }
     requires from_edges { AreEdges (table_at (setting setup.now).tables (setting setup.now).cost) from.now from_edges.now }
     requires to_edges { AreEdges (table_at (setting setup.now).tables (setting setup.now).cost) to.now to_edges.now }
+    requires most { All (λ x. x ≤ most) to_edges.now }
     requires out { AreHops false (table_at (setting setup.now).tables (setting setup.now).cost) from.now to.now (length from.now * length to.now) out.now }
     requires into { AreHops true (table_at (setting setup.now).tables (setting setup.now).cost) from.now to.now (length from.now * length to.now) into.now }
     requires best { IsBestSoFar (scope bounded (setting setup.now)) view.now skip.now v w (1 ∷ v ∷ place ∷ count ∷ w ∷ 1 ∷ []) best }
@@ -164,6 +169,7 @@ fn shift_over(
         lost,
         gained,
         to_edges,
+        most,
         comes,
         goes,
         0,
@@ -188,6 +194,7 @@ pub(crate) fn best_shift(
     to: &[u32],
     from_edges: &[u32],
     to_edges: &[u32],
+    most: u32,
     out: &[u32],
     into: &[u32],
     v_kept: &Kept,
@@ -204,6 +211,7 @@ pub(crate) fn best_shift(
     requires to { AreStops (setting setup.now).customers view.now.routes w to.now }
     requires from_edges { AreEdges (table_at (setting setup.now).tables (setting setup.now).cost) from.now from_edges.now }
     requires to_edges { AreEdges (table_at (setting setup.now).tables (setting setup.now).cost) to.now to_edges.now }
+    requires most { All (λ x. x ≤ most) to_edges.now }
     requires out { AreHops false (table_at (setting setup.now).tables (setting setup.now).cost) from.now to.now (length from.now * length to.now) out.now }
     requires into { AreHops true (table_at (setting setup.now).tables (setting setup.now).cost) from.now to.now (length from.now * length to.now) into.now }
     requires best { IsBestSoFar (scope bounded (setting setup.now)) view.now skip.now v w (1 ∷ []) best }
@@ -215,7 +223,7 @@ pub(crate) fn best_shift(
             if place as usize + (count as usize) < from.len() {
                 best = shift_over(
                     view, setup, bounded, skip, v, w, place, count, from, to, from_edges, to_edges,
-                    out, into, v_kept, w_kept, best, meter,
+                    most, out, into, v_kept, w_kept, best, meter,
                 );
             }
         }
@@ -234,6 +242,7 @@ fn shift_within(
     count: u32,
     from: &[u32],
     edges: &[u32],
+    most: u32,
     out: &[u32],
     into: &[u32],
     kept: &Kept,
@@ -247,6 +256,7 @@ fn shift_within(
     requires place { (1 ≤ place) × (place + count < length from.now) }
     requires from { AreStops (setting setup.now).customers view.now.routes v from.now }
     requires edges { AreEdges (table_at (setting setup.now).tables (setting setup.now).cost) from.now edges.now }
+    requires most { All (λ x. x ≤ most) edges.now }
     requires out { AreHops false (table_at (setting setup.now).tables (setting setup.now).cost) from.now from.now (length from.now * length from.now) out.now }
     requires into { AreHops true (table_at (setting setup.now).tables (setting setup.now).cost) from.now from.now (length from.now * length from.now) into.now }
     requires best { IsBestSoFar (scope bounded (setting setup.now)) view.now skip.now v v (1 ∷ v ∷ place ∷ count ∷ v ∷ 1 ∷ []) best }
@@ -264,8 +274,8 @@ fn shift_within(
     let comes = row(into, from.len(), first);
     let goes = row(out, from.len(), after - 1);
     let forwards = shift_row(
-        view, setup, bounded, skip, v, v, place, count, lost, gained, edges, comes, goes, 0, begin,
-        place, kept, kept, best, meter,
+        view, setup, bounded, skip, v, v, place, count, lost, gained, edges, most, comes, goes, 0,
+        begin, place, kept, kept, best, meter,
     );
     shift_row(
         view,
@@ -279,6 +289,7 @@ fn shift_within(
         lost,
         gained,
         edges,
+        most,
         comes,
         goes,
         count,
@@ -300,6 +311,7 @@ pub(crate) fn best_shift_inside(
     v: u32,
     from: &[u32],
     edges: &[u32],
+    most: u32,
     out: &[u32],
     into: &[u32],
     kept: &Kept,
@@ -311,6 +323,7 @@ pub(crate) fn best_shift_inside(
     requires kept { AreKept (setting setup.now) view.now.routes v v kept.now }
     requires from { AreStops (setting setup.now).customers view.now.routes v from.now }
     requires edges { AreEdges (table_at (setting setup.now).tables (setting setup.now).cost) from.now edges.now }
+    requires most { All (λ x. x ≤ most) edges.now }
     requires out { AreHops false (table_at (setting setup.now).tables (setting setup.now).cost) from.now from.now (length from.now * length from.now) out.now }
     requires into { AreHops true (table_at (setting setup.now).tables (setting setup.now).cost) from.now from.now (length from.now * length from.now) into.now }
     requires best { IsBestSoFar (scope bounded (setting setup.now)) view.now skip.now v v (1 ∷ []) best }
@@ -321,8 +334,8 @@ pub(crate) fn best_shift_inside(
         for count in 1..4 {
             if place as usize + (count as usize) < from.len() {
                 best = shift_within(
-                    view, setup, bounded, skip, v, place, count, from, edges, out, into, kept,
-                    best, meter,
+                    view, setup, bounded, skip, v, place, count, from, edges, most, out, into,
+                    kept, best, meter,
                 );
             }
         }

@@ -9,18 +9,19 @@ ghost use Rattle.neighbourhood.specs.View.{IsViewOf};
 ghost use Rattle.neighbourhood.specs.Ways.{AreHops};
 
 use crate::hops::stops_of;
-use crate::table::{edges_in, edges_of, sums_in, table_of, turned_of};
+use crate::table::{edges_in, edges_of, most_of, sums_in, table_of, turned_of};
 use callback_store::Meter;
 use dimension_core::Setup;
 use pin_core::View;
 use std::alloc::{AllocError, Global};
 use std::marker::Model;
 
-/// A vehicle: its stops, and the ways from each to the next.
+/// A vehicle: its stops, the ways from each to the next, and the dearest of these.
 #[derive(Drop)]
 pub(crate) struct Side {
     pub(crate) stops: Vec<u32>,
     pub(crate) edges: Vec<u32>,
+    pub(crate) most: u32,
 }
 
 impl Model for Side {
@@ -28,7 +29,7 @@ impl Model for Side {
 
     ghost Value = { SideState };
 
-    ghost view = { λ a. record { stops = a.stops.items; edges = a.edges.items } };
+    ghost view = { λ a. record { stops = a.stops.items; edges = a.edges.items; most = a.most } };
 }
 
 /// The ways from some stops to others, and back.
@@ -46,10 +47,11 @@ impl Model for Ways {
     ghost view = { λ a. record { out = a.out.items; into = a.into.items } };
 }
 
-/// The ways along the stops of a vehicle: from each to the next, and those over the first ones, as they are driven and driven back.
+/// The ways along the stops of a vehicle: from each to the next, the dearest of these, and those over the first ones, as they are driven and driven back.
 #[derive(Drop)]
 pub(crate) struct Along {
     pub(crate) edges: Vec<u32>,
+    pub(crate) most: u32,
     pub(crate) sums: Vec<u64>,
     pub(crate) back_sums: Vec<u64>,
 }
@@ -59,7 +61,7 @@ impl Model for Along {
 
     ghost Value = { AlongState };
 
-    ghost view = { λ a. record { edges = a.edges.items; sums = a.sums.items; back_sums = a.back_sums.items } };
+    ghost view = { λ a. record { edges = a.edges.items; most = a.most; sums = a.sums.items; back_sums = a.back_sums.items } };
 }
 
 /// The stops of a vehicle, and the ways from each to the next.
@@ -77,7 +79,8 @@ pub(crate) fn side_of(
 {
     let stops = stops_of(alloc, view, setup, v)?;
     let edges = edges_of(alloc, setup, &stops, meter)?;
-    Ok(Side { stops, edges })
+    let most = most_of(&edges);
+    Ok(Side { stops, edges, most })
 }
 
 /// The ways from some stops to others, and back.
@@ -127,10 +130,12 @@ pub(crate) fn along_of(
     ensures { IfOk result (λ along. IsAlong (table_at (setting setup.now).tables (setting setup.now).cost) stops.now along) }
 {
     let edges = edges_in(alloc, setup, stops, cells)?;
+    let most = most_of(&edges);
     let sums = sums_in(alloc, setup, false, stops, cells)?;
     let back_sums = sums_in(alloc, setup, true, stops, cells)?;
     Ok(Along {
         edges,
+        most,
         sums,
         back_sums,
     })

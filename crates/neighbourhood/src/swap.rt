@@ -1,5 +1,5 @@
 //! Swaps of two customers.
-ghost use Rattle.std.specs.Prelude.{◌≡◌, ◌≢◌, ℕ, ◌+◌, ◌-◌, ◌*◌, ◌^◌, ◌<◌, ◌≤◌, true, false, List, [], ◌∷◌, length, slice_index, Option};
+ghost use Rattle.std.specs.Prelude.{◌≡◌, ◌≢◌, ℕ, ◌+◌, ◌-◌, ◌*◌, ◌^◌, ◌<◌, ◌≤◌, true, false, List, [], ◌∷◌, length, slice_index, Option, All};
 ghost use Rattle.callback_store.specs.Tables.{table_at};
 ghost use Rattle.dimension_core.specs.Setup.{setting};
 ghost use Rattle.move_core.specs.declared.moves.Move.TheVariants.{Swap};
@@ -34,6 +34,7 @@ fn swap_row(
     place: u32,
     lost: u64,
     edges: &[u32],
+    most: u32,
     before: &[u32],
     here: &[u32],
     next: &[u32],
@@ -53,6 +54,7 @@ fn swap_row(
     requires order { first ≤ end }
     requires near { v ≡ w → place < first }
     requires edges { end ≤ length edges.now }
+    requires most { All (λ x. x ≤ most) edges.now }
     requires before { end ≤ length before.now }
     requires here { end < length here.now }
     requires next { end ≤ length next.now }
@@ -69,6 +71,7 @@ fn swap_row(
         lost,
         least,
         edges,
+        most,
         before,
         here,
         next,
@@ -129,6 +132,7 @@ fn swap_over(
     to: &[u32],
     from_edges: &[u32],
     to_edges: &[u32],
+    most: u32,
     out: &[u32],
     into: &[u32],
     v_kept: &Kept,
@@ -146,6 +150,7 @@ fn swap_over(
     requires to { AreStops (setting setup.now).customers view.now.routes w to.now }
     requires from_edges { AreEdges (table_at (setting setup.now).tables (setting setup.now).cost) from.now from_edges.now }
     requires to_edges { AreEdges (table_at (setting setup.now).tables (setting setup.now).cost) to.now to_edges.now }
+    requires most { All (λ x. x ≤ most) to_edges.now }
     requires out { AreHops false (table_at (setting setup.now).tables (setting setup.now).cost) from.now to.now (length from.now * length to.now) out.now }
     requires into { AreHops true (table_at (setting setup.now).tables (setting setup.now).cost) from.now to.now (length from.now * length to.now) into.now }
     requires best { IsBestSoFar (scope bounded (setting setup.now)) view.now skip.now v w (2 ∷ v ∷ place ∷ w ∷ 1 ∷ []) best }
@@ -171,6 +176,7 @@ fn swap_over(
         place,
         lost,
         to_edges,
+        most,
         before,
         here,
         next,
@@ -196,6 +202,7 @@ pub(crate) fn best_swap(
     to: &[u32],
     from_edges: &[u32],
     to_edges: &[u32],
+    most: u32,
     out: &[u32],
     into: &[u32],
     v_kept: &Kept,
@@ -212,6 +219,7 @@ pub(crate) fn best_swap(
     requires to { AreStops (setting setup.now).customers view.now.routes w to.now }
     requires from_edges { AreEdges (table_at (setting setup.now).tables (setting setup.now).cost) from.now from_edges.now }
     requires to_edges { AreEdges (table_at (setting setup.now).tables (setting setup.now).cost) to.now to_edges.now }
+    requires most { All (λ x. x ≤ most) to_edges.now }
     requires out { AreHops false (table_at (setting setup.now).tables (setting setup.now).cost) from.now to.now (length from.now * length to.now) out.now }
     requires into { AreHops true (table_at (setting setup.now).tables (setting setup.now).cost) from.now to.now (length from.now * length to.now) into.now }
     requires best { IsBestSoFar (scope bounded (setting setup.now)) view.now skip.now v w (2 ∷ []) best }
@@ -220,8 +228,8 @@ pub(crate) fn best_swap(
     let mut best = best;
     for place in 1..from.len() as u32 - 1 {
         best = swap_over(
-            view, setup, bounded, skip, v, w, place, from, to, from_edges, to_edges, out, into,
-            v_kept, w_kept, best, meter,
+            view, setup, bounded, skip, v, w, place, from, to, from_edges, to_edges, most, out,
+            into, v_kept, w_kept, best, meter,
         );
     }
     best
@@ -283,6 +291,7 @@ fn swap_within(
     place: u32,
     from: &[u32],
     edges: &[u32],
+    most: u32,
     out: &[u32],
     into: &[u32],
     kept: &Kept,
@@ -295,6 +304,7 @@ fn swap_within(
     requires place { (1 ≤ place) × (place + 1 < length from.now) }
     requires from { AreStops (setting setup.now).customers view.now.routes v from.now }
     requires edges { AreEdges (table_at (setting setup.now).tables (setting setup.now).cost) from.now edges.now }
+    requires most { All (λ x. x ≤ most) edges.now }
     requires out { AreHops false (table_at (setting setup.now).tables (setting setup.now).cost) from.now from.now (length from.now * length from.now) out.now }
     requires into { AreHops true (table_at (setting setup.now).tables (setting setup.now).cost) from.now from.now (length from.now * length from.now) into.now }
     requires best { IsBestSoFar (scope bounded (setting setup.now)) view.now skip.now v v (2 ∷ v ∷ place ∷ v ∷ (place + 1) ∷ []) best }
@@ -325,6 +335,7 @@ fn swap_within(
         place,
         lost,
         edges,
+        most,
         before,
         here,
         next,
@@ -347,6 +358,7 @@ pub(crate) fn best_swap_inside(
     v: u32,
     from: &[u32],
     edges: &[u32],
+    most: u32,
     out: &[u32],
     into: &[u32],
     kept: &Kept,
@@ -358,6 +370,7 @@ pub(crate) fn best_swap_inside(
     requires kept { AreKept (setting setup.now) view.now.routes v v kept.now }
     requires from { AreStops (setting setup.now).customers view.now.routes v from.now }
     requires edges { AreEdges (table_at (setting setup.now).tables (setting setup.now).cost) from.now edges.now }
+    requires most { All (λ x. x ≤ most) edges.now }
     requires out { AreHops false (table_at (setting setup.now).tables (setting setup.now).cost) from.now from.now (length from.now * length from.now) out.now }
     requires into { AreHops true (table_at (setting setup.now).tables (setting setup.now).cost) from.now from.now (length from.now * length from.now) into.now }
     requires best { IsBestSoFar (scope bounded (setting setup.now)) view.now skip.now v v (2 ∷ []) best }
@@ -366,7 +379,7 @@ pub(crate) fn best_swap_inside(
     let mut best = best;
     for place in 1..from.len() as u32 - 1 {
         best = swap_within(
-            view, setup, bounded, skip, v, place, from, edges, out, into, kept, best, meter,
+            view, setup, bounded, skip, v, place, from, edges, most, out, into, kept, best, meter,
         );
     }
     best
