@@ -18,7 +18,7 @@ use pin_core::View;
 
 /// What the best move so far gains.
 #[inline(always)]
-fn gain_of(best: Option<(Move, u64)>) -> u64
+pub(crate) fn gain_of(best: Option<(Move, u64)>) -> u64
     ensures { result ≡ gain_of best }
 {
     match best {

@@ -13,7 +13,7 @@ ghost use Rattle.neighbourhood.specs.Search.{IsBestSoFar, IsSaving};
 ghost use Rattle.neighbourhood.specs.Ways.{AreStops, AreEdges, AreHops};
 
 use crate::allowed::{first_free, may_leave};
-use crate::best::better;
+use crate::best::{better, gain_of};
 use crate::gains::{first_gain, may_gain, wanted};
 use crate::hops::hop;
 use crate::kept::Kept;
@@ -147,16 +147,19 @@ fn shift_over(
     requires best { IsBestSoFar (scope bounded (setting setup.now)) view.now skip.now v w (1 ∷ v ∷ place ∷ count ∷ w ∷ 1 ∷ []) best }
     ensures { IsBestSoFar (scope bounded (setting setup.now)) view.now skip.now v w (1 ∷ v ∷ place ∷ count ∷ w ∷ (length to.now) ∷ []) result }
 {
+    let first = place as usize;
+    let after = first + count as usize;
+    let lost = u64::from(from_edges[first - 1]) + u64::from(from_edges[after - 1]);
+    let comes = row(into, to.len(), first);
+    let goes = row(out, to.len(), after - 1);
+    if lost + u64::from(most) <= gain_of(best) {
+        return best;
+    }
     if !may_leave(view, setup, v, place, count) {
         return best;
     }
     let begin = first_free(view, setup, w);
-    let first = place as usize;
-    let after = first + count as usize;
-    let lost = u64::from(from_edges[first - 1]) + u64::from(from_edges[after - 1]);
     let gained = hop(setup, from[first - 1], from[after], meter);
-    let comes = row(into, to.len(), first);
-    let goes = row(out, to.len(), after - 1);
     shift_row(
         view,
         setup,
