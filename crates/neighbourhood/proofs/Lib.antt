@@ -1,5 +1,6 @@
 pub mod Firsts
 pub mod Betters
+pub mod Scoping
 pub mod Pairs
 pub mod Shifts
 pub mod Orders

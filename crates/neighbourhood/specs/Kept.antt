@@ -53,13 +53,13 @@ pub record HasBehind (s : Setting) (vehicle : ℕ) (back : List ℕ) (spans : Sp
   pub within : (k : ℕ) → k < length s.dimensions → k * spans.width + length back < length spans.cells
   pub each : (k : ℕ) → k < length s.dimensions → IsBehind s vehicle back k (span_at spans k (length back))
 
--- what is kept for a vehicle: the spans from both ends of its route, and those from the end of another's route
+-- what is kept for a vehicle: the spans from both ends of its route, and those from the end of another's route; nothing where the width is 0
 pub record KeptSpans : Type 0 where
   pub ahead : SpanTable
   pub behind : SpanTable
   pub over : SpanTable
 
 pub record AreKept (s : Setting) (routes : List (List ℕ)) (v w : ℕ) (kept : KeptSpans) : Type 0 where
-  pub ahead : AreAhead s v (route_at routes v) kept.ahead
-  pub behind : AreBehind s v (route_at routes v) kept.behind
-  pub over : v ≢ w → AreBehind s v (route_at routes w) kept.over
+  pub ahead : 0 < kept.ahead.width → AreAhead s v (route_at routes v) kept.ahead
+  pub behind : 0 < kept.behind.width → AreBehind s v (route_at routes v) kept.behind
+  pub over : v ≢ w → 0 < kept.over.width → AreBehind s v (route_at routes w) kept.over

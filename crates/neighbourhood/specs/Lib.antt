@@ -6,4 +6,5 @@ pub mod Between
 pub mod Kept
 pub mod Savings
 pub mod Laws
+pub mod Scope
 pub mod Sides

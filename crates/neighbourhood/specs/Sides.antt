@@ -1,20 +1,19 @@
--- What is gathered before a search: the stops of the vehicles, what the ways between them cost, and the cumuls along their routes.
+-- What is gathered before a search: the stops of the vehicles, and what the ways between them cost.
 use Rattle.std.specs.Prelude.{ℕ, ◌*◌, ◌≤◌, ◌^◌, true, false, List, length, All}
 use Rattle.callback_store.specs.Tables.{Table, table_at}
 use Rattle.dimension_core.specs.Setting.{Setting}
-use Rattle.neighbourhood.specs.Kept.{KeptSpans, AreKept}
 use Rattle.neighbourhood.specs.Ways.{AreStops, AreEdges, AreHops, AreSums}
 
--- of a vehicle beside another one: its stops, the ways from each to the next, and what is kept
+-- of a vehicle: its stops, the ways from each to the next, and a number that none of these is above
 pub record SideState : Type 0 where
   pub stops : List ℕ
   pub edges : List ℕ
-  pub kept : KeptSpans
+  pub most : ℕ
 
-pub record IsSide (s : Setting) (routes : List (List ℕ)) (v w : ℕ) (side : SideState) : Type 0 where
+pub record IsSide (s : Setting) (routes : List (List ℕ)) (v : ℕ) (side : SideState) : Type 0 where
   pub stops : AreStops s.customers routes v side.stops
   pub edges : AreEdges (table_at s.tables s.cost) side.stops side.edges
-  pub kept : AreKept s routes v w side.kept
+  pub most : All (λ x. x ≤ side.most) side.edges
 
 -- the ways from some stops to others, and back
 pub record TwoWays : Type 0 where
@@ -25,14 +24,17 @@ pub record AreTwoWays (t : Table) (from to : List ℕ) (ways : TwoWays) : Type 0
   pub out : AreHops false t from to (length from * length to) ways.out
   pub into : AreHops true t from to (length from * length to) ways.into
 
--- the ways along some stops: from each to the next, and those over the first ones, as they are driven and driven back
+-- the ways along some stops: from each to the next, a number that none of these is above, and those over the first ones, as they are
+-- driven and driven back
 pub record AlongState : Type 0 where
   pub edges : List ℕ
+  pub most : ℕ
   pub sums : List ℕ
   pub back_sums : List ℕ
 
 pub record IsAlong (t : Table) (stops : List ℕ) (along : AlongState) : Type 0 where
   pub edges : AreEdges t stops along.edges
+  pub most : All (λ x. x ≤ along.most) along.edges
   pub sums : AreSums false t stops (length stops) along.sums
   pub back_sums : AreSums true t stops (length stops) along.back_sums
   pub small : All (λ x. x ≤ 2 ^ 42) along.sums × All (λ x. x ≤ 2 ^ 42) along.back_sums

@@ -6,6 +6,7 @@ ghost use Rattle.move_core.specs.Moves.{is_possible, stretch};
 ghost use Rattle.plan_core.specs.Plan.{route_at};
 ghost use Rattle.pin_core.specs.Pins.{front_of};
 ghost use Rattle.pin_core.specs.View.{pins_of};
+ghost use Rattle.neighbourhood.specs.Scope.{scope};
 ghost use Rattle.neighbourhood.specs.View.{IsViewOf};
 ghost use Rattle.neighbourhood.specs.Best.{IsNear, IsAllowed};
 ghost use Rattle.neighbourhood.specs.Between.{IsBetween, IsInside};
@@ -119,6 +120,7 @@ fn is_skipped(skip: &[Move], mv: &Move) -> bool
 fn allows_between(
     view: &View,
     setup: &Setup,
+    bounded: bool,
     skip: &[Move],
     mv: Move,
     v: u32,
@@ -143,11 +145,11 @@ fn allows_between(
     requires view { IsViewOf (setting setup.now) view.now }
     requires possible { is_possible (setting setup.now).customers view.now.routes mv ≡ true }
     requires between { IsBetween view.now.routes mv v w x y over.now back.now (v_front.now ++ (v_middle.now ++ v_back.now)) (w_front.now ++ (w_middle.now ++ w_back.now)) }
-    requires v_ahead { HasAhead (setting setup.now) v v_front.now v_ahead.now }
-    requires v_behind { HasBehind (setting setup.now) v v_back.now v_behind.now }
-    requires w_ahead { HasAhead (setting setup.now) w w_front.now w_ahead.now }
-    requires w_behind { HasBehind (setting setup.now) w w_back.now w_behind.now }
-    ensures { IsTrue result ↔ IsAllowed (setting setup.now) view.now skip.now mv }
+    requires v_ahead { 0 < v_ahead.now.width → HasAhead (setting setup.now) v v_front.now v_ahead.now }
+    requires v_behind { 0 < v_behind.now.width → HasBehind (setting setup.now) v v_back.now v_behind.now }
+    requires w_ahead { 0 < w_ahead.now.width → HasAhead (setting setup.now) w w_front.now w_ahead.now }
+    requires w_behind { 0 < w_behind.now.width → HasBehind (setting setup.now) w w_back.now w_behind.now }
+    ensures { IsTrue result ↔ IsAllowed (scope bounded (setting setup.now)) view.now skip.now mv }
 {
     if x <= view.front(v) {
         return false;
@@ -166,6 +168,7 @@ fn allows_between(
     }
     if !fits(
         setup,
+        bounded,
         v,
         v_ahead,
         v_front,
@@ -181,6 +184,7 @@ fn allows_between(
     }
     fits(
         setup,
+        bounded,
         w,
         w_ahead,
         w_front,
@@ -198,6 +202,7 @@ fn allows_between(
 fn allows_inside(
     view: &View,
     setup: &Setup,
+    bounded: bool,
     skip: &[Move],
     mv: Move,
     v: u32,
@@ -215,10 +220,10 @@ fn allows_inside(
     requires laws { Laws }
     requires view { IsViewOf (setting setup.now) view.now }
     requires possible { is_possible (setting setup.now).customers view.now.routes mv ≡ true }
-    requires ahead { HasAhead (setting setup.now) v front.now ahead.now }
-    requires behind { HasBehind (setting setup.now) v back.now behind.now }
+    requires ahead { 0 < ahead.now.width → HasAhead (setting setup.now) v front.now ahead.now }
+    requires behind { 0 < behind.now.width → HasBehind (setting setup.now) v back.now behind.now }
     requires inside { IsInside view.now.routes mv v x (front.now ++ (way_of turned first.now ++ (second.now ++ (third.now ++ back.now)))) }
-    ensures { IsTrue result ↔ IsAllowed (setting setup.now) view.now skip.now mv }
+    ensures { IsTrue result ↔ IsAllowed (scope bounded (setting setup.now)) view.now skip.now mv }
 {
     if x <= view.front(v) {
         return false;
@@ -227,7 +232,7 @@ fn allows_inside(
         return false;
     }
     fits(
-        setup, v, ahead, front, turned, first, second, third, back, behind, meter,
+        setup, bounded, v, ahead, front, turned, first, second, third, back, behind, meter,
     )
 }
 
@@ -235,6 +240,7 @@ fn allows_inside(
 fn allows_shift_inside(
     view: &View,
     setup: &Setup,
+    bounded: bool,
     skip: &[Move],
     v: u32,
     place: u32,
@@ -247,7 +253,7 @@ fn allows_shift_inside(
     requires kept { AreKept (setting setup.now) view.now.routes v v kept.now }
     requires view { IsViewOf (setting setup.now) view.now }
     requires possible { is_possible (setting setup.now).customers view.now.routes (Shift v place length v at) ≡ true }
-    ensures { IsTrue result ↔ IsAllowed (setting setup.now) view.now skip.now (Shift v place length v at) }
+    ensures { IsTrue result ↔ IsAllowed (scope bounded (setting setup.now)) view.now skip.now (Shift v place length v at) }
 {
     let mv = Move::Shift {
         vehicle: v,
@@ -265,6 +271,7 @@ fn allows_shift_inside(
         return allows_inside(
             view,
             setup,
+            bounded,
             skip,
             mv,
             v,
@@ -286,6 +293,7 @@ fn allows_shift_inside(
     allows_inside(
         view,
         setup,
+        bounded,
         skip,
         mv,
         v,
@@ -306,6 +314,7 @@ fn allows_shift_inside(
 fn allows_swap_inside(
     view: &View,
     setup: &Setup,
+    bounded: bool,
     skip: &[Move],
     v: u32,
     place: u32,
@@ -318,7 +327,7 @@ fn allows_swap_inside(
     requires view { IsViewOf (setting setup.now) view.now }
     requires possible { is_possible (setting setup.now).customers view.now.routes (Swap v place v at) ≡ true }
     requires order { place < at }
-    ensures { IsTrue result ↔ IsAllowed (setting setup.now) view.now skip.now (Swap v place v at) }
+    ensures { IsTrue result ↔ IsAllowed (scope bounded (setting setup.now)) view.now skip.now (Swap v place v at) }
 {
     let mv = Move::Swap {
         vehicle: v,
@@ -335,6 +344,7 @@ fn allows_swap_inside(
     allows_inside(
         view,
         setup,
+        bounded,
         skip,
         mv,
         v,
@@ -355,6 +365,7 @@ fn allows_swap_inside(
 fn allows_reverse(
     view: &View,
     setup: &Setup,
+    bounded: bool,
     skip: &[Move],
     v: u32,
     first: u32,
@@ -366,7 +377,7 @@ fn allows_reverse(
     requires kept { AreKept (setting setup.now) view.now.routes v v kept.now }
     requires view { IsViewOf (setting setup.now) view.now }
     requires possible { is_possible (setting setup.now).customers view.now.routes (Reverse v first last) ≡ true }
-    ensures { IsTrue result ↔ IsAllowed (setting setup.now) view.now skip.now (Reverse v first last) }
+    ensures { IsTrue result ↔ IsAllowed (scope bounded (setting setup.now)) view.now skip.now (Reverse v first last) }
 {
     let mv = Move::Reverse {
         vehicle: v,
@@ -380,6 +391,7 @@ fn allows_reverse(
     allows_inside(
         view,
         setup,
+        bounded,
         skip,
         mv,
         v,
@@ -400,6 +412,7 @@ fn allows_reverse(
 fn allows_shift(
     view: &View,
     setup: &Setup,
+    bounded: bool,
     skip: &[Move],
     v: u32,
     place: u32,
@@ -416,7 +429,7 @@ fn allows_shift(
     requires view { IsViewOf (setting setup.now) view.now }
     requires possible { is_possible (setting setup.now).customers view.now.routes (Shift v place length w at) ≡ true }
     requires apart { v ≢ w }
-    ensures { IsTrue result ↔ IsAllowed (setting setup.now) view.now skip.now (Shift v place length w at) }
+    ensures { IsTrue result ↔ IsAllowed (scope bounded (setting setup.now)) view.now skip.now (Shift v place length w at) }
 {
     let mv = Move::Shift {
         vehicle: v,
@@ -435,6 +448,7 @@ fn allows_shift(
     allows_between(
         view,
         setup,
+        bounded,
         skip,
         mv,
         v,
@@ -461,6 +475,7 @@ fn allows_shift(
 fn allows_swap(
     view: &View,
     setup: &Setup,
+    bounded: bool,
     skip: &[Move],
     v: u32,
     place: u32,
@@ -476,7 +491,7 @@ fn allows_swap(
     requires view { IsViewOf (setting setup.now) view.now }
     requires possible { is_possible (setting setup.now).customers view.now.routes (Swap v place w at) ≡ true }
     requires apart { v ≢ w }
-    ensures { IsTrue result ↔ IsAllowed (setting setup.now) view.now skip.now (Swap v place w at) }
+    ensures { IsTrue result ↔ IsAllowed (scope bounded (setting setup.now)) view.now skip.now (Swap v place w at) }
 {
     let mv = Move::Swap {
         vehicle: v,
@@ -495,6 +510,7 @@ fn allows_swap(
     allows_between(
         view,
         setup,
+        bounded,
         skip,
         mv,
         v,
@@ -521,6 +537,7 @@ fn allows_swap(
 fn allows_cross(
     view: &View,
     setup: &Setup,
+    bounded: bool,
     skip: &[Move],
     v: u32,
     keep: u32,
@@ -535,7 +552,7 @@ fn allows_cross(
     requires w_kept { AreKept (setting setup.now) view.now.routes w v w_kept.now }
     requires view { IsViewOf (setting setup.now) view.now }
     requires possible { is_possible (setting setup.now).customers view.now.routes (Cross v keep w keep_other) ≡ true }
-    ensures { IsTrue result ↔ IsAllowed (setting setup.now) view.now skip.now (Cross v keep w keep_other) }
+    ensures { IsTrue result ↔ IsAllowed (scope bounded (setting setup.now)) view.now skip.now (Cross v keep w keep_other) }
 {
     let mv = Move::Cross {
         vehicle: v,
@@ -549,6 +566,7 @@ fn allows_cross(
     allows_between(
         view,
         setup,
+        bounded,
         skip,
         mv,
         v,
@@ -575,6 +593,7 @@ fn allows_cross(
 pub(crate) fn allows(
     view: &View,
     setup: &Setup,
+    bounded: bool,
     skip: &[Move],
     v: u32,
     w: u32,
@@ -589,7 +608,7 @@ pub(crate) fn allows(
     requires view { IsViewOf (setting setup.now) view.now }
     requires possible { is_possible (setting setup.now).customers view.now.routes mv ≡ true }
     requires near { IsNear v w mv }
-    ensures { IsTrue result ↔ IsAllowed (setting setup.now) view.now skip.now mv }
+    ensures { IsTrue result ↔ IsAllowed (scope bounded (setting setup.now)) view.now skip.now mv }
 {
     match mv {
         Move::Shift {
@@ -600,10 +619,13 @@ pub(crate) fn allows(
             at,
         } => {
             if vehicle == to {
-                allows_shift_inside(view, setup, skip, vehicle, place, length, at, v_kept, meter)
+                allows_shift_inside(
+                    view, setup, bounded, skip, vehicle, place, length, at, v_kept, meter,
+                )
             } else {
                 allows_shift(
-                    view, setup, skip, vehicle, place, length, to, at, v_kept, w_kept, meter,
+                    view, setup, bounded, skip, vehicle, place, length, to, at, v_kept, w_kept,
+                    meter,
                 )
             }
         }
@@ -614,10 +636,12 @@ pub(crate) fn allows(
             at,
         } => {
             if vehicle == other {
-                allows_swap_inside(view, setup, skip, vehicle, place, at, v_kept, meter)
+                allows_swap_inside(
+                    view, setup, bounded, skip, vehicle, place, at, v_kept, meter,
+                )
             } else {
                 allows_swap(
-                    view, setup, skip, vehicle, place, other, at, v_kept, w_kept, meter,
+                    view, setup, bounded, skip, vehicle, place, other, at, v_kept, w_kept, meter,
                 )
             }
         }
@@ -625,14 +649,16 @@ pub(crate) fn allows(
             vehicle,
             first,
             last,
-        } => allows_reverse(view, setup, skip, vehicle, first, last, v_kept, meter),
+        } => allows_reverse(
+            view, setup, bounded, skip, vehicle, first, last, v_kept, meter,
+        ),
         Move::Cross {
             vehicle,
             keep,
             other,
             keep_other,
         } => allows_cross(
-            view, setup, skip, vehicle, keep, other, keep_other, v_kept, w_kept, meter,
+            view, setup, bounded, skip, vehicle, keep, other, keep_other, v_kept, w_kept, meter,
         ),
         Move::Insert { .. } | Move::Remove { .. } => false,
     }

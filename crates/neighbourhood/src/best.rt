@@ -2,6 +2,7 @@
 ghost use Rattle.std.specs.Prelude.{◌≡◌, ◌-◌, true, ℕ, List, Option};
 ghost use Rattle.dimension_core.specs.Setup.{setting};
 ghost use Rattle.move_core.specs.Moves.{is_possible};
+ghost use Rattle.neighbourhood.specs.Scope.{scope};
 ghost use Rattle.neighbourhood.specs.View.{IsViewOf};
 ghost use Rattle.neighbourhood.specs.Best.{IsNear, Counts, numbers_of};
 ghost use Rattle.neighbourhood.specs.Kept.{AreKept};
@@ -17,7 +18,7 @@ use pin_core::View;
 
 /// What the best move so far gains.
 #[inline(always)]
-fn gain_of(best: Option<(Move, u64)>) -> u64
+pub(crate) fn gain_of(best: Option<(Move, u64)>) -> u64
     ensures { result ≡ gain_of best }
 {
     match best {
@@ -32,6 +33,7 @@ fn gain_of(best: Option<(Move, u64)>) -> u64
 pub(crate) fn better(
     view: &View,
     setup: &Setup,
+    bounded: bool,
     skip: &[Move],
     v: u32,
     w: u32,
@@ -50,14 +52,14 @@ pub(crate) fn better(
     requires possible { is_possible (setting setup.now).customers view.now.routes mv ≡ true }
     requires near { IsNear v w mv }
     requires saving { IsSaving (setting setup.now) view.now mv lost gained }
-    ensures { (bound : List ℕ) → IsNext (Counts (setting setup.now) view.now skip.now v w) mv bound
-        → IsBestSoFar (setting setup.now) view.now skip.now v w (numbers_of mv) best → IsBestSoFar (setting setup.now) view.now skip.now v w bound result }
+    ensures { (bound : List ℕ) → IsNext (Counts (scope bounded (setting setup.now)) view.now skip.now v w) mv bound
+        → IsBestSoFar (scope bounded (setting setup.now)) view.now skip.now v w (numbers_of mv) best → IsBestSoFar (scope bounded (setting setup.now)) view.now skip.now v w bound result }
 {
     let gain = lost.saturating_sub(gained);
     if gain <= gain_of(best) {
         return best;
     }
-    if !allows(view, setup, skip, v, w, v_kept, w_kept, mv, meter) {
+    if !allows(view, setup, bounded, skip, v, w, v_kept, w_kept, mv, meter) {
         return best;
     }
     Some((mv, gain))

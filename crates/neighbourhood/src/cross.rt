@@ -1,9 +1,10 @@
 //! Crosses of two vehicles.
-ghost use Rattle.std.specs.Prelude.{◌≡◌, ◌≢◌, ℕ, ◌+◌, ◌-◌, ◌*◌, ◌^◌, ◌<◌, ◌≤◌, true, false, List, [], ◌∷◌, length, slice_index, Option};
+ghost use Rattle.std.specs.Prelude.{◌≡◌, ◌≢◌, ℕ, ◌+◌, ◌-◌, ◌*◌, ◌^◌, ◌<◌, ◌≤◌, true, false, List, [], ◌∷◌, length, slice_index, Option, All};
 ghost use Rattle.callback_store.specs.Tables.{table_at};
 ghost use Rattle.dimension_core.specs.Setup.{setting};
 ghost use Rattle.move_core.specs.declared.moves.Move.TheVariants.{Cross};
 ghost use Rattle.move_core.specs.Moves.{is_possible};
+ghost use Rattle.neighbourhood.specs.Scope.{scope};
 ghost use Rattle.neighbourhood.specs.View.{IsViewOf};
 ghost use Rattle.neighbourhood.specs.Best.{Counts};
 ghost use Rattle.neighbourhood.specs.Kept.{AreKept};
@@ -27,12 +28,14 @@ use pin_core::View;
 fn cross_row(
     view: &View,
     setup: &Setup,
+    bounded: bool,
     skip: &[Move],
     v: u32,
     w: u32,
     keep: u32,
     lost: u64,
     edges: &[u32],
+    most: u32,
     here: &[u32],
     next: &[u32],
     first: u32,
@@ -49,17 +52,27 @@ fn cross_row(
     requires apart { v ≢ w }
     requires order { first ≤ end }
     requires edges { end ≤ length edges.now }
+    requires most { All (λ x. x ≤ most) edges.now }
     requires here { end < length here.now }
     requires next { end ≤ length next.now }
     requires short { length here.now ≤ 1002 }
     requires fixed { lost < 2 ^ 34 }
     requires possible { (l : ℕ) → l < end → is_possible (setting setup.now).customers view.now.routes (Cross v keep w l) ≡ true }
     requires saving { (l : ℕ) → l < end → IsSaving (setting setup.now) view.now (Cross v keep w l) (lost + slice_index edges.now l) (slice_index here.now (l + 1) + slice_index next.now l) }
-    requires best { IsBestSoFar (setting setup.now) view.now skip.now v w (4 ∷ v ∷ keep ∷ w ∷ first ∷ []) best }
-    ensures { IsBestSoFar (setting setup.now) view.now skip.now v w (4 ∷ v ∷ keep ∷ w ∷ end ∷ []) result }
+    requires best { IsBestSoFar (scope bounded (setting setup.now)) view.now skip.now v w (4 ∷ v ∷ keep ∷ w ∷ first ∷ []) best }
+    ensures { IsBestSoFar (scope bounded (setting setup.now)) view.now skip.now v w (4 ∷ v ∷ keep ∷ w ∷ end ∷ []) result }
 {
     let least = wanted(0, best);
-    if !may_gain(lost, least, edges, next, here, first as usize, end as usize) {
+    if !may_gain(
+        lost,
+        least,
+        edges,
+        most,
+        next,
+        here,
+        first as usize,
+        end as usize,
+    ) {
         return best;
     }
     let mut best = best;
@@ -80,7 +93,7 @@ fn cross_row(
             keep_other: there,
         };
         best = better(
-            view, setup, skip, v, w, v_kept, w_kept, mv, all_lost, all_gained, best, meter,
+            view, setup, bounded, skip, v, w, v_kept, w_kept, mv, all_lost, all_gained, best, meter,
         );
         keep_other = there + 1;
     }
@@ -92,6 +105,7 @@ fn cross_row(
 fn cross_over(
     view: &View,
     setup: &Setup,
+    bounded: bool,
     skip: &[Move],
     v: u32,
     w: u32,
@@ -102,6 +116,7 @@ fn cross_over(
     to: &[u32],
     from_edges: &[u32],
     to_edges: &[u32],
+    most: u32,
     out: &[u32],
     into: &[u32],
     v_kept: &Kept,
@@ -115,17 +130,18 @@ fn cross_over(
     requires w_kept { AreKept (setting setup.now) view.now.routes w v w_kept.now }
     requires apart { v ≢ w }
     requires begin { begin + 2 ≤ length to.now }
-    requires least { (k l : ℕ) → k < least → ¬ Counts (setting setup.now) view.now skip.now v w (Cross v k w l) }
-    requires onto { (k l : ℕ) → l < begin → ¬ Counts (setting setup.now) view.now skip.now v w (Cross v k w l) }
+    requires least { (k l : ℕ) → k < least → ¬ Counts (scope bounded (setting setup.now)) view.now skip.now v w (Cross v k w l) }
+    requires onto { (k l : ℕ) → l < begin → ¬ Counts (scope bounded (setting setup.now)) view.now skip.now v w (Cross v k w l) }
     requires keep { keep + 1 < length from.now }
     requires from { AreStops (setting setup.now).customers view.now.routes v from.now }
     requires to { AreStops (setting setup.now).customers view.now.routes w to.now }
     requires from_edges { AreEdges (table_at (setting setup.now).tables (setting setup.now).cost) from.now from_edges.now }
     requires to_edges { AreEdges (table_at (setting setup.now).tables (setting setup.now).cost) to.now to_edges.now }
+    requires most { All (λ x. x ≤ most) to_edges.now }
     requires out { AreHops false (table_at (setting setup.now).tables (setting setup.now).cost) from.now to.now (length from.now * length to.now) out.now }
     requires into { AreHops true (table_at (setting setup.now).tables (setting setup.now).cost) from.now to.now (length from.now * length to.now) into.now }
-    requires best { IsBestSoFar (setting setup.now) view.now skip.now v w (4 ∷ v ∷ keep ∷ w ∷ 0 ∷ []) best }
-    ensures { IsBestSoFar (setting setup.now) view.now skip.now v w (4 ∷ v ∷ keep ∷ w ∷ (length to.now - 1) ∷ []) result }
+    requires best { IsBestSoFar (scope bounded (setting setup.now)) view.now skip.now v w (4 ∷ v ∷ keep ∷ w ∷ 0 ∷ []) best }
+    ensures { IsBestSoFar (scope bounded (setting setup.now)) view.now skip.now v w (4 ∷ v ∷ keep ∷ w ∷ (length to.now - 1) ∷ []) result }
 {
     if keep < least {
         return best;
@@ -137,8 +153,8 @@ fn cross_over(
     let here = row(out, to.len(), index);
     let next = row(into, to.len(), index + 1);
     cross_row(
-        view, setup, skip, v, w, keep, lost, to_edges, here, next, begin, end as u32, v_kept,
-        w_kept, best, meter,
+        view, setup, bounded, skip, v, w, keep, lost, to_edges, most, here, next, begin,
+        end as u32, v_kept, w_kept, best, meter,
     )
 }
 
@@ -146,6 +162,7 @@ fn cross_over(
 pub(crate) fn best_cross(
     view: &View,
     setup: &Setup,
+    bounded: bool,
     skip: &[Move],
     v: u32,
     w: u32,
@@ -153,6 +170,7 @@ pub(crate) fn best_cross(
     to: &[u32],
     from_edges: &[u32],
     to_edges: &[u32],
+    most: u32,
     out: &[u32],
     into: &[u32],
     v_kept: &Kept,
@@ -169,17 +187,18 @@ pub(crate) fn best_cross(
     requires to { AreStops (setting setup.now).customers view.now.routes w to.now }
     requires from_edges { AreEdges (table_at (setting setup.now).tables (setting setup.now).cost) from.now from_edges.now }
     requires to_edges { AreEdges (table_at (setting setup.now).tables (setting setup.now).cost) to.now to_edges.now }
+    requires most { All (λ x. x ≤ most) to_edges.now }
     requires out { AreHops false (table_at (setting setup.now).tables (setting setup.now).cost) from.now to.now (length from.now * length to.now) out.now }
     requires into { AreHops true (table_at (setting setup.now).tables (setting setup.now).cost) from.now to.now (length from.now * length to.now) into.now }
-    requires best { IsBestSoFar (setting setup.now) view.now skip.now v w (4 ∷ []) best }
-    ensures { IsBestSoFar (setting setup.now) view.now skip.now v w (5 ∷ []) result }
+    requires best { IsBestSoFar (scope bounded (setting setup.now)) view.now skip.now v w (4 ∷ []) best }
+    ensures { IsBestSoFar (scope bounded (setting setup.now)) view.now skip.now v w (5 ∷ []) result }
 {
     let (least, begin) = (must_keep(view, setup, v), must_keep(view, setup, w));
     let mut best = best;
     for keep in 0..from.len() as u32 - 1 {
         best = cross_over(
-            view, setup, skip, v, w, keep, least, begin, from, to, from_edges, to_edges, out, into,
-            v_kept, w_kept, best, meter,
+            view, setup, bounded, skip, v, w, keep, least, begin, from, to, from_edges, to_edges,
+            most, out, into, v_kept, w_kept, best, meter,
         );
     }
     best

@@ -6,6 +6,7 @@ ghost use Rattle.dimension_core.specs.Feasible.{FitsAll};
 ghost use Rattle.dimension_core.specs.Setup.{setting};
 ghost use Rattle.neighbourhood.specs.Kept.{GoesOn, HasAhead, HasBehind};
 ghost use Rattle.neighbourhood.specs.Laws.{Laws};
+ghost use Rattle.neighbourhood.specs.Scope.{scope};
 ghost use Rattle.neighbourhood.specs.Ways.{way_of};
 
 use crate::kept::Spans;
@@ -44,7 +45,37 @@ fn carry_back(
     Some((range, from))
 }
 
+/// The cumuls at the last of some more nodes, and that node: none where there are none. Often there are no more nodes.
+#[inline(always)]
+fn carry_on(
+    dimension: &Dimension,
+    registry: &Registry,
+    range: Range,
+    from: u32,
+    nodes: &[u32],
+    vehicle: u32,
+    meter: &mut Meter,
+) -> Option<(Range, u32)>
+    requires laws { Laws }
+    requires served { IsServed (tables registry.now) dimension.now }
+    requires from { from < length dimension.now.ranges }
+    requires known { All (λ node. node < length dimension.now.ranges) nodes.now }
+    requires low { 1 ≤ vehicle }
+    requires high { vehicle ≤ length dimension.now.caps }
+    ensures span { (done : List ℕ) → IsSpan (Some range) (Reaches (table_of (tables registry.now) dimension.now) dimension.now vehicle done) → from ≡ last_of 0 done
+        → MatchOption result
+        (IsSpan None (Reaches (table_of (tables registry.now) dimension.now) dimension.now vehicle (done ++ nodes.now)))
+        (λ r. IsSpan (Some r.0) (Reaches (table_of (tables registry.now) dimension.now) dimension.now vehicle (done ++ nodes.now)) × (r.1 ≡ last_of 0 (done ++ nodes.now))) }
+    ensures known { IfSome result (λ r. r.1 < length dimension.now.ranges) }
+{
+    if nodes.is_empty() {
+        return Some((range, from));
+    }
+    dimension.carry(registry, range, from, nodes, vehicle, meter)
+}
+
 /// The cumuls at the last of some more nodes, as they stand or driven back, and that node: none where there are none.
+#[inline(always)]
 fn carry_way(
     dimension: &Dimension,
     registry: &Registry,
@@ -70,7 +101,7 @@ fn carry_way(
     if turned {
         carry_back(dimension, registry, range, from, nodes, vehicle, meter)
     } else {
-        dimension.carry(registry, range, from, nodes, vehicle, meter)
+        carry_on(dimension, registry, range, from, nodes, vehicle, meter)
     }
 }
 
@@ -121,8 +152,8 @@ fn arrival(
     let (range, from) = carry_way(
         dimension, registry, here, from, turned, first, vehicle, meter,
     )?;
-    let (range, from) = dimension.carry(registry, range, from, second, vehicle, meter)?;
-    let (range, from) = dimension.carry(registry, range, from, third, vehicle, meter)?;
+    let (range, from) = carry_on(dimension, registry, range, from, second, vehicle, meter)?;
+    let (range, from) = carry_on(dimension, registry, range, from, third, vehicle, meter)?;
     dimension.extend(registry, range, from, next, vehicle, meter)
 }
 
@@ -232,9 +263,113 @@ fn is_nothing(
     back.is_empty()
 }
 
+/// The cumuls with which a vehicle returns from a route of five parts, the second of which may be driven back, by those with which it leaves.
+fn homecoming(
+    dimension: &Dimension,
+    registry: &Registry,
+    vehicle: u32,
+    here: Range,
+    front: &[u32],
+    turned: bool,
+    first: &[u32],
+    second: &[u32],
+    third: &[u32],
+    back: &[u32],
+    meter: &mut Meter,
+) -> Option<Range>
+    requires laws { Laws }
+    requires served { IsServed (tables registry.now) dimension.now }
+    requires here { IsSpan (Some here) (Reaches (table_of (tables registry.now) dimension.now) dimension.now vehicle []) }
+    requires known { All (λ node. node < length dimension.now.ranges) (front.now ++ (way_of turned first.now ++ (second.now ++ (third.now ++ back.now)))) }
+    requires low { 1 ≤ vehicle }
+    requires high { vehicle ≤ length dimension.now.caps }
+    ensures { IsSpan result (Reaches (table_of (tables registry.now) dimension.now) dimension.now vehicle ((front.now ++ (way_of turned first.now ++ (second.now ++ (third.now ++ back.now)))) ++ 0 ∷ [])) }
+{
+    let _nodes = dimension.nodes();
+    let (range, from) = carry_on(dimension, registry, here, 0, front, vehicle, meter)?;
+    let (range, from) = carry_way(
+        dimension, registry, range, from, turned, first, vehicle, meter,
+    )?;
+    let (range, from) = carry_on(dimension, registry, range, from, second, vehicle, meter)?;
+    let (range, from) = carry_on(dimension, registry, range, from, third, vehicle, meter)?;
+    let (range, from) = carry_on(dimension, registry, range, from, back, vehicle, meter)?;
+    dimension.extend(registry, range, from, 0, vehicle, meter)
+}
+
+/// Whether a route of five parts is in bounds in a dimension, by its whole way.
+fn comes_home(
+    dimension: &Dimension,
+    registry: &Registry,
+    vehicle: u32,
+    front: &[u32],
+    turned: bool,
+    first: &[u32],
+    second: &[u32],
+    third: &[u32],
+    back: &[u32],
+    meter: &mut Meter,
+) -> bool
+    requires laws { Laws }
+    requires served { IsServed (tables registry.now) dimension.now }
+    requires some { 0 < length (front.now ++ (way_of turned first.now ++ (second.now ++ (third.now ++ back.now)))) }
+    requires known { All (λ node. node < length dimension.now.ranges) (front.now ++ (way_of turned first.now ++ (second.now ++ (third.now ++ back.now)))) }
+    requires low { 1 ≤ vehicle }
+    requires high { vehicle ≤ length dimension.now.caps }
+    ensures { IsTrue result ↔ IsInBounds (table_of (tables registry.now) dimension.now) dimension.now vehicle (front.now ++ (way_of turned first.now ++ (second.now ++ (third.now ++ back.now)))) }
+{
+    match dimension.start(vehicle) {
+        None => false,
+        Some(here) => {
+            let home = homecoming(
+                dimension, registry, vehicle, here, front, turned, first, second, third, back,
+                meter,
+            );
+            home.is_some()
+        }
+    }
+}
+
+/// Whether a route of five parts, the second of which may be driven back, is in bounds in each dimension, by its whole way.
+fn all_come_home(
+    setup: &Setup,
+    vehicle: u32,
+    front: &[u32],
+    turned: bool,
+    first: &[u32],
+    second: &[u32],
+    third: &[u32],
+    back: &[u32],
+    meter: &mut Meter,
+) -> bool
+    requires laws { Laws }
+    requires known { All (λ c. c ≤ (setting setup.now).customers) (front.now ++ (way_of turned first.now ++ (second.now ++ (third.now ++ back.now)))) }
+    requires low { 1 ≤ vehicle }
+    requires high { vehicle ≤ (setting setup.now).vehicles }
+    requires some { 0 < length (front.now ++ (way_of turned first.now ++ (second.now ++ (third.now ++ back.now)))) }
+    ensures { IsTrue result ↔ FitsAll (setting setup.now) vehicle (front.now ++ (way_of turned first.now ++ (second.now ++ (third.now ++ back.now)))) }
+{
+    for dimension in setup.dimensions() {
+        if !comes_home(
+            dimension,
+            setup.registry(),
+            vehicle,
+            front,
+            turned,
+            first,
+            second,
+            third,
+            back,
+            meter,
+        ) {
+            return false;
+        }
+    }
+    true
+}
+
 /// Whether a route of five parts, the second of which may be driven back, is in bounds in each dimension, by the cumuls after its first
 /// part and those before its last one.
-pub(crate) fn fits(
+fn all_meet(
     setup: &Setup,
     vehicle: u32,
     ahead: &Spans,
@@ -251,13 +386,11 @@ pub(crate) fn fits(
     requires known { All (λ c. c ≤ (setting setup.now).customers) (front.now ++ (way_of turned first.now ++ (second.now ++ (third.now ++ back.now)))) }
     requires low { 1 ≤ vehicle }
     requires high { vehicle ≤ (setting setup.now).vehicles }
+    requires some { 0 < length (front.now ++ (way_of turned first.now ++ (second.now ++ (third.now ++ back.now)))) }
     requires ahead { HasAhead (setting setup.now) vehicle front.now ahead.now }
     requires behind { HasBehind (setting setup.now) vehicle back.now behind.now }
     ensures { IsTrue result ↔ FitsAll (setting setup.now) vehicle (front.now ++ (way_of turned first.now ++ (second.now ++ (third.now ++ back.now)))) }
 {
-    if is_nothing(front, turned, first, second, third, back) {
-        return true;
-    }
     for (k, dimension) in setup.dimensions().iter().enumerate() {
         let fits = meets(
             dimension,
@@ -278,4 +411,50 @@ pub(crate) fn fits(
         }
     }
     true
+}
+
+/// Whether a route of five parts, the second of which may be driven back, is in bounds in each dimension, where these bound it at all: by
+/// the cumuls after its first part and those before its last one where they are kept, and else by its whole way.
+#[inline(always)]
+pub(crate) fn fits(
+    setup: &Setup,
+    bounded: bool,
+    vehicle: u32,
+    ahead: &Spans,
+    front: &[u32],
+    turned: bool,
+    first: &[u32],
+    second: &[u32],
+    third: &[u32],
+    back: &[u32],
+    behind: &Spans,
+    meter: &mut Meter,
+) -> bool
+    requires laws { Laws }
+    requires known { All (λ c. c ≤ (setting setup.now).customers) (front.now ++ (way_of turned first.now ++ (second.now ++ (third.now ++ back.now)))) }
+    requires low { 1 ≤ vehicle }
+    requires high { vehicle ≤ (setting setup.now).vehicles }
+    requires ahead { 0 < ahead.now.width → HasAhead (setting setup.now) vehicle front.now ahead.now }
+    requires behind { 0 < behind.now.width → HasBehind (setting setup.now) vehicle back.now behind.now }
+    ensures { IsTrue result ↔ FitsAll (scope bounded (setting setup.now)) vehicle (front.now ++ (way_of turned first.now ++ (second.now ++ (third.now ++ back.now)))) }
+{
+    if !bounded {
+        return true;
+    }
+    if is_nothing(front, turned, first, second, third, back) {
+        return true;
+    }
+    if !ahead.are_kept() {
+        return all_come_home(
+            setup, vehicle, front, turned, first, second, third, back, meter,
+        );
+    }
+    if !behind.are_kept() {
+        return all_come_home(
+            setup, vehicle, front, turned, first, second, third, back, meter,
+        );
+    }
+    all_meet(
+        setup, vehicle, ahead, front, turned, first, second, third, back, behind, meter,
+    )
 }

@@ -170,12 +170,14 @@ fn may_gain_under(less: u32, edges: &[u32], to: &[u32], on: &[u32], from: usize,
     gains
 }
 
-/// Whether `first_gain` may find an index, by one pass without branches over a long row; for a short row it is not asked.
+/// Whether `first_gain` may find an index: by the most that the first row has, and else by one pass without branches over a long row; over
+/// a short row no pass is made.
 #[inline(always)]
 pub(crate) fn may_gain(
     lost: u64,
     wanted: u64,
     edges: &[u32],
+    most: u32,
     to: &[u32],
     on: &[u32],
     from: usize,
@@ -185,10 +187,14 @@ pub(crate) fn may_gain(
     requires wanted { wanted < 2 ^ 61 }
     requires order { from ≤ end }
     requires edges { end ≤ length edges.now }
+    requires most { All (λ x. x ≤ most) edges.now }
     requires to { end ≤ length to.now }
     requires on { end < length on.now }
     ensures { result ≡ false → (k : ℕ) → k < end → from ≤ k → lost + slice_index edges.now k ≤ wanted + slice_index to.now k + slice_index on.now (k + 1) }
 {
+    if lost + u64::from(most) <= wanted {
+        return false;
+    }
     if end - from < FEW {
         return true;
     }
@@ -209,6 +215,7 @@ pub(crate) fn may_swap_gain(
     lost: u64,
     wanted: u64,
     edges: &[u32],
+    most: u32,
     before: &[u32],
     here: &[u32],
     next: &[u32],
@@ -221,6 +228,7 @@ pub(crate) fn may_swap_gain(
     requires begin { 1 ≤ from }
     requires order { from ≤ end }
     requires edges { end ≤ length edges.now }
+    requires most { All (λ x. x ≤ most) edges.now }
     requires before { end ≤ length before.now }
     requires here { end < length here.now }
     requires next { end ≤ length next.now }
@@ -228,6 +236,9 @@ pub(crate) fn may_swap_gain(
     ensures { result ≡ false → (k : ℕ) → k < end → from ≤ k → lost + slice_index edges.now (k - 1) + slice_index edges.now k
         ≤ wanted + slice_index before.now k + slice_index next.now k + slice_index back.now (k - 1) + slice_index here.now (k + 1) }
 {
+    if lost + 2 * u64::from(most) <= wanted {
+        return false;
+    }
     if end - from < FEW {
         return true;
     }

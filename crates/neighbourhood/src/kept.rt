@@ -1,8 +1,9 @@
 //! The cumuls along the routes of a view, kept from both ends, so that a move is judged by its middle.
-ghost use Rattle.std.specs.Prelude.{◌≡◌, ◌≢◌, ℕ, ◌+◌, ◌*◌, ◌<◌, ◌≤◌, List, [], ◌∷◌, ◌++◌, length, Option, IfOk, IfSome, All};
+ghost use Rattle.std.specs.Prelude.{◌≡◌, ◌≢◌, ℕ, ◌+◌, ◌*◌, ◌<◌, ◌≤◌, List, [], ◌∷◌, ◌++◌, length, Option, IfOk, IfSome, IsTrue, ◌↔◌, All};
 ghost use Rattle.callback_store.specs.Registry.{tables};
 ghost use Rattle.dimension_core.specs.Cumuls.{IsCumul, IsServed, IsSpan, Reaches, table_of, last_of};
 ghost use Rattle.dimension_core.specs.Onward.{IsOnward};
+ghost use Rattle.dimension_core.specs.Setting.{Setting};
 ghost use Rattle.dimension_core.specs.Setup.{setting};
 ghost use Rattle.neighbourhood.specs.Kept.{span_at, AreAhead, AreBehind, AreKept};
 ghost use Rattle.neighbourhood.specs.Laws.{Laws};
@@ -30,6 +31,23 @@ impl Model for Spans {
 }
 
 impl Spans {
+    /// No spans.
+    pub(crate) fn none(alloc: Global) -> Spans
+        ensures { result.width ≡ 0 }
+    {
+        Spans {
+            width: 0,
+            cells: Vec::new(alloc),
+        }
+    }
+
+    /// Whether there are spans.
+    pub(crate) fn are_kept(&self) -> bool
+        ensures { IsTrue result ↔ (0 < self.now.width) }
+    {
+        self.width > 0
+    }
+
     /// The span at a place in a dimension, both counted from 0.
     pub(crate) fn at(&self, dimension: usize, place: usize) -> Option<Range>
         requires { dimension * self.now.width + place < length self.now.cells }
@@ -200,6 +218,17 @@ fn spans_behind(
     Ok(Spans { width, cells })
 }
 
+/// Nothing kept.
+pub(crate) fn nothing_kept(alloc: Global) -> Kept
+    ensures { (s : Setting) (routes : List (List ℕ)) (v w : ℕ) → AreKept s routes v w result }
+{
+    Kept {
+        ahead: Spans::none(alloc),
+        behind: Spans::none(alloc),
+        over: Spans::none(alloc),
+    }
+}
+
 /// What is kept for a vehicle beside another one.
 pub(crate) fn kept_between(
     alloc: Global,
@@ -237,13 +266,9 @@ pub(crate) fn kept_alone(
     ensures { IfOk result (λ kept. AreKept (setting setup.now) view.now.routes v v kept) }
 {
     let _customers = setup.customers();
-    let none = Spans {
-        width: 0,
-        cells: Vec::new(alloc),
-    };
     Ok(Kept {
         ahead: spans_ahead(alloc, setup, v, view.customers(v), meter)?,
         behind: spans_behind(alloc, setup, v, view.customers(v), meter)?,
-        over: none,
+        over: Spans::none(alloc),
     })
 }

@@ -4,6 +4,7 @@ ghost use Rattle.callback_store.specs.Tables.{table_at};
 ghost use Rattle.dimension_core.specs.Setup.{setting};
 ghost use Rattle.move_core.specs.declared.moves.Move.TheVariants.{Reverse};
 ghost use Rattle.move_core.specs.Moves.{is_possible};
+ghost use Rattle.neighbourhood.specs.Scope.{scope};
 ghost use Rattle.neighbourhood.specs.View.{IsViewOf};
 ghost use Rattle.neighbourhood.specs.Kept.{AreKept};
 ghost use Rattle.neighbourhood.specs.Laws.{Laws};
@@ -25,6 +26,7 @@ use pin_core::View;
 fn reverse_row(
     view: &View,
     setup: &Setup,
+    bounded: bool,
     skip: &[Move],
     v: u32,
     first: u32,
@@ -54,8 +56,8 @@ fn reverse_row(
     requires fixed { (lost < 2 ^ 50) × (gained < 2 ^ 50) }
     requires possible { (last : ℕ) → first < last → last < end → is_possible (setting setup.now).customers view.now.routes (Reverse v first last) ≡ true }
     requires saving { (last : ℕ) → first < last → last < end → IsSaving (setting setup.now) view.now (Reverse v first last) (lost + slice_index sums.now last + slice_index edges.now last) (gained + slice_index before.now last + slice_index back_sums.now last + slice_index here.now (last + 1)) }
-    requires best { IsBestSoFar (setting setup.now) view.now skip.now v v (3 ∷ v ∷ first ∷ (first + 1) ∷ []) best }
-    ensures { IsBestSoFar (setting setup.now) view.now skip.now v v (3 ∷ v ∷ first ∷ end ∷ []) result }
+    requires best { IsBestSoFar (scope bounded (setting setup.now)) view.now skip.now v v (3 ∷ v ∷ first ∷ (first + 1) ∷ []) best }
+    ensures { IsBestSoFar (scope bounded (setting setup.now)) view.now skip.now v v (3 ∷ v ∷ first ∷ end ∷ []) result }
 {
     let least = wanted(gained, best);
     if !may_reverse_gain(
@@ -101,7 +103,7 @@ fn reverse_row(
             last: there,
         };
         best = better(
-            view, setup, skip, v, v, kept, kept, mv, all_lost, all_gained, best, meter,
+            view, setup, bounded, skip, v, v, kept, kept, mv, all_lost, all_gained, best, meter,
         );
         last = there + 1;
     }
@@ -112,6 +114,7 @@ fn reverse_row(
 fn reverse_from(
     view: &View,
     setup: &Setup,
+    bounded: bool,
     skip: &[Move],
     v: u32,
     first: u32,
@@ -134,8 +137,8 @@ fn reverse_from(
     requires back_sums { AreSums true (table_at (setting setup.now).tables (setting setup.now).cost) from.now (length from.now) back_sums.now }
     requires small { All (λ x. x ≤ 2 ^ 42) sums.now × All (λ x. x ≤ 2 ^ 42) back_sums.now }
     requires out { AreHops false (table_at (setting setup.now).tables (setting setup.now).cost) from.now from.now (length from.now * length from.now) out.now }
-    requires best { IsBestSoFar (setting setup.now) view.now skip.now v v (3 ∷ v ∷ first ∷ (first + 1) ∷ []) best }
-    ensures { IsBestSoFar (setting setup.now) view.now skip.now v v (3 ∷ v ∷ first ∷ (length from.now - 1) ∷ []) result }
+    requires best { IsBestSoFar (scope bounded (setting setup.now)) view.now skip.now v v (3 ∷ v ∷ first ∷ (first + 1) ∷ []) best }
+    ensures { IsBestSoFar (scope bounded (setting setup.now)) view.now skip.now v v (3 ∷ v ∷ first ∷ (length from.now - 1) ∷ []) result }
 {
     if first < first_free(view, setup, v) {
         return best;
@@ -148,6 +151,7 @@ fn reverse_from(
     reverse_row(
         view,
         setup,
+        bounded,
         skip,
         v,
         first,
@@ -169,6 +173,7 @@ fn reverse_from(
 pub(crate) fn best_reverse(
     view: &View,
     setup: &Setup,
+    bounded: bool,
     skip: &[Move],
     v: u32,
     from: &[u32],
@@ -189,13 +194,14 @@ pub(crate) fn best_reverse(
     requires back_sums { AreSums true (table_at (setting setup.now).tables (setting setup.now).cost) from.now (length from.now) back_sums.now }
     requires small { All (λ x. x ≤ 2 ^ 42) sums.now × All (λ x. x ≤ 2 ^ 42) back_sums.now }
     requires out { AreHops false (table_at (setting setup.now).tables (setting setup.now).cost) from.now from.now (length from.now * length from.now) out.now }
-    requires best { IsBestSoFar (setting setup.now) view.now skip.now v v (3 ∷ []) best }
-    ensures { IsBestSoFar (setting setup.now) view.now skip.now v v (4 ∷ []) result }
+    requires best { IsBestSoFar (scope bounded (setting setup.now)) view.now skip.now v v (3 ∷ []) best }
+    ensures { IsBestSoFar (scope bounded (setting setup.now)) view.now skip.now v v (4 ∷ []) result }
 {
     let mut best = best;
     for first in 1..from.len() as u32 - 1 {
         best = reverse_from(
-            view, setup, skip, v, first, from, edges, sums, back_sums, out, kept, best, meter,
+            view, setup, bounded, skip, v, first, from, edges, sums, back_sums, out, kept, best,
+            meter,
         );
     }
     best

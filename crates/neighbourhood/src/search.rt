@@ -1,17 +1,19 @@
 //! The best move.
-ghost use Rattle.std.specs.Prelude.{◌≡◌, ◌≢◌, ◌≤◌, IfOk, MatchOption};
+ghost use Rattle.std.specs.Prelude.{◌≡◌, ◌≢◌, ◌≤◌, false, IfOk, IsTrue, MatchOption};
 ghost use Rattle.callback_store.specs.Tables.{table_at};
 ghost use Rattle.dimension_core.specs.Setup.{setting};
 ghost use Rattle.neighbourhood.specs.View.{IsViewOf};
 ghost use Rattle.neighbourhood.specs.Best.{IsBest, IsIdle};
 ghost use Rattle.neighbourhood.specs.Kept.{AreKept};
 ghost use Rattle.neighbourhood.specs.Laws.{Laws};
+ghost use Rattle.neighbourhood.specs.Scope.{scope};
 ghost use Rattle.neighbourhood.specs.Sides.{IsSide, AreTwoWays, IsAlong};
 ghost use Rattle.neighbourhood.specs.Ways.{AreStops};
 
+use crate::allowed::allows;
 use crate::cross::best_cross;
 use crate::hops::stops_of;
-use crate::kept::{Kept, kept_alone};
+use crate::kept::{Kept, kept_alone, kept_between, nothing_kept};
 use crate::laws::laws_below;
 use crate::reverse::best_reverse;
 use crate::shift::{best_shift, best_shift_inside};
@@ -27,6 +29,7 @@ use std::alloc::{AllocError, Global};
 fn best_of_one(
     view: &View,
     setup: &Setup,
+    bounded: bool,
     v: u32,
     skip: &[Move],
     from: &[u32],
@@ -41,20 +44,52 @@ fn best_of_one(
     requires ways { AreTwoWays (table_at (setting setup.now).tables (setting setup.now).cost) from.now from.now ways.now }
     requires along { IsAlong (table_at (setting setup.now).tables (setting setup.now).cost) from.now along.now }
     requires kept { AreKept (setting setup.now) view.now.routes v v kept.now }
-    ensures { MatchOption result (IsIdle (setting setup.now) view.now skip.now v v) (λ p. IsBest (setting setup.now) view.now skip.now v v p.0 p.1) }
+    ensures { MatchOption result (IsIdle (scope bounded (setting setup.now)) view.now skip.now v v) (λ p. IsBest (scope bounded (setting setup.now)) view.now skip.now v v p.0 p.1) }
 {
-    let edges = &along.edges;
+    let (edges, most) = (&along.edges, along.most);
     let (out, into) = (&ways.out, &ways.into);
     let shifted = best_shift_inside(
-        view, setup, skip, v, from, edges, out, into, kept, None, meter,
+        view, setup, bounded, skip, v, from, edges, most, out, into, kept, None, meter,
     );
     let swapped = best_swap_inside(
-        view, setup, skip, v, from, edges, out, into, kept, shifted, meter,
+        view, setup, bounded, skip, v, from, edges, most, out, into, kept, shifted, meter,
     );
     let (sums, back_sums) = (&along.sums, &along.back_sums);
     best_reverse(
-        view, setup, skip, v, from, edges, sums, back_sums, out, kept, swapped, meter,
+        view, setup, bounded, skip, v, from, edges, sums, back_sums, out, kept, swapped, meter,
     )
+}
+
+/// The stops of one vehicle, or of two, are few up to this number.
+const FEW: usize = 24;
+
+/// Whether so many stops are few. Then nothing is kept of them at first.
+fn are_few(from: usize, to: usize) -> bool {
+    from <= FEW && to <= FEW
+}
+
+/// Whether the bounds allow what was found without them, which is then the best with them.
+fn holds_up(
+    view: &View,
+    setup: &Setup,
+    skip: &[Move],
+    v: u32,
+    w: u32,
+    none: &Kept,
+    found: Option<(Move, u64)>,
+    meter: &mut Meter,
+) -> bool
+    requires laws { Laws }
+    requires view { IsViewOf (setting setup.now) view.now }
+    requires v_kept { AreKept (setting setup.now) view.now.routes v w none.now }
+    requires w_kept { AreKept (setting setup.now) view.now.routes w v none.now }
+    requires found { MatchOption found (IsIdle (scope false (setting setup.now)) view.now skip.now v w) (λ p. IsBest (scope false (setting setup.now)) view.now skip.now v w p.0 p.1) }
+    ensures { IsTrue result → MatchOption found (IsIdle (setting setup.now) view.now skip.now v w) (λ p. IsBest (setting setup.now) view.now skip.now v w p.0 p.1) }
+{
+    match found {
+        None => true,
+        Some((mv, _)) => allows(view, setup, true, skip, v, w, none, none, mv, meter),
+    }
 }
 
 /// The best move inside a vehicle.
@@ -74,9 +109,18 @@ fn best_inside(
     let from = stops_of(alloc, view, setup, v)?;
     let ways = ways_among(alloc, setup, &from, &mut meter)?;
     let along = along_of(alloc, setup, &from, &ways.out)?;
+    if are_few(from.len(), 0) {
+        let none = nothing_kept(alloc);
+        let found = best_of_one(
+            view, setup, false, v, skip, &from, &ways, &along, &none, &mut meter,
+        );
+        if holds_up(view, setup, skip, v, v, &none, found, &mut meter) {
+            return Ok(found);
+        }
+    }
     let kept = kept_alone(alloc, view, setup, v, &mut meter)?;
     Ok(best_of_one(
-        view, setup, v, skip, &from, &ways, &along, &kept, &mut meter,
+        view, setup, true, v, skip, &from, &ways, &along, &kept, &mut meter,
     ))
 }
 
@@ -84,34 +128,41 @@ fn best_inside(
 fn best_of_two(
     view: &View,
     setup: &Setup,
+    bounded: bool,
     v: u32,
     w: u32,
     skip: &[Move],
     from: &Side,
     to: &Side,
     ways: &Ways,
+    v_kept: &Kept,
+    w_kept: &Kept,
     meter: &mut Meter,
 ) -> Option<(Move, u64)>
     requires laws { Laws }
     requires view { IsViewOf (setting setup.now) view.now }
     requires apart { v ≢ w }
-    requires from { IsSide (setting setup.now) view.now.routes v w from.now }
-    requires to { IsSide (setting setup.now) view.now.routes w v to.now }
+    requires from { IsSide (setting setup.now) view.now.routes v from.now }
+    requires to { IsSide (setting setup.now) view.now.routes w to.now }
     requires ways { AreTwoWays (table_at (setting setup.now).tables (setting setup.now).cost) from.now.stops to.now.stops ways.now }
-    ensures { MatchOption result (IsIdle (setting setup.now) view.now skip.now v w) (λ p. IsBest (setting setup.now) view.now skip.now v w p.0 p.1) }
+    requires v_kept { AreKept (setting setup.now) view.now.routes v w v_kept.now }
+    requires w_kept { AreKept (setting setup.now) view.now.routes w v w_kept.now }
+    ensures { MatchOption result (IsIdle (scope bounded (setting setup.now)) view.now skip.now v w) (λ p. IsBest (scope bounded (setting setup.now)) view.now skip.now v w p.0 p.1) }
 {
     let (a, b) = (&from.stops, &to.stops);
-    let (a_edges, b_edges) = (&from.edges, &to.edges);
+    let (a_edges, b_edges, most) = (&from.edges, &to.edges, to.most);
     let (out, into) = (&ways.out, &ways.into);
-    let (v_kept, w_kept) = (&from.kept, &to.kept);
     let shifted = best_shift(
-        view, setup, skip, v, w, a, b, a_edges, b_edges, out, into, v_kept, w_kept, None, meter,
+        view, setup, bounded, skip, v, w, a, b, a_edges, b_edges, most, out, into, v_kept, w_kept,
+        None, meter,
     );
     let swapped = best_swap(
-        view, setup, skip, v, w, a, b, a_edges, b_edges, out, into, v_kept, w_kept, shifted, meter,
+        view, setup, bounded, skip, v, w, a, b, a_edges, b_edges, most, out, into, v_kept, w_kept,
+        shifted, meter,
     );
     best_cross(
-        view, setup, skip, v, w, a, b, a_edges, b_edges, out, into, v_kept, w_kept, swapped, meter,
+        view, setup, bounded, skip, v, w, a, b, a_edges, b_edges, most, out, into, v_kept, w_kept,
+        swapped, meter,
     )
 }
 
@@ -132,10 +183,23 @@ fn best_between(
     ensures { IfOk result (λ best. MatchOption best (IsIdle (setting setup.now) view.now skip.now v w) (λ p. IsBest (setting setup.now) view.now skip.now v w p.0 p.1)) }
 {
     let mut meter = Meter::new();
-    let from = side_of(alloc, view, setup, v, w, &mut meter)?;
-    let to = side_of(alloc, view, setup, w, v, &mut meter)?;
+    let from = side_of(alloc, view, setup, v, &mut meter)?;
+    let to = side_of(alloc, view, setup, w, &mut meter)?;
     let ways = ways_between(alloc, setup, &from.stops, &to.stops, &mut meter)?;
-    Ok(best_of_two(view, setup, v, w, skip, &from, &to, &ways, &mut meter))
+    if are_few(from.stops.len(), to.stops.len()) {
+        let none = nothing_kept(alloc);
+        let found = best_of_two(
+            view, setup, false, v, w, skip, &from, &to, &ways, &none, &none, &mut meter,
+        );
+        if holds_up(view, setup, skip, v, w, &none, found, &mut meter) {
+            return Ok(found);
+        }
+    }
+    let v_kept = kept_between(alloc, view, setup, v, w, &mut meter)?;
+    let w_kept = kept_between(alloc, view, setup, w, v, &mut meter)?;
+    Ok(best_of_two(
+        view, setup, true, v, w, skip, &from, &to, &ways, &v_kept, &w_kept, &mut meter,
+    ))
 }
 
 /// The best move near two vehicles, or inside one, and what it saves; none where no move counts: of the shifts of at most three

@@ -1,10 +1,11 @@
 //! Shifts of one to three customers.
-ghost use Rattle.std.specs.Prelude.{◌≡◌, ◌≢◌, ℕ, ◌+◌, ◌-◌, ◌*◌, ◌^◌, ◌<◌, ◌≤◌, true, false, List, [], ◌∷◌, length, slice_index, Option};
+ghost use Rattle.std.specs.Prelude.{◌≡◌, ◌≢◌, ℕ, ◌+◌, ◌-◌, ◌*◌, ◌^◌, ◌<◌, ◌≤◌, true, false, List, [], ◌∷◌, length, slice_index, Option, All};
 ghost use Rattle.callback_store.specs.Tables.{table_at};
 ghost use Rattle.dimension_core.specs.Setup.{setting};
 ghost use Rattle.plan_core.specs.Plan.{route_at};
 ghost use Rattle.move_core.specs.declared.moves.Move.TheVariants.{Shift};
 ghost use Rattle.move_core.specs.Moves.{is_possible};
+ghost use Rattle.neighbourhood.specs.Scope.{scope};
 ghost use Rattle.neighbourhood.specs.View.{IsViewOf};
 ghost use Rattle.neighbourhood.specs.Kept.{AreKept};
 ghost use Rattle.neighbourhood.specs.Laws.{Laws};
@@ -12,7 +13,7 @@ ghost use Rattle.neighbourhood.specs.Search.{IsBestSoFar, IsSaving};
 ghost use Rattle.neighbourhood.specs.Ways.{AreStops, AreEdges, AreHops};
 
 use crate::allowed::{first_free, may_leave};
-use crate::best::better;
+use crate::best::{better, gain_of};
 use crate::gains::{first_gain, may_gain, wanted};
 use crate::hops::hop;
 use crate::kept::Kept;
@@ -28,6 +29,7 @@ use pin_core::View;
 fn shift_row(
     view: &View,
     setup: &Setup,
+    bounded: bool,
     skip: &[Move],
     v: u32,
     w: u32,
@@ -36,6 +38,7 @@ fn shift_row(
     lost: u64,
     gained: u64,
     edges: &[u32],
+    most: u32,
     into: &[u32],
     out: &[u32],
     offset: u32,
@@ -54,14 +57,15 @@ fn shift_row(
     requires low { 1 ≤ first }
     requires order { first ≤ end }
     requires edges { end + offset ≤ length edges.now + 1 }
+    requires most { All (λ x. x ≤ most) edges.now }
     requires into { end + offset ≤ length into.now }
     requires out { end + offset ≤ length out.now }
     requires short { length out.now ≤ 1002 }
     requires fixed { (lost < 2 ^ 34) × (gained < 2 ^ 34) }
     requires possible { (at : ℕ) → first ≤ at → at < end → is_possible (setting setup.now).customers view.now.routes (Shift v place count w at) ≡ true }
     requires saving { (at : ℕ) → first ≤ at → at < end → IsSaving (setting setup.now) view.now (Shift v place count w at) (lost + slice_index edges.now (at + offset - 1)) (gained + slice_index into.now (at + offset - 1) + slice_index out.now (at + offset)) }
-    requires best { IsBestSoFar (setting setup.now) view.now skip.now v w (1 ∷ v ∷ place ∷ count ∷ w ∷ first ∷ []) best }
-    ensures { IsBestSoFar (setting setup.now) view.now skip.now v w (1 ∷ v ∷ place ∷ count ∷ w ∷ end ∷ []) result }
+    requires best { IsBestSoFar (scope bounded (setting setup.now)) view.now skip.now v w (1 ∷ v ∷ place ∷ count ∷ w ∷ first ∷ []) best }
+    ensures { IsBestSoFar (scope bounded (setting setup.now)) view.now skip.now v w (1 ∷ v ∷ place ∷ count ∷ w ∷ end ∷ []) result }
 {
     let least = wanted(gained, best);
     let begin = (first + offset) as usize - 1;
@@ -69,6 +73,7 @@ fn shift_row(
         lost,
         least,
         edges,
+        most,
         into,
         out,
         begin,
@@ -96,7 +101,7 @@ fn shift_row(
             at: next,
         };
         best = better(
-            view, setup, skip, v, w, v_kept, w_kept, mv, all_lost, all_gained, best, meter,
+            view, setup, bounded, skip, v, w, v_kept, w_kept, mv, all_lost, all_gained, best, meter,
         );
         at = next + 1;
     }
@@ -107,6 +112,7 @@ fn shift_row(
 fn shift_over(
     view: &View,
     setup: &Setup,
+    bounded: bool,
     skip: &[Move],
     v: u32,
     w: u32,
@@ -116,6 +122,7 @@ fn shift_over(
     to: &[u32],
     from_edges: &[u32],
     to_edges: &[u32],
+    most: u32,
     out: &[u32],
     into: &[u32],
     v_kept: &Kept,
@@ -134,24 +141,29 @@ fn shift_over(
     requires to { AreStops (setting setup.now).customers view.now.routes w to.now }
     requires from_edges { AreEdges (table_at (setting setup.now).tables (setting setup.now).cost) from.now from_edges.now }
     requires to_edges { AreEdges (table_at (setting setup.now).tables (setting setup.now).cost) to.now to_edges.now }
+    requires most { All (λ x. x ≤ most) to_edges.now }
     requires out { AreHops false (table_at (setting setup.now).tables (setting setup.now).cost) from.now to.now (length from.now * length to.now) out.now }
     requires into { AreHops true (table_at (setting setup.now).tables (setting setup.now).cost) from.now to.now (length from.now * length to.now) into.now }
-    requires best { IsBestSoFar (setting setup.now) view.now skip.now v w (1 ∷ v ∷ place ∷ count ∷ w ∷ 1 ∷ []) best }
-    ensures { IsBestSoFar (setting setup.now) view.now skip.now v w (1 ∷ v ∷ place ∷ count ∷ w ∷ (length to.now) ∷ []) result }
+    requires best { IsBestSoFar (scope bounded (setting setup.now)) view.now skip.now v w (1 ∷ v ∷ place ∷ count ∷ w ∷ 1 ∷ []) best }
+    ensures { IsBestSoFar (scope bounded (setting setup.now)) view.now skip.now v w (1 ∷ v ∷ place ∷ count ∷ w ∷ (length to.now) ∷ []) result }
 {
+    let first = place as usize;
+    let after = first + count as usize;
+    let lost = u64::from(from_edges[first - 1]) + u64::from(from_edges[after - 1]);
+    let comes = row(into, to.len(), first);
+    let goes = row(out, to.len(), after - 1);
+    if lost + u64::from(most) <= gain_of(best) {
+        return best;
+    }
     if !may_leave(view, setup, v, place, count) {
         return best;
     }
     let begin = first_free(view, setup, w);
-    let first = place as usize;
-    let after = first + count as usize;
-    let lost = u64::from(from_edges[first - 1]) + u64::from(from_edges[after - 1]);
     let gained = hop(setup, from[first - 1], from[after], meter);
-    let comes = row(into, to.len(), first);
-    let goes = row(out, to.len(), after - 1);
     shift_row(
         view,
         setup,
+        bounded,
         skip,
         v,
         w,
@@ -160,6 +172,7 @@ fn shift_over(
         lost,
         gained,
         to_edges,
+        most,
         comes,
         goes,
         0,
@@ -176,6 +189,7 @@ fn shift_over(
 pub(crate) fn best_shift(
     view: &View,
     setup: &Setup,
+    bounded: bool,
     skip: &[Move],
     v: u32,
     w: u32,
@@ -183,6 +197,7 @@ pub(crate) fn best_shift(
     to: &[u32],
     from_edges: &[u32],
     to_edges: &[u32],
+    most: u32,
     out: &[u32],
     into: &[u32],
     v_kept: &Kept,
@@ -199,18 +214,19 @@ pub(crate) fn best_shift(
     requires to { AreStops (setting setup.now).customers view.now.routes w to.now }
     requires from_edges { AreEdges (table_at (setting setup.now).tables (setting setup.now).cost) from.now from_edges.now }
     requires to_edges { AreEdges (table_at (setting setup.now).tables (setting setup.now).cost) to.now to_edges.now }
+    requires most { All (λ x. x ≤ most) to_edges.now }
     requires out { AreHops false (table_at (setting setup.now).tables (setting setup.now).cost) from.now to.now (length from.now * length to.now) out.now }
     requires into { AreHops true (table_at (setting setup.now).tables (setting setup.now).cost) from.now to.now (length from.now * length to.now) into.now }
-    requires best { IsBestSoFar (setting setup.now) view.now skip.now v w (1 ∷ []) best }
-    ensures { IsBestSoFar (setting setup.now) view.now skip.now v w (2 ∷ []) result }
+    requires best { IsBestSoFar (scope bounded (setting setup.now)) view.now skip.now v w (1 ∷ []) best }
+    ensures { IsBestSoFar (scope bounded (setting setup.now)) view.now skip.now v w (2 ∷ []) result }
 {
     let mut best = best;
     for place in 1..from.len() as u32 - 1 {
         for count in 1..4u32 {
             if place as usize + (count as usize) < from.len() {
                 best = shift_over(
-                    view, setup, skip, v, w, place, count, from, to, from_edges, to_edges, out,
-                    into, v_kept, w_kept, best, meter,
+                    view, setup, bounded, skip, v, w, place, count, from, to, from_edges, to_edges,
+                    most, out, into, v_kept, w_kept, best, meter,
                 );
             }
         }
@@ -222,12 +238,14 @@ pub(crate) fn best_shift(
 fn shift_within(
     view: &View,
     setup: &Setup,
+    bounded: bool,
     skip: &[Move],
     v: u32,
     place: u32,
     count: u32,
     from: &[u32],
     edges: &[u32],
+    most: u32,
     out: &[u32],
     into: &[u32],
     kept: &Kept,
@@ -241,10 +259,11 @@ fn shift_within(
     requires place { (1 ≤ place) × (place + count < length from.now) }
     requires from { AreStops (setting setup.now).customers view.now.routes v from.now }
     requires edges { AreEdges (table_at (setting setup.now).tables (setting setup.now).cost) from.now edges.now }
+    requires most { All (λ x. x ≤ most) edges.now }
     requires out { AreHops false (table_at (setting setup.now).tables (setting setup.now).cost) from.now from.now (length from.now * length from.now) out.now }
     requires into { AreHops true (table_at (setting setup.now).tables (setting setup.now).cost) from.now from.now (length from.now * length from.now) into.now }
-    requires best { IsBestSoFar (setting setup.now) view.now skip.now v v (1 ∷ v ∷ place ∷ count ∷ v ∷ 1 ∷ []) best }
-    ensures { IsBestSoFar (setting setup.now) view.now skip.now v v (1 ∷ v ∷ place ∷ count ∷ v ∷ (length from.now - count) ∷ []) result }
+    requires best { IsBestSoFar (scope bounded (setting setup.now)) view.now skip.now v v (1 ∷ v ∷ place ∷ count ∷ v ∷ 1 ∷ []) best }
+    ensures { IsBestSoFar (scope bounded (setting setup.now)) view.now skip.now v v (1 ∷ v ∷ place ∷ count ∷ v ∷ (length from.now - count) ∷ []) result }
 {
     let begin = first_free(view, setup, v);
     if place < begin {
@@ -258,12 +277,13 @@ fn shift_within(
     let comes = row(into, from.len(), first);
     let goes = row(out, from.len(), after - 1);
     let forwards = shift_row(
-        view, setup, skip, v, v, place, count, lost, gained, edges, comes, goes, 0, begin, place,
-        kept, kept, best, meter,
+        view, setup, bounded, skip, v, v, place, count, lost, gained, edges, most, comes, goes, 0,
+        begin, place, kept, kept, best, meter,
     );
     shift_row(
         view,
         setup,
+        bounded,
         skip,
         v,
         v,
@@ -272,6 +292,7 @@ fn shift_within(
         lost,
         gained,
         edges,
+        most,
         comes,
         goes,
         count,
@@ -288,10 +309,12 @@ fn shift_within(
 pub(crate) fn best_shift_inside(
     view: &View,
     setup: &Setup,
+    bounded: bool,
     skip: &[Move],
     v: u32,
     from: &[u32],
     edges: &[u32],
+    most: u32,
     out: &[u32],
     into: &[u32],
     kept: &Kept,
@@ -303,17 +326,19 @@ pub(crate) fn best_shift_inside(
     requires kept { AreKept (setting setup.now) view.now.routes v v kept.now }
     requires from { AreStops (setting setup.now).customers view.now.routes v from.now }
     requires edges { AreEdges (table_at (setting setup.now).tables (setting setup.now).cost) from.now edges.now }
+    requires most { All (λ x. x ≤ most) edges.now }
     requires out { AreHops false (table_at (setting setup.now).tables (setting setup.now).cost) from.now from.now (length from.now * length from.now) out.now }
     requires into { AreHops true (table_at (setting setup.now).tables (setting setup.now).cost) from.now from.now (length from.now * length from.now) into.now }
-    requires best { IsBestSoFar (setting setup.now) view.now skip.now v v (1 ∷ []) best }
-    ensures { IsBestSoFar (setting setup.now) view.now skip.now v v (2 ∷ []) result }
+    requires best { IsBestSoFar (scope bounded (setting setup.now)) view.now skip.now v v (1 ∷ []) best }
+    ensures { IsBestSoFar (scope bounded (setting setup.now)) view.now skip.now v v (2 ∷ []) result }
 {
     let mut best = best;
     for place in 1..from.len() as u32 - 1 {
         for count in 1..4 {
             if place as usize + (count as usize) < from.len() {
                 best = shift_within(
-                    view, setup, skip, v, place, count, from, edges, out, into, kept, best, meter,
+                    view, setup, bounded, skip, v, place, count, from, edges, most, out, into,
+                    kept, best, meter,
                 );
             }
         }

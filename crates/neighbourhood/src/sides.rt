@@ -1,5 +1,5 @@
-//! What is gathered before a search: the stops of the vehicles, the ways between them, and the cumuls along their routes. Each group is
-//! made by one function, so that a search owns few values.
+//! What is gathered before a search: the stops of the vehicles, and the ways between them. Each group is made by one function, so that a
+//! search owns few values.
 ghost use Rattle.std.specs.Prelude.{◌≡◌, ◌≤◌, ◌*◌, ◌∷◌, ℕ, false, List, length, All, IfOk};
 ghost use Rattle.callback_store.specs.Tables.{table_at};
 ghost use Rattle.dimension_core.specs.Setup.{setting};
@@ -9,20 +9,19 @@ ghost use Rattle.neighbourhood.specs.View.{IsViewOf};
 ghost use Rattle.neighbourhood.specs.Ways.{AreHops};
 
 use crate::hops::stops_of;
-use crate::kept::{Kept, kept_between};
-use crate::table::{edges_in, edges_of, sums_in, table_of, turned_of};
+use crate::table::{edges_in, edges_of, most_of, sums_in, table_of, turned_of};
 use callback_store::Meter;
 use dimension_core::Setup;
 use pin_core::View;
 use std::alloc::{AllocError, Global};
 use std::marker::Model;
 
-/// A vehicle beside another one: its stops, the ways from each to the next, and what is kept.
+/// A vehicle: its stops, the ways from each to the next, and the dearest of these.
 #[derive(Drop)]
 pub(crate) struct Side {
     pub(crate) stops: Vec<u32>,
     pub(crate) edges: Vec<u32>,
-    pub(crate) kept: Kept,
+    pub(crate) most: u32,
 }
 
 impl Model for Side {
@@ -30,7 +29,7 @@ impl Model for Side {
 
     ghost Value = { SideState };
 
-    ghost view = { λ a. record { stops = a.stops.items; edges = a.edges.items; kept = a.kept } };
+    ghost view = { λ a. record { stops = a.stops.items; edges = a.edges.items; most = a.most } };
 }
 
 /// The ways from some stops to others, and back.
@@ -48,10 +47,11 @@ impl Model for Ways {
     ghost view = { λ a. record { out = a.out.items; into = a.into.items } };
 }
 
-/// The ways along the stops of a vehicle: from each to the next, and those over the first ones, as they are driven and driven back.
+/// The ways along the stops of a vehicle: from each to the next, the dearest of these, and those over the first ones, as they are driven and driven back.
 #[derive(Drop)]
 pub(crate) struct Along {
     pub(crate) edges: Vec<u32>,
+    pub(crate) most: u32,
     pub(crate) sums: Vec<u64>,
     pub(crate) back_sums: Vec<u64>,
 }
@@ -61,28 +61,26 @@ impl Model for Along {
 
     ghost Value = { AlongState };
 
-    ghost view = { λ a. record { edges = a.edges.items; sums = a.sums.items; back_sums = a.back_sums.items } };
+    ghost view = { λ a. record { edges = a.edges.items; most = a.most; sums = a.sums.items; back_sums = a.back_sums.items } };
 }
 
-/// A vehicle beside another one.
+/// The stops of a vehicle, and the ways from each to the next.
 pub(crate) fn side_of(
     alloc: Global,
     view: &View,
     setup: &Setup,
     v: u32,
-    w: u32,
     meter: &mut Meter,
 ) -> Result<Side, AllocError>
     requires laws { Laws }
     requires view { IsViewOf (setting setup.now) view.now }
     requires v { (1 ≤ v) × (v ≤ (setting setup.now).vehicles) }
-    requires w { (1 ≤ w) × (w ≤ (setting setup.now).vehicles) }
-    ensures { IfOk result (λ side. IsSide (setting setup.now) view.now.routes v w side) }
+    ensures { IfOk result (λ side. IsSide (setting setup.now) view.now.routes v side) }
 {
     let stops = stops_of(alloc, view, setup, v)?;
     let edges = edges_of(alloc, setup, &stops, meter)?;
-    let kept = kept_between(alloc, view, setup, v, w, meter)?;
-    Ok(Side { stops, edges, kept })
+    let most = most_of(&edges);
+    Ok(Side { stops, edges, most })
 }
 
 /// The ways from some stops to others, and back.
@@ -132,10 +130,12 @@ pub(crate) fn along_of(
     ensures { IfOk result (λ along. IsAlong (table_at (setting setup.now).tables (setting setup.now).cost) stops.now along) }
 {
     let edges = edges_in(alloc, setup, stops, cells)?;
+    let most = most_of(&edges);
     let sums = sums_in(alloc, setup, false, stops, cells)?;
     let back_sums = sums_in(alloc, setup, true, stops, cells)?;
     Ok(Along {
         edges,
+        most,
         sums,
         back_sums,
     })

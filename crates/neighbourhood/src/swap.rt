@@ -1,9 +1,10 @@
 //! Swaps of two customers.
-ghost use Rattle.std.specs.Prelude.{◌≡◌, ◌≢◌, ℕ, ◌+◌, ◌-◌, ◌*◌, ◌^◌, ◌<◌, ◌≤◌, true, false, List, [], ◌∷◌, length, slice_index, Option};
+ghost use Rattle.std.specs.Prelude.{◌≡◌, ◌≢◌, ℕ, ◌+◌, ◌-◌, ◌*◌, ◌^◌, ◌<◌, ◌≤◌, true, false, List, [], ◌∷◌, length, slice_index, Option, All};
 ghost use Rattle.callback_store.specs.Tables.{table_at};
 ghost use Rattle.dimension_core.specs.Setup.{setting};
 ghost use Rattle.move_core.specs.declared.moves.Move.TheVariants.{Swap};
 ghost use Rattle.move_core.specs.Moves.{is_possible};
+ghost use Rattle.neighbourhood.specs.Scope.{scope};
 ghost use Rattle.neighbourhood.specs.View.{IsViewOf};
 ghost use Rattle.neighbourhood.specs.Kept.{AreKept};
 ghost use Rattle.neighbourhood.specs.Laws.{Laws};
@@ -22,15 +23,18 @@ use pin_core::View;
 
 /// The better of the best so far and the swaps of a customer with those at the places from one to before another. `before` and `here`
 /// are the ways from the stop before the customer and from it, `next` and `back` those to the stop after it and to it.
+#[inline(always)]
 fn swap_row(
     view: &View,
     setup: &Setup,
+    bounded: bool,
     skip: &[Move],
     v: u32,
     w: u32,
     place: u32,
     lost: u64,
     edges: &[u32],
+    most: u32,
     before: &[u32],
     here: &[u32],
     next: &[u32],
@@ -50,6 +54,7 @@ fn swap_row(
     requires order { first ≤ end }
     requires near { v ≡ w → place < first }
     requires edges { end ≤ length edges.now }
+    requires most { All (λ x. x ≤ most) edges.now }
     requires before { end ≤ length before.now }
     requires here { end < length here.now }
     requires next { end ≤ length next.now }
@@ -58,14 +63,15 @@ fn swap_row(
     requires fixed { lost < 2 ^ 34 }
     requires possible { (at : ℕ) → first ≤ at → at < end → is_possible (setting setup.now).customers view.now.routes (Swap v place w at) ≡ true }
     requires saving { (at : ℕ) → first ≤ at → at < end → IsSaving (setting setup.now) view.now (Swap v place w at) (lost + slice_index edges.now (at - 1) + slice_index edges.now at) (slice_index before.now at + slice_index next.now at + slice_index back.now (at - 1) + slice_index here.now (at + 1)) }
-    requires best { IsBestSoFar (setting setup.now) view.now skip.now v w (2 ∷ v ∷ place ∷ w ∷ first ∷ []) best }
-    ensures { IsBestSoFar (setting setup.now) view.now skip.now v w (2 ∷ v ∷ place ∷ w ∷ end ∷ []) result }
+    requires best { IsBestSoFar (scope bounded (setting setup.now)) view.now skip.now v w (2 ∷ v ∷ place ∷ w ∷ first ∷ []) best }
+    ensures { IsBestSoFar (scope bounded (setting setup.now)) view.now skip.now v w (2 ∷ v ∷ place ∷ w ∷ end ∷ []) result }
 {
     let least = wanted(0, best);
     if !may_swap_gain(
         lost,
         least,
         edges,
+        most,
         before,
         here,
         next,
@@ -106,7 +112,7 @@ fn swap_row(
             at: there,
         };
         best = better(
-            view, setup, skip, v, w, v_kept, w_kept, mv, all_lost, all_gained, best, meter,
+            view, setup, bounded, skip, v, w, v_kept, w_kept, mv, all_lost, all_gained, best, meter,
         );
         at = there + 1;
     }
@@ -117,6 +123,7 @@ fn swap_row(
 fn swap_over(
     view: &View,
     setup: &Setup,
+    bounded: bool,
     skip: &[Move],
     v: u32,
     w: u32,
@@ -125,6 +132,7 @@ fn swap_over(
     to: &[u32],
     from_edges: &[u32],
     to_edges: &[u32],
+    most: u32,
     out: &[u32],
     into: &[u32],
     v_kept: &Kept,
@@ -142,10 +150,11 @@ fn swap_over(
     requires to { AreStops (setting setup.now).customers view.now.routes w to.now }
     requires from_edges { AreEdges (table_at (setting setup.now).tables (setting setup.now).cost) from.now from_edges.now }
     requires to_edges { AreEdges (table_at (setting setup.now).tables (setting setup.now).cost) to.now to_edges.now }
+    requires most { All (λ x. x ≤ most) to_edges.now }
     requires out { AreHops false (table_at (setting setup.now).tables (setting setup.now).cost) from.now to.now (length from.now * length to.now) out.now }
     requires into { AreHops true (table_at (setting setup.now).tables (setting setup.now).cost) from.now to.now (length from.now * length to.now) into.now }
-    requires best { IsBestSoFar (setting setup.now) view.now skip.now v w (2 ∷ v ∷ place ∷ w ∷ 1 ∷ []) best }
-    ensures { IsBestSoFar (setting setup.now) view.now skip.now v w (2 ∷ v ∷ place ∷ w ∷ (length to.now - 1) ∷ []) result }
+    requires best { IsBestSoFar (scope bounded (setting setup.now)) view.now skip.now v w (2 ∷ v ∷ place ∷ w ∷ 1 ∷ []) best }
+    ensures { IsBestSoFar (scope bounded (setting setup.now)) view.now skip.now v w (2 ∷ v ∷ place ∷ w ∷ (length to.now - 1) ∷ []) result }
 {
     if !may_leave(view, setup, v, place, 1) {
         return best;
@@ -160,12 +169,14 @@ fn swap_over(
     swap_row(
         view,
         setup,
+        bounded,
         skip,
         v,
         w,
         place,
         lost,
         to_edges,
+        most,
         before,
         here,
         next,
@@ -183,6 +194,7 @@ fn swap_over(
 pub(crate) fn best_swap(
     view: &View,
     setup: &Setup,
+    bounded: bool,
     skip: &[Move],
     v: u32,
     w: u32,
@@ -190,6 +202,7 @@ pub(crate) fn best_swap(
     to: &[u32],
     from_edges: &[u32],
     to_edges: &[u32],
+    most: u32,
     out: &[u32],
     into: &[u32],
     v_kept: &Kept,
@@ -206,16 +219,17 @@ pub(crate) fn best_swap(
     requires to { AreStops (setting setup.now).customers view.now.routes w to.now }
     requires from_edges { AreEdges (table_at (setting setup.now).tables (setting setup.now).cost) from.now from_edges.now }
     requires to_edges { AreEdges (table_at (setting setup.now).tables (setting setup.now).cost) to.now to_edges.now }
+    requires most { All (λ x. x ≤ most) to_edges.now }
     requires out { AreHops false (table_at (setting setup.now).tables (setting setup.now).cost) from.now to.now (length from.now * length to.now) out.now }
     requires into { AreHops true (table_at (setting setup.now).tables (setting setup.now).cost) from.now to.now (length from.now * length to.now) into.now }
-    requires best { IsBestSoFar (setting setup.now) view.now skip.now v w (2 ∷ []) best }
-    ensures { IsBestSoFar (setting setup.now) view.now skip.now v w (3 ∷ []) result }
+    requires best { IsBestSoFar (scope bounded (setting setup.now)) view.now skip.now v w (2 ∷ []) best }
+    ensures { IsBestSoFar (scope bounded (setting setup.now)) view.now skip.now v w (3 ∷ []) result }
 {
     let mut best = best;
     for place in 1..from.len() as u32 - 1 {
         best = swap_over(
-            view, setup, skip, v, w, place, from, to, from_edges, to_edges, out, into, v_kept,
-            w_kept, best, meter,
+            view, setup, bounded, skip, v, w, place, from, to, from_edges, to_edges, most, out,
+            into, v_kept, w_kept, best, meter,
         );
     }
     best
@@ -225,6 +239,7 @@ pub(crate) fn best_swap(
 fn swap_next(
     view: &View,
     setup: &Setup,
+    bounded: bool,
     skip: &[Move],
     v: u32,
     place: u32,
@@ -244,8 +259,8 @@ fn swap_next(
     requires edges { AreEdges (table_at (setting setup.now).tables (setting setup.now).cost) from.now edges.now }
     requires out { AreHops false (table_at (setting setup.now).tables (setting setup.now).cost) from.now from.now (length from.now * length from.now) out.now }
     requires into { AreHops true (table_at (setting setup.now).tables (setting setup.now).cost) from.now from.now (length from.now * length from.now) into.now }
-    requires best { IsBestSoFar (setting setup.now) view.now skip.now v v (2 ∷ v ∷ place ∷ v ∷ (place + 1) ∷ []) best }
-    ensures { IsBestSoFar (setting setup.now) view.now skip.now v v (2 ∷ v ∷ place ∷ v ∷ (place + 2) ∷ []) result }
+    requires best { IsBestSoFar (scope bounded (setting setup.now)) view.now skip.now v v (2 ∷ v ∷ place ∷ v ∷ (place + 1) ∷ []) best }
+    ensures { IsBestSoFar (scope bounded (setting setup.now)) view.now skip.now v v (2 ∷ v ∷ place ∷ v ∷ (place + 2) ∷ []) result }
 {
     let index = place as usize;
     let before = row(out, from.len(), index - 1);
@@ -262,7 +277,7 @@ fn swap_next(
         at: place + 1,
     };
     better(
-        view, setup, skip, v, v, kept, kept, mv, lost, gained, best, meter,
+        view, setup, bounded, skip, v, v, kept, kept, mv, lost, gained, best, meter,
     )
 }
 
@@ -270,11 +285,13 @@ fn swap_next(
 fn swap_within(
     view: &View,
     setup: &Setup,
+    bounded: bool,
     skip: &[Move],
     v: u32,
     place: u32,
     from: &[u32],
     edges: &[u32],
+    most: u32,
     out: &[u32],
     into: &[u32],
     kept: &Kept,
@@ -287,10 +304,11 @@ fn swap_within(
     requires place { (1 ≤ place) × (place + 1 < length from.now) }
     requires from { AreStops (setting setup.now).customers view.now.routes v from.now }
     requires edges { AreEdges (table_at (setting setup.now).tables (setting setup.now).cost) from.now edges.now }
+    requires most { All (λ x. x ≤ most) edges.now }
     requires out { AreHops false (table_at (setting setup.now).tables (setting setup.now).cost) from.now from.now (length from.now * length from.now) out.now }
     requires into { AreHops true (table_at (setting setup.now).tables (setting setup.now).cost) from.now from.now (length from.now * length from.now) into.now }
-    requires best { IsBestSoFar (setting setup.now) view.now skip.now v v (2 ∷ v ∷ place ∷ v ∷ (place + 1) ∷ []) best }
-    ensures { IsBestSoFar (setting setup.now) view.now skip.now v v (2 ∷ v ∷ place ∷ v ∷ (length from.now - 1) ∷ []) result }
+    requires best { IsBestSoFar (scope bounded (setting setup.now)) view.now skip.now v v (2 ∷ v ∷ place ∷ v ∷ (place + 1) ∷ []) best }
+    ensures { IsBestSoFar (scope bounded (setting setup.now)) view.now skip.now v v (2 ∷ v ∷ place ∷ v ∷ (length from.now - 1) ∷ []) result }
 {
     let index = place as usize;
     if index + 2 >= from.len() {
@@ -300,7 +318,7 @@ fn swap_within(
         return best;
     }
     let near = swap_next(
-        view, setup, skip, v, place, from, edges, out, into, kept, best, meter,
+        view, setup, bounded, skip, v, place, from, edges, out, into, kept, best, meter,
     );
     let lost = u64::from(edges[index - 1]) + u64::from(edges[index]);
     let before = row(out, from.len(), index - 1);
@@ -310,12 +328,14 @@ fn swap_within(
     swap_row(
         view,
         setup,
+        bounded,
         skip,
         v,
         v,
         place,
         lost,
         edges,
+        most,
         before,
         here,
         next,
@@ -333,10 +353,12 @@ fn swap_within(
 pub(crate) fn best_swap_inside(
     view: &View,
     setup: &Setup,
+    bounded: bool,
     skip: &[Move],
     v: u32,
     from: &[u32],
     edges: &[u32],
+    most: u32,
     out: &[u32],
     into: &[u32],
     kept: &Kept,
@@ -348,15 +370,16 @@ pub(crate) fn best_swap_inside(
     requires kept { AreKept (setting setup.now) view.now.routes v v kept.now }
     requires from { AreStops (setting setup.now).customers view.now.routes v from.now }
     requires edges { AreEdges (table_at (setting setup.now).tables (setting setup.now).cost) from.now edges.now }
+    requires most { All (λ x. x ≤ most) edges.now }
     requires out { AreHops false (table_at (setting setup.now).tables (setting setup.now).cost) from.now from.now (length from.now * length from.now) out.now }
     requires into { AreHops true (table_at (setting setup.now).tables (setting setup.now).cost) from.now from.now (length from.now * length from.now) into.now }
-    requires best { IsBestSoFar (setting setup.now) view.now skip.now v v (2 ∷ []) best }
-    ensures { IsBestSoFar (setting setup.now) view.now skip.now v v (3 ∷ []) result }
+    requires best { IsBestSoFar (scope bounded (setting setup.now)) view.now skip.now v v (2 ∷ []) best }
+    ensures { IsBestSoFar (scope bounded (setting setup.now)) view.now skip.now v v (3 ∷ []) result }
 {
     let mut best = best;
     for place in 1..from.len() as u32 - 1 {
         best = swap_within(
-            view, setup, skip, v, place, from, edges, out, into, kept, best, meter,
+            view, setup, bounded, skip, v, place, from, edges, most, out, into, kept, best, meter,
         );
     }
     best

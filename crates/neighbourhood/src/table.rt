@@ -142,6 +142,17 @@ pub(crate) fn edges_of(
     Ok(edges)
 }
 
+/// The greatest of some numbers, and 0 where there are none.
+pub(crate) fn most_of(edges: &[u32]) -> u32
+    ensures { All (λ x. x ≤ result) edges.now }
+{
+    let mut most = 0;
+    for k in 0..edges.len() {
+        most = most.max(edges[k]);
+    }
+    most
+}
+
 /// A number of a square table.
 fn cell(cells: &[u32], width: usize, from: usize, to: usize) -> u32
     requires sized { length cells.now ≡ width * width }

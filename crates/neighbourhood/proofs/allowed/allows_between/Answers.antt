@@ -1,17 +1,19 @@
 use Rattle.std.proofs.Common.{◌++◌, arith, sym}
 use Rattle.dimension_core.specs.Setup.{setting}
+use Rattle.neighbourhood.specs.Scope.{scope}
+use Rattle.neighbourhood.proofs.Scoping.{view_within}
 use Rattle.neighbourhood.proofs.Allowing.{at_most, known_within}
 use Rattle.neighbourhood.proofs.Between.{between_allowed, known_new, known_over}
 use Rattle.neighbourhood.proofs.allowed.allows_between.Goals as goal
 
 pub returns-then-x-front : goal.returns-then-x-front
 returns-then-x-front g c =
-    let law = between_allowed c.requires.laws (setting c.args.setup.now) c.args.view.now c.args.skip.now c.args.mv c.args.v c.args.w c.args.x c.args.y c.args.over.now c.args.back.now (c.args.v_front.now ++ (c.args.v_middle.now ++ c.args.v_back.now)) (c.args.w_front.now ++ (c.args.w_middle.now ++ c.args.w_back.now)) c.requires.view c.requires.possible c.requires.between in
+    let law = between_allowed c.requires.laws (scope c.args.bounded (setting c.args.setup.now)) c.args.view.now c.args.skip.now c.args.mv c.args.v c.args.w c.args.x c.args.y c.args.over.now c.args.back.now (c.args.v_front.now ++ (c.args.v_middle.now ++ c.args.v_back.now)) (c.args.w_front.now ++ (c.args.w_middle.now ++ c.args.w_back.now)) (view_within c.args.bounded _ _ c.requires.view) c.requires.possible c.requires.between in
     (λ never. absurd cc, λ a. let h = (law.0 a).front in let e = c.front.ensures in let t = c.if-x-front.true in absurd (omega arith))
 
 pub returns-then-y-front : goal.returns-then-y-front
 returns-then-y-front g c =
-    let law = between_allowed c.requires.laws (setting c.args.setup.now) c.args.view.now c.args.skip.now c.args.mv c.args.v c.args.w c.args.x c.args.y c.args.over.now c.args.back.now (c.args.v_front.now ++ (c.args.v_middle.now ++ c.args.v_back.now)) (c.args.w_front.now ++ (c.args.w_middle.now ++ c.args.w_back.now)) c.requires.view c.requires.possible c.requires.between in
+    let law = between_allowed c.requires.laws (scope c.args.bounded (setting c.args.setup.now)) c.args.view.now c.args.skip.now c.args.mv c.args.v c.args.w c.args.x c.args.y c.args.over.now c.args.back.now (c.args.v_front.now ++ (c.args.v_middle.now ++ c.args.v_back.now)) (c.args.w_front.now ++ (c.args.w_middle.now ++ c.args.w_back.now)) (view_within c.args.bounded _ _ c.requires.view) c.requires.possible c.requires.between in
     (λ never. absurd cc, λ a. let h = (law.0 a).other in let e = c.front-2.ensures in let t = c.if-y-front.true in absurd (omega arith))
 
 pub are_loose-requires-clause-known : goal.are_loose-requires-clause-known
@@ -21,7 +23,7 @@ are_loose-requires-clause-known g c =
 
 pub returns-then-not-are_loose : goal.returns-then-not-are_loose
 returns-then-not-are_loose g c =
-    let law = between_allowed c.requires.laws (setting c.args.setup.now) c.args.view.now c.args.skip.now c.args.mv c.args.v c.args.w c.args.x c.args.y c.args.over.now c.args.back.now (c.args.v_front.now ++ (c.args.v_middle.now ++ c.args.v_back.now)) (c.args.w_front.now ++ (c.args.w_middle.now ++ c.args.w_back.now)) c.requires.view c.requires.possible c.requires.between in
+    let law = between_allowed c.requires.laws (scope c.args.bounded (setting c.args.setup.now)) c.args.view.now c.args.skip.now c.args.mv c.args.v c.args.w c.args.x c.args.y c.args.over.now c.args.back.now (c.args.v_front.now ++ (c.args.v_middle.now ++ c.args.v_back.now)) (c.args.w_front.now ++ (c.args.w_middle.now ++ c.args.w_back.now)) (view_within c.args.bounded _ _ c.requires.view) c.requires.possible c.requires.between in
     (λ never. absurd cc, λ a. let is = c.are_loose.ensures.1 (law.0 a).loose in absurd cc)
 
 pub are_loose-requires-2-clause-known : goal.are_loose-requires-2-clause-known
@@ -31,7 +33,7 @@ are_loose-requires-2-clause-known g c =
 
 pub returns-then-not-are_loose-2 : goal.returns-then-not-are_loose-2
 returns-then-not-are_loose-2 g c =
-    let law = between_allowed c.requires.laws (setting c.args.setup.now) c.args.view.now c.args.skip.now c.args.mv c.args.v c.args.w c.args.x c.args.y c.args.over.now c.args.back.now (c.args.v_front.now ++ (c.args.v_middle.now ++ c.args.v_back.now)) (c.args.w_front.now ++ (c.args.w_middle.now ++ c.args.w_back.now)) c.requires.view c.requires.possible c.requires.between in
+    let law = between_allowed c.requires.laws (scope c.args.bounded (setting c.args.setup.now)) c.args.view.now c.args.skip.now c.args.mv c.args.v c.args.w c.args.x c.args.y c.args.over.now c.args.back.now (c.args.v_front.now ++ (c.args.v_middle.now ++ c.args.v_back.now)) (c.args.w_front.now ++ (c.args.w_middle.now ++ c.args.w_back.now)) (view_within c.args.bounded _ _ c.requires.view) c.requires.possible c.requires.between in
     (λ never. absurd cc, λ a. let is = c.are_loose-2.ensures.1 (law.0 a).loose_back in absurd cc)
 
 pub returns-then-is_skipped : goal.returns-then-is_skipped
@@ -49,12 +51,12 @@ fits-requires-2-clause-known g c =
 
 pub returns-then-not-fits : goal.returns-then-not-fits
 returns-then-not-fits g c =
-    let law = between_allowed c.requires.laws (setting c.args.setup.now) c.args.view.now c.args.skip.now c.args.mv c.args.v c.args.w c.args.x c.args.y c.args.over.now c.args.back.now (c.args.v_front.now ++ (c.args.v_middle.now ++ c.args.v_back.now)) (c.args.w_front.now ++ (c.args.w_middle.now ++ c.args.w_back.now)) c.requires.view c.requires.possible c.requires.between in
+    let law = between_allowed c.requires.laws (scope c.args.bounded (setting c.args.setup.now)) c.args.view.now c.args.skip.now c.args.mv c.args.v c.args.w c.args.x c.args.y c.args.over.now c.args.back.now (c.args.v_front.now ++ (c.args.v_middle.now ++ c.args.v_back.now)) (c.args.w_front.now ++ (c.args.w_middle.now ++ c.args.w_back.now)) (view_within c.args.bounded _ _ c.requires.view) c.requires.possible c.requires.between in
     (λ never. absurd cc, λ a. let is = c.fits.ensures.1 (law.0 a).fits in absurd cc)
 
 pub returns : goal.returns
 returns g c =
-    let law = between_allowed c.requires.laws (setting c.args.setup.now) c.args.view.now c.args.skip.now c.args.mv c.args.v c.args.w c.args.x c.args.y c.args.over.now c.args.back.now (c.args.v_front.now ++ (c.args.v_middle.now ++ c.args.v_back.now)) (c.args.w_front.now ++ (c.args.w_middle.now ++ c.args.w_back.now)) c.requires.view c.requires.possible c.requires.between in (
+    let law = between_allowed c.requires.laws (scope c.args.bounded (setting c.args.setup.now)) c.args.view.now c.args.skip.now c.args.mv c.args.v c.args.w c.args.x c.args.y c.args.over.now c.args.back.now (c.args.v_front.now ++ (c.args.v_middle.now ++ c.args.v_back.now)) (c.args.w_front.now ++ (c.args.w_middle.now ++ c.args.w_back.now)) (view_within c.args.bounded _ _ c.requires.view) c.requires.possible c.requires.between in (
       λ is.
           law.1 (record {
             front = let e = c.front.ensures in let t = c.if-x-front.false in omega arith;

@@ -19,25 +19,25 @@ allows_between-requires-clause-v_ahead g c =
     let f = (c.requires.laws.possible.cross (setting c.args.setup.now).customers c.args.view.now.routes c.args.v c.args.keep c.args.w c.args.keep_other).0 c.requires.possible in
     let kept = f.kept in
     let other = f.kept_other in
-    kept_front (setting c.args.setup.now) _ _ _ _ (c.args.keep) (kept_as _ _ _ _ _ _ c.v_kept.view_is c.requires.v_kept).ahead (omega arith) (c.split_at.ensures.front ∙ ap (λ (xs : List ℕ). take (c.args.keep) xs) c.customers.ensures)
+    λ wide. kept_front (setting c.args.setup.now) _ _ _ _ (c.args.keep) ((kept_as _ _ _ _ _ _ c.v_kept.view_is c.requires.v_kept).ahead wide) (omega arith) (c.split_at.ensures.front ∙ ap (λ (xs : List ℕ). take (c.args.keep) xs) c.customers.ensures)
 
 pub allows_between-requires-clause-v_behind : goal.allows_between-requires-clause-v_behind
 allows_between-requires-clause-v_behind g c =
     let f = (c.requires.laws.possible.cross (setting c.args.setup.now).customers c.args.view.now.routes c.args.v c.args.keep c.args.w c.args.keep_other).0 c.requires.possible in
     let kept = f.kept in
     let other = f.kept_other in
-    kept_back (setting c.args.setup.now) _ _ _ _ (c.args.keep_other) ((kept_as _ _ _ _ _ _ c.v_kept.view_is c.requires.v_kept).over f.apart) (omega arith) (c.split_at-2.ensures.back ∙ ap (λ (xs : List ℕ). drop (c.args.keep_other) xs) c.customers-2.ensures)
+    λ wide. kept_back (setting c.args.setup.now) _ _ _ _ (c.args.keep_other) ((kept_as _ _ _ _ _ _ c.v_kept.view_is c.requires.v_kept).over f.apart wide) (omega arith) (c.split_at-2.ensures.back ∙ ap (λ (xs : List ℕ). drop (c.args.keep_other) xs) c.customers-2.ensures)
 
 pub allows_between-requires-clause-w_ahead : goal.allows_between-requires-clause-w_ahead
 allows_between-requires-clause-w_ahead g c =
     let f = (c.requires.laws.possible.cross (setting c.args.setup.now).customers c.args.view.now.routes c.args.v c.args.keep c.args.w c.args.keep_other).0 c.requires.possible in
     let kept = f.kept in
     let other = f.kept_other in
-    kept_front (setting c.args.setup.now) _ _ _ _ (c.args.keep_other) (kept_as _ _ _ _ _ _ c.w_kept.view_is c.requires.w_kept).ahead (omega arith) (c.split_at-2.ensures.front ∙ ap (λ (xs : List ℕ). take (c.args.keep_other) xs) c.customers-2.ensures)
+    λ wide. kept_front (setting c.args.setup.now) _ _ _ _ (c.args.keep_other) ((kept_as _ _ _ _ _ _ c.w_kept.view_is c.requires.w_kept).ahead wide) (omega arith) (c.split_at-2.ensures.front ∙ ap (λ (xs : List ℕ). take (c.args.keep_other) xs) c.customers-2.ensures)
 
 pub allows_between-requires-clause-w_behind : goal.allows_between-requires-clause-w_behind
 allows_between-requires-clause-w_behind g c =
     let f = (c.requires.laws.possible.cross (setting c.args.setup.now).customers c.args.view.now.routes c.args.v c.args.keep c.args.w c.args.keep_other).0 c.requires.possible in
     let kept = f.kept in
     let other = f.kept_other in
-    kept_back (setting c.args.setup.now) _ _ _ _ (c.args.keep) ((kept_as _ _ _ _ _ _ c.w_kept.view_is c.requires.w_kept).over (λ e. f.apart (sym e))) (omega arith) (c.split_at.ensures.back ∙ ap (λ (xs : List ℕ). drop (c.args.keep) xs) c.customers.ensures)
+    λ wide. kept_back (setting c.args.setup.now) _ _ _ _ (c.args.keep) ((kept_as _ _ _ _ _ _ c.w_kept.view_is c.requires.w_kept).over (λ e. f.apart (sym e)) wide) (omega arith) (c.split_at.ensures.back ∙ ap (λ (xs : List ℕ). drop (c.args.keep) xs) c.customers.ensures)

@@ -1,13 +1,15 @@
 use Rattle.std.proofs.Common.{◌++◌, arith}
 use Rattle.dimension_core.specs.Setup.{setting}
+use Rattle.neighbourhood.specs.Scope.{scope}
 use Rattle.neighbourhood.specs.Ways.{way_of}
+use Rattle.neighbourhood.proofs.Scoping.{view_within}
 use Rattle.neighbourhood.proofs.Allowing.{at_most}
 use Rattle.neighbourhood.proofs.Inside.{inside_allowed, known_inside}
 use Rattle.neighbourhood.proofs.allowed.allows_inside.Goals as goal
 
 pub returns-then-x-front : goal.returns-then-x-front
 returns-then-x-front g c =
-    let law = inside_allowed c.requires.laws (setting c.args.setup.now) c.args.view.now c.args.skip.now c.args.mv c.args.v c.args.x (c.args.front.now ++ (way_of c.args.turned c.args.first.now ++ (c.args.second.now ++ (c.args.third.now ++ c.args.back.now)))) c.requires.view c.requires.possible c.requires.inside in
+    let law = inside_allowed c.requires.laws (scope c.args.bounded (setting c.args.setup.now)) c.args.view.now c.args.skip.now c.args.mv c.args.v c.args.x (c.args.front.now ++ (way_of c.args.turned c.args.first.now ++ (c.args.second.now ++ (c.args.third.now ++ c.args.back.now)))) (view_within c.args.bounded _ _ c.requires.view) c.requires.possible c.requires.inside in
     (λ never. absurd cc, λ a. let h = (law.0 a).front in let e = c.front.ensures in let t = c.if-x-front.true in absurd (omega arith))
 
 pub returns-then-is_skipped : goal.returns-then-is_skipped
@@ -19,7 +21,7 @@ fits-requires-clause-known g c =
 
 pub returns : goal.returns
 returns g c =
-    let law = inside_allowed c.requires.laws (setting c.args.setup.now) c.args.view.now c.args.skip.now c.args.mv c.args.v c.args.x (c.args.front.now ++ (way_of c.args.turned c.args.first.now ++ (c.args.second.now ++ (c.args.third.now ++ c.args.back.now)))) c.requires.view c.requires.possible c.requires.inside in (
+    let law = inside_allowed c.requires.laws (scope c.args.bounded (setting c.args.setup.now)) c.args.view.now c.args.skip.now c.args.mv c.args.v c.args.x (c.args.front.now ++ (way_of c.args.turned c.args.first.now ++ (c.args.second.now ++ (c.args.third.now ++ c.args.back.now)))) (view_within c.args.bounded _ _ c.requires.view) c.requires.possible c.requires.inside in (
       λ is.
           law.1 (record {
             front = let e = c.front.ensures in let t = c.if-x-front.false in omega arith;

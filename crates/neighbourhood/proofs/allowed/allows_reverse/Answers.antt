@@ -9,7 +9,7 @@ allows_inside-requires-clause-ahead g c =
     let low = f.low in
     let order = f.order in
     let high = f.high in
-    kept_front (setting c.args.setup.now) _ _ _ _ (c.args.first - 1) (kept_as _ _ _ _ _ _ c.kept.view_is c.requires.kept).ahead (omega arith) (c.front_of-front.ensures ∙ ap (λ (xs : List ℕ). take (c.args.first - 1) xs) c.customers-route.ensures)
+    λ wide. kept_front (setting c.args.setup.now) _ _ _ _ (c.args.first - 1) ((kept_as _ _ _ _ _ _ c.kept.view_is c.requires.kept).ahead wide) (omega arith) (c.front_of-front.ensures ∙ ap (λ (xs : List ℕ). take (c.args.first - 1) xs) c.customers-route.ensures)
 
 pub allows_inside-requires-clause-behind : goal.allows_inside-requires-clause-behind
 allows_inside-requires-clause-behind g c =
@@ -17,7 +17,7 @@ allows_inside-requires-clause-behind g c =
     let low = f.low in
     let order = f.order in
     let high = f.high in
-    kept_back (setting c.args.setup.now) _ _ _ _ (c.args.last) (kept_as _ _ _ _ _ _ c.kept.view_is c.requires.kept).behind (omega arith) (c.back_of-back.ensures ∙ ap (λ (xs : List ℕ). drop (c.args.last) xs) c.customers-route.ensures)
+    λ wide. kept_back (setting c.args.setup.now) _ _ _ _ (c.args.last) ((kept_as _ _ _ _ _ _ c.kept.view_is c.requires.kept).behind wide) (omega arith) (c.back_of-back.ensures ∙ ap (λ (xs : List ℕ). drop (c.args.last) xs) c.customers-route.ensures)
 
 pub customers-route-requires-clause-low : goal.customers-route-requires-clause-low
 customers-route-requires-clause-low g c =

@@ -28,7 +28,7 @@ allows_inside-requires-clause-ahead g c =
     let at = f.onto.low in
     let end = (f.onto.inside refl).0 in
     let t = c.if-at-place.true in
-    kept_front (setting c.args.setup.now) _ _ _ _ (c.args.at - 1) (kept_as _ _ _ _ _ _ c.kept.view_is c.requires.kept).ahead (omega arith) (c.front_of-front.ensures ∙ ap (λ (xs : List ℕ). take (c.args.at - 1) xs) c.customers-route.ensures)
+    λ wide. kept_front (setting c.args.setup.now) _ _ _ _ (c.args.at - 1) ((kept_as _ _ _ _ _ _ c.kept.view_is c.requires.kept).ahead wide) (omega arith) (c.front_of-front.ensures ∙ ap (λ (xs : List ℕ). take (c.args.at - 1) xs) c.customers-route.ensures)
 
 pub allows_inside-requires-clause-behind : goal.allows_inside-requires-clause-behind
 allows_inside-requires-clause-behind g c =
@@ -38,7 +38,7 @@ allows_inside-requires-clause-behind g c =
     let at = f.onto.low in
     let end = (f.onto.inside refl).0 in
     let t = c.if-at-place.true in
-    kept_back (setting c.args.setup.now) _ _ _ _ (c.args.place - 1 + c.args.length) (kept_as _ _ _ _ _ _ c.kept.view_is c.requires.kept).behind (omega arith) (c.back_of-back.ensures ∙ ap (λ (xs : List ℕ). drop (c.args.place - 1 + c.args.length) xs) c.customers-route.ensures)
+    λ wide. kept_back (setting c.args.setup.now) _ _ _ _ (c.args.place - 1 + c.args.length) ((kept_as _ _ _ _ _ _ c.kept.view_is c.requires.kept).behind wide) (omega arith) (c.back_of-back.ensures ∙ ap (λ (xs : List ℕ). drop (c.args.place - 1 + c.args.length) xs) c.customers-route.ensures)
 
 pub allows_inside-requires-2-clause-ahead : goal.allows_inside-requires-2-clause-ahead
 allows_inside-requires-2-clause-ahead g c =
@@ -48,7 +48,7 @@ allows_inside-requires-2-clause-ahead g c =
     let at = f.onto.low in
     let end = (f.onto.inside refl).0 in
     let t = c.if-at-place.false in
-    kept_front (setting c.args.setup.now) _ _ _ _ (c.args.place - 1) (kept_as _ _ _ _ _ _ c.kept.view_is c.requires.kept).ahead (omega arith) (c.front_of-front-2.ensures ∙ ap (λ (xs : List ℕ). take (c.args.place - 1) xs) c.customers-route.ensures)
+    λ wide. kept_front (setting c.args.setup.now) _ _ _ _ (c.args.place - 1) ((kept_as _ _ _ _ _ _ c.kept.view_is c.requires.kept).ahead wide) (omega arith) (c.front_of-front-2.ensures ∙ ap (λ (xs : List ℕ). take (c.args.place - 1) xs) c.customers-route.ensures)
 
 pub allows_inside-requires-2-clause-behind : goal.allows_inside-requires-2-clause-behind
 allows_inside-requires-2-clause-behind g c =
@@ -58,7 +58,7 @@ allows_inside-requires-2-clause-behind g c =
     let at = f.onto.low in
     let end = (f.onto.inside refl).0 in
     let t = c.if-at-place.false in
-    kept_back (setting c.args.setup.now) _ _ _ _ (c.args.at - 1 + c.args.length) (kept_as _ _ _ _ _ _ c.kept.view_is c.requires.kept).behind (omega arith) (c.back_of-back-2.ensures ∙ ap (λ (xs : List ℕ). drop (c.args.at - 1 + c.args.length) xs) c.customers-route.ensures)
+    λ wide. kept_back (setting c.args.setup.now) _ _ _ _ (c.args.at - 1 + c.args.length) ((kept_as _ _ _ _ _ _ c.kept.view_is c.requires.kept).behind wide) (omega arith) (c.back_of-back-2.ensures ∙ ap (λ (xs : List ℕ). drop (c.args.at - 1 + c.args.length) xs) c.customers-route.ensures)
 
 pub customers-route-requires-clause-low : goal.customers-route-requires-clause-low
 customers-route-requires-clause-low g c =

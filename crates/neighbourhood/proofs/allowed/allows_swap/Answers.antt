@@ -28,7 +28,7 @@ allows_between-requires-clause-v_ahead g c =
     let high = f.place.high in
     let at = f.at.low in
     let end = f.at.high in
-    kept_front (setting c.args.setup.now) _ _ _ _ (c.args.place - 1) (kept_as _ _ _ _ _ _ c.v_kept.view_is c.requires.v_kept).ahead (omega arith) (c.front_of-front.ensures ∙ ap (λ (xs : List ℕ). take (c.args.place - 1) xs) c.customers-route.ensures)
+    λ wide. kept_front (setting c.args.setup.now) _ _ _ _ (c.args.place - 1) ((kept_as _ _ _ _ _ _ c.v_kept.view_is c.requires.v_kept).ahead wide) (omega arith) (c.front_of-front.ensures ∙ ap (λ (xs : List ℕ). take (c.args.place - 1) xs) c.customers-route.ensures)
 
 pub allows_between-requires-clause-v_behind : goal.allows_between-requires-clause-v_behind
 allows_between-requires-clause-v_behind g c =
@@ -37,7 +37,7 @@ allows_between-requires-clause-v_behind g c =
     let high = f.place.high in
     let at = f.at.low in
     let end = f.at.high in
-    kept_back (setting c.args.setup.now) _ _ _ _ (c.args.place) (kept_as _ _ _ _ _ _ c.v_kept.view_is c.requires.v_kept).behind (omega arith) (c.back_of-rest.ensures ∙ ap (λ (xs : List ℕ). drop (c.args.place) xs) c.customers-route.ensures)
+    λ wide. kept_back (setting c.args.setup.now) _ _ _ _ (c.args.place) ((kept_as _ _ _ _ _ _ c.v_kept.view_is c.requires.v_kept).behind wide) (omega arith) (c.back_of-rest.ensures ∙ ap (λ (xs : List ℕ). drop (c.args.place) xs) c.customers-route.ensures)
 
 pub allows_between-requires-clause-w_ahead : goal.allows_between-requires-clause-w_ahead
 allows_between-requires-clause-w_ahead g c =
@@ -46,7 +46,7 @@ allows_between-requires-clause-w_ahead g c =
     let high = f.place.high in
     let at = f.at.low in
     let end = f.at.high in
-    kept_front (setting c.args.setup.now) _ _ _ _ (c.args.at - 1) (kept_as _ _ _ _ _ _ c.w_kept.view_is c.requires.w_kept).ahead (omega arith) (c.front_of-before.ensures ∙ ap (λ (xs : List ℕ). take (c.args.at - 1) xs) c.customers-other.ensures)
+    λ wide. kept_front (setting c.args.setup.now) _ _ _ _ (c.args.at - 1) ((kept_as _ _ _ _ _ _ c.w_kept.view_is c.requires.w_kept).ahead wide) (omega arith) (c.front_of-before.ensures ∙ ap (λ (xs : List ℕ). take (c.args.at - 1) xs) c.customers-other.ensures)
 
 pub allows_between-requires-clause-w_behind : goal.allows_between-requires-clause-w_behind
 allows_between-requires-clause-w_behind g c =
@@ -55,7 +55,7 @@ allows_between-requires-clause-w_behind g c =
     let high = f.place.high in
     let at = f.at.low in
     let end = f.at.high in
-    kept_back (setting c.args.setup.now) _ _ _ _ (c.args.at) (kept_as _ _ _ _ _ _ c.w_kept.view_is c.requires.w_kept).behind (omega arith) (c.back_of-after.ensures ∙ ap (λ (xs : List ℕ). drop (c.args.at) xs) c.customers-other.ensures)
+    λ wide. kept_back (setting c.args.setup.now) _ _ _ _ (c.args.at) ((kept_as _ _ _ _ _ _ c.w_kept.view_is c.requires.w_kept).behind wide) (omega arith) (c.back_of-after.ensures ∙ ap (λ (xs : List ℕ). drop (c.args.at) xs) c.customers-other.ensures)
 
 pub customers-route-requires-clause-low : goal.customers-route-requires-clause-low
 customers-route-requires-clause-low g c =

@@ -21,7 +21,7 @@ allows_inside-requires-clause-ahead g c =
     let low = f.place.low in
     let high = f.place.high in
     let end = f.at.high in
-    kept_front (setting c.args.setup.now) _ _ _ _ (c.args.place - 1) (kept_as _ _ _ _ _ _ c.kept.view_is c.requires.kept).ahead (omega arith) (c.front_of-front.ensures ∙ ap (λ (xs : List ℕ). take (c.args.place - 1) xs) c.customers-route.ensures)
+    λ wide. kept_front (setting c.args.setup.now) _ _ _ _ (c.args.place - 1) ((kept_as _ _ _ _ _ _ c.kept.view_is c.requires.kept).ahead wide) (omega arith) (c.front_of-front.ensures ∙ ap (λ (xs : List ℕ). take (c.args.place - 1) xs) c.customers-route.ensures)
 
 pub allows_inside-requires-clause-behind : goal.allows_inside-requires-clause-behind
 allows_inside-requires-clause-behind g c =
@@ -29,7 +29,7 @@ allows_inside-requires-clause-behind g c =
     let low = f.place.low in
     let high = f.place.high in
     let end = f.at.high in
-    kept_back (setting c.args.setup.now) _ _ _ _ (c.args.at) (kept_as _ _ _ _ _ _ c.kept.view_is c.requires.kept).behind (omega arith) (c.back_of-back.ensures ∙ ap (λ (xs : List ℕ). drop (c.args.at) xs) c.customers-route.ensures)
+    λ wide. kept_back (setting c.args.setup.now) _ _ _ _ (c.args.at) ((kept_as _ _ _ _ _ _ c.kept.view_is c.requires.kept).behind wide) (omega arith) (c.back_of-back.ensures ∙ ap (λ (xs : List ℕ). drop (c.args.at) xs) c.customers-route.ensures)
 
 pub customers-route-requires-clause-low : goal.customers-route-requires-clause-low
 customers-route-requires-clause-low g c =

@@ -3,6 +3,7 @@ use Rattle.callback_store.specs.Tables.{table_at}
 use Rattle.dimension_core.specs.Setup.{setting}
 use Rattle.plan_core.specs.Plan.{route_at}
 use Rattle.move_core.specs.declared.moves.Move.TheVariants.{Cross}
+use Rattle.neighbourhood.specs.Scope.{scope}
 use Rattle.neighbourhood.specs.Search.{IsBestSoFar}
 use Rattle.neighbourhood.proofs.Possible.{cross_can}
 use Rattle.neighbourhood.proofs.Tabled.{row_of, row_room, cross_by, cross_tabled}
@@ -65,22 +66,22 @@ returns g c =
           let e = w.end-is in
           let o = w.if-last.true in
           let f : c.if-last.end + 1 ≡ length c.args.to.now - 1 = omega arith in
-          subst (λ (k : ℕ). IsBestSoFar (setting c.args.setup.now) c.args.view.now c.args.skip.now c.args.v c.args.w (4 ∷ c.args.v ∷ c.args.keep ∷ c.args.w ∷ k ∷ []) c.cross_row.result) f
-          (cross_none c.requires.laws (setting c.args.setup.now) c.args.view.now c.args.skip.now c.args.v c.args.w c.args.keep c.if-last.end c.cross_row.result (omega arith) (omega arith) c.cross_row.ensures)
+          subst (λ (k : ℕ). IsBestSoFar (scope c.args.bounded (setting c.args.setup.now)) c.args.view.now c.args.skip.now c.args.v c.args.w (4 ∷ c.args.v ∷ c.args.keep ∷ c.args.w ∷ k ∷ []) c.cross_row.result) f
+          (cross_none c.requires.laws (scope c.args.bounded (setting c.args.setup.now)) c.args.view.now c.args.skip.now c.args.v c.args.w c.args.keep c.if-last.end c.cross_row.result (omega arith) (omega arith) c.cross_row.ensures)
       | else-last w ↦
           let e = w.end-is in
-          subst (λ (k : ℕ). IsBestSoFar (setting c.args.setup.now) c.args.view.now c.args.skip.now c.args.v c.args.w (4 ∷ c.args.v ∷ c.args.keep ∷ c.args.w ∷ k ∷ []) c.cross_row.result) e c.cross_row.ensures
+          subst (λ (k : ℕ). IsBestSoFar (scope c.args.bounded (setting c.args.setup.now)) c.args.view.now c.args.skip.now c.args.v c.args.w (4 ∷ c.args.v ∷ c.args.keep ∷ c.args.w ∷ k ∷ []) c.cross_row.result) e c.cross_row.ensures
     ]
 
 pub returns-then-keep-least : goal.returns-then-keep-least
 returns-then-keep-least g c =
     let wide = c.requires.to.sized in
-    crosses_past c.requires.laws (setting c.args.setup.now) c.args.view.now c.args.skip.now c.args.v c.args.w c.args.keep 0 (length c.args.to.now - 1) c.args.best (omega arith)
+    crosses_past c.requires.laws (scope c.args.bounded (setting c.args.setup.now)) c.args.view.now c.args.skip.now c.args.v c.args.w c.args.keep 0 (length c.args.to.now - 1) c.args.best (omega arith)
     (λ k l h q. absurd (c.requires.least c.args.keep k c.if-keep-least.true q)) c.requires.best
 
 pub cross_row-requires-clause-best : goal.cross_row-requires-clause-best
 cross_row-requires-clause-best g c =
-    crosses_past c.requires.laws (setting c.args.setup.now) c.args.view.now c.args.skip.now c.args.v c.args.w c.args.keep 0 c.args.begin c.args.best (omega arith) (λ k l h q. absurd (c.requires.onto c.args.keep k h q)) c.requires.best
+    crosses_past c.requires.laws (scope c.args.bounded (setting c.args.setup.now)) c.args.view.now c.args.skip.now c.args.v c.args.w c.args.keep 0 c.args.begin c.args.best (omega arith) (λ k l h q. absurd (c.requires.onto c.args.keep k h q)) c.requires.best
 
 pub cross_row-requires-clause-order : goal.cross_row-requires-clause-order
 cross_row-requires-clause-order g c =

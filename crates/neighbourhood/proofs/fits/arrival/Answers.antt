@@ -46,14 +46,14 @@ carry_way-requires-clause-known g c =
     (all_left c.requires.laws (λ n. n < length c.args.dimension.now.ranges) (way_of c.args.turned c.args.first.now) (c.args.second.now ++ c.args.third.now)
     (all_right c.requires.laws (λ n. n < length c.args.dimension.now.ranges) c.args.front.now (way_of c.args.turned c.args.first.now ++ (c.args.second.now ++ c.args.third.now)) c.requires.known))
 
-pub carry-requires-clause-known : goal.carry-requires-clause-known
-carry-requires-clause-known g c =
+pub carry_on-requires-clause-known : goal.carry_on-requires-clause-known
+carry_on-requires-clause-known g c =
     all_left c.requires.laws (λ n. n < length c.args.dimension.now.ranges) c.args.second.now c.args.third.now
     (all_right c.requires.laws (λ n. n < length c.args.dimension.now.ranges) (way_of c.args.turned c.args.first.now) (c.args.second.now ++ c.args.third.now)
     (all_right c.requires.laws (λ n. n < length c.args.dimension.now.ranges) c.args.front.now (way_of c.args.turned c.args.first.now ++ (c.args.second.now ++ c.args.third.now)) c.requires.known))
 
-pub carry-requires-2-clause-known : goal.carry-requires-2-clause-known
-carry-requires-2-clause-known g c =
+pub carry_on-requires-2-clause-known : goal.carry_on-requires-2-clause-known
+carry_on-requires-2-clause-known g c =
     all_right c.requires.laws (λ n. n < length c.args.dimension.now.ranges) c.args.second.now c.args.third.now
     (all_right c.requires.laws (λ n. n < length c.args.dimension.now.ranges) (way_of c.args.turned c.args.first.now) (c.args.second.now ++ c.args.third.now)
     (all_right c.requires.laws (λ n. n < length c.args.dimension.now.ranges) c.args.front.now (way_of c.args.turned c.args.first.now ++ (c.args.second.now ++ c.args.third.now)) c.requires.known))

@@ -2,6 +2,8 @@ use Rattle.std.proofs.Common.{◌+◌, ◌-◌, arith, false, length}
 use Rattle.callback_store.specs.Tables.{table_at}
 use Rattle.dimension_core.specs.Setup.{setting}
 use Rattle.move_core.specs.declared.moves.Move.TheVariants.{Reverse}
+use Rattle.neighbourhood.specs.Scope.{scope}
+use Rattle.neighbourhood.proofs.Scoping.{view_within}
 use Rattle.neighbourhood.proofs.Possible.{reverse_can}
 use Rattle.neighbourhood.proofs.Rows.{reverses_past}
 use Rattle.neighbourhood.proofs.Still.{reverse_free}
@@ -36,8 +38,8 @@ returns-then-first-first_free g c =
     let fit = c.requires.first.1 in
     let test = c.if-first-first_free.true in
     let begin = c.first_free.ensures.value in
-    reverses_past c.requires.laws (setting c.args.setup.now) c.args.view.now c.args.skip.now c.args.v c.args.v c.args.first (c.args.first + 1) (length c.args.from.now - 1) c.args.best (omega arith)
+    reverses_past c.requires.laws (scope c.args.bounded (setting c.args.setup.now)) c.args.view.now c.args.skip.now c.args.v c.args.v c.args.first (c.args.first + 1) (length c.args.from.now - 1) c.args.best (omega arith)
     (λ k l h q.
-    let front = reverse_free c.requires.laws (setting c.args.setup.now) c.args.view.now c.args.skip.now c.requires.view c.args.v c.args.first k q in
+    let front = reverse_free c.requires.laws (scope c.args.bounded (setting c.args.setup.now)) c.args.view.now c.args.skip.now (view_within c.args.bounded _ _ c.requires.view) c.args.v c.args.first k q in
     absurd (omega arith))
     c.requires.best

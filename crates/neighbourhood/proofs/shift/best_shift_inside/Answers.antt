@@ -1,6 +1,7 @@
 use Rattle.std.proofs.Common.{◌≡◌, ℕ, ◌+◌, ◌-◌, arith, subst, refl, inl, inr, [], ◌∷◌, length}
 use Rattle.dimension_core.specs.Setup.{setting}
 use Rattle.plan_core.specs.Plan.{route_at}
+use Rattle.neighbourhood.specs.Scope.{scope}
 use Rattle.neighbourhood.specs.Search.{IsBestSoFar}
 use Rattle.neighbourhood.proofs.Shifts.{shift_on, to_row, row_done, row_skipped, to_place, place_done, shifts_end}
 use Rattle.neighbourhood.proofs.shift.best_shift_inside.Goals.{then-place-count, else-place-count}
@@ -8,12 +9,12 @@ use Rattle.neighbourhood.proofs.shift.best_shift_inside.Goals as goal
 
 pub loop-count-init : goal.loop-count-init
 loop-count-init g c =
-    shift_on c.requires.laws (setting c.args.setup.now) c.args.view.now c.args.skip.now c.args.v c.args.v (c.loop-place.place ∷ []) (c.loop-place.place ∷ 1 ∷ []) c.loop-place.best
+    shift_on c.requires.laws (scope c.args.bounded (setting c.args.setup.now)) c.args.view.now c.args.skip.now c.args.v c.args.v (c.loop-place.place ∷ []) (c.loop-place.place ∷ 1 ∷ []) c.loop-place.best
     (inr (refl, tt)) (λ p n a. to_place c.requires.laws _ _ _ c.loop-place.place c.args.v p n a) c.loop-place.invariant
 
 pub shift_within-best-requires-clause-best : goal.shift_within-best-requires-clause-best
 shift_within-best-requires-clause-best g c =
-    shift_on c.requires.laws (setting c.args.setup.now) c.args.view.now c.args.skip.now c.args.v c.args.v (c.loop-place.place ∷ c.loop-count.count ∷ []) (c.loop-place.place ∷ c.loop-count.count ∷ c.args.v ∷ 1 ∷ [])
+    shift_on c.requires.laws (scope c.args.bounded (setting c.args.setup.now)) c.args.view.now c.args.skip.now c.args.v c.args.v (c.loop-place.place ∷ c.loop-count.count ∷ []) (c.loop-place.place ∷ c.loop-count.count ∷ c.args.v ∷ 1 ∷ [])
     c.loop-count.best (inr (refl, inr (refl, tt))) (λ p n a. to_row c.requires.laws _ _ _ c.loop-place.place c.loop-count.count c.args.v p n a) c.loop-count.invariant
 
 pub loop-count-preserved : goal.loop-count-preserved
@@ -23,12 +24,12 @@ loop-count-preserved g c =
     let long = c.requires.from.sized in
     elim c.if-place-count.branch [
       | then-place-count w ↦
-          shift_on c.requires.laws (setting c.args.setup.now) c.args.view.now c.args.skip.now c.args.v c.args.v
+          shift_on c.requires.laws (scope c.args.bounded (setting c.args.setup.now)) c.args.view.now c.args.skip.now c.args.v c.args.v
           (c.loop-place.place ∷ c.loop-count.count ∷ c.args.v ∷ (length c.args.from.now - c.loop-count.count) ∷ []) (c.loop-place.place ∷ (c.loop-count.count + 1) ∷ []) c.if-place-count.best
           (inr (refl, inl (omega arith))) (λ p n a. row_done c.requires.laws c.args.v lv lw c.loop-place.place c.loop-count.count c.args.v (length c.args.from.now - c.loop-count.count) p n a (λ e. let fits = w.if-place-count.true in omega arith) (λ o. absurd (o refl)))
           (rw w.best-is w.shift_within-best.ensures)
       | else-place-count w ↦
-          shift_on c.requires.laws (setting c.args.setup.now) c.args.view.now c.args.skip.now c.args.v c.args.v
+          shift_on c.requires.laws (scope c.args.bounded (setting c.args.setup.now)) c.args.view.now c.args.skip.now c.args.v c.args.v
           (c.loop-place.place ∷ c.loop-count.count ∷ []) (c.loop-place.place ∷ (c.loop-count.count + 1) ∷ []) c.if-place-count.best
           (inr (refl, inl (omega arith)))
           (λ p n a. row_skipped c.requires.laws c.args.v lv lw c.loop-place.place c.loop-count.count c.args.v p n a (let out = w.if-place-count.false in omega arith))
@@ -38,13 +39,13 @@ loop-count-preserved g c =
 pub loop-place-preserved : goal.loop-place-preserved
 loop-place-preserved g c =
     let e : c.loop-count.count ≡ 4 = let t = c.loop-count-test.false in let h = c.loop-count.auto.count-end in omega arith in
-    shift_on c.requires.laws (setting c.args.setup.now) c.args.view.now c.args.skip.now c.args.v c.args.v (c.loop-place.place ∷ 4 ∷ []) ((c.loop-place.place + 1) ∷ []) c.loop-count.best (inl (omega arith))
+    shift_on c.requires.laws (scope c.args.bounded (setting c.args.setup.now)) c.args.view.now c.args.skip.now c.args.v c.args.v (c.loop-place.place ∷ 4 ∷ []) ((c.loop-place.place + 1) ∷ []) c.loop-count.best (inl (omega arith))
     (λ p n a. place_done c.requires.laws _ _ _ c.loop-place.place c.args.v p n a)
-    (subst (λ (k : ℕ). IsBestSoFar (setting c.args.setup.now) c.args.view.now c.args.skip.now c.args.v c.args.v (1 ∷ c.args.v ∷ c.loop-place.place ∷ k ∷ []) c.loop-count.best) e c.loop-count.invariant)
+    (subst (λ (k : ℕ). IsBestSoFar (scope c.args.bounded (setting c.args.setup.now)) c.args.view.now c.args.skip.now c.args.v c.args.v (1 ∷ c.args.v ∷ c.loop-place.place ∷ k ∷ []) c.loop-count.best) e c.loop-count.invariant)
 
 pub returns : goal.returns
 returns g c =
     let lv = length (route_at c.args.view.now.routes c.args.v) in
     let e : c.loop-place.place ≡ lv + 1 = let t = c.loop-place-test.false in let h = c.loop-place.auto.place-end in let long = c.requires.from.sized in omega arith in
-    shifts_end c.requires.laws (setting c.args.setup.now) c.args.view.now c.args.skip.now c.args.v c.args.v c.loop-place.best
-    (subst (λ (k : ℕ). IsBestSoFar (setting c.args.setup.now) c.args.view.now c.args.skip.now c.args.v c.args.v (1 ∷ c.args.v ∷ k ∷ []) c.loop-place.best) e c.loop-place.invariant)
+    shifts_end c.requires.laws (scope c.args.bounded (setting c.args.setup.now)) c.args.view.now c.args.skip.now c.args.v c.args.v c.loop-place.best
+    (subst (λ (k : ℕ). IsBestSoFar (scope c.args.bounded (setting c.args.setup.now)) c.args.view.now c.args.skip.now c.args.v c.args.v (1 ∷ c.args.v ∷ k ∷ []) c.loop-place.best) e c.loop-place.invariant)

@@ -1,7 +1,10 @@
-use Rattle.std.proofs.Common.{◌+◌, ◌-◌, arith, true, false, length}
+use Rattle.std.proofs.Common.{◌+◌, ◌-◌, arith, true, false, length, refl, slice_index}
 use Rattle.callback_store.specs.Tables.{table_at}
 use Rattle.dimension_core.specs.Setup.{setting}
 use Rattle.move_core.specs.declared.moves.Move.TheVariants.{Shift}
+use Rattle.neighbourhood.specs.Scope.{scope}
+use Rattle.neighbourhood.specs.Ways.{hop}
+use Rattle.neighbourhood.proofs.Scoping.{view_within}
 use Rattle.neighbourhood.proofs.Possible.{shift_can}
 use Rattle.neighbourhood.proofs.Shifts.{shifts_past}
 use Rattle.neighbourhood.proofs.Still.{shift_free}
@@ -42,9 +45,9 @@ shift_row-requires-clause-saving g c =
 pub returns-then-not-may_leave : goal.returns-then-not-may_leave
 returns-then-not-may_leave g c =
     let wide = c.requires.to.sized in
-    shifts_past c.requires.laws (setting c.args.setup.now) c.args.view.now c.args.skip.now c.args.v c.args.w c.args.place c.args.count 1 (length c.args.to.now) c.args.best (omega arith)
+    shifts_past c.requires.laws (scope c.args.bounded (setting c.args.setup.now)) c.args.view.now c.args.skip.now c.args.v c.args.w c.args.place c.args.count 1 (length c.args.to.now) c.args.best (omega arith)
     (λ k l h q.
-    let free = shift_free c.requires.laws (setting c.args.setup.now) c.args.view.now c.args.skip.now c.requires.view c.args.v c.args.place c.args.count c.args.w k c.requires.apart q in
+    let free = shift_free c.requires.laws (scope c.args.bounded (setting c.args.setup.now)) c.args.view.now c.args.skip.now (view_within c.args.bounded _ _ c.requires.view) c.args.v c.args.place c.args.count c.args.w k c.requires.apart q in
     let is = c.may_leave.ensures.1 (free.0, free.2) in
     absurd cc)
     c.requires.best
@@ -52,9 +55,43 @@ returns-then-not-may_leave g c =
 pub shift_row-requires-clause-best : goal.shift_row-requires-clause-best
 shift_row-requires-clause-best g c =
     let begin = c.first_free-begin.ensures.value in
-    shifts_past c.requires.laws (setting c.args.setup.now) c.args.view.now c.args.skip.now c.args.v c.args.w c.args.place c.args.count 1 c.first_free-begin.result c.args.best (omega arith)
+    shifts_past c.requires.laws (scope c.args.bounded (setting c.args.setup.now)) c.args.view.now c.args.skip.now c.args.v c.args.w c.args.place c.args.count 1 c.first_free-begin.result c.args.best (omega arith)
     (λ k l h q.
-    let free = shift_free c.requires.laws (setting c.args.setup.now) c.args.view.now c.args.skip.now c.requires.view c.args.v c.args.place c.args.count c.args.w k c.requires.apart q in
+    let free = shift_free c.requires.laws (scope c.args.bounded (setting c.args.setup.now)) c.args.view.now c.args.skip.now (view_within c.args.bounded _ _ c.requires.view) c.args.v c.args.place c.args.count c.args.w k c.requires.apart q in
     let front = free.1 in
     absurd (omega arith))
     c.requires.best
+
+pub returns-then-lost-from : goal.returns-then-lost-from
+returns-then-lost-from g c =
+    let r = c.requires in
+    let s = setting c.args.setup.now in
+    let t = table_at (setting c.args.setup.now).tables (setting c.args.setup.now).cost in
+    let sized = r.from.sized in
+    let wide = r.to.sized in
+    let some = r.count.0 in
+    let low = r.place.0 in
+    let fit = r.place.1 in
+    let f = c.from.ensures in
+    let f2 = c.from-2.ensures in
+    let f3 = c.from-3.ensures in
+    let test = c.if-lost-from.true in
+    let value = c.gain_of.ensures in
+    let counted = r.to_edges.counted in
+    shifts_past c.requires.laws (scope c.args.bounded (setting c.args.setup.now)) c.args.view.now c.args.skip.now c.args.v c.args.w c.args.place c.args.count 1 (length c.args.to.now) c.args.best (omega arith)
+    (λ at l h q.
+    let can = shift_can r.laws s.customers c.args.view.now.routes c.args.v c.args.place c.args.count c.args.w at c.args.from.now c.args.to.now r.from r.to r.apart low some fit (omega arith) (omega arith) in
+    let saving = shift_by r.laws s c.args.view.now c.args.v c.args.place c.args.count c.args.w at c.args.from.now c.args.to.now r.view.plan r.apart r.from r.to can in
+    let tabled = shift_tabled s c.args.view.now (Shift c.args.v c.args.place c.args.count c.args.w at) t c.args.from.now c.args.to.now c.args.from_edges.now c.args.to_edges.now c.row-comes.result.now c.row-goes.result.now
+    c.args.place c.args.count 0 at (hop t (slice_index c.args.from.now (c.args.place - 1)) (slice_index c.args.from.now (c.args.place + c.args.count))) saving low some fit (omega arith) (omega arith) r.from_edges r.to_edges
+    (row_of true t c.args.from.now c.args.to.now c.args.into.now c.row-comes.result.now c.args.place r.into (omega arith) c.row-comes.ensures.cells)
+    (row_of false t c.args.from.now c.args.to.now c.args.out.now c.row-goes.result.now (c.args.place + c.args.count - 1) r.out (omega arith) c.row-goes.ensures.cells)
+    refl in
+    let dearest = r.most (at + 0 - 1) 0 (omega arith) in
+    omega arith)
+    c.requires.best
+
+pub hop-gained-requires-clause-from : goal.hop-gained-requires-clause-from
+hop-gained-requires-clause-from g c =
+    let fit = c.requires.place.1 in
+    c.requires.from.known (c.args.place - 1) 0 (omega arith)

@@ -1,5 +1,6 @@
 use Rattle.std.proofs.Common.{◌≡◌, ℕ, ◌+◌, ◌-◌, arith, ap, subst, [], ◌∷◌, slice_index, refl}
 use Rattle.dimension_core.specs.Setup.{setting}
+use Rattle.neighbourhood.specs.Scope.{scope}
 use Rattle.neighbourhood.specs.Search.{IsBestSoFar}
 use Rattle.neighbourhood.proofs.Shifts.{shift_next, shifts_past}
 use Rattle.neighbourhood.proofs.shift.shift_row.Goals as goal
@@ -8,7 +9,7 @@ pub returns-then-next-end : goal.returns-then-next-end
 returns-then-next-end g c =
     let end = c.if-next-end.true in
     let test = c.row-test.true in
-    shifts_past c.requires.laws (setting c.args.setup.now) c.args.view.now c.args.skip.now c.args.v c.args.w c.args.place c.args.count c.row.at c.args.end c.row.best (omega arith)
+    shifts_past c.requires.laws (scope c.args.bounded (setting c.args.setup.now)) c.args.view.now c.args.skip.now c.args.v c.args.w c.args.place c.args.count c.row.at c.args.end c.row.best (omega arith)
     (λ k h l q.
     let low = c.row.invariant.low in
     let saving = c.requires.saving k (omega arith) l in
@@ -27,7 +28,7 @@ row-preserved g c =
     let other = c.if-next-end.false in
     let low = c.row.invariant.low in
     let past =
-    shifts_past c.requires.laws (setting c.args.setup.now) c.args.view.now c.args.skip.now c.args.v c.args.w c.args.place c.args.count c.row.at (c.first_gain-found.result + 1 - c.args.offset) c.row.best (omega arith)
+    shifts_past c.requires.laws (scope c.args.bounded (setting c.args.setup.now)) c.args.view.now c.args.skip.now c.args.v c.args.w c.args.place c.args.count c.row.at (c.first_gain-found.result + 1 - c.args.offset) c.row.best (omega arith)
     (λ k h l q.
     let low = c.row.invariant.low in
     let saving = c.requires.saving k (omega arith) (omega arith) in
@@ -40,18 +41,18 @@ row-preserved g c =
     record {
       low = omega arith;
       high = omega arith;
-      best = c.better-best.ensures (1 ∷ c.args.v ∷ c.args.place ∷ c.args.count ∷ c.args.w ∷ ((c.first_gain-found.result + 1 - c.args.offset) + 1) ∷ []) (shift_next c.requires.laws (setting c.args.setup.now) c.args.view.now c.args.skip.now c.args.v c.args.w c.args.place c.args.count (c.first_gain-found.result + 1 - c.args.offset)) past;
+      best = c.better-best.ensures (1 ∷ c.args.v ∷ c.args.place ∷ c.args.count ∷ c.args.w ∷ ((c.first_gain-found.result + 1 - c.args.offset) + 1) ∷ []) (shift_next c.requires.laws (scope c.args.bounded (setting c.args.setup.now)) c.args.view.now c.args.skip.now c.args.v c.args.w c.args.place c.args.count (c.first_gain-found.result + 1 - c.args.offset)) past;
     }
 
 pub returns : goal.returns
 returns g c =
     let e : c.row.at ≡ c.args.end = let test = c.row-test.false in let high = c.row.invariant.high in omega arith in
-    subst (λ (k : ℕ). IsBestSoFar (setting c.args.setup.now) c.args.view.now c.args.skip.now c.args.v c.args.w (1 ∷ c.args.v ∷ c.args.place ∷ c.args.count ∷ c.args.w ∷ (k) ∷ []) c.row.best) e c.row.invariant.best
+    subst (λ (k : ℕ). IsBestSoFar (scope c.args.bounded (setting c.args.setup.now)) c.args.view.now c.args.skip.now c.args.v c.args.w (1 ∷ c.args.v ∷ c.args.place ∷ c.args.count ∷ c.args.w ∷ (k) ∷ []) c.row.best) e c.row.invariant.best
 
 pub returns-then-not-may_gain : goal.returns-then-not-may_gain
 returns-then-not-may_gain g c =
     let order = c.requires.order in
-    shifts_past c.requires.laws (setting c.args.setup.now) c.args.view.now c.args.skip.now c.args.v c.args.w c.args.place c.args.count c.args.first c.args.end c.args.best (omega arith)
+    shifts_past c.requires.laws (scope c.args.bounded (setting c.args.setup.now)) c.args.view.now c.args.skip.now c.args.v c.args.w c.args.place c.args.count c.args.first c.args.end c.args.best (omega arith)
     (λ k h l q.
     let saving = c.requires.saving k h l in
     let none = c.may_gain.ensures c.if-not-may_gain.true (k + c.args.offset - 1) (omega arith) (omega arith) in

@@ -1,5 +1,6 @@
 use Rattle.std.proofs.Common.{◌≤◌, ◌-◌, [], ◌∷◌}
 use Rattle.dimension_core.specs.Setup.{setting}
+use Rattle.neighbourhood.specs.Scope.{scope}
 use Rattle.neighbourhood.specs.Search.{IsBestSoFar}
 use Rattle.neighbourhood.proofs.shift.shift_row.Given as goal
 
@@ -8,7 +9,7 @@ abbrev pub invariant-row : goal.invariant-row
 invariant-row g l = record {
   low : l.first ≤ l.at;
   high : l.at ≤ l.end;
-  best : IsBestSoFar (setting l.setup) l.view l.skip l.v l.w (1 ∷ l.v ∷ l.place ∷ l.count ∷ l.w ∷ l.at ∷ []) l.best;
+  best : IsBestSoFar (scope l.bounded (setting l.setup)) l.view l.skip l.v l.w (1 ∷ l.v ∷ l.place ∷ l.count ∷ l.w ∷ l.at ∷ []) l.best;
 }
 
 abbrev pub decreases-row : goal.decreases-row

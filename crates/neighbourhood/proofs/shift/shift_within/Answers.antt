@@ -3,7 +3,9 @@ use Rattle.callback_store.specs.Tables.{table_at}
 use Rattle.dimension_core.specs.Setup.{setting}
 use Rattle.plan_core.specs.Plan.{route_at}
 use Rattle.move_core.specs.declared.moves.Move.TheVariants.{Shift}
+use Rattle.neighbourhood.specs.Scope.{scope}
 use Rattle.neighbourhood.specs.Best.{Counts, cost_after, cost_before}
+use Rattle.neighbourhood.proofs.Scoping.{view_within}
 use Rattle.neighbourhood.proofs.Costs.{around_before, around_after}
 use Rattle.neighbourhood.proofs.Firsts.{best_kept}
 use Rattle.neighbourhood.proofs.Shifts.{shift_next, shifts_past}
@@ -76,7 +78,7 @@ shift_row-requires-clause-saving g c =
 
 pub shift_row-requires-clause-best : goal.shift_row-requires-clause-best
 shift_row-requires-clause-best g c =
-    let s = setting c.args.setup.now in
+    let s = scope c.args.bounded (setting c.args.setup.now) in
     let law = c.requires.laws in
     best_kept (Counts s c.args.view.now c.args.skip.now c.args.v c.args.v) (cost_after s c.args.view.now) (cost_before s c.args.view.now)
     (Shift c.args.v c.args.place c.args.count c.args.v c.args.place) (1 ∷ c.args.v ∷ c.args.place ∷ c.args.count ∷ c.args.v ∷ (c.args.place + 1) ∷ []) c.shift_row-forwards.result (λ m q. q.lower)
@@ -89,9 +91,9 @@ returns-then-place-begin g c =
     let fit = c.requires.place.1 in
     let begin = c.first_free-begin.ensures.value in
     let test = c.if-place-begin.true in
-    shifts_past c.requires.laws (setting c.args.setup.now) c.args.view.now c.args.skip.now c.args.v c.args.v c.args.place c.args.count 1 (length c.args.from.now - c.args.count) c.args.best (omega arith)
+    shifts_past c.requires.laws (scope c.args.bounded (setting c.args.setup.now)) c.args.view.now c.args.skip.now c.args.v c.args.v c.args.place c.args.count 1 (length c.args.from.now - c.args.count) c.args.best (omega arith)
     (λ k l h q.
-    let free = shift_inside_free c.requires.laws (setting c.args.setup.now) c.args.view.now c.args.skip.now c.requires.view c.args.v c.args.place c.args.count k q in
+    let free = shift_inside_free c.requires.laws (scope c.args.bounded (setting c.args.setup.now)) c.args.view.now c.args.skip.now (view_within c.args.bounded _ _ c.requires.view) c.args.v c.args.place c.args.count k q in
     let front = free.0 in
     absurd (omega arith))
     c.requires.best
@@ -99,9 +101,9 @@ returns-then-place-begin g c =
 pub shift_row-forwards-requires-clause-best : goal.shift_row-forwards-requires-clause-best
 shift_row-forwards-requires-clause-best g c =
     let begin = c.first_free-begin.ensures.value in
-    shifts_past c.requires.laws (setting c.args.setup.now) c.args.view.now c.args.skip.now c.args.v c.args.v c.args.place c.args.count 1 c.first_free-begin.result c.args.best (omega arith)
+    shifts_past c.requires.laws (scope c.args.bounded (setting c.args.setup.now)) c.args.view.now c.args.skip.now c.args.v c.args.v c.args.place c.args.count 1 c.first_free-begin.result c.args.best (omega arith)
     (λ k l h q.
-    let free = shift_inside_free c.requires.laws (setting c.args.setup.now) c.args.view.now c.args.skip.now c.requires.view c.args.v c.args.place c.args.count k q in
+    let free = shift_inside_free c.requires.laws (scope c.args.bounded (setting c.args.setup.now)) c.args.view.now c.args.skip.now (view_within c.args.bounded _ _ c.requires.view) c.args.v c.args.place c.args.count k q in
     let front = free.1 in
     absurd (omega arith))
     c.requires.best

@@ -2,6 +2,7 @@ use Rattle.std.proofs.Common.{◌≡◌, ℕ, ◌+◌, ◌-◌, arith, subst, []
 use Rattle.callback_store.specs.Tables.{table_at}
 use Rattle.dimension_core.specs.Setup.{setting}
 use Rattle.move_core.specs.declared.moves.Move.TheVariants.{Swap}
+use Rattle.neighbourhood.specs.Scope.{scope}
 use Rattle.neighbourhood.proofs.Possible.{swap_can}
 use Rattle.neighbourhood.proofs.Tabled.{row_of, swap_next_by, next_tabled}
 use Rattle.neighbourhood.proofs.Rows.{swap_next}
@@ -36,5 +37,5 @@ pub returns : goal.returns
 returns g c =
     let e : c.args.place + 1 + 1 ≡ c.args.place + 2 = omega arith in
     c.better.ensures (2 ∷ c.args.v ∷ c.args.place ∷ c.args.v ∷ (c.args.place + 2) ∷ [])
-    (subst (λ (k : ℕ). IsNext (Counts (setting c.args.setup.now) c.args.view.now c.args.skip.now c.args.v c.args.v) (Swap c.args.v c.args.place c.args.v (c.args.place + 1)) (2 ∷ c.args.v ∷ c.args.place ∷ c.args.v ∷ k ∷ [])) e
-    (swap_next c.requires.laws (setting c.args.setup.now) c.args.view.now c.args.skip.now c.args.v c.args.v c.args.place (c.args.place + 1))) c.requires.best
+    (subst (λ (k : ℕ). IsNext (Counts (scope c.args.bounded (setting c.args.setup.now)) c.args.view.now c.args.skip.now c.args.v c.args.v) (Swap c.args.v c.args.place c.args.v (c.args.place + 1)) (2 ∷ c.args.v ∷ c.args.place ∷ c.args.v ∷ k ∷ [])) e
+    (swap_next c.requires.laws (scope c.args.bounded (setting c.args.setup.now)) c.args.view.now c.args.skip.now c.args.v c.args.v c.args.place (c.args.place + 1))) c.requires.best

@@ -2,6 +2,8 @@ use Rattle.std.proofs.Common.{◌+◌, ◌-◌, arith, true, false, length}
 use Rattle.callback_store.specs.Tables.{table_at}
 use Rattle.dimension_core.specs.Setup.{setting}
 use Rattle.move_core.specs.declared.moves.Move.TheVariants.{Swap}
+use Rattle.neighbourhood.specs.Scope.{scope}
+use Rattle.neighbourhood.proofs.Scoping.{view_within}
 use Rattle.neighbourhood.proofs.Possible.{swap_can}
 use Rattle.neighbourhood.proofs.Rows.{swaps_past}
 use Rattle.neighbourhood.proofs.Still.{swap_free}
@@ -49,9 +51,9 @@ swap_row-requires-clause-saving g c =
 pub returns-then-not-may_leave : goal.returns-then-not-may_leave
 returns-then-not-may_leave g c =
     let wide = c.requires.to.sized in
-    swaps_past c.requires.laws (setting c.args.setup.now) c.args.view.now c.args.skip.now c.args.v c.args.w c.args.place 1 (length c.args.to.now - 1) c.args.best (omega arith)
+    swaps_past c.requires.laws (scope c.args.bounded (setting c.args.setup.now)) c.args.view.now c.args.skip.now c.args.v c.args.w c.args.place 1 (length c.args.to.now - 1) c.args.best (omega arith)
     (λ k l h q.
-    let free = swap_free c.requires.laws (setting c.args.setup.now) c.args.view.now c.args.skip.now c.requires.view c.args.v c.args.place c.args.w k c.requires.apart q in
+    let free = swap_free c.requires.laws (scope c.args.bounded (setting c.args.setup.now)) c.args.view.now c.args.skip.now (view_within c.args.bounded _ _ c.requires.view) c.args.v c.args.place c.args.w k c.requires.apart q in
     let is = c.may_leave.ensures.1 (free.0, free.2) in
     absurd cc)
     c.requires.best
@@ -59,9 +61,9 @@ returns-then-not-may_leave g c =
 pub swap_row-requires-clause-best : goal.swap_row-requires-clause-best
 swap_row-requires-clause-best g c =
     let begin = c.first_free-begin.ensures.value in
-    swaps_past c.requires.laws (setting c.args.setup.now) c.args.view.now c.args.skip.now c.args.v c.args.w c.args.place 1 c.first_free-begin.result c.args.best (omega arith)
+    swaps_past c.requires.laws (scope c.args.bounded (setting c.args.setup.now)) c.args.view.now c.args.skip.now c.args.v c.args.w c.args.place 1 c.first_free-begin.result c.args.best (omega arith)
     (λ k l h q.
-    let free = swap_free c.requires.laws (setting c.args.setup.now) c.args.view.now c.args.skip.now c.requires.view c.args.v c.args.place c.args.w k c.requires.apart q in
+    let free = swap_free c.requires.laws (scope c.args.bounded (setting c.args.setup.now)) c.args.view.now c.args.skip.now (view_within c.args.bounded _ _ c.requires.view) c.args.v c.args.place c.args.w k c.requires.apart q in
     let front = free.1 in
     absurd (omega arith))
     c.requires.best

@@ -1,5 +1,6 @@
 use Rattle.std.proofs.Common.{◌≡◌, ℕ, ◌+◌, arith, subst, [], ◌∷◌, refl}
 use Rattle.dimension_core.specs.Setup.{setting}
+use Rattle.neighbourhood.specs.Scope.{scope}
 use Rattle.neighbourhood.specs.Search.{IsBestSoFar}
 use Rattle.neighbourhood.proofs.Rows.{swap_next, swaps_past}
 use Rattle.neighbourhood.proofs.swap.swap_row.Goals as goal
@@ -8,7 +9,7 @@ pub returns-then-there-end : goal.returns-then-there-end
 returns-then-there-end g c =
     let end = c.if-there-end.true in
     let test = c.row-test.true in
-    swaps_past c.requires.laws (setting c.args.setup.now) c.args.view.now c.args.skip.now c.args.v c.args.w c.args.place c.row.at c.args.end c.row.best (omega arith)
+    swaps_past c.requires.laws (scope c.args.bounded (setting c.args.setup.now)) c.args.view.now c.args.skip.now c.args.v c.args.w c.args.place c.row.at c.args.end c.row.best (omega arith)
     (λ k h l q.
     let low = c.row.invariant.low in
     let saving = c.requires.saving k (omega arith) l in
@@ -25,7 +26,7 @@ row-preserved g c =
     let other = c.if-there-end.false in
     let low = c.row.invariant.low in
     let past =
-    swaps_past c.requires.laws (setting c.args.setup.now) c.args.view.now c.args.skip.now c.args.v c.args.w c.args.place c.row.at c.first_swap_gain-found.result c.row.best (omega arith)
+    swaps_past c.requires.laws (scope c.args.bounded (setting c.args.setup.now)) c.args.view.now c.args.skip.now c.args.v c.args.w c.args.place c.row.at c.first_swap_gain-found.result c.row.best (omega arith)
     (λ k h l q.
     let low = c.row.invariant.low in
     let saving = c.requires.saving k (omega arith) (omega arith) in
@@ -36,18 +37,18 @@ row-preserved g c =
     record {
       low = omega arith;
       high = omega arith;
-      best = c.better-best.ensures (2 ∷ c.args.v ∷ c.args.place ∷ c.args.w ∷ (c.first_swap_gain-found.result + 1) ∷ []) (swap_next c.requires.laws (setting c.args.setup.now) c.args.view.now c.args.skip.now c.args.v c.args.w c.args.place c.first_swap_gain-found.result) past;
+      best = c.better-best.ensures (2 ∷ c.args.v ∷ c.args.place ∷ c.args.w ∷ (c.first_swap_gain-found.result + 1) ∷ []) (swap_next c.requires.laws (scope c.args.bounded (setting c.args.setup.now)) c.args.view.now c.args.skip.now c.args.v c.args.w c.args.place c.first_swap_gain-found.result) past;
     }
 
 pub returns : goal.returns
 returns g c =
     let e : c.row.at ≡ c.args.end = let test = c.row-test.false in let high = c.row.invariant.high in omega arith in
-    subst (λ (k : ℕ). IsBestSoFar (setting c.args.setup.now) c.args.view.now c.args.skip.now c.args.v c.args.w (2 ∷ c.args.v ∷ c.args.place ∷ c.args.w ∷ (k) ∷ []) c.row.best) e c.row.invariant.best
+    subst (λ (k : ℕ). IsBestSoFar (scope c.args.bounded (setting c.args.setup.now)) c.args.view.now c.args.skip.now c.args.v c.args.w (2 ∷ c.args.v ∷ c.args.place ∷ c.args.w ∷ (k) ∷ []) c.row.best) e c.row.invariant.best
 
 pub returns-then-not-may_swap_gain : goal.returns-then-not-may_swap_gain
 returns-then-not-may_swap_gain g c =
     let order = c.requires.order in
-    swaps_past c.requires.laws (setting c.args.setup.now) c.args.view.now c.args.skip.now c.args.v c.args.w c.args.place c.args.first c.args.end c.args.best (omega arith)
+    swaps_past c.requires.laws (scope c.args.bounded (setting c.args.setup.now)) c.args.view.now c.args.skip.now c.args.v c.args.w c.args.place c.args.first c.args.end c.args.best (omega arith)
     (λ k h l q.
     let saving = c.requires.saving k h l in
     let none = c.may_swap_gain.ensures c.if-not-may_swap_gain.true k (omega arith) (omega arith) in

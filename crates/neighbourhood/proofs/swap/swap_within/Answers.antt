@@ -2,7 +2,9 @@ use Rattle.std.proofs.Common.{◌≡◌, ℕ, ◌+◌, ◌-◌, arith, subst, []
 use Rattle.callback_store.specs.Tables.{table_at}
 use Rattle.dimension_core.specs.Setup.{setting}
 use Rattle.move_core.specs.declared.moves.Move.TheVariants.{Swap}
+use Rattle.neighbourhood.specs.Scope.{scope}
 use Rattle.neighbourhood.specs.Search.{IsBestSoFar}
+use Rattle.neighbourhood.proofs.Scoping.{view_within}
 use Rattle.neighbourhood.proofs.Possible.{swap_can}
 use Rattle.neighbourhood.proofs.Rows.{swaps_past}
 use Rattle.neighbourhood.proofs.Still.{swap_inside_free}
@@ -17,7 +19,7 @@ returns-then-index-from g c =
     let t = c.if-index-from.true in
     let fit = c.requires.place.1 in
     let e : c.args.place + 1 ≡ length c.args.from.now - 1 = omega arith in
-    subst (λ (k : ℕ). IsBestSoFar (setting c.args.setup.now) c.args.view.now c.args.skip.now c.args.v c.args.v (2 ∷ c.args.v ∷ c.args.place ∷ c.args.v ∷ k ∷ []) c.args.best) e c.requires.best
+    subst (λ (k : ℕ). IsBestSoFar (scope c.args.bounded (setting c.args.setup.now)) c.args.view.now c.args.skip.now c.args.v c.args.v (2 ∷ c.args.v ∷ c.args.place ∷ c.args.v ∷ k ∷ []) c.args.best) e c.requires.best
 
 pub swap_row-requires-clause-possible : goal.swap_row-requires-clause-possible
 swap_row-requires-clause-possible g c =
@@ -52,9 +54,9 @@ returns-then-place-first_free g c =
     let test = c.if-place-first_free.true in
     let begin = c.first_free.ensures.value in
     let room = c.if-index-from.false in
-    swaps_past c.requires.laws (setting c.args.setup.now) c.args.view.now c.args.skip.now c.args.v c.args.v c.args.place (c.args.place + 1) (length c.args.from.now - 1) c.args.best (omega arith)
+    swaps_past c.requires.laws (scope c.args.bounded (setting c.args.setup.now)) c.args.view.now c.args.skip.now c.args.v c.args.v c.args.place (c.args.place + 1) (length c.args.from.now - 1) c.args.best (omega arith)
     (λ k l h q.
-    let front = swap_inside_free c.requires.laws (setting c.args.setup.now) c.args.view.now c.args.skip.now c.requires.view c.args.v c.args.place k (omega arith) q in
+    let front = swap_inside_free c.requires.laws (scope c.args.bounded (setting c.args.setup.now)) c.args.view.now c.args.skip.now (view_within c.args.bounded _ _ c.requires.view) c.args.v c.args.place k (omega arith) q in
     absurd (omega arith))
     c.requires.best
 

@@ -2,7 +2,7 @@ use Rattle.std.proofs.Common.{ℕ, ◌<◌, ◌++◌}
 use Rattle.dimension_core.specs.Setup.{setting}
 use Rattle.dimension_core.specs.Feasible.{FitsIn}
 use Rattle.neighbourhood.specs.Ways.{way_of}
-use Rattle.neighbourhood.proofs.fits.fits.Given as goal
+use Rattle.neighbourhood.proofs.fits.all_meet.Given as goal
 
 -- the route is in bounds in each dimension so far
 abbrev pub invariant-loop-k : goal.invariant-loop-k
