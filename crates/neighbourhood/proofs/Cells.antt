@@ -1,6 +1,6 @@
-use Rattle.std.proofs.Common.{add-zero, ◌≡◌, ◌≢◌, ℕ, ◌+◌, ◌-◌, ◌*◌, ◌<◌, ◌≤◌, ◌∙◌, refl, sym, ap, subst, arith, inl, inr, List, [], ◌∷◌, ◌++◌, length, map, set, slice_index, length-append, Bool, true, false, ◌==◌, if◌then◌else◌, take, suc}
+use Rattle.std.proofs.Common.{add-zero, ◌≡◌, ◌≢◌, ℕ, ◌+◌, ◌-◌, ◌*◌, ◌<◌, ◌≤◌, ◌∙◌, refl, sym, ap, subst, arith, inl, inr, List, [], ◌∷◌, ◌++◌, length, map, set, slice_index, length-append, Bool, true, false, ◌==◌, if◌then◌else◌, take, drop, suc}
 use Rattle.std.proofs.lemmas.Bool.{cases_lt, ne_eqb}
-use Rattle.std.proofs.lemmas.List.{get_or_push, get_or_append_left, get_or-append-add, get_or-take, get_or-set_same, get_or-set_other, get_or-map, length-set, length-take-le, take_more}
+use Rattle.std.proofs.lemmas.List.{get_or_push, get_or_append_left, get_or-append-add, get_or-take, get_or-drop, get_or-set_same, get_or-set_other, get_or-map, length-set, length-take-le, length-drop, take_more}
 use Rattle.std.proofs.lemmas.Nat.{same_from_place}
 use Rattle.std.proofs.Math.Seq.{take-append_seam}
 use borrow.Rule.Slice.PartMut.{put_mid, post_of}
@@ -89,6 +89,35 @@ filled_row turned t from to cells filled i f sized ways kept =
 pub filled_all : (turned : Bool) (t : Table) (from to cells : List ℕ) (n : ℕ) → n ≡ length from * length to → AreFilled turned t from to n cells
     → AreHops turned t from to (length from * length to) cells
 filled_all turned t from to cells n e f = let g = filled_at turned t from to cells n (length from * length to) e f in record { counted = g.whole; hops = g.hops }
+
+-- the rows up to one of a table that lacks a column
+pub record AreFilledFrom (turned : Bool) (t : Table) (from to : List ℕ) (row column n : ℕ) (cells : List ℕ) : Type 0 where
+  pub whole : length cells ≡ length from * length to
+  pub hops : (a b : ℕ) → row ≤ a → a < n → column ≤ b → b + 1 < length to + column → slice_index cells (a * length to + b) ≡ hop_by turned t (slice_index from a) (slice_index to b)
+
+pub filled_from : (turned : Bool) (t : Table) (from to cells filled : List ℕ) (row column i : ℕ) → column ≤ 1 → AreFilledFrom turned t from to row column i cells
+    → length filled ≡ length cells
+    → ((k : ℕ) → k < length (take (length to - 1) (drop column to)) → slice_index filled (i * length to + column + k) ≡ hop_by turned t (slice_index from i) (slice_index (take (length to - 1) (drop column to)) k))
+    → ((k : ℕ) → k < i * length to + column → slice_index filled k ≡ slice_index cells k) → AreFilledFrom turned t from to row column (i + 1) filled
+filled_from turned t from to cells filled row column i few f sized ways kept =
+    let w = length to in
+    record {
+      whole = sized ∙ f.whole;
+      hops = λ a b la ha lb hb. elim (cases_lt a i) [
+        | inl less ↦
+            let fits = row_fits a i w less in
+            kept (a * w + b) (omega arith) ∙ f.hops a b la less lb hb
+        | inr more ↦
+            let same : i ≡ a = omega arith in
+            let long : length (take (w - 1) (drop column to)) ≡ w - 1 = length-take-le (w - 1) (drop column to) (let d = length-drop column to in omega arith) in
+            let back : column + (b - column) ≡ b = omega arith in
+            let place : i * w + column + (b - column) ≡ i * w + b = omega arith in
+            let here : slice_index (take (w - 1) (drop column to)) (b - column) ≡ slice_index to b =
+            get_or-take (w - 1) (drop column to) (b - column) 0 (omega arith) ∙ get_or-drop column to (b - column) 0 ∙ ap (λ (n : ℕ). slice_index to n) back in
+            subst (λ (n : ℕ). slice_index filled (n * w + b) ≡ hop_by turned t (slice_index from n) (slice_index to b)) same
+            (ap (λ (n : ℕ). slice_index filled n) (sym place) ∙ ways (b - column) (omega arith) ∙ ap (λ (n : ℕ). hop_by turned t (slice_index from i) n) here)
+      ];
+    }
 
 -- a callback answers on each way that is driven
 hop_away : (t : Table) (i j : ℕ) → (i ≡ 0 → j ≢ 0) → hop t i j ≡ entry t i j

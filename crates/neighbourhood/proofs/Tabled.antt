@@ -6,7 +6,7 @@ use Rattle.pin_core.specs.View.{ViewState}
 use Rattle.move_core.specs.declared.moves.Move.{Move}
 use Rattle.move_core.specs.declared.moves.Move.TheVariants.{Shift, Swap, Reverse, Cross}
 use Rattle.move_core.specs.Moves.{is_possible}
-use Rattle.neighbourhood.specs.Ways.{hop, hop_by, turned, stops, AreStops, AreHops, AreEdges, AreSums}
+use Rattle.neighbourhood.specs.Ways.{hop, hop_by, turned, stops, AreStops, AreHops, AreHopsFrom, AreEdges, AreSums}
 use Rattle.neighbourhood.specs.Savings.{shift_lost, shift_gained, swap_lost, swap_gained, next_lost, next_gained, cross_lost, cross_gained, reverse_lost, reverse_gained}
 use Rattle.neighbourhood.specs.Search.{IsSaving}
 use Rattle.neighbourhood.specs.Laws.{Laws}
@@ -39,11 +39,30 @@ row_of turned t from to cells row a all h is k b =
     let fits = row_fits a (length from) (length to) h in
     is k b ∙ all.hops a k b (omega arith)
 
+-- the same of a table that lacks a row and a column
+abbrev pub IsRowFrom : Bool → Table → List ℕ → List ℕ → ℕ → ℕ → List ℕ → Type 0
+IsRowFrom turned t from to column a cells = (k : ℕ) → column ≤ k → k + 1 < length to + column → slice_index cells k ≡ hop_by turned t (slice_index from a) (slice_index to k)
+
+pub room_from : (turned : Bool) (t : Table) (from to cells : List ℕ) (row column a : ℕ) → AreHopsFrom turned t from to row column cells → a < length from
+    → a * length to + length to ≤ length cells
+room_from turned t from to cells row column a all h =
+    let fits = row_fits a (length from) (length to) h in
+    let c = all.counted in
+    omega arith
+
+pub row_from : (turned : Bool) (t : Table) (from to cells one : List ℕ) (row column a : ℕ) → column ≤ 1 → AreHopsFrom turned t from to row column cells
+    → row ≤ a → a + 1 < length from + row
+    → ((k : ℕ) → k < length to → slice_index one k ≡ slice_index cells (a * length to + k)) → IsRowFrom turned t from to column a one
+row_from turned t from to cells one row column a few all low high is k l h = is k (omega arith) ∙ all.hops a k low high l h
+
+pub row_part : (turned : Bool) (t : Table) (from to one : List ℕ) (column a : ℕ) → column ≤ 1 → IsRow turned t from to a one → IsRowFrom turned t from to column a one
+row_part turned t from to one column a few is k l h = is k (omega arith)
+
 -- what a row knows of its costs, by numbers
 pub shift_tabled : (s : Setting) (view : ViewState) (mv : Move) (t : Table) (from to from_edges to_edges into out : List ℕ) (p m o at gained : ℕ)
     → IsSaving s view mv (shift_lost t from to p m o at) (shift_gained t from to p m o at)
     → 1 ≤ p → 1 ≤ m → p + m < length from → 1 ≤ at → at + o < length to
-    → AreEdges t from from_edges → AreEdges t to to_edges → IsRow true t from to p into → IsRow false t from to (p + m - 1) out
+    → AreEdges t from from_edges → AreEdges t to to_edges → IsRowFrom true t from to 0 p into → IsRowFrom false t from to 1 (p + m - 1) out
     → gained ≡ hop t (slice_index from (p - 1)) (slice_index from (p + m))
     → IsSaving s view mv (slice_index from_edges (p - 1) + slice_index from_edges (p + m - 1) + slice_index to_edges (at + o - 1))
     (gained + slice_index into (at + o - 1) + slice_index out (at + o))
@@ -52,8 +71,8 @@ shift_tabled s view mv t from to from_edges to_edges into out p m o at gained sa
     let x1 = edge_at t from from_edges p fe lp (omega arith) in
     let x2 = edge_at t from from_edges (p + m) fe (omega arith) hp in
     let x3 = edge_at t to to_edges (at + o) te (omega arith) ha in
-    let x4 = i (at + o - 1) (omega arith) in
-    let x5 = u (at + o) ha in
+    let x4 = i (at + o - 1) (omega arith) (omega arith) in
+    let x5 = u (at + o) (omega arith) (omega arith) in
     let y3 : hop t (slice_index to (at - 1 + o)) (slice_index to (at + o)) ≡ hop t (slice_index to (at + o - 1)) (slice_index to (at + o)) = ap (λ (n : ℕ). hop t (slice_index to n) (slice_index to (at + o))) z in
     let y4 : hop t (slice_index to (at - 1 + o)) (slice_index from p) ≡ hop t (slice_index to (at + o - 1)) (slice_index from p) = ap (λ (n : ℕ). hop t (slice_index to n) (slice_index from p)) z in
     omega arith
@@ -61,8 +80,8 @@ shift_tabled s view mv t from to from_edges to_edges into out p m o at gained sa
 pub swap_tabled : (s : Setting) (view : ViewState) (mv : Move) (t : Table) (from to from_edges to_edges before here next back : List ℕ) (p q : ℕ)
     → IsSaving s view mv (swap_lost t from to p q) (swap_gained t from to p q)
     → 1 ≤ p → p + 1 < length from → 1 ≤ q → q + 1 < length to
-    → AreEdges t from from_edges → AreEdges t to to_edges → IsRow false t from to (p - 1) before → IsRow false t from to p here
-    → IsRow true t from to (p + 1) next → IsRow true t from to p back
+    → AreEdges t from from_edges → AreEdges t to to_edges → IsRowFrom false t from to 1 (p - 1) before → IsRowFrom false t from to 1 p here
+    → IsRowFrom true t from to 0 (p + 1) next → IsRowFrom true t from to 0 p back
     → IsSaving s view mv (slice_index from_edges (p - 1) + slice_index from_edges p + slice_index to_edges (q - 1) + slice_index to_edges q)
     (slice_index before q + slice_index next q + slice_index back (q - 1) + slice_index here (q + 1))
 swap_tabled s view mv t from to from_edges to_edges before here next back p q saving lp hp lq hq fe te b h n k =
@@ -72,10 +91,10 @@ swap_tabled s view mv t from to from_edges to_edges before here next back p q sa
     let x2 = fe.hops p (omega arith) in
     let x3 = edge_at t to to_edges q te lq (omega arith) in
     let x4 = te.hops q (omega arith) in
-    let x5 = b q (omega arith) in
-    let x6 = n q (omega arith) in
-    let x7 = k (q - 1) (omega arith) in
-    let x8 = h (q + 1) hq in
+    let x5 = b q (omega arith) (omega arith) in
+    let x6 = n q (omega arith) (omega arith) in
+    let x7 = k (q - 1) (omega arith) (omega arith) in
+    let x8 = h (q + 1) (omega arith) (omega arith) in
     omega arith
 
 pub next_tabled : (s : Setting) (view : ViewState) (mv : Move) (t : Table) (from edges before here back : List ℕ) (p : ℕ)
@@ -97,15 +116,15 @@ next_tabled s view mv t from edges before here back p saving lp hp fe b h k =
 
 pub cross_tabled : (s : Setting) (view : ViewState) (mv : Move) (t : Table) (from to from_edges to_edges here next : List ℕ) (k l : ℕ)
     → IsSaving s view mv (cross_lost t from to k l) (cross_gained t from to k l) → k + 1 < length from → l + 1 < length to
-    → AreEdges t from from_edges → AreEdges t to to_edges → IsRow false t from to k here → IsRow true t from to (k + 1) next
+    → AreEdges t from from_edges → AreEdges t to to_edges → IsRowFrom false t from to 1 k here → IsRowFrom true t from to 0 (k + 1) next
     → IsSaving s view mv (slice_index from_edges k + slice_index to_edges l) (slice_index here (l + 1) + slice_index next l)
 cross_tabled s view mv t from to from_edges to_edges here next k l saving hk hl fe te h n =
     let fc = fe.counted in
     let tc = te.counted in
     let x1 = fe.hops k (omega arith) in
     let x2 = te.hops l (omega arith) in
-    let x3 = h (l + 1) hl in
-    let x4 = n l (omega arith) in
+    let x3 = h (l + 1) (omega arith) (omega arith) in
+    let x4 = n l (omega arith) (omega arith) in
     omega arith
 
 pub reverse_tabled : (s : Setting) (view : ViewState) (mv : Move) (t : Table) (from edges sums back_sums before here : List ℕ) (i j : ℕ)

@@ -2,7 +2,7 @@
 use Rattle.std.specs.Prelude.{ℕ, ◌*◌, ◌≤◌, ◌^◌, true, false, List, length, All}
 use Rattle.callback_store.specs.Tables.{Table, table_at}
 use Rattle.dimension_core.specs.Setting.{Setting}
-use Rattle.neighbourhood.specs.Ways.{AreStops, AreEdges, AreHops, AreSums}
+use Rattle.neighbourhood.specs.Ways.{AreStops, AreEdges, AreHops, AreHopsFrom, AreSums}
 
 -- of a vehicle: its stops, the ways from each to the next, and a number that none of these is above
 pub record SideState : Type 0 where
@@ -23,6 +23,11 @@ pub record TwoWays : Type 0 where
 pub record AreTwoWays (t : Table) (from to : List ℕ) (ways : TwoWays) : Type 0 where
   pub out : AreHops false t from to (length from * length to) ways.out
   pub into : AreHops true t from to (length from * length to) ways.into
+
+-- the same as moves between two vehicles need them: none goes from the last stop of one or to the first of the other
+pub record AreWaysBetween (t : Table) (from to : List ℕ) (ways : TwoWays) : Type 0 where
+  pub out : AreHopsFrom false t from to 0 1 ways.out
+  pub into : AreHopsFrom true t from to 1 0 ways.into
 
 -- the ways along some stops: from each to the next, a number that none of these is above, and those over the first ones, as they are
 -- driven and driven back

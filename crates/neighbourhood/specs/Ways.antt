@@ -45,6 +45,12 @@ pub record AreHops (turned : Bool) (t : Table) (from to : List ℕ) (n : ℕ) (c
   pub counted : length cells ≡ n
   pub hops : (a b : ℕ) → b < length to → a * length to + b < n → slice_index cells (a * length to + b) ≡ hop_by turned t (slice_index from a) (slice_index to b)
 
+-- the ways from some stops to others, row by row, or back, from a row and a column on, without the last ones where these are the first
+pub record AreHopsFrom (turned : Bool) (t : Table) (from to : List ℕ) (row column : ℕ) (cells : List ℕ) : Type 0 where
+  pub counted : length cells ≡ length from * length to
+  pub hops : (a b : ℕ) → row ≤ a → a + 1 < length from + row → column ≤ b → b + 1 < length to + column
+      → slice_index cells (a * length to + b) ≡ hop_by turned t (slice_index from a) (slice_index to b)
+
 -- the ways from each stop to the next
 pub record AreEdges (t : Table) (stops : List ℕ) (edges : List ℕ) : Type 0 where
   pub counted : length edges + 1 ≡ length stops

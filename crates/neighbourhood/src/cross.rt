@@ -10,7 +10,7 @@ ghost use Rattle.neighbourhood.specs.Best.{Counts};
 ghost use Rattle.neighbourhood.specs.Kept.{AreKept};
 ghost use Rattle.neighbourhood.specs.Laws.{Laws};
 ghost use Rattle.neighbourhood.specs.Search.{IsBestSoFar, IsSaving};
-ghost use Rattle.neighbourhood.specs.Ways.{AreStops, AreEdges, AreHops};
+ghost use Rattle.neighbourhood.specs.Ways.{AreStops, AreEdges, AreHopsFrom};
 
 use crate::allowed::must_keep;
 use crate::best::better;
@@ -138,8 +138,8 @@ fn cross_over(
     requires from_edges { AreEdges (table_at (setting setup.now).tables (setting setup.now).cost) from.now from_edges.now }
     requires to_edges { AreEdges (table_at (setting setup.now).tables (setting setup.now).cost) to.now to_edges.now }
     requires most { All (λ x. x ≤ most) to_edges.now }
-    requires out { AreHops false (table_at (setting setup.now).tables (setting setup.now).cost) from.now to.now (length from.now * length to.now) out.now }
-    requires into { AreHops true (table_at (setting setup.now).tables (setting setup.now).cost) from.now to.now (length from.now * length to.now) into.now }
+    requires out { AreHopsFrom false (table_at (setting setup.now).tables (setting setup.now).cost) from.now to.now 0 1 out.now }
+    requires into { AreHopsFrom true (table_at (setting setup.now).tables (setting setup.now).cost) from.now to.now 1 0 into.now }
     requires best { IsBestSoFar (scope bounded (setting setup.now)) view.now skip.now v w (4 ∷ v ∷ keep ∷ w ∷ 0 ∷ []) best }
     ensures { IsBestSoFar (scope bounded (setting setup.now)) view.now skip.now v w (4 ∷ v ∷ keep ∷ w ∷ (length to.now - 1) ∷ []) result }
 {
@@ -188,8 +188,8 @@ pub(crate) fn best_cross(
     requires from_edges { AreEdges (table_at (setting setup.now).tables (setting setup.now).cost) from.now from_edges.now }
     requires to_edges { AreEdges (table_at (setting setup.now).tables (setting setup.now).cost) to.now to_edges.now }
     requires most { All (λ x. x ≤ most) to_edges.now }
-    requires out { AreHops false (table_at (setting setup.now).tables (setting setup.now).cost) from.now to.now (length from.now * length to.now) out.now }
-    requires into { AreHops true (table_at (setting setup.now).tables (setting setup.now).cost) from.now to.now (length from.now * length to.now) into.now }
+    requires out { AreHopsFrom false (table_at (setting setup.now).tables (setting setup.now).cost) from.now to.now 0 1 out.now }
+    requires into { AreHopsFrom true (table_at (setting setup.now).tables (setting setup.now).cost) from.now to.now 1 0 into.now }
     requires best { IsBestSoFar (scope bounded (setting setup.now)) view.now skip.now v w (4 ∷ []) best }
     ensures { IsBestSoFar (scope bounded (setting setup.now)) view.now skip.now v w (5 ∷ []) result }
 {

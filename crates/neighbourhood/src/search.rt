@@ -7,7 +7,7 @@ ghost use Rattle.neighbourhood.specs.Best.{IsBest, IsIdle};
 ghost use Rattle.neighbourhood.specs.Kept.{AreKept};
 ghost use Rattle.neighbourhood.specs.Laws.{Laws};
 ghost use Rattle.neighbourhood.specs.Scope.{scope};
-ghost use Rattle.neighbourhood.specs.Sides.{IsSide, AreTwoWays, IsAlong};
+ghost use Rattle.neighbourhood.specs.Sides.{IsSide, AreTwoWays, AreWaysBetween, IsAlong};
 ghost use Rattle.neighbourhood.specs.Ways.{AreStops};
 
 use crate::allowed::allows;
@@ -144,7 +144,7 @@ fn best_of_two(
     requires apart { v ≢ w }
     requires from { IsSide (setting setup.now) view.now.routes v from.now }
     requires to { IsSide (setting setup.now) view.now.routes w to.now }
-    requires ways { AreTwoWays (table_at (setting setup.now).tables (setting setup.now).cost) from.now.stops to.now.stops ways.now }
+    requires ways { AreWaysBetween (table_at (setting setup.now).tables (setting setup.now).cost) from.now.stops to.now.stops ways.now }
     requires v_kept { AreKept (setting setup.now) view.now.routes v w v_kept.now }
     requires w_kept { AreKept (setting setup.now) view.now.routes w v w_kept.now }
     ensures { MatchOption result (IsIdle (scope bounded (setting setup.now)) view.now skip.now v w) (λ p. IsBest (scope bounded (setting setup.now)) view.now skip.now v w p.0 p.1) }

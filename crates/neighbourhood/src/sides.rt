@@ -4,12 +4,12 @@ ghost use Rattle.std.specs.Prelude.{◌≡◌, ◌≤◌, ◌*◌, ◌∷◌, �
 ghost use Rattle.callback_store.specs.Tables.{table_at};
 ghost use Rattle.dimension_core.specs.Setup.{setting};
 ghost use Rattle.neighbourhood.specs.Laws.{Laws};
-ghost use Rattle.neighbourhood.specs.Sides.{IsSide, AreTwoWays, IsAlong};
+ghost use Rattle.neighbourhood.specs.Sides.{IsSide, AreTwoWays, AreWaysBetween, IsAlong};
 ghost use Rattle.neighbourhood.specs.View.{IsViewOf};
 ghost use Rattle.neighbourhood.specs.Ways.{AreHops};
 
 use crate::hops::stops_of;
-use crate::table::{edges_in, edges_of, most_of, sums_in, table_of, turned_of};
+use crate::table::{edges_in, edges_of, most_of, sums_in, table_of, turned_of, ways_from};
 use callback_store::Meter;
 use dimension_core::Setup;
 use pin_core::View;
@@ -83,7 +83,7 @@ pub(crate) fn side_of(
     Ok(Side { stops, edges, most })
 }
 
-/// The ways from some stops to others, and back.
+/// The ways from some stops to others, and back, that moves between two vehicles go.
 pub(crate) fn ways_between(
     alloc: Global,
     setup: &Setup,
@@ -93,11 +93,12 @@ pub(crate) fn ways_between(
 ) -> Result<Ways, AllocError>
     requires from { All (λ c. c ≤ (setting setup.now).customers) from.now }
     requires to { All (λ c. c ≤ (setting setup.now).customers) to.now }
+    requires some { (1 ≤ length from.now) × (1 ≤ length to.now) }
     requires short { (length from.now ≤ 1002) × (length to.now ≤ 1002) }
-    ensures { IfOk result (λ ways. AreTwoWays (table_at (setting setup.now).tables (setting setup.now).cost) from.now to.now ways) }
+    ensures { IfOk result (λ ways. AreWaysBetween (table_at (setting setup.now).tables (setting setup.now).cost) from.now to.now ways) }
 {
-    let out = table_of(alloc, setup, false, from, to, meter)?;
-    let into = table_of(alloc, setup, true, from, to, meter)?;
+    let out = ways_from(alloc, setup, false, from, to, 0, 1, meter)?;
+    let into = ways_from(alloc, setup, true, from, to, 1, 0, meter)?;
     Ok(Ways { out, into })
 }
 

@@ -1,8 +1,8 @@
 //! What the ways between stops cost, asked once and kept.
-ghost use Rattle.std.specs.Prelude.{◌≡◌, ◌≤◌, ◌<◌, ◌+◌, ◌*◌, ◌^◌, ◌∷◌, ◌==◌, if◌then◌else◌, ℕ, true, false, List, length, slice_index, All, IfOk};
+ghost use Rattle.std.specs.Prelude.{◌≡◌, ◌≤◌, ◌<◌, ◌+◌, ◌-◌, ◌*◌, ◌^◌, ◌∷◌, ◌==◌, if◌then◌else◌, ℕ, true, false, List, length, slice_index, take, drop, All, IfOk};
 ghost use Rattle.callback_store.specs.Tables.{table_at};
 ghost use Rattle.dimension_core.specs.Setup.{setting};
-ghost use Rattle.neighbourhood.specs.Ways.{entry_by, hop_by, AreHops, AreEdges, AreSums};
+ghost use Rattle.neighbourhood.specs.Ways.{entry_by, hop_by, AreHops, AreHopsFrom, AreEdges, AreSums};
 
 use crate::hops::hop;
 use callback_store::Meter;
@@ -117,6 +117,51 @@ pub(crate) fn table_of(
             to,
             cells.as_mut_slice(),
             i * width,
+            meter,
+        );
+    }
+    Ok(cells)
+}
+
+/// Some stops without the last one, or without the first one.
+#[inline(always)]
+fn all_but_one(stops: &[u32], begin: usize) -> &[u32]
+    requires begin { begin ≤ 1 }
+    requires some { 1 ≤ length stops.now }
+    ensures { result.now ≡ take (length stops.now - 1) (drop begin stops.now) }
+{
+    &stops[begin..begin + stops.len() - 1]
+}
+
+/// The same but for a row and a column: rows from one on and columns from one on are filled in, 0 or 1, one fewer than there are.
+pub(crate) fn ways_from(
+    alloc: Global,
+    setup: &Setup,
+    turned: bool,
+    from: &[u32],
+    to: &[u32],
+    first: usize,
+    column: usize,
+    meter: &mut Meter,
+) -> Result<Vec<u32>, AllocError>
+    requires from { All (λ c. c ≤ (setting setup.now).customers) from.now }
+    requires to { All (λ c. c ≤ (setting setup.now).customers) to.now }
+    requires some { (1 ≤ length from.now) × (1 ≤ length to.now) }
+    requires short { (length from.now ≤ 1002) × (length to.now ≤ 1002) }
+    requires begin { (first ≤ 1) × (column ≤ 1) }
+    ensures { IfOk result (λ cells. AreHopsFrom turned (table_at (setting setup.now).tables (setting setup.now).cost) from.now to.now first column cells.items) }
+{
+    let width = to.len();
+    let asked = all_but_one(to, column);
+    let mut cells = vec![in alloc; UNFILLED; from.len() * width]?;
+    for i in first..first + from.len() - 1 {
+        fill_at(
+            setup,
+            turned,
+            from[i],
+            asked,
+            cells.as_mut_slice(),
+            i * width + column,
             meter,
         );
     }

@@ -6,14 +6,14 @@ use Rattle.move_core.specs.declared.moves.Move.TheVariants.{Cross}
 use Rattle.neighbourhood.specs.Scope.{scope}
 use Rattle.neighbourhood.specs.Search.{IsBestSoFar}
 use Rattle.neighbourhood.proofs.Possible.{cross_can}
-use Rattle.neighbourhood.proofs.Tabled.{row_of, row_room, cross_by, cross_tabled}
+use Rattle.neighbourhood.proofs.Tabled.{row_from, room_from, cross_by, cross_tabled}
 use Rattle.neighbourhood.proofs.Orders.{cross_none}
 use Rattle.neighbourhood.proofs.Rows.{crosses_past}
 use Rattle.neighbourhood.proofs.cross.cross_over.Goals.{then-last, else-last}
 use Rattle.neighbourhood.proofs.cross.cross_over.Goals as goal
 
 pub row-next-requires : goal.row-next-requires
-row-next-requires g c = record { high = row_room true (table_at (setting c.args.setup.now).tables (setting c.args.setup.now).cost) c.args.from.now c.args.to.now c.args.into.now (c.args.keep + 1) c.requires.into (let p = c.requires.keep in omega arith) }
+row-next-requires g c = record { high = room_from true (table_at (setting c.args.setup.now).tables (setting c.args.setup.now).cost) c.args.from.now c.args.to.now c.args.into.now 1 0 (c.args.keep + 1) c.requires.into (let p = c.requires.keep in omega arith) }
 
 pub cross_row-requires-clause-possible : goal.cross_row-requires-clause-possible
 cross_row-requires-clause-possible g c =
@@ -54,8 +54,8 @@ cross_row-requires-clause-saving g c =
     let saving = cross_by r.laws s c.args.view.now c.args.v c.args.keep c.args.w l c.args.from.now c.args.to.now r.view.plan r.from r.to can in
     rw (f) (cross_tabled s c.args.view.now (Cross c.args.v c.args.keep c.args.w l) t c.args.from.now c.args.to.now c.args.from_edges.now c.args.to_edges.now
     c.row-here.result.now c.row-next.result.now c.args.keep l saving fit few r.from_edges r.to_edges
-    (row_of false t c.args.from.now c.args.to.now c.args.out.now c.row-here.result.now c.args.keep r.out (omega arith) c.row-here.ensures.cells)
-    (row_of true t c.args.from.now c.args.to.now c.args.into.now c.row-next.result.now (c.args.keep + 1) r.into (omega arith) c.row-next.ensures.cells))
+    (row_from false t c.args.from.now c.args.to.now c.args.out.now c.row-here.result.now 0 1 c.args.keep (omega arith) r.out (omega arith) (omega arith) c.row-here.ensures.cells)
+    (row_from true t c.args.from.now c.args.to.now c.args.into.now c.row-next.result.now 1 0 (c.args.keep + 1) (omega arith) r.into (omega arith) (omega arith) c.row-next.ensures.cells))
 
 pub returns : goal.returns
 returns g c =

@@ -8,7 +8,7 @@ use Rattle.neighbourhood.proofs.Scoping.{view_within}
 use Rattle.neighbourhood.proofs.Possible.{shift_can}
 use Rattle.neighbourhood.proofs.Shifts.{shifts_past}
 use Rattle.neighbourhood.proofs.Still.{shift_free}
-use Rattle.neighbourhood.proofs.Tabled.{row_of, shift_by, shift_tabled}
+use Rattle.neighbourhood.proofs.Tabled.{row_from, shift_by, shift_tabled}
 use Rattle.neighbourhood.proofs.shift.shift_over.Goals as goal
 
 pub shift_row-requires-clause-possible : goal.shift_row-requires-clause-possible
@@ -38,8 +38,8 @@ shift_row-requires-clause-saving g c =
     let saving = shift_by r.laws s c.args.view.now c.args.v c.args.place c.args.count c.args.w at c.args.from.now c.args.to.now r.view.plan r.apart r.from r.to can in
     rw (f, f2) (shift_tabled s c.args.view.now (Shift c.args.v c.args.place c.args.count c.args.w at) t c.args.from.now c.args.to.now c.args.from_edges.now c.args.to_edges.now c.row-comes.result.now c.row-goes.result.now
     c.args.place c.args.count 0 at c.hop-gained.result saving low some fit (omega arith) (omega arith) r.from_edges r.to_edges
-    (row_of true t c.args.from.now c.args.to.now c.args.into.now c.row-comes.result.now c.args.place r.into (omega arith) c.row-comes.ensures.cells)
-    (row_of false t c.args.from.now c.args.to.now c.args.out.now c.row-goes.result.now (c.args.place + c.args.count - 1) r.out (omega arith) c.row-goes.ensures.cells)
+    (row_from true t c.args.from.now c.args.to.now c.args.into.now c.row-comes.result.now 1 0 c.args.place (omega arith) r.into (omega arith) (omega arith) c.row-comes.ensures.cells)
+    (row_from false t c.args.from.now c.args.to.now c.args.out.now c.row-goes.result.now 0 1 (c.args.place + c.args.count - 1) (omega arith) r.out (omega arith) (omega arith) c.row-goes.ensures.cells)
     c.hop-gained.ensures.value)
 
 pub returns-then-not-may_leave : goal.returns-then-not-may_leave
@@ -84,8 +84,8 @@ returns-then-lost-from g c =
     let saving = shift_by r.laws s c.args.view.now c.args.v c.args.place c.args.count c.args.w at c.args.from.now c.args.to.now r.view.plan r.apart r.from r.to can in
     let tabled = shift_tabled s c.args.view.now (Shift c.args.v c.args.place c.args.count c.args.w at) t c.args.from.now c.args.to.now c.args.from_edges.now c.args.to_edges.now c.row-comes.result.now c.row-goes.result.now
     c.args.place c.args.count 0 at (hop t (slice_index c.args.from.now (c.args.place - 1)) (slice_index c.args.from.now (c.args.place + c.args.count))) saving low some fit (omega arith) (omega arith) r.from_edges r.to_edges
-    (row_of true t c.args.from.now c.args.to.now c.args.into.now c.row-comes.result.now c.args.place r.into (omega arith) c.row-comes.ensures.cells)
-    (row_of false t c.args.from.now c.args.to.now c.args.out.now c.row-goes.result.now (c.args.place + c.args.count - 1) r.out (omega arith) c.row-goes.ensures.cells)
+    (row_from true t c.args.from.now c.args.to.now c.args.into.now c.row-comes.result.now 1 0 c.args.place (omega arith) r.into (omega arith) (omega arith) c.row-comes.ensures.cells)
+    (row_from false t c.args.from.now c.args.to.now c.args.out.now c.row-goes.result.now 0 1 (c.args.place + c.args.count - 1) (omega arith) r.out (omega arith) (omega arith) c.row-goes.ensures.cells)
     refl in
     let dearest = r.most (at + 0 - 1) 0 (omega arith) in
     omega arith)

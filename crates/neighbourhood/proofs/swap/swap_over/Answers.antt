@@ -7,14 +7,14 @@ use Rattle.neighbourhood.proofs.Scoping.{view_within}
 use Rattle.neighbourhood.proofs.Possible.{swap_can}
 use Rattle.neighbourhood.proofs.Rows.{swaps_past}
 use Rattle.neighbourhood.proofs.Still.{swap_free}
-use Rattle.neighbourhood.proofs.Tabled.{row_of, row_room, swap_by, swap_tabled}
+use Rattle.neighbourhood.proofs.Tabled.{row_from, room_from, swap_by, swap_tabled}
 use Rattle.neighbourhood.proofs.swap.swap_over.Goals as goal
 
 pub row-next-requires : goal.row-next-requires
-row-next-requires g c = record { high = row_room true (table_at (setting c.args.setup.now).tables (setting c.args.setup.now).cost) c.args.from.now c.args.to.now c.args.into.now (c.args.place + 1) c.requires.into (let p = c.requires.place.1 in omega arith) }
+row-next-requires g c = record { high = room_from true (table_at (setting c.args.setup.now).tables (setting c.args.setup.now).cost) c.args.from.now c.args.to.now c.args.into.now 1 0 (c.args.place + 1) c.requires.into (let p = c.requires.place.1 in omega arith) }
 
 pub row-back-requires : goal.row-back-requires
-row-back-requires g c = record { high = row_room true (table_at (setting c.args.setup.now).tables (setting c.args.setup.now).cost) c.args.from.now c.args.to.now c.args.into.now c.args.place c.requires.into (let p = c.requires.place.1 in omega arith) }
+row-back-requires g c = record { high = room_from true (table_at (setting c.args.setup.now).tables (setting c.args.setup.now).cost) c.args.from.now c.args.to.now c.args.into.now 1 0 c.args.place c.requires.into (let p = c.requires.place.1 in omega arith) }
 
 pub swap_row-requires-clause-possible : goal.swap_row-requires-clause-possible
 swap_row-requires-clause-possible g c =
@@ -43,10 +43,10 @@ swap_row-requires-clause-saving g c =
     rw (f, f2) (swap_tabled s c.args.view.now (Swap c.args.v c.args.place c.args.w at) t c.args.from.now c.args.to.now c.args.from_edges.now c.args.to_edges.now
     c.row-before.result.now c.row-here.result.now c.row-next.result.now c.row-back.result.now
     c.args.place at saving low fit (omega arith) (omega arith) r.from_edges r.to_edges
-    (row_of false t c.args.from.now c.args.to.now c.args.out.now c.row-before.result.now (c.args.place - 1) r.out (omega arith) c.row-before.ensures.cells)
-    (row_of false t c.args.from.now c.args.to.now c.args.out.now c.row-here.result.now c.args.place r.out (omega arith) c.row-here.ensures.cells)
-    (row_of true t c.args.from.now c.args.to.now c.args.into.now c.row-next.result.now (c.args.place + 1) r.into (omega arith) c.row-next.ensures.cells)
-    (row_of true t c.args.from.now c.args.to.now c.args.into.now c.row-back.result.now c.args.place r.into (omega arith) c.row-back.ensures.cells))
+    (row_from false t c.args.from.now c.args.to.now c.args.out.now c.row-before.result.now 0 1 (c.args.place - 1) (omega arith) r.out (omega arith) (omega arith) c.row-before.ensures.cells)
+    (row_from false t c.args.from.now c.args.to.now c.args.out.now c.row-here.result.now 0 1 c.args.place (omega arith) r.out (omega arith) (omega arith) c.row-here.ensures.cells)
+    (row_from true t c.args.from.now c.args.to.now c.args.into.now c.row-next.result.now 1 0 (c.args.place + 1) (omega arith) r.into (omega arith) (omega arith) c.row-next.ensures.cells)
+    (row_from true t c.args.from.now c.args.to.now c.args.into.now c.row-back.result.now 1 0 c.args.place (omega arith) r.into (omega arith) (omega arith) c.row-back.ensures.cells))
 
 pub returns-then-not-may_leave : goal.returns-then-not-may_leave
 returns-then-not-may_leave g c =

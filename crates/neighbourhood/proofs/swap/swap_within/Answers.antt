@@ -8,7 +8,7 @@ use Rattle.neighbourhood.proofs.Scoping.{view_within}
 use Rattle.neighbourhood.proofs.Possible.{swap_can}
 use Rattle.neighbourhood.proofs.Rows.{swaps_past}
 use Rattle.neighbourhood.proofs.Still.{swap_inside_free}
-use Rattle.neighbourhood.proofs.Tabled.{row_of, row_room, swap_inside_by, swap_tabled}
+use Rattle.neighbourhood.proofs.Tabled.{row_of, row_part, row_room, swap_inside_by, swap_tabled}
 use Rattle.neighbourhood.proofs.swap.swap_within.Goals as goal
 
 pub row-next-requires : goal.row-next-requires
@@ -44,10 +44,10 @@ swap_row-requires-clause-saving g c =
     rw (f, f2) (swap_tabled s c.args.view.now (Swap c.args.v c.args.place c.args.v at) t c.args.from.now c.args.from.now c.args.edges.now c.args.edges.now
     c.row-before.result.now c.row-here.result.now c.row-next.result.now c.row-back.result.now
     c.args.place at saving low fit (omega arith) (omega arith) r.edges r.edges
-    (row_of false t c.args.from.now c.args.from.now c.args.out.now c.row-before.result.now (c.args.place - 1) r.out (omega arith) c.row-before.ensures.cells)
-    (row_of false t c.args.from.now c.args.from.now c.args.out.now c.row-here.result.now c.args.place r.out (omega arith) c.row-here.ensures.cells)
-    (row_of true t c.args.from.now c.args.from.now c.args.into.now c.row-next.result.now (c.args.place + 1) r.into (omega arith) c.row-next.ensures.cells)
-    (row_of true t c.args.from.now c.args.from.now c.args.into.now c.row-back.result.now c.args.place r.into (omega arith) c.row-back.ensures.cells))
+    (row_part false t c.args.from.now c.args.from.now c.row-before.result.now 1 (c.args.place - 1) (omega arith) (row_of false t c.args.from.now c.args.from.now c.args.out.now c.row-before.result.now (c.args.place - 1) r.out (omega arith) c.row-before.ensures.cells))
+    (row_part false t c.args.from.now c.args.from.now c.row-here.result.now 1 c.args.place (omega arith) (row_of false t c.args.from.now c.args.from.now c.args.out.now c.row-here.result.now c.args.place r.out (omega arith) c.row-here.ensures.cells))
+    (row_part true t c.args.from.now c.args.from.now c.row-next.result.now 0 (c.args.place + 1) (omega arith) (row_of true t c.args.from.now c.args.from.now c.args.into.now c.row-next.result.now (c.args.place + 1) r.into (omega arith) c.row-next.ensures.cells))
+    (row_part true t c.args.from.now c.args.from.now c.row-back.result.now 0 c.args.place (omega arith) (row_of true t c.args.from.now c.args.from.now c.args.into.now c.row-back.result.now c.args.place r.into (omega arith) c.row-back.ensures.cells)))
 
 pub returns-then-place-first_free : goal.returns-then-place-first_free
 returns-then-place-first_free g c =
