@@ -13,6 +13,7 @@ pub mod Meeting
 pub mod Allowing
 pub mod Between
 pub mod Inside
+pub mod Joined
 pub mod Cells
 pub mod Possible
 pub mod Tabled

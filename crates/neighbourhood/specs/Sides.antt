@@ -1,19 +1,22 @@
 -- What is gathered before a search: the stops of the vehicles, and what the ways between them cost.
-use Rattle.std.specs.Prelude.{ℕ, ◌*◌, ◌≤◌, ◌^◌, true, false, List, length, All}
+use Rattle.std.specs.Prelude.{◌≡◌, ℕ, ◌*◌, ◌≤◌, ◌^◌, true, false, List, ◌∷◌, ◌++◌, length, All}
 use Rattle.callback_store.specs.Tables.{Table, table_at}
 use Rattle.dimension_core.specs.Setting.{Setting}
-use Rattle.neighbourhood.specs.Ways.{AreStops, AreEdges, AreHops, AreHopsFrom, AreSums}
+use Rattle.plan_core.specs.Plan.{route_at}
+use Rattle.neighbourhood.specs.Ways.{stops, AreEdges, AreHops, AreHopsFrom, AreSums}
 
--- of a vehicle: its stops, the ways from each to the next, and a number that none of these is above
-pub record SideState : Type 0 where
+-- the stops of two vehicles, one after the other: the depot between them is the last stop of the one and the first of the other
+abbrev pub stops_of_both : List ℕ → List ℕ → List ℕ
+stops_of_both r q = 0 ∷ (stops r ++ stops q)
+
+-- of two vehicles: their stops, and the ways from each to the next
+pub record SidesState : Type 0 where
   pub stops : List ℕ
   pub edges : List ℕ
-  pub most : ℕ
 
-pub record IsSide (s : Setting) (routes : List (List ℕ)) (v : ℕ) (side : SideState) : Type 0 where
-  pub stops : AreStops s.customers routes v side.stops
-  pub edges : AreEdges (table_at s.tables s.cost) side.stops side.edges
-  pub most : All (λ x. x ≤ side.most) side.edges
+pub record AreSides (s : Setting) (routes : List (List ℕ)) (v w : ℕ) (sides : SidesState) : Type 0 where
+  pub stops : sides.stops ≡ stops_of_both (route_at routes v) (route_at routes w)
+  pub edges : AreEdges (table_at s.tables s.cost) sides.stops sides.edges
 
 -- the ways from some stops to others, and back
 pub record TwoWays : Type 0 where

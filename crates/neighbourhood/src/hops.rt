@@ -1,8 +1,10 @@
 //! What the ways between stops cost.
-ghost use Rattle.std.specs.Prelude.{◌≡◌, ◌+◌, ◌≤◌, ◌<◌, [], ◌∷◌, ◌++◌, length, IfOk};
+ghost use Rattle.std.specs.Prelude.{◌≡◌, ◌+◌, ◌≤◌, ◌<◌, [], ◌∷◌, ◌++◌, length, All, IfOk};
 ghost use Rattle.callback_store.specs.Tables.{table_at};
 ghost use Rattle.dimension_core.specs.Setup.{setting};
+ghost use Rattle.plan_core.specs.Plan.{route_at};
 ghost use Rattle.neighbourhood.specs.Laws.{Laws};
+ghost use Rattle.neighbourhood.specs.Sides.{stops_of_both};
 ghost use Rattle.neighbourhood.specs.View.{IsViewOf};
 ghost use Rattle.neighbourhood.specs.Ways.{hop, AreStops};
 
@@ -44,6 +46,32 @@ pub(crate) fn stops_of(
     let mut all = Vec::with_capacity(alloc, customers.len() + 2)?;
     all.push(0)?;
     all.extend_from_slice(customers)?;
+    all.push(0)?;
+    Ok(all)
+}
+
+/// The stops of two vehicles, one after the other: the depot, the customers of one, the depot, those of the other, the depot.
+pub(crate) fn stops_of_both(
+    alloc: Global,
+    view: &View,
+    setup: &Setup,
+    v: u32,
+    w: u32,
+) -> Result<Vec<u32>, AllocError>
+    requires laws { Laws }
+    requires view { IsViewOf (setting setup.now) view.now }
+    requires v { (1 ≤ v) × (v ≤ (setting setup.now).vehicles) }
+    requires w { (1 ≤ w) × (w ≤ (setting setup.now).vehicles) }
+    ensures stops { IfOk result (λ all. all.items ≡ stops_of_both (route_at view.now.routes v) (route_at view.now.routes w)) }
+    ensures known { IfOk result (λ all. All (λ c. c ≤ (setting setup.now).customers) all.items) }
+{
+    let _customers = setup.customers();
+    let (first, second) = (view.customers(v), view.customers(w));
+    let mut all = Vec::with_capacity(alloc, first.len() + second.len() + 3)?;
+    all.push(0)?;
+    all.extend_from_slice(first)?;
+    all.push(0)?;
+    all.extend_from_slice(second)?;
     all.push(0)?;
     Ok(all)
 }

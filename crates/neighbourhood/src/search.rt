@@ -1,5 +1,5 @@
 //! The best move.
-ghost use Rattle.std.specs.Prelude.{◌≡◌, ◌≢◌, ◌≤◌, false, IfOk, IsTrue, MatchOption};
+ghost use Rattle.std.specs.Prelude.{◌≡◌, ◌≢◌, ◌≤◌, false, All, IfOk, IsTrue, MatchOption};
 ghost use Rattle.callback_store.specs.Tables.{table_at};
 ghost use Rattle.dimension_core.specs.Setup.{setting};
 ghost use Rattle.neighbourhood.specs.View.{IsViewOf};
@@ -7,8 +7,8 @@ ghost use Rattle.neighbourhood.specs.Best.{IsBest, IsIdle};
 ghost use Rattle.neighbourhood.specs.Kept.{AreKept};
 ghost use Rattle.neighbourhood.specs.Laws.{Laws};
 ghost use Rattle.neighbourhood.specs.Scope.{scope};
-ghost use Rattle.neighbourhood.specs.Sides.{IsSide, AreTwoWays, AreWaysBetween, IsAlong};
-ghost use Rattle.neighbourhood.specs.Ways.{AreStops};
+ghost use Rattle.neighbourhood.specs.Sides.{AreTwoWays, AreWaysBetween, IsAlong};
+ghost use Rattle.neighbourhood.specs.Ways.{AreStops, AreEdges};
 
 use crate::allowed::allows;
 use crate::cross::best_cross;
@@ -17,8 +17,9 @@ use crate::kept::{Kept, kept_alone, kept_between, nothing_kept};
 use crate::laws::laws_below;
 use crate::reverse::best_reverse;
 use crate::shift::{best_shift, best_shift_inside};
-use crate::sides::{Along, Side, Ways, along_of, side_of, ways_among, ways_between};
+use crate::sides::{Along, Ways, along_of, parts_of, sides_of, ways_among, ways_between};
 use crate::swap::{best_swap, best_swap_inside};
+use crate::table::most_of;
 use callback_store::Meter;
 use dimension_core::Setup;
 use move_core::Move;
@@ -132,8 +133,11 @@ fn best_of_two(
     v: u32,
     w: u32,
     skip: &[Move],
-    from: &Side,
-    to: &Side,
+    from: &[u32],
+    to: &[u32],
+    from_edges: &[u32],
+    to_edges: &[u32],
+    most: u32,
     ways: &Ways,
     v_kept: &Kept,
     w_kept: &Kept,
@@ -142,27 +146,28 @@ fn best_of_two(
     requires laws { Laws }
     requires view { IsViewOf (setting setup.now) view.now }
     requires apart { v ≢ w }
-    requires from { IsSide (setting setup.now) view.now.routes v from.now }
-    requires to { IsSide (setting setup.now) view.now.routes w to.now }
-    requires ways { AreWaysBetween (table_at (setting setup.now).tables (setting setup.now).cost) from.now.stops to.now.stops ways.now }
+    requires from { AreStops (setting setup.now).customers view.now.routes v from.now }
+    requires to { AreStops (setting setup.now).customers view.now.routes w to.now }
+    requires from_edges { AreEdges (table_at (setting setup.now).tables (setting setup.now).cost) from.now from_edges.now }
+    requires to_edges { AreEdges (table_at (setting setup.now).tables (setting setup.now).cost) to.now to_edges.now }
+    requires most { All (λ x. x ≤ most) to_edges.now }
+    requires ways { AreWaysBetween (table_at (setting setup.now).tables (setting setup.now).cost) from.now to.now ways.now }
     requires v_kept { AreKept (setting setup.now) view.now.routes v w v_kept.now }
     requires w_kept { AreKept (setting setup.now) view.now.routes w v w_kept.now }
     ensures { MatchOption result (IsIdle (scope bounded (setting setup.now)) view.now skip.now v w) (λ p. IsBest (scope bounded (setting setup.now)) view.now skip.now v w p.0 p.1) }
 {
-    let (a, b) = (&from.stops, &to.stops);
-    let (a_edges, b_edges, most) = (&from.edges, &to.edges, to.most);
     let (out, into) = (&ways.out, &ways.into);
     let shifted = best_shift(
-        view, setup, bounded, skip, v, w, a, b, a_edges, b_edges, most, out, into, v_kept, w_kept,
-        None, meter,
+        view, setup, bounded, skip, v, w, from, to, from_edges, to_edges, most, out, into, v_kept,
+        w_kept, None, meter,
     );
     let swapped = best_swap(
-        view, setup, bounded, skip, v, w, a, b, a_edges, b_edges, most, out, into, v_kept, w_kept,
-        shifted, meter,
+        view, setup, bounded, skip, v, w, from, to, from_edges, to_edges, most, out, into, v_kept,
+        w_kept, shifted, meter,
     );
     best_cross(
-        view, setup, bounded, skip, v, w, a, b, a_edges, b_edges, most, out, into, v_kept, w_kept,
-        swapped, meter,
+        view, setup, bounded, skip, v, w, from, to, from_edges, to_edges, most, out, into, v_kept,
+        w_kept, swapped, meter,
     )
 }
 
@@ -183,13 +188,15 @@ fn best_between(
     ensures { IfOk result (λ best. MatchOption best (IsIdle (setting setup.now) view.now skip.now v w) (λ p. IsBest (setting setup.now) view.now skip.now v w p.0 p.1)) }
 {
     let mut meter = Meter::new();
-    let from = side_of(alloc, view, setup, v, &mut meter)?;
-    let to = side_of(alloc, view, setup, w, &mut meter)?;
-    let ways = ways_between(alloc, setup, &from.stops, &to.stops, &mut meter)?;
-    if are_few(from.stops.len(), to.stops.len()) {
+    let sides = sides_of(alloc, view, setup, v, w, &mut meter)?;
+    let (from, to, from_edges, to_edges) = parts_of(view, setup, v, w, &sides.stops, &sides.edges);
+    let most = most_of(to_edges);
+    let ways = ways_between(alloc, setup, from, to, &mut meter)?;
+    if are_few(from.len(), to.len()) {
         let none = nothing_kept(alloc);
         let found = best_of_two(
-            view, setup, false, v, w, skip, &from, &to, &ways, &none, &none, &mut meter,
+            view, setup, false, v, w, skip, from, to, from_edges, to_edges, most, &ways, &none,
+            &none, &mut meter,
         );
         if holds_up(view, setup, skip, v, w, &none, found, &mut meter) {
             return Ok(found);
@@ -198,7 +205,8 @@ fn best_between(
     let v_kept = kept_between(alloc, view, setup, v, w, &mut meter)?;
     let w_kept = kept_between(alloc, view, setup, w, v, &mut meter)?;
     Ok(best_of_two(
-        view, setup, true, v, w, skip, &from, &to, &ways, &v_kept, &w_kept, &mut meter,
+        view, setup, true, v, w, skip, from, to, from_edges, to_edges, most, &ways, &v_kept,
+        &w_kept, &mut meter,
     ))
 }
 

@@ -3,12 +3,13 @@
 ghost use Rattle.std.specs.Prelude.{◌≡◌, ◌≤◌, ◌*◌, ◌∷◌, ℕ, false, List, length, All, IfOk};
 ghost use Rattle.callback_store.specs.Tables.{table_at};
 ghost use Rattle.dimension_core.specs.Setup.{setting};
+ghost use Rattle.plan_core.specs.Plan.{route_at};
 ghost use Rattle.neighbourhood.specs.Laws.{Laws};
-ghost use Rattle.neighbourhood.specs.Sides.{IsSide, AreTwoWays, AreWaysBetween, IsAlong};
+ghost use Rattle.neighbourhood.specs.Sides.{AreSides, AreTwoWays, AreWaysBetween, IsAlong, stops_of_both};
 ghost use Rattle.neighbourhood.specs.View.{IsViewOf};
-ghost use Rattle.neighbourhood.specs.Ways.{AreHops};
+ghost use Rattle.neighbourhood.specs.Ways.{AreStops, AreEdges, AreHops};
 
-use crate::hops::stops_of;
+use crate::hops::stops_of_both;
 use crate::table::{edges_in, edges_of, most_of, sums_in, table_of, turned_of, ways_from};
 use callback_store::Meter;
 use dimension_core::Setup;
@@ -16,20 +17,19 @@ use pin_core::View;
 use std::alloc::{AllocError, Global};
 use std::marker::Model;
 
-/// A vehicle: its stops, the ways from each to the next, and the dearest of these.
+/// Two vehicles: their stops, one after the other, and the ways from each to the next.
 #[derive(Drop)]
-pub(crate) struct Side {
+pub(crate) struct Sides {
     pub(crate) stops: Vec<u32>,
     pub(crate) edges: Vec<u32>,
-    pub(crate) most: u32,
 }
 
-impl Model for Side {
-    ghost use Rattle.neighbourhood.specs.Sides.{SideState};
+impl Model for Sides {
+    ghost use Rattle.neighbourhood.specs.Sides.{SidesState};
 
-    ghost Value = { SideState };
+    ghost Value = { SidesState };
 
-    ghost view = { λ a. record { stops = a.stops.items; edges = a.edges.items; most = a.most } };
+    ghost view = { λ a. record { stops = a.stops.items; edges = a.edges.items } };
 }
 
 /// The ways from some stops to others, and back.
@@ -64,23 +64,53 @@ impl Model for Along {
     ghost view = { λ a. record { edges = a.edges.items; most = a.most; sums = a.sums.items; back_sums = a.back_sums.items } };
 }
 
-/// The stops of a vehicle, and the ways from each to the next.
-pub(crate) fn side_of(
+/// The stops of two vehicles, and the ways from each to the next.
+pub(crate) fn sides_of(
     alloc: Global,
     view: &View,
     setup: &Setup,
     v: u32,
+    w: u32,
     meter: &mut Meter,
-) -> Result<Side, AllocError>
+) -> Result<Sides, AllocError>
     requires laws { Laws }
     requires view { IsViewOf (setting setup.now) view.now }
     requires v { (1 ≤ v) × (v ≤ (setting setup.now).vehicles) }
-    ensures { IfOk result (λ side. IsSide (setting setup.now) view.now.routes v side) }
+    requires w { (1 ≤ w) × (w ≤ (setting setup.now).vehicles) }
+    ensures { IfOk result (λ sides. AreSides (setting setup.now) view.now.routes v w sides) }
 {
-    let stops = stops_of(alloc, view, setup, v)?;
+    let stops = stops_of_both(alloc, view, setup, v, w)?;
     let edges = edges_of(alloc, setup, &stops, meter)?;
-    let most = most_of(&edges);
-    Ok(Side { stops, edges, most })
+    Ok(Sides { stops, edges })
+}
+
+/// The stops of each of two vehicles, and the ways along each, as parts of what is gathered of both.
+pub(crate) fn parts_of<'a>(
+    view: &View,
+    setup: &Setup,
+    v: u32,
+    w: u32,
+    stops: &'a [u32],
+    edges: &'a [u32],
+) -> (&'a [u32], &'a [u32], &'a [u32], &'a [u32])
+    requires laws { Laws }
+    requires view { IsViewOf (setting setup.now) view.now }
+    requires v { (1 ≤ v) × (v ≤ (setting setup.now).vehicles) }
+    requires w { (1 ≤ w) × (w ≤ (setting setup.now).vehicles) }
+    requires stops { stops.now ≡ stops_of_both (route_at view.now.routes v) (route_at view.now.routes w) }
+    requires edges { AreEdges (table_at (setting setup.now).tables (setting setup.now).cost) stops.now edges.now }
+    ensures from { AreStops (setting setup.now).customers view.now.routes v result.0.now }
+    ensures to { AreStops (setting setup.now).customers view.now.routes w result.1.now }
+    ensures from_edges { AreEdges (table_at (setting setup.now).tables (setting setup.now).cost) result.0.now result.2.now }
+    ensures to_edges { AreEdges (table_at (setting setup.now).tables (setting setup.now).cost) result.1.now result.3.now }
+{
+    let _customers = setup.customers();
+    let middle = view.customers(v).len() + 1;
+    let from = &stops[..middle + 1];
+    let to = &stops[middle..];
+    let from_edges = &edges[..middle];
+    let to_edges = &edges[middle..];
+    (from, to, from_edges, to_edges)
 }
 
 /// The ways from some stops to others, and back, that moves between two vehicles go.
