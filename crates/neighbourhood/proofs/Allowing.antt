@@ -1,5 +1,5 @@
 use Rattle.std.proofs.Common.{◌-◌, length-drop, get_or-drop, ◌≡◌, ◌≢◌, ◌∙◌, ℕ, zero, suc, ◌+◌, ◌<◌, ◌≤◌, ◌⊎◌, ◌↔◌, inl, inr, refl, sym, ap, subst, arith, List, [], ◌∷◌, ◌++◌, length, take, drop, slice_get, Option, Some, None, true, false, Contains, Bool, IsTrue, is_some, slice_index, slice_index_or, All}
-use Rattle.std.proofs.lemmas.List.{get_or_default, length-append}
+use Rattle.std.proofs.lemmas.List.{get_or_default, get_or-take, length-append, length-take-le}
 use Rattle.std.proofs.lemmas.List.Elements.{Contains-append_right, Contains-get_or, All-take, All-drop, All-nil, All-cons, All-append}
 use Rattle.plan_core.specs.declared.touch.Touch.{Touch}
 use Rattle.plan_core.specs.Plan.{Changes, StandsAt, IsPlan, IsNamed, route_at, with_routes}
@@ -153,6 +153,17 @@ module _ (law : Laws) where
       let there : slice_index (drop k cs) (i - k) ≡ slice_index cs i = get_or-drop k cs (i - k) 0 ∙ ap (λ (n : ℕ). slice_index cs n) back in
       let long : i - k < length (drop k cs) = let d = length-drop k cs in omega arith in
       let wrong = (not_loose s (drop k cs) (i - k) c b long (e ∙ sym there) t is).1 loose in
+      let both : false ≡ true = wrong in
+      absurd cc
+
+  -- and of a stretch
+  pub not_loose_within : (s : PinState) (cs : List ℕ) (i k n c : ℕ) (b : Bool) → k < n → i + n ≤ length cs → c ≡ slice_index cs (i + k) → b ≡ is_some (pin_of s c) → b ≡ true
+      → AreLoose s (take n (drop i cs)) → ⊥
+  not_loose_within s cs i k n c b h fits e t is loose =
+      let rest = length-drop i cs in
+      let long : length (take n (drop i cs)) ≡ n = length-take-le n (drop i cs) (omega arith) in
+      let there : slice_index (take n (drop i cs)) k ≡ slice_index cs (i + k) = get_or-take n (drop i cs) k 0 h ∙ get_or-drop i cs k 0 in
+      let wrong = (not_loose s (take n (drop i cs)) k c b (omega arith) (e ∙ sym there) t is).1 loose in
       let both : false ≡ true = wrong in
       absurd cc
 

@@ -90,6 +90,33 @@ pub(crate) fn may_leave(view: &View, setup: &Setup, v: u32, place: u32, count: u
     are_loose(view, part(view.customers(v), place, place + count))
 }
 
+/// How many customers from a place on may leave their vehicle together, up to three: none where they stand in its frozen front, and none
+/// from the first one on that is pinned.
+pub(crate) fn loose_from(view: &View, setup: &Setup, v: u32, place: u32) -> u32
+    requires laws { Laws }
+    requires view { IsViewOf (setting setup.now) view.now }
+    requires v { (1 ≤ v) × (v ≤ length view.now.routes) }
+    requires low { 1 ≤ place }
+    ensures { (count : ℕ) → count ≤ 3 → place + count ≤ length (route_at view.now.routes v) + 1
+        → (front_of (pins_of view.now) v < place) × AreLoose (pins_of view.now) (stretch (route_at view.now.routes v) place count) → count ≤ result }
+{
+    if place < first_free(view, setup, v) {
+        return 0;
+    }
+    let _customers = setup.customers();
+    let route = view.customers(v);
+    for k in 0..3usize {
+        let index = place as usize - 1 + k;
+        if index >= route.len() {
+            return k as u32;
+        }
+        if view.is_pinned(route[index]) {
+            return k as u32;
+        }
+    }
+    3
+}
+
 /// How many of its first customers a vehicle has to keep in a cross: those of its frozen front, and all up to the last one that is pinned.
 pub(crate) fn must_keep(view: &View, setup: &Setup, v: u32) -> u32
     requires laws { Laws }

@@ -4,15 +4,17 @@ ghost use Rattle.callback_store.specs.Tables.{table_at};
 ghost use Rattle.dimension_core.specs.Setup.{setting};
 ghost use Rattle.plan_core.specs.Plan.{route_at};
 ghost use Rattle.move_core.specs.declared.moves.Move.TheVariants.{Shift};
-ghost use Rattle.move_core.specs.Moves.{is_possible};
+ghost use Rattle.move_core.specs.Moves.{is_possible, stretch};
+ghost use Rattle.pin_core.specs.Pins.{front_of};
+ghost use Rattle.pin_core.specs.View.{pins_of};
 ghost use Rattle.neighbourhood.specs.Scope.{scope};
 ghost use Rattle.neighbourhood.specs.View.{IsViewOf};
 ghost use Rattle.neighbourhood.specs.Kept.{AreKept};
 ghost use Rattle.neighbourhood.specs.Laws.{Laws};
-ghost use Rattle.neighbourhood.specs.Search.{IsBestSoFar, IsSaving};
+ghost use Rattle.neighbourhood.specs.Search.{AreLoose, IsBestSoFar, IsSaving};
 ghost use Rattle.neighbourhood.specs.Ways.{AreStops, AreEdges, AreHops, AreHopsFrom};
 
-use crate::allowed::{first_free, may_leave};
+use crate::allowed::{first_free, loose_from};
 use crate::best::{better, gain_of};
 use crate::gains::{first_gain, may_gain, wanted};
 use crate::hops::hop;
@@ -108,7 +110,7 @@ fn shift_row(
     best
 }
 
-/// The better of the best so far and the shifts of so many customers from a place on to another vehicle.
+/// The better of the best so far and the shifts of so many customers from a place on to another vehicle. No more than `free` may leave.
 fn shift_over(
     view: &View,
     setup: &Setup,
@@ -118,6 +120,7 @@ fn shift_over(
     w: u32,
     place: u32,
     count: u32,
+    free: u32,
     from: &[u32],
     to: &[u32],
     from_edges: &[u32],
@@ -137,6 +140,7 @@ fn shift_over(
     requires apart { v ≢ w }
     requires count { (1 ≤ count) × (count ≤ 3) }
     requires place { (1 ≤ place) × (place + count < length from.now) }
+    requires free { (front_of (pins_of view.now) v < place) × AreLoose (pins_of view.now) (stretch (route_at view.now.routes v) place count) → count ≤ free }
     requires from { AreStops (setting setup.now).customers view.now.routes v from.now }
     requires to { AreStops (setting setup.now).customers view.now.routes w to.now }
     requires from_edges { AreEdges (table_at (setting setup.now).tables (setting setup.now).cost) from.now from_edges.now }
@@ -147,15 +151,15 @@ fn shift_over(
     requires best { IsBestSoFar (scope bounded (setting setup.now)) view.now skip.now v w (1 ∷ v ∷ place ∷ count ∷ w ∷ 1 ∷ []) best }
     ensures { IsBestSoFar (scope bounded (setting setup.now)) view.now skip.now v w (1 ∷ v ∷ place ∷ count ∷ w ∷ (length to.now) ∷ []) result }
 {
+    if free < count {
+        return best;
+    }
     let first = place as usize;
     let after = first + count as usize;
     let lost = u64::from(from_edges[first - 1]) + u64::from(from_edges[after - 1]);
     let comes = row(into, to.len(), first);
     let goes = row(out, to.len(), after - 1);
     if lost + u64::from(most) <= gain_of(best) {
-        return best;
-    }
-    if !may_leave(view, setup, v, place, count) {
         return best;
     }
     let begin = first_free(view, setup, w);
@@ -222,11 +226,12 @@ pub(crate) fn best_shift(
 {
     let mut best = best;
     for place in 1..from.len() as u32 - 1 {
+        let free = loose_from(view, setup, v, place);
         for count in 1..4u32 {
             if place as usize + (count as usize) < from.len() {
                 best = shift_over(
-                    view, setup, bounded, skip, v, w, place, count, from, to, from_edges, to_edges,
-                    most, out, into, v_kept, w_kept, best, meter,
+                    view, setup, bounded, skip, v, w, place, count, free, from, to, from_edges,
+                    to_edges, most, out, into, v_kept, w_kept, best, meter,
                 );
             }
         }

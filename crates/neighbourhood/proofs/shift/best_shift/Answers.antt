@@ -20,6 +20,13 @@ shift_over-best-requires-clause-best g c =
     shift_on c.requires.laws (scope c.args.bounded (setting c.args.setup.now)) c.args.view.now c.args.skip.now c.args.v c.args.w (c.loop-place.place ∷ c.loop-count.count ∷ []) (c.loop-place.place ∷ c.loop-count.count ∷ c.args.w ∷ 1 ∷ [])
     c.loop-count.best (inr (refl, inr (refl, tt))) (λ p n a. to_row c.requires.laws _ _ _ c.loop-place.place c.loop-count.count c.args.w p n a) c.loop-count.invariant
 
+pub shift_over-best-requires-clause-free : goal.shift_over-best-requires-clause-free
+shift_over-best-requires-clause-free g c =
+    let sized = c.requires.from.sized in
+    let fit = c.if-place-count.true in
+    let few = c.loop-count-test.true in
+    λ both. c.loose_from-free.ensures c.loop-count.count (omega arith) (omega arith) both
+
 pub loop-count-preserved : goal.loop-count-preserved
 loop-count-preserved g c =
     let lv = length (route_at c.args.view.now.routes c.args.v) in

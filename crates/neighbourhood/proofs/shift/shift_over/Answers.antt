@@ -42,14 +42,15 @@ shift_row-requires-clause-saving g c =
     (row_from false t c.args.from.now c.args.to.now c.args.out.now c.row-goes.result.now 0 1 (c.args.place + c.args.count - 1) (omega arith) r.out (omega arith) (omega arith) c.row-goes.ensures.cells)
     c.hop-gained.ensures.value)
 
-pub returns-then-not-may_leave : goal.returns-then-not-may_leave
-returns-then-not-may_leave g c =
+pub returns-then-free-count : goal.returns-then-free-count
+returns-then-free-count g c =
     let wide = c.requires.to.sized in
     shifts_past c.requires.laws (scope c.args.bounded (setting c.args.setup.now)) c.args.view.now c.args.skip.now c.args.v c.args.w c.args.place c.args.count 1 (length c.args.to.now) c.args.best (omega arith)
     (λ k l h q.
     let free = shift_free c.requires.laws (scope c.args.bounded (setting c.args.setup.now)) c.args.view.now c.args.skip.now (view_within c.args.bounded _ _ c.requires.view) c.args.v c.args.place c.args.count c.args.w k c.requires.apart q in
-    let is = c.may_leave.ensures.1 (free.0, free.2) in
-    absurd cc)
+    let fit = c.requires.free (free.0, free.2) in
+    let few = c.if-free-count.true in
+    absurd (omega arith))
     c.requires.best
 
 pub shift_row-requires-clause-best : goal.shift_row-requires-clause-best
