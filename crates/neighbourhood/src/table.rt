@@ -210,6 +210,7 @@ fn cell(cells: &[u32], width: usize, from: usize, to: usize) -> u32
 }
 
 /// What the ways between some stops cost, driven back, by those as they are driven.
+#[inline(never)]
 pub(crate) fn turned_of(
     alloc: Global,
     setup: &Setup,
