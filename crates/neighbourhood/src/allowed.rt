@@ -144,6 +144,7 @@ fn is_skipped(skip: &[Move], mv: &Move) -> bool
 }
 
 /// Whether a move between two vehicles is allowed, by its new routes in parts.
+#[inline(always)]
 fn allows_between(
     view: &View,
     setup: &Setup,
