@@ -134,6 +134,7 @@ fn all_but_one(stops: &[u32], begin: usize) -> &[u32]
 }
 
 /// The same but for a row and a column: rows from one on and columns from one on are filled in, 0 or 1, one fewer than there are.
+#[inline(always)]
 pub(crate) fn ways_from(
     alloc: Global,
     setup: &Setup,
