@@ -227,6 +227,7 @@ fn allows_between(
 }
 
 /// Whether a move inside a vehicle is allowed, by its new route in parts.
+#[inline(always)]
 fn allows_inside(
     view: &View,
     setup: &Setup,
