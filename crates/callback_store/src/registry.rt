@@ -162,8 +162,11 @@ impl Registry {
         ensures counted { meter.new ≡ after_ask meter.old }
         ensures one { AsksAtMost meter.old meter.new 1 }
     {
-        let slot = &self.slots[id.index as usize];
-        slot.ask(meter, i, j)
+        // The kinds are told apart here and not in the slot: each function on the way to a closure costs a test after it.
+        match &self.slots[id.index as usize] {
+            Slot::Pair(transit) => transit.ask(meter, i, j),
+            Slot::Node(unary) => unary.ask(meter, i),
+        }
     }
 
     /// The answers of a callback on the ways from node `i` to each of some nodes, in their order, one for each place of `answers`.

@@ -4,7 +4,7 @@ use Rattle.std.proofs.Props.{props}
 use Rattle.std.proofs.lemmas.List.{take_more, take_all, take-append-drop}
 use Rattle.callback_store.specs.Tables.{Table}
 use Rattle.dimension_core.specs.declared.range.Range.{Range}
-use Rattle.dimension_core.specs.Cumuls.{Bounds, IsStart, IsStep, IsWithin, IsSpan, GoOn, AreCumuls, Reaches, last_of, IsInBounds, IsEarly}
+use Rattle.dimension_core.specs.Cumuls.{Bounds, IsCumul, IsStart, IsStep, IsWithin, IsSpan, GoOn, AreCumuls, Reaches, last_of, IsInBounds, IsEarly}
 
 pub last_of-push : (n : ℕ) (ms : List ℕ) (m : ℕ) → last_of n (ms ++ m ∷ []) ≡ m
 last_of-push n [] m = refl
@@ -154,3 +154,24 @@ span_early t d v js r s = record { reached = s.inside r.lo (omega arith, s.fille
 pub span_whole : (t : Table) (d : Bounds) (v : ℕ) (nodes : List ℕ) (k : ℕ) (o : Option Range) → length nodes ≤ k
     → IsSpan o (Reaches t d v (take k nodes)) → IsSpan o (Reaches t d v nodes)
 span_whole t d v nodes k o h s = subst (λ (js : List ℕ). IsSpan o (Reaches t d v js)) (take_all k nodes h) s
+
+-- the last of some cumuls is one at the last node
+go_last : (t : Table) (d : Bounds) (v i x : ℕ) (js ys : List ℕ) → GoOn t d v i x js ys → IsCumul d v i x → IsCumul d v (last_of i js) (last_of x ys)
+go_last t d v i x [] [] g c = c
+go_last t d v i x (j ∷ js) (y ∷ ys) g c = go_last t d v j y js ys g.1 g.0.cumul
+go_last t d v i x [] (y ∷ ys) g c = absurd g
+go_last t d v i x (j ∷ js) [] g c = absurd g
+
+IsCumul-prop : (d : Bounds) (v i x : ℕ) → IsProp (IsCumul d v i x)
+IsCumul-prop d v i x = hlevel props
+
+reach_cumul : (t : Table) (d : Bounds) (v : ℕ) (nodes : List ℕ) (y : ℕ) → Reaches t d v nodes y → IsCumul d v (last_of 0 nodes) y
+reach_cumul t d v nodes y reached = ∥∥₁_elim reached (IsCumul-prop d v (last_of 0 nodes) y) last
+  where
+    last : (cumuls : List ℕ) × AreCumuls t d v nodes cumuls × (last_of 0 cumuls ≡ y) → IsCumul d v (last_of 0 nodes) y
+    last ([], a, e) = absurd a
+    last (c ∷ cs, a, e) = subst (λ (n : ℕ). IsCumul d v (last_of 0 nodes) n) e (go_last t d v 0 c nodes cs a.1 a.0.cumul)
+
+-- so is the interval's last number
+pub span_cumul : (t : Table) (d : Bounds) (v : ℕ) (js : List ℕ) (r : Range) → IsSpan (Some r) (Reaches t d v js) → IsCumul d v (last_of 0 js) r.hi
+span_cumul t d v js r s = reach_cumul t d v js r.hi (s.inside r.hi (s.filled, omega arith))

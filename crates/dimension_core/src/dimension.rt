@@ -2,6 +2,7 @@ ghost use Rattle.std.specs.Prelude.{◌≡◌, ℕ, ◌+◌, ◌<◌, ◌≤◌,
 ghost use Rattle.std.specs.Result.{result_err};
 ghost use Rattle.callback_store.specs.Meter.{after_ask, AsksAtMost};
 ghost use Rattle.callback_store.specs.Registry.{tables};
+ghost use Rattle.callback_store.specs.Tables.{Table, entry};
 ghost use Rattle.dimension_core.specs.Cumuls.{Bounds, IsStart, IsStep, IsWithin, IsSpan, IsServed, cap_of, range_of, IsInBounds, Reaches, table_of, last_of, dimension_refusal, is_in_range, are_caps, are_ranges, is_sized, IsEarly};
 ghost use Rattle.dimension_core.specs.Onward.{IsBefore};
 
@@ -175,6 +176,14 @@ impl Dimension {
         self.ranges[node as usize]
     }
 
+    /// A law of the dimension: no span along a route ends above the limit.
+    pub fn spans_are_small(&self)
+        ensures { (t : Table) (vehicle : ℕ) (nodes : List ℕ) (range : Range) → IsSpan (Some range) (Reaches t self.now vehicle nodes)
+            → last_of 0 nodes < length self.now.ranges → range.hi ≤ 1000000000000 }
+    {
+        let _ = &self.id;
+    }
+
     /// The cumuls with which a vehicle may leave the depot, and none where there are none.
     pub fn start(&self, vehicle: u32) -> Option<Range>
         requires low { 1 ≤ vehicle }
@@ -224,6 +233,29 @@ impl Dimension {
             .min(node.hi)
             .min(self.cap(vehicle));
         if range.lo <= range.hi && lo <= hi {
+            Some(Range { lo, hi })
+        } else {
+            None
+        }
+    }
+
+    /// The cumuls that a vehicle may have at node `j` after one of a range, where the callback's answer on the way there is known, and none
+    /// where there are none: what `extend` does with the answer.
+    pub fn after(&self, range: Range, way: u64, j: u32, vehicle: u32) -> Option<Range>
+        requires filled { range.lo ≤ range.hi }
+        requires range { range.hi ≤ 1000000000000 }
+        requires way { way ≤ 1000000000 }
+        requires to { j < length self.now.ranges }
+        requires low { 1 ≤ vehicle }
+        requires high { vehicle ≤ length self.now.caps }
+        ensures span { (t : Table) (i : ℕ) → way ≡ entry t i j → IsSpan result (λ y. (x : ℕ) × IsWithin (Some range) x × IsStep t self.now vehicle i x j y) }
+        ensures small { IfSome result (λ r. r.hi ≤ 1000000000000) }
+    {
+        let node = self.range(j);
+        let lo = (range.lo + way).max(node.lo);
+        let most = range.hi + way + self.slack_max();
+        let hi = most.min(node.hi).min(self.cap(vehicle));
+        if lo <= hi {
             Some(Range { lo, hi })
         } else {
             None

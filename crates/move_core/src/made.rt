@@ -1,42 +1,44 @@
-//! The new routes of a move of each kind.
+//! The new routes of a move of each kind, listed in the memory of a list that is given up.
 ghost use Rattle.std.specs.Prelude.{◌≡◌, true, IfOk};
 ghost use Rattle.plan_core.specs.Plan.{changes_of};
 ghost use Rattle.move_core.specs.Moves.{is_possible, changes_by};
 
 use crate::moves::Move;
-use crate::parts;
-use plan_core::{Plan, Route};
+use crate::parts::{self, Changes};
+use plan_core::Plan;
 use std::alloc::{AllocError, Global};
-use std::sync::Arc;
 
 pub(crate) fn by_insert(
+    room: Changes,
     alloc: Global,
     plan: &Plan,
     customer: u32,
     vehicle: u32,
     place: u32,
-) -> Result<Vec<(u32, Arc<Route>)>, AllocError>
+) -> Result<Changes, AllocError>
     requires { is_possible plan.now.customers plan.now.routes (Move.Insert customer vehicle place) ≡ true }
     ensures { IfOk result (λ changes. changes_of changes.items ≡ changes_by plan.now.routes (Move.Insert customer vehicle place)) }
 {
     let route = parts::with_stretch(alloc, plan.route(vehicle).customers(), place, &[customer])?;
-    parts::one_change(alloc, vehicle, route)
+    parts::one_change(room, vehicle, route)
 }
 
 pub(crate) fn by_remove(
+    room: Changes,
     alloc: Global,
     plan: &Plan,
     vehicle: u32,
     place: u32,
-) -> Result<Vec<(u32, Arc<Route>)>, AllocError>
+) -> Result<Changes, AllocError>
     requires { is_possible plan.now.customers plan.now.routes (Move.Remove vehicle place) ≡ true }
     ensures { IfOk result (λ changes. changes_of changes.items ≡ changes_by plan.now.routes (Move.Remove vehicle place)) }
 {
     let route = parts::without(alloc, plan.route(vehicle).customers(), place, 1)?;
-    parts::one_change(alloc, vehicle, route)
+    parts::one_change(room, vehicle, route)
 }
 
 pub(crate) fn by_shift(
+    room: Changes,
     alloc: Global,
     plan: &Plan,
     vehicle: u32,
@@ -44,14 +46,14 @@ pub(crate) fn by_shift(
     count: u32,
     to: u32,
     at: u32,
-) -> Result<Vec<(u32, Arc<Route>)>, AllocError>
+) -> Result<Changes, AllocError>
     requires { is_possible plan.now.customers plan.now.routes (Move.Shift vehicle place count to at) ≡ true }
     ensures { IfOk result (λ changes. changes_of changes.items ≡ changes_by plan.now.routes (Move.Shift vehicle place count to at)) }
 {
     let route = plan.route(vehicle).customers();
     if vehicle == to {
         let moved = parts::moved_within(alloc, route, place, count, at)?;
-        return parts::one_change(alloc, vehicle, moved);
+        return parts::one_change(room, vehicle, moved);
     }
     let rest = parts::without(alloc, route, place, count)?;
     let longer = parts::with_stretch(
@@ -60,53 +62,56 @@ pub(crate) fn by_shift(
         at,
         parts::stretch(route, place, count),
     )?;
-    parts::two_changes(alloc, vehicle, rest, to, longer)
+    parts::two_changes(room, vehicle, rest, to, longer)
 }
 
 pub(crate) fn by_swap(
+    room: Changes,
     alloc: Global,
     plan: &Plan,
     vehicle: u32,
     place: u32,
     other: u32,
     at: u32,
-) -> Result<Vec<(u32, Arc<Route>)>, AllocError>
+) -> Result<Changes, AllocError>
     requires { is_possible plan.now.customers plan.now.routes (Move.Swap vehicle place other at) ≡ true }
     ensures { IfOk result (λ changes. changes_of changes.items ≡ changes_by plan.now.routes (Move.Swap vehicle place other at)) }
 {
     let route = plan.route(vehicle).customers();
     if vehicle == other {
         let swapped = parts::swapped_within(alloc, route, place, at)?;
-        return parts::one_change(alloc, vehicle, swapped);
+        return parts::one_change(room, vehicle, swapped);
     }
     let there = plan.route(other).customers();
     let first = parts::with_customer(alloc, route, place, there[at as usize - 1])?;
     let second = parts::with_customer(alloc, there, at, route[place as usize - 1])?;
-    parts::two_changes(alloc, vehicle, first, other, second)
+    parts::two_changes(room, vehicle, first, other, second)
 }
 
 pub(crate) fn by_reverse(
+    room: Changes,
     alloc: Global,
     plan: &Plan,
     vehicle: u32,
     first: u32,
     last: u32,
-) -> Result<Vec<(u32, Arc<Route>)>, AllocError>
+) -> Result<Changes, AllocError>
     requires { is_possible plan.now.customers plan.now.routes (Move.Reverse vehicle first last) ≡ true }
     ensures { IfOk result (λ changes. changes_of changes.items ≡ changes_by plan.now.routes (Move.Reverse vehicle first last)) }
 {
     let route = parts::reversed_within(alloc, plan.route(vehicle).customers(), first, last)?;
-    parts::one_change(alloc, vehicle, route)
+    parts::one_change(room, vehicle, route)
 }
 
 pub(crate) fn by_cross(
+    room: Changes,
     alloc: Global,
     plan: &Plan,
     vehicle: u32,
     keep: u32,
     other: u32,
     keep_other: u32,
-) -> Result<Vec<(u32, Arc<Route>)>, AllocError>
+) -> Result<Changes, AllocError>
     requires { is_possible plan.now.customers plan.now.routes (Move.Cross vehicle keep other keep_other) ≡ true }
     ensures { IfOk result (λ changes. changes_of changes.items ≡ changes_by plan.now.routes (Move.Cross vehicle keep other keep_other)) }
 {
@@ -114,5 +119,5 @@ pub(crate) fn by_cross(
     let there = plan.route(other).customers();
     let first = parts::crossed(alloc, route, keep, there, keep_other)?;
     let second = parts::crossed(alloc, there, keep_other, route, keep)?;
-    parts::two_changes(alloc, vehicle, first, other, second)
+    parts::two_changes(room, vehicle, first, other, second)
 }

@@ -116,19 +116,10 @@ impl Move {
         ensures possible { IfOk result (λ _. effect plan.now.customers plan.now.routes self.now ≡ Some (changes_by plan.now.routes self.now)) }
         ensures bad_place { IsErrOf result MoveFault.BadPlace ↔ (effect plan.now.customers plan.now.routes self.now ≡ None) }
     {
-        self.touched_in(Vec::new(alloc), plan)
-    }
-
-    /// What `touched` gives, in the memory of a list that is given up: it takes more only where that is too small.
-    pub fn touched_in(&self, room: Vec<Touch>, plan: &Plan) -> Result<Vec<Touch>, MoveFault>
-        ensures ok { IfOk result (λ touched. touched.items ≡ touched_by plan.now.routes self.now) }
-        ensures possible { IfOk result (λ _. effect plan.now.customers plan.now.routes self.now ≡ Some (changes_by plan.now.routes self.now)) }
-        ensures bad_place { IsErrOf result MoveFault.BadPlace ↔ (effect plan.now.customers plan.now.routes self.now ≡ None) }
-    {
         if !self.is_possible(plan) {
             return Err(MoveFault::BadPlace);
         }
-        let touched = self.touches_in(room, plan)?;
+        let touched = self.touches(alloc, plan)?;
         Ok(touched)
     }
 
@@ -156,8 +147,8 @@ impl Move {
         self.touches_in(Vec::new(alloc), plan)
     }
 
-    /// The same in the memory of a list that is given up.
-    fn touches_in(&self, room: Vec<Touch>, plan: &Plan) -> Result<Vec<Touch>, AllocError>
+    /// What `touches` gives, in the memory of a list that is given up: it takes more only where that is too small.
+    pub fn touches_in(&self, room: Vec<Touch>, plan: &Plan) -> Result<Vec<Touch>, AllocError>
         requires { is_possible plan.now.customers plan.now.routes self.now ≡ true }
         ensures { IfOk result (λ touched. touched.items ≡ touched_by plan.now.routes self.now) }
     {
@@ -200,37 +191,50 @@ impl Move {
         requires { is_possible plan.now.customers plan.now.routes self.now ≡ true }
         ensures { IfOk result (λ changes. changes_of changes.items ≡ changes_by plan.now.routes self.now) }
     {
+        self.routes_in(Vec::new(alloc), alloc, plan)
+    }
+
+    /// What `routes` gives, listed in the memory of a list that is given up: the list takes more only where that is too small.
+    pub fn routes_in(
+        &self,
+        room: Vec<(u32, Arc<Route>)>,
+        alloc: Global,
+        plan: &Plan,
+    ) -> Result<Vec<(u32, Arc<Route>)>, AllocError>
+        requires { is_possible plan.now.customers plan.now.routes self.now ≡ true }
+        ensures { IfOk result (λ changes. changes_of changes.items ≡ changes_by plan.now.routes self.now) }
+    {
         match *self {
             Move::Insert {
                 customer,
                 vehicle,
                 place,
-            } => made::by_insert(alloc, plan, customer, vehicle, place),
-            Move::Remove { vehicle, place } => made::by_remove(alloc, plan, vehicle, place),
+            } => made::by_insert(room, alloc, plan, customer, vehicle, place),
+            Move::Remove { vehicle, place } => made::by_remove(room, alloc, plan, vehicle, place),
             Move::Shift {
                 vehicle,
                 place,
                 length,
                 to,
                 at,
-            } => made::by_shift(alloc, plan, vehicle, place, length, to, at),
+            } => made::by_shift(room, alloc, plan, vehicle, place, length, to, at),
             Move::Swap {
                 vehicle,
                 place,
                 other,
                 at,
-            } => made::by_swap(alloc, plan, vehicle, place, other, at),
+            } => made::by_swap(room, alloc, plan, vehicle, place, other, at),
             Move::Reverse {
                 vehicle,
                 first,
                 last,
-            } => made::by_reverse(alloc, plan, vehicle, first, last),
+            } => made::by_reverse(room, alloc, plan, vehicle, first, last),
             Move::Cross {
                 vehicle,
                 keep,
                 other,
                 keep_other,
-            } => made::by_cross(alloc, plan, vehicle, keep, other, keep_other),
+            } => made::by_cross(room, alloc, plan, vehicle, keep, other, keep_other),
         }
     }
 }

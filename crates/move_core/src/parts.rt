@@ -8,6 +8,9 @@ use plan_core::{Route, Touch};
 use std::alloc::{AllocError, Global};
 use std::sync::Arc;
 
+/// Vehicles with their new routes.
+pub(crate) type Changes = Vec<(u32, Arc<Route>)>;
+
 /// Puts a part of a route behind what is there. Parts at the ends are often empty, and then nothing is called.
 #[inline(always)]
 fn push_part(customers: &mut Vec<u32>, part: &[u32]) -> Result<(), AllocError>
@@ -200,30 +203,35 @@ pub(crate) fn crossed(
     joined(alloc, &route[..keep as usize], back, &[])
 }
 
-/// New routes for one vehicle.
+/// New routes for one vehicle, in the memory of another list.
+#[inline(always)]
 pub(crate) fn one_change(
-    alloc: Global,
+    room: Changes,
     vehicle: u32,
     route: Arc<Route>,
-) -> Result<Vec<(u32, Arc<Route>)>, AllocError>
+) -> Result<Changes, AllocError>
     ensures { IfOk result (λ changes. changes_of changes.items ≡ (vehicle, route.value) ∷ []) }
 {
-    let mut changes = Vec::with_capacity(alloc, 1)?;
+    let mut changes = room;
+    changes.clear();
+    changes.reserve(1)?;
     changes.push((vehicle, route))?;
     Ok(changes)
 }
 
-/// New routes for two vehicles.
+/// New routes for two vehicles, in the memory of another list.
 pub(crate) fn two_changes(
-    alloc: Global,
+    room: Changes,
     vehicle: u32,
     route: Arc<Route>,
     other: u32,
     other_route: Arc<Route>,
-) -> Result<Vec<(u32, Arc<Route>)>, AllocError>
+) -> Result<Changes, AllocError>
     ensures { IfOk result (λ changes. changes_of changes.items ≡ (vehicle, route.value) ∷ (other, other_route.value) ∷ []) }
 {
-    let mut changes = Vec::with_capacity(alloc, 2)?;
+    let mut changes = room;
+    changes.clear();
+    changes.reserve(2)?;
     changes.push((vehicle, route))?;
     changes.push((other, other_route))?;
     Ok(changes)

@@ -138,13 +138,16 @@ impl Plan {
         cost_of_routes(setup.registry(), setup.cost(), &self.routes, meter)
     }
 
-    /// Gives one or two vehicles their new routes, as one more commit. No other route is walked, and no memory is taken.
-    pub fn replace(&mut self, changes: Vec<(u32, Arc<Route>)>)
+    /// Gives one or two vehicles their new routes, as one more commit, and gives back the list, empty, for the next commit's. No other
+    /// route is walked, and no memory is taken.
+    pub fn replace(&mut self, changes: Vec<(u32, Arc<Route>)>) -> Vec<(u32, Arc<Route>)>
         requires changes { AreChanges (length self.old.routes) (changes_of changes.items) }
         requires plan { IsPlan self.old.customers (with_routes (changes_of changes.items) self.old.routes) }
         requires room { self.old.version < 16777216 }
-        ensures { self.new ≡ replaced (changes_of changes.items) self.old }
+        ensures plan { self.new ≡ replaced (changes_of changes.items) self.old }
+        ensures emptied { result.items ≡ [] }
     {
+        let mut changes = changes;
         let version = self.version + 1;
         self.version = version;
         exchange_all(
@@ -152,8 +155,10 @@ impl Plan {
             &mut self.stamps,
             &mut self.homes,
             version,
-            changes,
+            &mut changes,
         );
+        changes.clear();
+        changes
     }
 }
 

@@ -3,6 +3,7 @@ ghost use Rattle.plan_core.specs.Plan.{routes_of, changes_of, Changes, IsPlan, A
 ghost use Rattle.plan_core.specs.Homes.{AreHomes};
 
 use crate::route::Route;
+use std::mem::swap;
 use std::sync::Arc;
 
 /// Writes down a vehicle as the one on which some customers stand.
@@ -17,25 +18,27 @@ fn settle(homes: &mut [u32], vehicle: u32, customers: &[u32])
     }
 }
 
-/// Gives each named vehicle its new route, the number of this commit and its customers.
+/// Gives each named vehicle its new route, the number of this commit and its customers. The old routes stand then in the place of the new
+/// ones.
 pub(crate) fn exchange_all(
     routes: &mut [Arc<Route>],
     stamps: &mut [u32],
     homes: &mut [u32],
     version: u32,
-    changes: Vec<(u32, Arc<Route>)>,
+    changes: &mut [(u32, Arc<Route>)],
 )
-    requires apart { AreApart (length routes.old) (changes_of changes.items) }
-    requires plan { IsPlan (length homes.old) (with_routes (changes_of changes.items) (routes_of routes.old)) }
+    requires apart { AreApart (length routes.old) (changes_of changes.old) }
+    requires plan { IsPlan (length homes.old) (with_routes (changes_of changes.old) (routes_of routes.old)) }
     requires homes { AreHomes (routes_of routes.old) homes.old }
     requires stamps { length stamps.old ≡ length routes.old }
-    ensures routes { routes_of routes.new ≡ with_routes (changes_of changes.items) (routes_of routes.old) }
-    ensures stamps { stamps.new ≡ with_stamps (changes_of changes.items) version stamps.old }
+    ensures routes { routes_of routes.new ≡ with_routes (changes_of changes.old) (routes_of routes.old) }
+    ensures stamps { stamps.new ≡ with_stamps (changes_of changes.old) version stamps.old }
     ensures homes { AreHomes (routes_of routes.new) homes.new }
 {
-    for (vehicle, route) in changes {
-        settle(homes, vehicle, route.customers());
-        routes[vehicle as usize - 1] = route;
-        stamps[vehicle as usize - 1] = version;
+    for k in 0..changes.len() {
+        let (vehicle, route) = &mut changes[k];
+        settle(homes, *vehicle, route.customers());
+        swap(&mut routes[*vehicle as usize - 1], route);
+        stamps[*vehicle as usize - 1] = version;
     }
 }

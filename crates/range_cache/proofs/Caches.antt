@@ -141,6 +141,11 @@ taking_within target now all rest v row t e =
     let high : v ≤ length now = first.1 in
     omega arith
 
+pub taking_low : (target now : List RowState) (all rest : NewRows) (v : ℕ) (row : RowState) → AreTaking target now all → all ≡ (v, row) ∷ rest → 1 ≤ v
+taking_low target now all rest v row t e =
+    let t' = subst (λ (xs : NewRows). AreTaking target now xs) e t in
+    (t'.within 0 (v, row) (omega arith)).0
+
 pub taking_next : (target now : List RowState) (all rest : NewRows) (v : ℕ) (row : RowState) → AreTaking target now all → all ≡ (v, row) ∷ rest
     → AreTaking target (slice_set now (v - 1) row) rest
 taking_next target now all rest v row t e =

@@ -107,3 +107,9 @@ pub ranges_more : (s : Setting) (v : ℕ) (route : List ℕ) (n : ℕ) (old new 
     → (more : List Range) × (new ≡ old ++ more) × (length more ≡ length route) × IsTrack s n v route more → AreFilled s v route (n + 1) new
 ranges_more s v route n old new filled m =
     subst (λ (xs : List Range). AreFilled s v route (n + 1) xs) (sym m.1) (filled_more s v route n old m.0 filled m.2 m.3)
+
+-- there is room for the ranges of one dimension more
+pub room_for : (count n room : ℕ) (route : List ℕ) → n < count → (used : ℕ) → used ≡ n * length route → count * length route ≤ room → used + length route ≤ room
+room_for count n room route h used e enough =
+    let below : (n + 1) * length route ≤ count * length route = mul-le-mul_right (length route) (omega arith) in
+    omega (arith, e, enough, below)

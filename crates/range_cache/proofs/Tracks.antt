@@ -3,7 +3,7 @@ use Rattle.std.proofs.Common.{◌≡◌, ℕ, ◌+◌, ◌-◌, ◌<◌, ◌≤�
 use Rattle.std.specs.Prelude.{slice_index_or}
 use Rattle.std.proofs.lemmas.Bool.{cases_eq}
 use Rattle.std.proofs.lemmas.List.{get_or_default, get_or_append_left, get_or-append_right, length_push, take_all, take-append-drop}
-use Rattle.callback_store.specs.Tables.{Table}
+use Rattle.callback_store.specs.Tables.{Table, entry, table_at}
 use Rattle.dimension_core.specs.declared.range.Range.{Range}
 use Rattle.dimension_core.specs.Cumuls.{Bounds, IsStart, IsStep, IsWithin, IsSpan, Reaches, last_of, table_of}
 use Rattle.dimension_core.specs.Feasible.{FitsIn}
@@ -105,3 +105,17 @@ more_push s d v route place old now after r h m e new =
       length_push more r ∙ ap (λ (n : ℕ). n + 1) sized,
       track_push s d v route more r (omega arith) m.3 (subst (λ (n : ℕ). IsSpanOf s d v (take (n + 1) route) r) (sym sized) new),
     )
+
+-- what is kept does not end above the limit
+pub small_at : (s : Setting) (k v : ℕ) (nodes : List ℕ) (ds : List Bounds) (d : Bounds) (r : Range) → ds ≡ s.dimensions → k < length s.dimensions → d ≡ slice_index_or ds k d
+    → ((t : Table) (vehicle : ℕ) (js : List ℕ) (range : Range) → IsSpan (Some range) (Reaches t d vehicle js) → last_of 0 js < length d.ranges → range.hi ≤ 1000000000000)
+    → IsSpanOf s k v nodes r → last_of 0 nodes < length d.ranges → r.hi ≤ 1000000000000
+small_at s k v nodes ds d r ed h e law span known =
+    law (table_of s.tables (dimension_at s k)) v nodes r
+    (subst (λ (b : Bounds). IsSpan (Some r) (Reaches (table_of s.tables (dimension_at s k)) b v nodes)) (sym (dim_at s ds d k ed h e)) span) known
+
+-- what comes after the numbers of an interval, by the answer of the dimension's callback
+pub after_at : (ts : List Table) (d : Bounds) (id way i j v : ℕ) (r : Range) (o : Option Range)
+    → ((t : Table) (n : ℕ) → way ≡ entry t n j → IsSpan o (λ y. (x : ℕ) × IsWithin (Some r) x × IsStep t d v n x j y))
+    → id ≡ d.id → way ≡ entry (table_at ts id) i j → IsSpan o (λ y. (x : ℕ) × IsWithin (Some r) x × IsStep (table_of ts d) d v i x j y)
+after_at ts d id way i j v r o span e answer = span (table_of ts d) i (answer ∙ ap (λ (n : ℕ). entry (table_at ts n) i j) e)

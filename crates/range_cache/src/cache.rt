@@ -1,4 +1,4 @@
-ghost use Rattle.std.specs.Prelude.{◌≡◌, ℕ, ◌+◌, ◌*◌, ◌-◌, ◌<◌, ◌≤◌, List, [], length, take, replicate, All, IfOk, IfErr};
+ghost use Rattle.std.specs.Prelude.{◌≡◌, ℕ, ◌+◌, ◌*◌, ◌-◌, ◌<◌, ◌≤◌, List, [], length, take, replicate, All, IfOk, IfErr, OnOk};
 ghost use Rattle.callback_store.specs.Meter.{AsksAtMost};
 ghost use Rattle.dimension_core.specs.Cumuls.{IsEarly, table_of};
 ghost use Rattle.dimension_core.specs.Feasible.{FitsAll, IsFeasible};
@@ -13,19 +13,20 @@ ghost use Rattle.range_cache.specs.Pending.{AreNewRows, IsJudgeFault, with_rows}
 ghost use Rattle.range_cache.specs.Row.{IsRowFault};
 
 use crate::fault::JudgeFault;
-use crate::pending::Pending;
+use crate::pending::{Pending, Room};
 use crate::row::Row;
 use callback_store::Meter;
 use dimension_core::{Setup, spans_go_on};
 use plan_core::{Plan, Route};
 use std::alloc::{AllocError, Global};
 use std::marker::Model;
+use std::mem::swap;
 use std::sync::Arc;
 
 /// For each vehicle, in each dimension, the range of the cumuls that it may have at each customer of its route.
 ///
 /// A cache belongs to a setup and to the routes of a plan, and its callers owe that it is lent these. It keeps 16 bytes for each placed
-/// customer and dimension.
+/// customer and dimension, and for each vehicle room for some more: for three times as many, and 35, at most.
 #[derive(Drop)]
 pub struct Cache {
     rows: Vec<Row>,
@@ -96,49 +97,75 @@ impl Cache {
         ensures asks { AsksAtMost meter.old meter.new (judge_asks (length (setting setup.now).dimensions) plan.now.routes (changes_of changes.now)) }
     {
         let alloc = *self.rows.allocator();
-        let mut rows = Vec::with_capacity(alloc, changes.len())?;
-        for (vehicle, route) in changes {
-            let row = self.changed_row(setup, plan, *vehicle, route, meter)?;
-            rows.push((*vehicle, row))?;
+        self.judge_in(Room::new(alloc), setup, plan, changes, meter)
+    }
+
+    /// What `judge` answers, with the new ranges in the memory of earlier ones: more is taken only where that is too small.
+    pub fn judge_in(
+        &self,
+        room: Room,
+        setup: &Setup,
+        plan: &Plan,
+        changes: &[(u32, Arc<Route>)],
+        meter: &mut Meter,
+    ) -> Result<Pending, JudgeFault>
+        requires cache { IsCacheOf (setting setup.now) plan.now.routes self.now }
+        requires known { AllKnown (setting setup.now) (changes_of changes.now) }
+        requires short { All (λ c. length c.1.value ≤ 1000) changes.now }
+        ensures of { IfOk result (λ pending. pending.of ≡ self.now) }
+        ensures fits { IfOk result (λ pending. AllFit (setting setup.now) (changes_of changes.now)) }
+        ensures rows { IfOk result (λ pending. AreNewRows (setting setup.now) (changes_of changes.now) pending.rows) }
+        ensures fault { IfErr result (IsJudgeFault (setting setup.now) (changes_of changes.now)) }
+        ensures asks { AsksAtMost meter.old meter.new (judge_asks (length (setting setup.now).dimensions) plan.now.routes (changes_of changes.now)) }
+    {
+        let mut rows = room.into_rows(changes.len())?;
+        for k in 0..changes.len() {
+            let (vehicle, route) = &changes[k];
+            let (named, row) = &mut rows[k];
+            *named = *vehicle;
+            self.change_row(row, setup, plan, *vehicle, route, meter)?;
         }
         Ok(Pending::new(self, rows))
     }
 
-    /// The row of a vehicle's new route, by that of its route in the plan.
-    fn changed_row(
+    /// Makes a row that of a vehicle's new route, by that of its route in the plan.
+    fn change_row(
         &self,
+        row: &mut Row,
         setup: &Setup,
         plan: &Plan,
         vehicle: u32,
         route: &Route,
         meter: &mut Meter,
-    ) -> Result<Row, JudgeFault>
+    ) -> Result<(), JudgeFault>
         requires cache { IsCacheOf (setting setup.now) plan.now.routes self.now }
         requires low { 1 ≤ vehicle }
         requires high { vehicle ≤ (setting setup.now).vehicles }
         requires known { All (λ c. c ≤ (setting setup.now).customers) route.now }
         requires short { length route.now ≤ 1000 }
-        ensures fits { IfOk result (λ _. FitsAll (setting setup.now) vehicle route.now) }
-        ensures row { IfOk result (IsRowOf (setting setup.now) vehicle route.now) }
+        ensures fits { OnOk result (FitsAll (setting setup.now) vehicle route.now) }
+        ensures row { OnOk result (IsRowOf (setting setup.now) vehicle route.now row.new) }
         ensures fault { IfErr result (IsRowFault (setting setup.now) vehicle route.now) }
         ensures asks { AsksAtMost meter.old meter.new (length (setting setup.now).dimensions * walk_asks (route_at plan.now.routes vehicle) route.now) }
     {
-        let alloc = *self.rows.allocator();
         let old = plan.route(vehicle).customers();
-        let row = &self.rows[vehicle as usize - 1];
-        row.changed(alloc, setup, vehicle, old, route.customers(), meter)
+        let kept = &self.rows[vehicle as usize - 1];
+        kept.change(row, setup, vehicle, old, route.customers(), meter)
     }
 
-    /// Takes what was judged: this is then the cache of the plan with the new routes. It takes no memory. Nothing was taken since the
-    /// judgement.
-    pub fn take(&mut self, pending: Pending)
+    /// Takes what was judged: this is then the cache of the plan with the new routes. It takes no memory, and gives back that of the rows
+    /// that were replaced. Nothing was taken since the judgement.
+    pub fn take(&mut self, pending: Pending) -> Room
         requires { pending.of ≡ self.old }
         ensures rows { self.new ≡ record { rows = with_rows pending.rows self.old.rows } }
         ensures cache { (s : Setting) (routes : List (List ℕ)) (changes : Changes) → IsCacheOf s routes self.old → AreNewRows s changes pending.rows → IsCacheOf s (with_routes changes routes) self.new }
     {
-        for (vehicle, row) in pending.into_rows() {
-            self.rows[vehicle as usize - 1] = row;
+        let mut rows = pending.into_rows();
+        for k in 0..rows.len() {
+            let (vehicle, row) = &mut rows[k];
+            swap(&mut self.rows[*vehicle as usize - 1], row);
         }
+        Room { rows }
     }
 
     /// The early value of the customer at a place of a vehicle's route in a dimension: the least cumul that it can have there. All three
@@ -170,8 +197,9 @@ fn first_row(
 {
     let route = plan.route(vehicle).customers();
     let none = Row::empty(alloc);
-    match none.changed(alloc, setup, vehicle, &[], route, meter) {
-        Ok(row) => Ok(row),
+    let mut row = Row::empty(alloc);
+    match none.change(&mut row, setup, vehicle, &[], route, meter) {
+        Ok(()) => Ok(row),
         Err(JudgeFault::Bound(_, _)) => unreachable!(),
         Err(JudgeFault::NoMemory) => Err(AllocError),
     }

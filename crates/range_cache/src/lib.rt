@@ -9,4 +9,4 @@ mod walk;
 
 pub use cache::Cache;
 pub use fault::JudgeFault;
-pub use pending::Pending;
+pub use pending::{Pending, Room};

@@ -1,7 +1,39 @@
+//! What is judged and not yet taken, and the memory of it.
+ghost use Rattle.std.specs.Prelude.{◌≡◌, length, IfOk};
+
 use crate::cache::Cache;
 use crate::row::Row;
+use std::alloc::{AllocError, Global};
 use std::marker::Model;
 use std::snapshot::Snapshot;
+
+/// The memory of rows that were taken and replaced, for those of the next judgement.
+#[derive(Drop)]
+pub struct Room {
+    pub(crate) rows: Vec<(u32, Row)>,
+}
+
+impl Room {
+    /// No memory.
+    pub fn new(alloc: Global) -> Room {
+        Room {
+            rows: Vec::new(alloc),
+        }
+    }
+
+    /// The memory of so many rows, whatever stands in them.
+    pub(crate) fn into_rows(self, count: usize) -> Result<Vec<(u32, Row)>, AllocError>
+        ensures { IfOk result (λ rows. length rows.items ≡ count) }
+    {
+        let Room { mut rows } = self;
+        let alloc = *rows.allocator();
+        rows.truncate(count);
+        'rows: while rows.len() < count {
+            rows.push((0, Row::empty(alloc)))?;
+        }
+        Ok(rows)
+    }
+}
 
 /// New routes that were judged and found in bounds, with their ranges, ready to be taken by the cache that judged them.
 ///

@@ -1,5 +1,5 @@
 //! The ranges along the route of one vehicle.
-ghost use Rattle.std.specs.Prelude.{◌≡◌, ℕ, ◌+◌, ◌*◌, ◌<◌, ◌≤◌, [], length, take, drop, All, IfOk, IfErr};
+ghost use Rattle.std.specs.Prelude.{◌≡◌, ℕ, ◌+◌, ◌*◌, ◌<◌, ◌≤◌, [], length, take, drop, All, IfErr, OnOk, vec_capacity};
 ghost use Rattle.callback_store.specs.Meter.{AsksAtMost};
 ghost use Rattle.dimension_core.specs.Feasible.{FitsAll, IsFirstOut};
 ghost use Rattle.dimension_core.specs.Setup.{setting};
@@ -12,10 +12,12 @@ use crate::walk::walk;
 use callback_store::Meter;
 use dimension_core::{Range, Setup};
 use plan_core::common_front;
-use std::alloc::Global;
+use std::alloc::{AllocError, Global};
 use std::marker::Model;
 
 /// For each dimension in order a range for each customer of a route in order.
+///
+/// It has room for at most four times as many ranges, and 35 more.
 #[derive(Drop)]
 pub(crate) struct Row {
     stops: u32,
@@ -58,46 +60,62 @@ impl Row {
         self.ranges[dimension * self.stops as usize + place].lo
     }
 
-    /// The row of the vehicle's new route, by this one of its old route: each dimension is walked from the end of the longest common front
-    /// on. It stops at the first dimension in which the new route is out of bounds.
+    /// Makes a row that of the vehicle's new route, by this one of its old route: each dimension is walked from the end of the longest
+    /// common front on. It stops at the first dimension in which the new route is out of bounds.
     ///
     /// It asks the callback of a dimension at most once for each customer behind the common front and once for the return, and not at all
     /// where the new route is empty. It is kept out of line, so that its loops have the registers to themselves.
     #[inline(never)]
-    pub(crate) fn changed(
+    pub(crate) fn change(
         &self,
-        alloc: Global,
+        row: &mut Row,
         setup: &Setup,
         vehicle: u32,
         old: &[u32],
         new: &[u32],
         meter: &mut Meter,
-    ) -> Result<Row, JudgeFault>
+    ) -> Result<(), JudgeFault>
         requires low { 1 ≤ vehicle }
         requires high { vehicle ≤ (setting setup.now).vehicles }
         requires known { All (λ c. c ≤ (setting setup.now).customers) new.now }
         requires short { length new.now ≤ 1000 }
         requires row { IsRowOf (setting setup.now) vehicle old.now self.now }
-        ensures fits { IfOk result (λ _. FitsAll (setting setup.now) vehicle new.now) }
-        ensures row { IfOk result (IsRowOf (setting setup.now) vehicle new.now) }
+        ensures fits { OnOk result (FitsAll (setting setup.now) vehicle new.now) }
+        ensures row { OnOk result (IsRowOf (setting setup.now) vehicle new.now row.new) }
         ensures fault { IfErr result (IsRowFault (setting setup.now) vehicle new.now) }
         ensures asks { AsksAtMost meter.old meter.new (length (setting setup.now).dimensions * walk_asks old.now new.now) }
     {
+        let count = setup.dimensions().len();
+        row.stops = new.len() as u32;
+        make_room(&mut row.ranges, count * new.len())?;
         if new.is_empty() {
-            return Ok(Row::empty(alloc));
+            return Ok(());
         }
         let front = common_front(old, new);
-        let count = setup.dimensions().len();
-        let mut ranges = Vec::with_capacity(alloc, count * new.len())?;
         for dimension in 0..count {
             let kept = self.front(dimension, front);
-            if !walk(setup, dimension, vehicle, new, kept, &mut ranges, meter)? {
+            if !walk(setup, dimension, vehicle, new, kept, &mut row.ranges, meter)? {
                 return Err(JudgeFault::Bound(vehicle, dimension as u32 + 1));
             }
         }
-        Ok(Row {
-            stops: new.len() as u32,
-            ranges,
-        })
+        Ok(())
     }
+}
+
+/// Ranges are made room for by so many at a time, so that a row has room for the next few changes of its route.
+const STEP: usize = 8;
+
+/// Empties a list and makes room in it for so many ranges. Memory that is too small, or more than four times too large, is given up.
+#[inline(always)]
+fn make_room(ranges: &mut Vec<Range>, count: usize) -> Result<(), AllocError>
+    requires { count ≤ 1000000 }
+    ensures items { OnOk result (ranges.new.items ≡ []) }
+    ensures room { OnOk result (count ≤ vec_capacity ranges.new) }
+{
+    let room = ranges.capacity();
+    if room < count || room / 4 > count + STEP {
+        *ranges = Vec::with_capacity(*ranges.allocator(), count.div_ceil(STEP) * STEP)?;
+    }
+    ranges.clear();
+    Ok(())
 }

@@ -1,5 +1,5 @@
 //! A walk along a route in one dimension, from a kept range on.
-ghost use Rattle.std.specs.Prelude.{◌≡◌, ◌+◌, ◌-◌, ◌<◌, ◌≤◌, ◌↔◌, ◌++◌, [], List, length, take, None, All, IfOk, OnOk, IfSome, IsTrue, MatchOption};
+ghost use Rattle.std.specs.Prelude.{◌≡◌, ◌+◌, ◌-◌, ◌<◌, ◌≤◌, ◌↔◌, ◌++◌, [], List, length, take, None, All, IfOk, OnOk, IfSome, IsTrue, MatchOption, vec_len, vec_capacity};
 ghost use Rattle.callback_store.specs.Meter.{AsksAtMost};
 ghost use Rattle.dimension_core.specs.Cumuls.{last_of};
 ghost use Rattle.dimension_core.specs.Feasible.{FitsIn};
@@ -29,10 +29,13 @@ fn begin(
     ensures span { MatchOption result (IsSpanAt (setting setup.now) dimension vehicle [] None) (λ at. IsSpanOf (setting setup.now) dimension vehicle (take (length kept.now) route.now) at.0) }
     ensures node { IfSome result (λ at. at.1 ≡ last_of 0 (take (length kept.now) route.now)) }
     ensures known { IfSome result (λ at. at.1 ≤ (setting setup.now).customers) }
+    ensures small { IfSome result (λ at. at.0.hi ≤ 1000000000000) }
 {
     spans_go_on();
+    let bounds = &setup.dimensions()[dimension];
+    bounds.spans_are_small();
     if kept.is_empty() {
-        let start = setup.dimensions()[dimension].start(vehicle)?;
+        let start = bounds.start(vehicle)?;
         return Some((start, 0));
     }
     let last = kept.len() - 1;
@@ -42,7 +45,9 @@ fn begin(
 /// Puts the kept ranges behind what is there. Often there is none, and then nothing is called.
 #[inline(always)]
 fn push_kept(ranges: &mut Vec<Range>, kept: &[Range]) -> Result<(), AllocError>
-    ensures { OnOk result (ranges.new.items ≡ ranges.old.items ++ kept.now) }
+    ensures items { OnOk result (ranges.new.items ≡ ranges.old.items ++ kept.now) }
+    ensures len { OnOk result (vec_len ranges.new ≡ vec_len ranges.old + length kept.now) }
+    ensures capacity { vec_capacity ranges.old ≤ vec_capacity ranges.new }
 {
     if kept.is_empty() {
         return Ok(());
@@ -51,7 +56,7 @@ fn push_kept(ranges: &mut Vec<Range>, kept: &[Range]) -> Result<(), AllocError>
 }
 
 /// Walks along a route that is not empty in one dimension, from the customer behind the kept ranges to the return. True where the route is
-/// in bounds; the range of each of its customers then stands behind the others. Dimensions count from 0.
+/// in bounds; the range of each of its customers then stands behind the others, and there is room for them. Dimensions count from 0.
 ///
 /// It stops at the first stop at which there is no cumul, and asks the callback at most once for each customer behind the kept ranges and
 /// once for the return.
@@ -70,8 +75,10 @@ pub(crate) fn walk(
     requires some { 0 < length route.now }
     requires known { All (λ c. c ≤ (setting setup.now).customers) route.now }
     requires kept { IsTrack (setting setup.now) dimension vehicle route.now kept.now }
+    requires room { vec_len ranges.old + length route.now ≤ vec_capacity ranges.old }
     ensures bounds { IfOk result (λ is_in. IsTrue is_in ↔ FitsIn (setting setup.now) dimension vehicle route.now) }
     ensures ranges { IfOk result (λ is_in. IsTrue is_in → (more : List Range) × (ranges.new.items ≡ ranges.old.items ++ more) × (length more ≡ length route.now) × IsTrack (setting setup.now) dimension vehicle route.now more) }
+    ensures capacity { vec_capacity ranges.old ≤ vec_capacity ranges.new }
     ensures asks { AsksAtMost meter.old meter.new (length route.now + 1 - length kept.now) }
 {
     spans_go_on();
@@ -80,15 +87,18 @@ pub(crate) fn walk(
     };
     push_kept(ranges, kept)?;
     let bounds = &setup.dimensions()[dimension];
+    let registry = setup.registry();
     for place in kept.len()..route.len() {
         let node = route[place];
-        let Some(next) = bounds.extend(setup.registry(), range, from, node, vehicle, meter) else {
+        let way = registry.ask(bounds.id(), meter, from, node);
+        let Some(next) = bounds.after(range, way, node, vehicle) else {
             return Ok(false);
         };
-        ranges.push(next)?;
+        ranges.push_reserved(next);
         range = next;
         from = node;
     }
-    let end = bounds.extend(setup.registry(), range, from, 0, vehicle, meter);
+    let back = registry.ask(bounds.id(), meter, from, 0);
+    let end = bounds.after(range, back, 0, vehicle);
     Ok(end.is_some())
 }

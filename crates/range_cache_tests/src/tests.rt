@@ -7,7 +7,7 @@ ghost use Rattle.range_cache.specs.Cache.{IsCacheOf};
 use callback_store::{Meter, Registry, Transit, TransitId, Unary};
 use dimension_core::{Dimension, Range, Setup, first_out};
 use plan_core::{Plan, Route, plans_are_tested};
-use range_cache::{Cache, JudgeFault};
+use range_cache::{Cache, JudgeFault, Room};
 use std::alloc::{AllocError, Global};
 use std::process::Abort;
 use std::sync::Arc;
@@ -29,16 +29,18 @@ fn one_change(
     Ok(changes)
 }
 
-/// Gives a vehicle a new route where it is in bounds, in the cache and in the plan.
+/// Gives a vehicle a new route where it is in bounds, in the cache and in the plan, with the ranges in the memory of earlier ones. It gives
+/// back that of the ranges that were replaced.
 fn commit(
     alloc: Global,
     setup: &Setup,
     cache: &mut Cache,
     plan: &mut Plan,
+    room: Room,
     vehicle: u32,
     customers: &[u32],
     meter: &mut Meter,
-) -> Result<(), JudgeFault>
+) -> Result<Room, JudgeFault>
     requires cache { IsCacheOf (setting setup.now) plan.old.routes cache.old }
     requires low { 1 ≤ vehicle }
     requires high { vehicle ≤ (setting setup.now).vehicles }
@@ -51,10 +53,10 @@ fn commit(
     ensures err { OnErr result (plan.new ≡ plan.old) }
 {
     let changes = one_change(alloc, vehicle, customers)?;
-    let pending = cache.judge(setup, plan, &changes, meter)?;
-    cache.take(pending);
+    let pending = cache.judge_in(room, setup, plan, &changes, meter)?;
+    let room = cache.take(pending);
     plan.replace(changes);
-    Ok(())
+    Ok(room)
 }
 
 /// The early values of a vehicle's route, dimension by dimension.
@@ -175,11 +177,23 @@ fn inserts(rt: &impl Abort, alloc: Global, setup: &Setup, meter: &mut Meter)
     let mut plan = Plan::new(alloc, 4, 2).expect(rt, "memory");
     let mut cache = Cache::new(alloc, setup).expect(rt, "memory");
     let begun = meter.asks;
-    commit(alloc, setup, &mut cache, &mut plan, 1, &[1], meter).expect(rt, "one");
+    let room = Room::new(alloc);
+    let room = commit(alloc, setup, &mut cache, &mut plan, room, 1, &[1], meter).expect(rt, "one");
     asked(rt, meter.asks.wrapping_sub(begun), 4);
-    commit(alloc, setup, &mut cache, &mut plan, 1, &[1, 2], meter).expect(rt, "two");
+    let two = commit(alloc, setup, &mut cache, &mut plan, room, 1, &[1, 2], meter);
+    let room = two.expect(rt, "two");
     asked(rt, meter.asks.wrapping_sub(begun), 8);
-    commit(alloc, setup, &mut cache, &mut plan, 1, &[1, 2, 3], meter).expect(rt, "three");
+    let three = commit(
+        alloc,
+        setup,
+        &mut cache,
+        &mut plan,
+        room,
+        1,
+        &[1, 2, 3],
+        meter,
+    );
+    three.expect(rt, "three");
     asked(rt, meter.asks.wrapping_sub(begun), 12);
     compare_earlies(rt, alloc, setup, &cache, &plan, &[0, 4, 7, 28, 84, 140]);
 }
@@ -207,16 +221,29 @@ fn removals(rt: &impl Abort, alloc: Global, setup: &Setup, meter: &mut Meter)
     plans_are_tested();
     let mut plan = Plan::new(alloc, 4, 2).expect(rt, "memory");
     let mut cache = Cache::new(alloc, setup).expect(rt, "memory");
-    commit(alloc, setup, &mut cache, &mut plan, 1, &[1, 2, 3], meter).expect(rt, "all");
+    let room = Room::new(alloc);
+    let all = commit(
+        alloc,
+        setup,
+        &mut cache,
+        &mut plan,
+        room,
+        1,
+        &[1, 2, 3],
+        meter,
+    );
+    let room = all.expect(rt, "all");
     let begun = meter.asks;
     let late = one_change(alloc, 1, &[1, 3]).expect(rt, "memory");
     let answer = fault_of(setup, &cache, &plan, &late, meter);
     compare_fault(rt, answer, Some(JudgeFault::Bound(1, 2)));
     asked(rt, meter.asks.wrapping_sub(begun), 3);
-    commit(alloc, setup, &mut cache, &mut plan, 1, &[2, 3], meter).expect(rt, "two");
+    let two = commit(alloc, setup, &mut cache, &mut plan, room, 1, &[2, 3], meter);
+    let room = two.expect(rt, "two");
     asked(rt, meter.asks.wrapping_sub(begun), 9);
     compare_earlies(rt, alloc, setup, &cache, &plan, &[0, 3, 84, 140]);
-    commit(alloc, setup, &mut cache, &mut plan, 1, &[], meter).expect(rt, "none");
+    let none = commit(alloc, setup, &mut cache, &mut plan, room, 1, &[], meter);
+    none.expect(rt, "none");
     asked(rt, meter.asks.wrapping_sub(begun), 9);
     compare_earlies(rt, alloc, setup, &cache, &plan, &[]);
 }

@@ -8,4 +8,4 @@ replace-requires-clause-plan g c =
 
 pub replace-requires-2-clause-plan : goal.replace-requires-2-clause-plan
 replace-requires-2-clause-plan g c =
-    rw (c.in_ok-changes-2.ensures, c.replace.ensures, c.in_ok-changes.ensures, c.in_ok-plan.ensures) (plan_from_test 4 ((1 ∷ 4 ∷ []) ∷ (2 ∷ []) ∷ []) refl)
+    rw (c.in_ok-changes-2.ensures, c.replace.ensures.plan, c.in_ok-changes.ensures, c.in_ok-plan.ensures) (plan_from_test 4 ((1 ∷ 4 ∷ []) ∷ (2 ∷ []) ∷ []) refl)

@@ -3,7 +3,7 @@ use Rattle.std.proofs.lemmas.Grind.{common_steps}
 use Rattle.callback_store.specs.Meter.{asks_after}
 use Rattle.dimension_core.specs.Feasible.{FitsIn}
 use Rattle.dimension_core.specs.Setup.{setting}
-use Rattle.range_cache.proofs.Tracks.{next_at, return_at, never, no_answer, more_push}
+use Rattle.range_cache.proofs.Tracks.{next_at, return_at, never, after_at, no_answer, more_push}
 use Rattle.range_cache.proofs.walk.walk.Goals as goal
 
 pub returns-in_default-clause-bounds : goal.returns-in_default-clause-bounds
@@ -12,12 +12,12 @@ returns-in_default-clause-bounds g c =
     no_answer (FitsIn s c.args.dimension c.args.vehicle c.args.route.now)
     (never c.spans_go_on.ensures s c.args.dimension c.args.vehicle c.args.route.now 0 c.requires.some c.in_default.ensures.span)
 
-pub returns-in_default-extend-clause-bounds : goal.returns-in_default-extend-clause-bounds
-returns-in_default-extend-clause-bounds g c =
+pub returns-in_default-after-clause-bounds : goal.returns-in_default-after-clause-bounds
+returns-in_default-after-clause-bounds g c =
     let s = setting c.args.setup.now in
     let i = c.loop-place.invariant in
     let none = next_at c.spans_go_on.ensures s c.args.dimension c.args.vehicle c.args.route.now c.loop-place.place _ _ _ _ _ _ _
-    c.registry.ensures.value c.dimensions.ensures.value c.requires.dimension c.index-dimensions-dimension.is i.span i.last c.in_default-extend.ensures.span c.loop-place-test.true refl in
+    c.registry-registry.ensures.value c.dimensions.ensures.value c.requires.dimension c.index-dimensions-dimension.is i.span i.last (after_at _ _ _ _ _ _ _ _ _ c.in_default-after.ensures.span c.id.ensures c.ask-way.ensures.answer) c.loop-place-test.true refl in
     no_answer (FitsIn s c.args.dimension c.args.vehicle c.args.route.now)
     (never c.spans_go_on.ensures s c.args.dimension c.args.vehicle c.args.route.now (c.loop-place.place + 1) c.requires.some none)
 
@@ -27,13 +27,16 @@ loop-place-preserved g c =
     let i = c.loop-place.invariant in
     let begun = c.loop-place.auto.place in
     let next = next_at c.spans_go_on.ensures s c.args.dimension c.args.vehicle c.args.route.now c.loop-place.place _ _ _ _ _ _ _
-    c.registry.ensures.value c.dimensions.ensures.value c.requires.dimension c.index-dimensions-dimension.is i.span i.last c.in-Some-extend.ensures.span c.loop-place-test.true refl in
+    c.registry-registry.ensures.value c.dimensions.ensures.value c.requires.dimension c.index-dimensions-dimension.is i.span i.last (after_at _ _ _ _ _ _ _ _ _ c.in-Some-after.ensures.span c.id.ensures c.ask-way.ensures.answer) c.loop-place-test.true refl in
     record {
-      more = more_push s c.args.dimension c.args.vehicle c.args.route.now c.loop-place.place _ _ _ _ c.loop-place-test.true i.more c.in_ok-push.ensures.items next;
+      more = more_push s c.args.dimension c.args.vehicle c.args.route.now c.loop-place.place _ _ _ _ c.loop-place-test.true i.more c.push_reserved.ensures.items next;
       span = next;
       last = c.spans_go_on.ensures.last c.args.route.now c.loop-place.place c.loop-place-test.true;
+      room = let so_far = i.room in let grown = c.push_reserved.ensures.len in let same = c.push_reserved.ensures.capacity in omega (arith, so_far, grown, same);
+      capacity = let so_far = i.capacity in let same = c.push_reserved.ensures.capacity in omega (arith, so_far, same);
+      small = c.in-Some-after.ensures.small;
       known = grind (arith, common_steps);
-      asks = asks_after _ _ _ _ _ _ i.asks c.extend.ensures.one (omega arith);
+      asks = asks_after _ _ _ _ _ _ i.asks c.ask-way.ensures.one (omega arith);
     }
 
 pub returns-clause-bounds : goal.returns-clause-bounds
@@ -42,4 +45,4 @@ returns-clause-bounds g c =
     let i = c.loop-place.invariant in
     rw c.is_some.ensures
     (return_at c.spans_go_on.ensures s c.args.dimension c.args.vehicle c.args.route.now c.loop-place.place _ _ _ _ _ _ _
-    c.registry-2.ensures.value c.dimensions.ensures.value c.requires.dimension c.index-dimensions-dimension.is i.span i.last c.extend-end.ensures.span c.loop-place-test.false c.requires.some refl)
+    c.registry-registry.ensures.value c.dimensions.ensures.value c.requires.dimension c.index-dimensions-dimension.is i.span i.last (after_at _ _ _ _ _ _ _ _ _ c.after-end.ensures.span c.id-2.ensures c.ask-back.ensures.answer) c.loop-place-test.false c.requires.some refl)

@@ -1,4 +1,5 @@
-use Rattle.std.proofs.Common.{◌≡◌, ◌≤◌, ◌-◌, List, ◌++◌, length, take}
+use Rattle.std.proofs.Common.{◌≡◌, ◌≤◌, ◌-◌, ◌+◌, List, ◌++◌, length, take}
+use Rattle.std.specs.Prelude.{vec_len, vec_capacity}
 use Rattle.callback_store.specs.Meter.{AsksAtMost}
 use Rattle.dimension_core.specs.Cumuls.{last_of}
 use Rattle.dimension_core.specs.Setup.{setting}
@@ -13,6 +14,9 @@ invariant-loop-place g l = record {
   more : (more : List Range) × (l.ranges.items ≡ l.fn.ranges.items ++ more) × (length more ≡ l.place) × IsTrack (setting l.setup) l.dimension l.vehicle l.route more;
   span : IsSpanOf (setting l.setup) l.dimension l.vehicle (take l.place l.route) l.range;
   last : l.from ≡ last_of 0 (take l.place l.route);
+  small : l.range.hi ≤ 1000000000000;
+  room : vec_len l.ranges + length l.route ≤ vec_capacity l.ranges + l.place;
+  capacity : vec_capacity l.fn.ranges ≤ vec_capacity l.ranges;
   known : l.from ≤ (setting l.setup).customers;
   asks : AsksAtMost l.fn.meter l.meter (l.place - length l.kept);
 }

@@ -9,9 +9,9 @@ pub invariant_of-self : goal.invariant_of-self
 invariant_of-self c =
     let changes = changes_of c.args.changes.items in
     let routes : routes_of c.exchange_all.new.routes ≡ with_routes changes (routes_of c.self.inside.routes.items) =
-    c.exchange_all.ensures.routes ∙ ap (λ (xs : List (Arc (List ℕ) Global)). with_routes changes (routes_of xs)) c.deref_mut.ensures.value in
+    (rw c.deref_mut-4.ensures.value at c.exchange_all.ensures.routes) ∙ ap (λ (xs : List (Arc (List ℕ) Global)). with_routes changes (routes_of xs)) c.deref_mut.ensures.value in
     let stamps : c.exchange_all.new.stamps ≡ with_stamps changes (c.self.inside.version + 1) c.self.inside.stamps.items =
-    c.exchange_all.ensures.stamps ∙ ap (λ (xs : List ℕ). with_stamps changes (c.self.inside.version + 1) xs) c.deref_mut-2.ensures.value in
+    (rw c.deref_mut-4.ensures.value at c.exchange_all.ensures.stamps) ∙ ap (λ (xs : List ℕ). with_stamps changes (c.self.inside.version + 1) xs) c.deref_mut-2.ensures.value in
     let homes : AreHomes (with_routes changes (routes_of c.self.inside.routes.items)) c.exchange_all.new.homes =
     subst (λ (rs : List (List ℕ)). AreHomes rs c.exchange_all.new.homes) routes c.exchange_all.ensures.homes in
     let sound : IsPlan c.self.inside.customers (with_routes changes (routes_of c.self.inside.routes.items)) =

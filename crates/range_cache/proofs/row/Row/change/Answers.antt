@@ -1,13 +1,20 @@
-use Rattle.std.proofs.Common.{refl, rules, arith, below_more}
+use Rattle.std.proofs.Common.{◌≡◌, ◌∙◌, length, refl, rules, arith, below_more}
 use Rattle.std.proofs.lemmas.Grind.{common_steps}
+use Rattle.std.specs.Prelude.{vec_len}
 use Rattle.dimension_core.specs.Setup.{setting}
-use Rattle.range_cache.proofs.Rows.{kept_track, kept_long, out_at, asks_more, ranges_more}
-use Rattle.range_cache.proofs.row.Row.changed.Goals as goal
+use Rattle.range_cache.proofs.Rows.{kept_track, kept_long, out_at, asks_more, ranges_more, room_for}
+use Rattle.range_cache.proofs.row.Row.change.Goals as goal
 
 pub walk-requires-clause-kept : goal.walk-requires-clause-kept
 walk-requires-clause-kept g c =
     kept_track (setting c.args.setup.now) c.args.vehicle c.args.old.now c.args.new.now c.args.self.now c.loop-dimension.dimension c.common_front-front.result _
     c.requires.row (search rules) c.common_front-front.ensures.front c.front-kept.ensures
+
+pub walk-requires-clause-room : goal.walk-requires-clause-room
+walk-requires-clause-room g c =
+    let i = c.loop-dimension.invariant in
+    let all : vec_len c.loop-dimension.row-inside.ranges ≡ length c.loop-dimension.row-inside.ranges.items = search rules in
+    room_for _ c.loop-dimension.dimension _ c.args.new.now (search rules) _ (all ∙ i.filled.sized) i.room
 
 pub returns-then-not-branch-clause-fault : goal.returns-then-not-branch-clause-fault
 returns-then-not-branch-clause-fault g c =
@@ -20,7 +27,9 @@ loop-dimension-preserved g c =
     let long = kept_long s c.args.vehicle c.args.old.now c.args.self.now c.loop-dimension.dimension c.common_front-front.result _
     c.requires.row (search rules) c.common_front-front.ensures.front.left c.front-kept.ensures in
     record {
+      counted = i.counted;
       filled = ranges_more s c.args.vehicle c.args.new.now c.loop-dimension.dimension _ _ i.filled (c.in_ok-walk.ensures.ranges c.if-not-branch.false);
+      room = let more = c.walk.ensures.capacity in let so_far = i.room in omega (arith, more, so_far);
       fits = below_more _ _ i.fits (c.in_ok-walk.ensures.bounds.0 c.if-not-branch.false);
       asks = asks_more _ _ _ c.loop-dimension.dimension c.common_front-front.result _ c.args.old.now c.args.new.now i.asks c.walk.ensures.asks long c.common_front-front.ensures.value (grind (arith, common_steps));
     }

@@ -1,4 +1,0 @@
-use Rattle.range_cache.proofs.cache.Cache.changed_row.Goals as goal
-
-pub returns-clause-fits : goal.returns-clause-fits
-returns-clause-fits g c = rw c.customers.ensures at c.changed.ensures.fits

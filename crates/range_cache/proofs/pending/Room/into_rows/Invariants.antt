@@ -1,0 +1,10 @@
+use Rattle.std.proofs.Common.{◌≤◌, ◌-◌, length}
+use Rattle.range_cache.proofs.pending.Room.into_rows.Given as goal
+
+-- there are no rows too many
+abbrev pub invariant-rows : goal.invariant-rows
+invariant-rows l = record { few : length l.rows.items ≤ l.count }
+
+-- how many rows are missing
+abbrev pub decreases-rows : goal.decreases-rows
+decreases-rows l = l.count - length l.rows.items
