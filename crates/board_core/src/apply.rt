@@ -18,6 +18,7 @@ use std::alloc::AllocError;
 impl Core {
     /// Judges an event, and journals it with its reply, as `prepare` and then `settle` do. Nothing stands between the two, so no judged event
     /// is made and moved. Faults, in order: `OutOfTurn`, `Full`, `NoMemory`.
+    #[inline(always)]
     pub fn apply(&mut self, setup: &Setup, event: Event, meter: &mut Meter) -> Result<Reply, Fault>
         requires { IsKept (setting setup.now) self.old }
         ensures kept { IsKept (setting setup.now) self.new }

@@ -1,14 +1,14 @@
 -- Policy commands: what the compiled permissions and the spare policy say of the step.
-use Rattle.std.proofs.Common.{◌≡◌, ℕ, ◌↔◌, Bool, true, false, Option, Some, None, Result, Ok, Err, refl, sym, ap, ◌∙◌, subst}
+use Rattle.std.proofs.Common.{◌≡◌, ℕ, ◌↔◌, ◌∷◌, List, not, find, ◌&&◌, if◌then◌else◌, Bool, true, false, Option, Some, None, Result, Ok, Err, refl, sym, ap, ◌∙◌, subst}
 use Rattle.std.specs.Result.{IfOk}
-use Rattle.std.specs.Option.{option_or}
+use Rattle.std.specs.Option.{option_or, is_some}
 use Rattle.std.proofs.Math.Logic.{∥∥₁_elim}
 use Rattle.std.proofs.Math.Bool.{Bool-set}
 use Rattle.permission_core.specs.declared.objects.Operation.{Operation}
 use Rattle.permission_core.specs.declared.objects.Operation.TheVariants as operations
 use Rattle.permission_core.specs.declared.objects.Object.{Object}
 use Rattle.permission_core.specs.declared.objects.Object.TheVariants as objects
-use Rattle.policy_core.specs.State.{PolicyState}
+use Rattle.policy_core.specs.State.{PolicyState, is_session}
 use Rattle.policy_core.specs.Access.{has_access}
 use Rattle.policy_core.specs.Commands.{Says}
 use Rattle.policy_core.specs.declared.refusal.Refusal.{Refusal}
@@ -29,6 +29,38 @@ use Rattle.board_state.specs.Changes.{PolicyWillBe}
 pub allows_access : (t : TablesState) (p : PolicyState) → ∥ AreCompiled t p ∥₁ → (session : ℕ) (operation : Operation) (object : Object)
     → allows t session operation object ≡ has_access p session operation object
 allows_access t p compiled session operation object = ∥∥₁_elim compiled (Bool-set _ _) (λ are. are session operation object)
+
+-- a session that may do anything is there
+and_first : (a b : Bool) → (a && b) ≡ true → a ≡ true
+and_first true b e = refl
+and_first false b e = absurd cc
+
+open_by : (p : PolicyState) (session : ℕ) (operation : Operation) (object : Object) → has_access p session operation object ≡ true → is_session p session ≡ true
+unfolding has_access
+open_by p session operation object e = and_first (is_session p session) _ e
+
+pub allowed_open : (t : TablesState) (p : PolicyState) → ∥ AreCompiled t p ∥₁ → (session : ℕ) (operation : Operation) (object : Object)
+    → allows t session operation object ≡ true → is_session p session ≡ true
+allowed_open t p compiled session operation object e = open_by p session operation object (sym (allows_access t p compiled session operation object) ∙ e)
+
+pub none_there : {X : Type 0} (o : Option X) (b : Bool) → is_some o ≡ not b → b ≡ true → o ≡ None
+none_there None b e h = refl
+none_there (Some x) b e h = let bad : true ≡ false = e ∙ ap not h in absurd cc
+
+-- a session that has `admin` on the board may give any command
+pub admin_guard : (p : PolicyState) (session : ℕ) (command : Command) → is_session p session ≡ true → guard_by true p session command ≡ None
+unfolding guard_by
+admin_guard p session command e = ap (λ (b : Bool). if not b then Some NoSession else None) e
+
+-- where none is barred the first may
+pub first_allowed : (P : ℕ → Bool) (x : ℕ) (xs : List ℕ) → find (λ v. not (P v)) (x ∷ xs) ≡ None → P x ≡ true
+first_allowed P x xs e = by_test (P x) refl
+  where
+    by_test : (b : Bool) → P x ≡ b → P x ≡ true
+    by_test true h = h
+    by_test false h =
+        let bad : Some x ≡ None = subst (λ (b : Bool). (if not b then Some x else find (λ v. not (P v)) xs) ≡ None) h e in
+        absurd cc
 
 -- a refusal of the guard, and one of the command
 pub guarded : (p : PolicyState) (session : ℕ) (command : Command) (e : Refusal) → guard p session command ≡ Some e

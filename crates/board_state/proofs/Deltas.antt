@@ -10,7 +10,8 @@ use Rattle.board_rules.specs.Good.{IsGood}
 use Rattle.board_rules.specs.State.{BoardState}
 use Rattle.board_state.specs.Changes.{WillHold, IsSettleable, plan_after, pins_after}
 use Rattle.board_state.specs.declared.change.Change.{Change}
-use Rattle.board_state.specs.declared.change.Change.TheVariants.{Nothing, Replace, Pin, Unpin, Front, Command}
+use Rattle.board_state.specs.declared.change.Change.TheVariants.{Nothing, Replace, Pins, Command}
+use Rattle.board_state.specs.declared.change.PinChange.TheVariants.{Pin, Unpin, Front}
 use Rattle.board_state.specs.Deltas.{changed_places, changed_pins, changed_fronts}
 use Rattle.board_state.specs.Held.{HeldState, Holds}
 use Rattle.board_state.proofs.Numbers.{Unlike, nothing_differs, one_differs}
@@ -20,11 +21,11 @@ use Rattle.board_state.proofs.Spots.{SpotLaws, places_differ}
 pub held_places : (law : SpotLaws) (held : HeldState) (change : Change) → IsSettleable held change
     → AreChangesOf held.plan.customers (spot_in held.plan.routes) (spot_in (plan_after held.plan change).routes) (changed_places held change)
 held_places law held (Replace commit) ready =
-    places_differ law held.plan.customers held.plan.routes commit.mv (changes_of commit.changes.items) ready.sound ready.possible
+    places_differ law held.plan.customers held.plan.routes commit.mv (changes_of commit.new.changes.items) ready.made.sound ready.made.possible
 held_places law held Nothing ready = nothing_differs held.plan.customers _ _ (λ k. refl)
-held_places law held (Pin c v) ready = nothing_differs held.plan.customers _ _ (λ k. refl)
-held_places law held (Unpin c) ready = nothing_differs held.plan.customers _ _ (λ k. refl)
-held_places law held (Front v m) ready = nothing_differs held.plan.customers _ _ (λ k. refl)
+held_places law held (Pins (Pin c v)) ready = nothing_differs held.plan.customers _ _ (λ k. refl)
+held_places law held (Pins (Unpin c)) ready = nothing_differs held.plan.customers _ _ (λ k. refl)
+held_places law held (Pins (Front v m)) ready = nothing_differs held.plan.customers _ _ (λ k. refl)
 held_places law held (Command rows command) ready = nothing_differs held.plan.customers _ _ (λ k. refl)
 
 pin_written : (pins : PinState) (c j : ℕ) (pin : Option ℕ) → 1 ≤ c → 1 ≤ j → j ≢ c → pin_of (with_pin c pin pins) j ≡ pin_of pins j
@@ -42,31 +43,31 @@ front_here pins v m low high = get_or-set_same pins.fronts (v - 1) m 0 (omega (a
 pub held_pins : (law : SpotLaws) (pin_law : PinLaws) (held : HeldState) (change : Change) → IsSettleable held change
     → AreChangesOf (length held.pins.pins) (pin_of held.pins) (pin_of (pins_after held change)) (changed_pins change)
 held_pins law pin_law held (Replace commit) ready =
-    releases_differ pin_law held.pins _ commit.touched.items commit.freed.items (length held.pins.pins) ready.freed ready.known ready.touched
-    (subst (λ (ts : List Touch). Unlike (customers_of ts)) (sym ready.by)
-    (touched_unlike law held.plan.customers held.plan.routes ready.sound commit.mv (changes_of commit.changes.items) ready.possible))
-held_pins law pin_law held (Pin c v) ready =
+    releases_differ pin_law held.pins _ commit.new.touched.items commit.new.freed.items (length held.pins.pins) ready.routes.freed ready.routes.known ready.routes.touched
+    (subst (λ (ts : List Touch). Unlike (customers_of ts)) (sym ready.made.by)
+    (touched_unlike law held.plan.customers held.plan.routes ready.made.sound commit.mv (changes_of commit.new.changes.items) ready.made.possible))
+held_pins law pin_law held (Pins (Pin c v)) ready =
     let is = pin_here held.pins c (Some v) ready.0 ready.1 in
     one_differs (length held.pins.pins) c (Some v) _ _ ready.0 ready.1 is (λ e. let bad = sym is ∙ (e ∙ ready.2) in absurd cc)
     (λ j from apart. pin_written held.pins c j (Some v) ready.0 from apart)
-held_pins law pin_law held (Unpin c) ready =
+held_pins law pin_law held (Pins (Unpin c)) ready =
     let is = pin_here held.pins c None ready.0 ready.1 in
     one_differs (length held.pins.pins) c None _ _ ready.0 ready.1 is (λ e. ready.2 (sym e ∙ is))
     (λ j from apart. pin_written held.pins c j None ready.0 from apart)
 held_pins law pin_law held Nothing ready = nothing_differs (length held.pins.pins) _ _ (λ k. refl)
-held_pins law pin_law held (Front v m) ready = nothing_differs (length held.pins.pins) _ _ (λ k. refl)
+held_pins law pin_law held (Pins (Front v m)) ready = nothing_differs (length held.pins.pins) _ _ (λ k. refl)
 held_pins law pin_law held (Command rows command) ready = nothing_differs (length held.pins.pins) _ _ (λ k. refl)
 
 pub held_fronts : (held : HeldState) (change : Change) → IsSettleable held change
     → AreChangesOf (length held.pins.fronts) (front_of held.pins) (front_of (pins_after held change)) (changed_fronts change)
-held_fronts held (Front v m) ready =
+held_fronts held (Pins (Front v m)) ready =
     let is = front_here held.pins v m ready.0 ready.1 in
     one_differs (length held.pins.fronts) v m _ _ ready.0 ready.1 is (λ e. ready.2 (sym is ∙ e))
     (λ j from apart. front_written held.pins v j m ready.0 from apart)
 held_fronts held Nothing ready = nothing_differs (length held.pins.fronts) _ _ (λ k. refl)
 held_fronts held (Replace commit) ready = nothing_differs (length held.pins.fronts) _ _ (λ k. refl)
-held_fronts held (Pin c v) ready = nothing_differs (length held.pins.fronts) _ _ (λ k. refl)
-held_fronts held (Unpin c) ready = nothing_differs (length held.pins.fronts) _ _ (λ k. refl)
+held_fronts held (Pins (Pin c v)) ready = nothing_differs (length held.pins.fronts) _ _ (λ k. refl)
+held_fronts held (Pins (Unpin c)) ready = nothing_differs (length held.pins.fronts) _ _ (λ k. refl)
 held_fronts held (Command rows command) ready = nothing_differs (length held.pins.fronts) _ _ (λ k. refl)
 
 pub delta_right : (law : SpotLaws) (pin_law : PinLaws) (s : Setting) (held : HeldState) (change : Change) (state next : BoardState) → IsSettleable held change

@@ -35,9 +35,13 @@ use Rattle.board_rules.specs.declared.reply.Reply.{Reply}
 use Rattle.board_rules.specs.declared.reply.Reply.TheVariants.{Done, Refused}
 use Rattle.board_rules.specs.Step.{committed, after, refused_by}
 use Rattle.board_rules.specs.Pinning.{pin_guard, freeze_guard, pin_refusal, unpin_refusal, freeze_refusal, thaw_refusal}
+use Rattle.rbac_core.specs.Tried.{Tried}
+use Rattle.permission_table.specs.Tables.{TablesState}
 use Rattle.board_state.specs.declared.change.Commit.{Commit}
+use Rattle.board_state.specs.declared.change.NewRoutes.{NewRoutes}
 use Rattle.board_state.specs.declared.change.Change.{Change}
-use Rattle.board_state.specs.declared.change.Change.TheVariants.{Nothing, Replace, Pin, Unpin, Front, Command}
+use Rattle.board_state.specs.declared.change.Change.TheVariants.{Nothing, Replace, Pins, Command}
+use Rattle.board_state.specs.declared.change.PinChange.{PinChange}
 use Rattle.board_state.specs.Held.{HeldState, Holds, IsReady, held_basis}
 use Rattle.board_state.specs.Changes.{Tries, WillHold, WillCompile, WillKeep, IsSettleable, PinsWillBe, PolicyWillBe, policy_made, plan_after, pins_after}
 use Rattle.board_state.proofs.Commanding.{allows_access}
@@ -74,21 +78,17 @@ module _ (s : Setting) (held : HeldState) (state : BoardState) (holds : Holds s 
   }
 
   -- pins and frozen lengths alone change
-  pub pins_will : (change : Change) (old next : PinState) → PinsWillBe held change old → old ≡ next → WillHold s held change (record state { pins = next })
-  pins_will Nothing old next will same = record { policy = holds.policy; compiled = holds.compiled; sizes = holds.sizes; customers = holds.customers; routes = holds.routes; stamps = holds.stamps; pins = will.made ∙ same; cache = holds.cache }
-  pins_will (Pin c v) old next will same = record { policy = holds.policy; compiled = holds.compiled; sizes = holds.sizes; customers = holds.customers; routes = holds.routes; stamps = holds.stamps; pins = will.made ∙ same; cache = holds.cache }
-  pins_will (Unpin c) old next will same = record { policy = holds.policy; compiled = holds.compiled; sizes = holds.sizes; customers = holds.customers; routes = holds.routes; stamps = holds.stamps; pins = will.made ∙ same; cache = holds.cache }
-  pins_will (Front v n) old next will same = record { policy = holds.policy; compiled = holds.compiled; sizes = holds.sizes; customers = holds.customers; routes = holds.routes; stamps = holds.stamps; pins = will.made ∙ same; cache = holds.cache }
-  pins_will (Replace commit) old next will same = absurd will.alone
-  pins_will (Command rows command) old next will same = absurd will.alone
+  pub pins_will : (change : PinChange) (old next : PinState) → PinsWillBe held change old → old ≡ next → WillHold s held (Pins change) (record state { pins = next })
+  pins_will change old next will same =
+      record { policy = holds.policy; compiled = holds.compiled; sizes = holds.sizes; customers = holds.customers; routes = holds.routes; stamps = holds.stamps; pins = will.made ∙ same; cache = holds.cache }
 
   -- new routes are put in place
-  pub commit_will : (commit : Commit) (mv : Move) → changes_of commit.changes.items ≡ changes_by held.plan.routes mv → named_vehicles (changes_by held.plan.routes mv) ≡ named_by mv
-      → AreNewRows s (changes_by held.plan.routes mv) commit.pending.rows → AreApart (length held.plan.stamps) (changes_of commit.changes.items)
+  pub commit_will : (commit : Commit) (mv : Move) → changes_of commit.new.changes.items ≡ changes_by held.plan.routes mv → named_vehicles (changes_by held.plan.routes mv) ≡ named_by mv
+      → AreNewRows s (changes_by held.plan.routes mv) commit.new.pending.rows → AreApart (length held.plan.stamps) (changes_of commit.new.changes.items)
       → ((commits : List (List ℕ)) (plan : PlanState) (changes : Changes) → AreStamps commits plan → AreApart (length plan.stamps) changes → AreStamps (commits ++ named_vehicles changes ∷ []) (replaced changes plan))
       → WillHold s held (Replace commit) (committed state mv)
   commit_will commit mv same names ranges apart law =
-      let routes : with_routes (changes_of commit.changes.items) held.plan.routes ≡ routes_after state.routes mv =
+      let routes : with_routes (changes_of commit.new.changes.items) held.plan.routes ≡ routes_after state.routes mv =
       ap (λ (cs : Changes). with_routes cs held.plan.routes) same ∙ ap (λ (rs : List (List ℕ)). routes_after rs mv) holds.routes in
       record {
         policy = holds.policy;
@@ -96,15 +96,43 @@ module _ (s : Setting) (held : HeldState) (state : BoardState) (holds : Holds s 
         sizes = holds.sizes;
         customers = holds.customers;
         routes = routes;
-        stamps = subst (λ (vehicles : List ℕ). AreStamps (state.commits ++ vehicles ∷ []) (replaced (changes_of commit.changes.items) held.plan))
-            (ap (λ (cs : Changes). named_vehicles cs) same ∙ names) (law state.commits held.plan (changes_of commit.changes.items) holds.stamps apart);
+        stamps = subst (λ (vehicles : List ℕ). AreStamps (state.commits ++ vehicles ∷ []) (replaced (changes_of commit.new.changes.items) held.plan))
+            (ap (λ (cs : Changes). named_vehicles cs) same ∙ names) (law state.commits held.plan (changes_of commit.new.changes.items) holds.stamps apart);
         pins = ap (λ (rs : List (List ℕ)). after_commit rs held.pins) routes ∙ ap (λ (p : PinState). after_commit (routes_after state.routes mv) p) holds.pins;
         cache = (
           subst (λ (rs : List (List ℕ)). IsCacheOf s rs held.cache) (sym holds.routes) holds.cache,
-          subst (λ (cs : Changes). AreNewRows s cs commit.pending.rows) (sym same) ranges,
+          subst (λ (cs : Changes). AreNewRows s cs commit.new.pending.rows) (sym same) ranges,
           routes,
         );
       }
+
+-- new routes that are in place
+pub new_holds : (s : Setting) (held after : HeldState) (state : BoardState) (new : NewRoutes) (mv : Move) → Holds s held state
+    → changes_of new.changes.items ≡ changes_by held.plan.routes mv → named_vehicles (changes_by held.plan.routes mv) ≡ named_by mv
+    → AreNewRows s (changes_by held.plan.routes mv) new.pending.rows → AreApart (length held.plan.stamps) (changes_of new.changes.items)
+    → ((commits : List (List ℕ)) (plan : PlanState) (changes : Changes) → AreStamps commits plan → AreApart (length plan.stamps) changes → AreStamps (commits ++ named_vehicles changes ∷ []) (replaced changes plan))
+    → after.policy ≡ held.policy → after.tables ≡ held.tables → after.plan ≡ replaced (changes_of new.changes.items) held.plan
+    → after.pins ≡ after_commit (with_routes (changes_of new.changes.items) held.plan.routes) held.pins
+    → ((routes : List (List ℕ)) (changes : Changes) → IsCacheOf s routes held.cache → AreNewRows s changes new.pending.rows → IsCacheOf s (with_routes changes routes) after.cache)
+    → Holds s after (committed state mv)
+new_holds s held after state new mv holds same names ranges apart law policy tables plan pins keeps =
+    let routes : with_routes (changes_of new.changes.items) held.plan.routes ≡ routes_after state.routes mv =
+    ap (λ (cs : Changes). with_routes cs held.plan.routes) same ∙ ap (λ (rs : List (List ℕ)). routes_after rs mv) holds.routes in
+    record {
+      policy = ap (λ (p : Tried). p.now) policy ∙ holds.policy;
+      compiled = ∥∥₁_map holds.compiled (λ are. subst (λ (t : TablesState). AreCompiled t state.policy) (sym tables) are);
+      sizes = subst (λ (t : TablesState). HasSizes state.policy t) (sym tables) holds.sizes;
+      customers = ap (λ (p : PlanState). p.customers) plan ∙ holds.customers;
+      routes = ap (λ (p : PlanState). p.routes) plan ∙ routes;
+      stamps = subst (λ (p : PlanState). AreStamps (committed state mv).commits p) (sym plan)
+          (subst (λ (vehicles : List ℕ). AreStamps (state.commits ++ vehicles ∷ []) (replaced (changes_of new.changes.items) held.plan))
+          (ap (λ (cs : Changes). named_vehicles cs) same ∙ names) (law state.commits held.plan (changes_of new.changes.items) holds.stamps apart));
+      pins = pins ∙ ap (λ (rs : List (List ℕ)). after_commit rs held.pins) routes ∙ ap (λ (p : PinState). after_commit (routes_after state.routes mv) p) holds.pins;
+      cache = subst (λ (rs : List (List ℕ)). IsCacheOf s rs after.cache) routes
+          (keeps held.plan.routes (changes_of new.changes.items)
+          (subst (λ (rs : List (List ℕ)). IsCacheOf s rs held.cache) (sym holds.routes) holds.cache)
+          (subst (λ (cs : Changes). AreNewRows s cs new.pending.rows) (sym same) ranges));
+    }
 
 -- where nothing but what was tried and the room differs, the same is held
 pub policy_will : (s : Setting) (old new : HeldState) (state : BoardState) (change : Change) (next : PolicyState) → Holds s old state
@@ -116,9 +144,7 @@ policy_will s old new state (Command rows command) next holds kept will =
     subst (λ (h : HeldState). WillHold s h (Command rows command) (record state { policy = next })) (sym kept)
     (record { policy = will.made; compiled = will.compiled; sizes = will.sizes; customers = holds.customers; routes = holds.routes; stamps = holds.stamps; pins = holds.pins; cache = holds.cache })
 policy_will s old new state (Replace commit) next holds kept will = absurd will.ready
-policy_will s old new state (Pin c v) next holds kept will = absurd will.ready
-policy_will s old new state (Unpin c) next holds kept will = absurd will.ready
-policy_will s old new state (Front v n) next holds kept will = absurd will.ready
+policy_will s old new state (Pins change) next holds kept will = absurd will.ready
 
 -- ---- calls on pins
 
@@ -151,28 +177,28 @@ unfolding thaw_refusal freeze_guard
 thaw_same s b c vehicle n a = agreeing s b c a (λ x. thaw_refusal s x vehicle n) refl
 
 -- what a call on pins changes
-pub pins_call : (s : Setting) (held : HeldState) (state : BoardState) (call : Call) (judged : Result Change Refusal) (reply : Reply) (change : Change) (old next : PinState) → Holds s held state
+pub pins_call : (s : Setting) (held : HeldState) (state : BoardState) (call : Call) (judged : Result PinChange Refusal) (reply : Reply) (change : Change) (old next : PinState) → Holds s held state
     → after state call Done ≡ record state { pins = next } → ((e : Refusal) → after state call (Refused e) ≡ state)
-    → reply ≡ refused_by (result_err judged) → MatchResult judged (λ made. change ≡ made) (λ e. change ≡ Nothing)
+    → reply ≡ refused_by (result_err judged) → MatchResult judged (λ made. change ≡ Pins made) (λ e. change ≡ Nothing)
     → IfOk judged (λ made. PinsWillBe held made old) → old ≡ next → WillHold s held change (after state call reply)
 pins_call s held state call (Ok made) reply change old next holds done none said is will same =
     subst (λ (x : Change). WillHold s held x (after state call reply)) (sym is)
-    (subst (λ (b : BoardState). WillHold s held made b) (sym (ap (after state call) said ∙ done)) (pins_will s held state holds made old next will same))
+    (subst (λ (b : BoardState). WillHold s held (Pins made) b) (sym (ap (after state call) said ∙ done)) (pins_will s held state holds made old next will same))
 pins_call s held state call (Err e) reply change old next holds done none said is will same =
     subst (λ (x : Change). WillHold s held x (after state call reply)) (sym is)
     (subst (λ (b : BoardState). WillHold s held Nothing b) (sym (ap (after state call) said ∙ none e)) (stays s held state holds))
 
 -- the same, said of the judged change itself
-pub pins_made : (s : Setting) (held : HeldState) (state : BoardState) (call : Call) (judged : Result Change Refusal) (reply : Reply) (old next : PinState) → Holds s held state
+pub pins_made : (s : Setting) (held : HeldState) (state : BoardState) (call : Call) (judged : Result PinChange Refusal) (reply : Reply) (old next : PinState) → Holds s held state
     → after state call Done ≡ record state { pins = next } → ((e : Refusal) → after state call (Refused e) ≡ state)
     → reply ≡ refused_by (result_err judged) → IfOk judged (λ made. PinsWillBe held made old) → old ≡ next
-    → MatchResult judged (λ made. WillHold s held made (after state call reply)) (λ e. Holds s held (after state call reply))
+    → MatchResult judged (λ made. WillHold s held (Pins made) (after state call reply)) (λ e. Holds s held (after state call reply))
 pins_made s held state call (Ok made) reply old next holds done none said will same =
-    subst (λ (b : BoardState). WillHold s held made b) (sym (ap (after state call) said ∙ done)) (pins_will s held state holds made old next will same)
+    subst (λ (b : BoardState). WillHold s held (Pins made) b) (sym (ap (after state call) said ∙ done)) (pins_will s held state holds made old next will same)
 pins_made s held state call (Err e) reply old next holds done none said will same =
     subst (λ (b : BoardState). Holds s held b) (sym (ap (after state call) said ∙ none e)) holds
 
-pub pins_ready : (held : HeldState) (judged : Result Change Refusal) (next : PinState) → IfOk judged (λ made. PinsWillBe held made next) → IfOk judged (IsSettleable held)
+pub pins_ready : (held : HeldState) (judged : Result PinChange Refusal) (next : PinState) → IfOk judged (λ made. PinsWillBe held made next) → IfOk judged (λ made. IsSettleable held (Pins made))
 pins_ready held (Ok made) next will = will.ready
 pins_ready held (Err e) next will = tt
 
@@ -196,9 +222,7 @@ holds_from s old new change next policy compiled customers vehicles plan pins st
 pub customers_stay : (plan : PlanState) (change : Change) → (plan_after plan change).customers ≡ plan.customers
 customers_stay plan Nothing = refl
 customers_stay plan (Replace commit) = refl
-customers_stay plan (Pin c v) = refl
-customers_stay plan (Unpin c) = refl
-customers_stay plan (Front v n) = refl
+customers_stay plan (Pins change) = refl
 customers_stay plan (Command rows command) = refl
 
 -- ---- policy commands

@@ -19,8 +19,12 @@ use Rattle.permission_table.specs.Compiled.{AreCompiled, WillBeCompiled, HasSize
 use Rattle.board_rules.specs.State.{BoardState}
 use Rattle.board_rules.specs.declared.reply.Reply.{Reply}
 use Rattle.board_state.specs.declared.change.Commit.{Commit}
+use Rattle.board_state.specs.declared.change.NewRoutes.{NewRoutes}
+use Rattle.move_core.specs.declared.moves.Move.{Move}
 use Rattle.board_state.specs.declared.change.Change.{Change}
-use Rattle.board_state.specs.declared.change.Change.TheVariants.{Nothing, Replace, Pin, Unpin, Front, Command}
+use Rattle.board_state.specs.declared.change.Change.TheVariants.{Nothing, Replace, Pins, Command}
+use Rattle.board_state.specs.declared.change.PinChange.{PinChange}
+use Rattle.board_state.specs.declared.change.PinChange.TheVariants.{Pin, Unpin, Front}
 use Rattle.board_state.specs.Held.{HeldState}
 use Rattle.board_state.specs.Deltas.{AreFreed}
 
@@ -32,14 +36,17 @@ pub record JudgedState : Type 0 where
 
 -- the plan, the pins and the policy once the change is in place
 abbrev pub plan_after : PlanState → Change → PlanState
-plan_after plan (Replace commit) = replaced (changes_of commit.changes.items) plan
+plan_after plan (Replace commit) = replaced (changes_of commit.new.changes.items) plan
 plan_after plan _ = plan
 
+abbrev pub pins_with : PinChange → PinState → PinState
+pins_with (Pin customer vehicle) pins = with_pin customer (Some vehicle) pins
+pins_with (Unpin customer) pins = with_pin customer None pins
+pins_with (Front vehicle n) pins = with_front vehicle n pins
+
 abbrev pub pins_after : HeldState → Change → PinState
-pins_after held (Replace commit) = after_commit (with_routes (changes_of commit.changes.items) held.plan.routes) held.pins
-pins_after held (Pin customer vehicle) = with_pin customer (Some vehicle) held.pins
-pins_after held (Unpin customer) = with_pin customer None held.pins
-pins_after held (Front vehicle n) = with_front vehicle n held.pins
+pins_after held (Replace commit) = after_commit (with_routes (changes_of commit.new.changes.items) held.plan.routes) held.pins
+pins_after held (Pins change) = pins_with change held.pins
 pins_after held _ = held.pins
 
 abbrev pub policy_made : Tried → Change → PolicyState
@@ -53,8 +60,8 @@ WillCompile tables _ p = AreCompiled tables p
 
 -- the kept ranges are those of the routes once the change is in place
 abbrev pub WillKeep : Setting → HeldState → Change → List (List ℕ) → Type 0
-WillKeep s held (Replace commit) routes = IsCacheOf s held.plan.routes held.cache × AreNewRows s (changes_of commit.changes.items) commit.pending.rows
-    × (with_routes (changes_of commit.changes.items) held.plan.routes ≡ routes)
+WillKeep s held (Replace commit) routes = IsCacheOf s held.plan.routes held.cache × AreNewRows s (changes_of commit.new.changes.items) commit.new.pending.rows
+    × (with_routes (changes_of commit.new.changes.items) held.plan.routes ≡ routes)
 WillKeep s held _ routes = IsCacheOf s routes held.cache
 
 -- what is held stands for the state once the change is in place
@@ -68,29 +75,43 @@ pub record WillHold (s : Setting) (held : HeldState) (change : Change) (next : B
   pub pins : pins_after held change ≡ next.pins
   pub cache : WillKeep s held change next.routes
 
--- A commit may be put in place: it is that of a move that has an effect, with the customers that this touches, the routes that its vehicles
--- had, and marks on the customers whose pins it releases.
-pub record IsCommittable (held : HeldState) (commit : Commit) : Type 0 where
+-- New routes may be put in place: they are one or two, and make a plan, every customer that leaves its vehicle is touched, and those whose
+-- pins are released are marked.
+pub record ArePlaceableRoutes (held : HeldState) (new : NewRoutes) : Type 0 where
+  pub lengths : All (λ c. length c.1.value ≤ 1000) new.changes.items
+  pub freed : AreFreed held.pins (with_routes (changes_of new.changes.items) held.plan.routes) new.touched.items new.freed.items
+  pub changes : AreChanges (length held.plan.routes) (changes_of new.changes.items)
+  pub plan : IsPlan held.plan.customers (with_routes (changes_of new.changes.items) held.plan.routes)
+  pub room : held.plan.version < 16777216
+  pub known : All (λ t. (1 ≤ t.customer) × (t.customer ≤ length held.pins.pins)) new.touched.items
+  pub touched : (c : ℕ) → 1 ≤ c → IsHeld held.pins (with_routes (changes_of new.changes.items) held.plan.routes) c ⊎ IsTouched new.touched.items c
+  pub pending : new.pending.of ≡ held.cache
+
+-- new routes are those of a move that has an effect, with the customers that it touches
+pub record AreMadeBy (held : HeldState) (mv : Move) (new : NewRoutes) : Type 0 where
   pub sound : IsPlan held.plan.customers held.plan.routes
-  pub possible : effect held.plan.customers held.plan.routes commit.mv ≡ Some (changes_of commit.changes.items)
-  pub by : commit.touched.items ≡ touched_by held.plan.routes commit.mv
+  pub possible : effect held.plan.customers held.plan.routes mv ≡ Some (changes_of new.changes.items)
+  pub by : new.touched.items ≡ touched_by held.plan.routes mv
+
+-- A commit may be put in place: its new routes may, they are those of its move, and the routes that this move's vehicles had are beside
+-- them.
+pub record IsCommittable (held : HeldState) (commit : Commit) : Type 0 where
+  pub routes : ArePlaceableRoutes held commit.new
+  pub made : AreMadeBy held commit.mv commit.new
   pub former : commit.former.value ≡ route_at held.plan.routes (vehicles_of commit.mv).0
   pub other : option_map (λ r. r.value) commit.other ≡ option_map (route_at held.plan.routes) (vehicles_of commit.mv).1
-  pub lengths : All (λ c. length c.1.value ≤ 1000) commit.changes.items
-  pub freed : AreFreed held.pins (with_routes (changes_of commit.changes.items) held.plan.routes) commit.touched.items commit.freed.items
-  pub changes : AreChanges (length held.plan.routes) (changes_of commit.changes.items)
-  pub plan : IsPlan held.plan.customers (with_routes (changes_of commit.changes.items) held.plan.routes)
-  pub room : held.plan.version < 16777216
-  pub known : All (λ t. (1 ≤ t.customer) × (t.customer ≤ length held.pins.pins)) commit.touched.items
-  pub touched : (c : ℕ) → 1 ≤ c → IsHeld held.pins (with_routes (changes_of commit.changes.items) held.plan.routes) c ⊎ IsTouched commit.touched.items c
-  pub pending : commit.pending.of ≡ held.cache
 
--- A change may be put in place, and it changes something: nobody is pinned or unpinned twice, and no frozen length stays.
+-- A change of pins or frozen lengths may be put in place, and it changes something: nobody is pinned or unpinned twice, and no frozen
+-- length stays.
+abbrev pub ArePinsSettleable : PinState → PinChange → Type 0
+ArePinsSettleable pins (Pin customer vehicle) = (1 ≤ customer) × (customer ≤ length pins.pins) × (pin_of pins customer ≡ None)
+ArePinsSettleable pins (Unpin customer) = (1 ≤ customer) × (customer ≤ length pins.pins) × (pin_of pins customer ≢ None)
+ArePinsSettleable pins (Front vehicle n) = (1 ≤ vehicle) × (vehicle ≤ length pins.fronts) × (n ≢ front_of pins vehicle)
+
+-- a change may be put in place
 abbrev pub IsSettleable : HeldState → Change → Type 0
 IsSettleable held (Replace commit) = IsCommittable held commit
-IsSettleable held (Pin customer vehicle) = (1 ≤ customer) × (customer ≤ length held.pins.pins) × (pin_of held.pins customer ≡ None)
-IsSettleable held (Unpin customer) = (1 ≤ customer) × (customer ≤ length held.pins.pins) × (pin_of held.pins customer ≢ None)
-IsSettleable held (Front vehicle n) = (1 ≤ vehicle) × (vehicle ≤ length held.pins.fronts) × (n ≢ front_of held.pins vehicle)
+IsSettleable held (Pins change) = ArePinsSettleable held.pins change
 IsSettleable held (Command rows command) = (rows.of ≡ held.tables) × (refusal_of held.policy.now command ≡ None) × (held.policy.tried ≡ after held.policy.now command)
 IsSettleable held Nothing = Unit {0}
 
@@ -99,17 +120,10 @@ pub record IsJudged (held : HeldState) (version : ℕ) (change : Change) : Type 
   pub ready : IsSettleable held change
   pub then : version ≡ held.plan.version
 
--- a change is of the pins and frozen lengths alone, if of anything
-abbrev pub IsOfPins : Change → Type 0
-IsOfPins (Replace commit) = ⊥
-IsOfPins (Command rows command) = ⊥
-IsOfPins _ = Unit {0}
-
--- the change may be put in place, and makes these pins and frozen lengths and nothing else
-pub record PinsWillBe (held : HeldState) (change : Change) (next : PinState) : Type 0 where
-  pub alone : IsOfPins change
-  pub made : pins_after held change ≡ next
-  pub ready : IsSettleable held change
+-- the change may be put in place, and makes these pins and frozen lengths
+pub record PinsWillBe (held : HeldState) (change : PinChange) (next : PinState) : Type 0 where
+  pub made : pins_with change held.pins ≡ next
+  pub ready : ArePinsSettleable held.pins change
 
 -- the change is of the policy alone, if of anything, and may be put in place
 abbrev pub IsCommandReady : Tried → TablesState → Change → Type 0

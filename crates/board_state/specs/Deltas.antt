@@ -11,7 +11,9 @@ use Rattle.move_core.specs.Moves.{named_by, customer_at}
 use Rattle.move_core.specs.Touched.{touches}
 use Rattle.move_core.specs.Changed.{first_change}
 use Rattle.board_state.specs.declared.change.Change.{Change}
-use Rattle.board_state.specs.declared.change.Change.TheVariants.{Replace, Pin, Unpin, Front}
+use Rattle.board_state.specs.declared.change.Change.TheVariants.{Replace, Pins}
+use Rattle.board_state.specs.declared.change.PinChange.{PinChange}
+use Rattle.board_state.specs.declared.change.PinChange.TheVariants.{Pin, Unpin, Front}
 use Rattle.board_state.specs.Held.{HeldState}
 
 -- ---- places
@@ -60,15 +62,23 @@ released touched freed = map (λ x. (x.1.customer, None)) (filter (λ x. x.0) (z
 -- ---- all of a change
 
 abbrev pub changed_places : HeldState → Change → List (ℕ × Option (ℕ × ℕ))
-changed_places held (Replace commit) = places_by held.plan.routes (with_routes (changes_of commit.changes.items) held.plan.routes) commit.mv
+changed_places held (Replace commit) = places_by held.plan.routes (with_routes (changes_of commit.new.changes.items) held.plan.routes) commit.mv
 changed_places held _ = []
 
+abbrev pub pin_changes : PinChange → List (ℕ × Option ℕ)
+pin_changes (Pin customer vehicle) = (customer, Some vehicle) ∷ []
+pin_changes (Unpin customer) = (customer, None) ∷ []
+pin_changes (Front vehicle n) = []
+
+abbrev pub front_changes : PinChange → List (ℕ × ℕ)
+front_changes (Front vehicle n) = (vehicle, n) ∷ []
+front_changes _ = []
+
 abbrev pub changed_pins : Change → List (ℕ × Option ℕ)
-changed_pins (Replace commit) = released commit.touched.items commit.freed.items
-changed_pins (Pin customer vehicle) = (customer, Some vehicle) ∷ []
-changed_pins (Unpin customer) = (customer, None) ∷ []
+changed_pins (Replace commit) = released commit.new.touched.items commit.new.freed.items
+changed_pins (Pins change) = pin_changes change
 changed_pins _ = []
 
 abbrev pub changed_fronts : Change → List (ℕ × ℕ)
-changed_fronts (Front vehicle n) = (vehicle, n) ∷ []
+changed_fronts (Pins change) = front_changes change
 changed_fronts _ = []

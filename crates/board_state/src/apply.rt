@@ -6,11 +6,12 @@ ghost use Rattle.dimension_core.specs.Setup.{setting};
 ghost use Rattle.board_rules.specs.State.{BoardState};
 ghost use Rattle.board_rules.specs.Step.{IsReply, after, refused_by};
 ghost use Rattle.board_rules.specs.declared.call.Call.TheVariants.{Propose};
+ghost use Rattle.board_state.specs.declared.change.Change.TheVariants.{Pins};
 ghost use Rattle.board_state.specs.Held.{Holds, IsReady};
 ghost use Rattle.board_state.specs.Changes.{Tries, WillHold, IsSettleable};
 ghost use Rattle.board_state.specs.Work.{WorksAtMost, call_asks, call_probes, reply_asks};
 
-use crate::change::Change;
+use crate::change::{Change, PinChange};
 use crate::state::State;
 use crate::stop::Stop;
 use board_rules::{Call, Refusal, Reply, verdicts_by_agreeing_facts};
@@ -24,6 +25,7 @@ impl State {
     /// Judges a call and puts it in place, as `prepare` and then `settle` do. Nothing stands between the two, so no judged call is made
     /// and moved. Where a growth was refused, nothing changes that a contract sees but what is tried on the spare policy and for how many
     /// rows there is room.
+    #[inline(always)]
     pub fn apply(
         &mut self,
         alloc: Global,
@@ -74,14 +76,14 @@ impl State {
     /// Puts a call on pins in place that was judged so, and gives its reply. It is written out for each call, so that none makes room for
     /// the changes of the others.
     #[inline(always)]
-    fn finish(&mut self, judged: Result<Change, Refusal>) -> Reply
-        requires { IfOk judged (IsSettleable self.old) }
+    fn finish(&mut self, judged: Result<PinChange, Refusal>) -> Reply
+        requires { IfOk judged (λ change. IsSettleable self.old (Pins change)) }
         ensures reply { result ≡ refused_by (result_err judged) }
-        ensures holds { (s : Setting) (next : BoardState) → MatchResult judged (λ change. WillHold s self.old change next) (λ refusal. Holds s self.old next) → Holds s self.new next }
+        ensures holds { (s : Setting) (next : BoardState) → MatchResult judged (λ change. WillHold s self.old (Pins change) next) (λ refusal. Holds s self.old next) → Holds s self.new next }
     {
         match judged {
             Ok(change) => {
-                self.enact(change);
+                self.enact(Change::Pins(change));
                 Reply::Done
             }
             Err(refusal) => Reply::Refused(refusal),
@@ -89,6 +91,7 @@ impl State {
     }
 
     /// The same for a proposal. The new routes go from the judgement to the plan without a change that could be of another kind.
+    #[inline(always)]
     fn apply_proposal(
         &mut self,
         alloc: Global,
@@ -110,10 +113,9 @@ impl State {
         moves_name_vehicles();
         stamps_by_one_more();
         let version = self.plan.version();
-        let room = self.room_for_touched(alloc);
-        match self.judge_proposal(alloc, setup, session, base, mv, room, meter) {
-            Ok(commit) => {
-                self.enact(Change::Replace(commit));
+        match self.judge_proposal(alloc, setup, session, base, mv, meter) {
+            Ok(new) => {
+                self.replace(new);
                 Ok(Reply::Committed(version + 1))
             }
             Err(Stop::Denied(denial)) => Ok(Reply::Denied(denial)),

@@ -4,25 +4,60 @@ use board_rules::Reply;
 use move_core::Move;
 use permission_table::Rows;
 use plan_core::{Route, Touch};
-use range_cache::Pending;
+use range_cache::{Pending, Room};
 use rbac_core::Command;
 use std::alloc::Global;
 use std::marker::Model;
 use std::snapshot::Snapshot;
 use std::sync::Arc;
 
-/// New routes that pass every rule, with the move that makes them, the customers that it touches, the routes that its vehicles had, and the
-/// new ranges.
+/// The memory of a commit's lists, for those of the next one.
 #[derive(Drop)]
-pub struct Commit {
-    pub(crate) mv: Move,
+pub(crate) struct Workspace {
+    pub(crate) touched: Vec<Touch>,
+    pub(crate) changes: Vec<(u32, Arc<Route>)>,
+    pub(crate) rows: Room,
+}
+
+impl Workspace {
+    /// No memory.
+    pub(crate) fn new(alloc: Global) -> Workspace {
+        Workspace {
+            touched: Vec::new(alloc),
+            changes: Vec::new(alloc),
+            rows: Room::new(alloc),
+        }
+    }
+}
+
+/// New routes that pass every rule, with the customers that their move touches, and the new ranges.
+#[derive(Drop)]
+pub struct NewRoutes {
     pub(crate) changes: Vec<(u32, Arc<Route>)>,
     pub(crate) touched: Vec<Touch>,
-    pub(crate) former: Arc<Route>,
-    pub(crate) other: Option<Arc<Route>>,
     /// For each touched customer whether it leaves the vehicle of its pin, or nothing where none does.
     pub(crate) freed: Vec<bool>,
     pub(crate) pending: Pending,
+}
+
+/// New routes that pass every rule, with the move that makes them and the routes that its vehicles had.
+#[derive(Drop)]
+pub struct Commit {
+    pub(crate) mv: Move,
+    pub(crate) new: NewRoutes,
+    pub(crate) former: Arc<Route>,
+    pub(crate) other: Option<Arc<Route>>,
+}
+
+/// What a call on pins or freezes changes.
+#[derive(Clone, Copy)]
+pub enum PinChange {
+    /// The customer is pinned to the vehicle.
+    Pin(u32, u32),
+    /// The customer is pinned no longer.
+    Unpin(u32),
+    /// The vehicle has this frozen length.
+    Front(u32, u32),
 }
 
 /// What a call changes of what is held.
@@ -32,12 +67,8 @@ pub enum Change {
     Nothing,
     /// New routes.
     Replace(Commit),
-    /// The customer is pinned to the vehicle.
-    Pin(u32, u32),
-    /// The customer is pinned no longer.
-    Unpin(u32),
-    /// The vehicle has this frozen length.
-    Front(u32, u32),
+    /// A pin or a frozen length.
+    Pins(PinChange),
     /// The policy is as this command was tried on it, and these are its rows.
     Command(Rows, Command),
 }

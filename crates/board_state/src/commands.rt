@@ -25,17 +25,21 @@ use rbac_core::{
 use std::alloc::{AllocError, Global};
 
 impl State {
-    /// Why the session may not give the command.
+    /// Why the session may not give the command. One that has `admin` on the board is there, and is not looked for.
     fn command_guard(
         &self,
         session: u32,
         command: &Command,
         meter: &mut Meter,
     ) -> Option<PolicyRefusal>
+        requires { ∥ AreCompiled self.now.tables self.now.policy.now ∥₁ }
         ensures refused { result ≡ guard_by (allows self.now.tables session operations.Admin objects.Board) self.now.policy.now session command.now }
         ensures work { WorksAtMost meter.old meter.new 0 1 }
     {
         let admin = self.may(session, Operation::Admin, Object::Board, meter);
+        if admin {
+            return None;
+        }
         guard_by(self.policy.policy(), session, command, admin)
     }
 

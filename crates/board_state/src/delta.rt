@@ -11,7 +11,7 @@ ghost use Rattle.board_state.specs.Changes.{WillHold, IsCommittable, IsSettleabl
 ghost use Rattle.board_state.specs.declared.change.Change.TheVariants.{Replace};
 ghost use Rattle.board_state.specs.Deltas.{changed_places, changed_pins, changed_fronts, new_spots, spots_behind, stood_there, kept_by, taken_off, released};
 
-use crate::change::{Change, Commit, Judged};
+use crate::change::{Change, Commit, Judged, PinChange};
 use board_rules::{Delta, customers_have_one_spot};
 use move_core::{
     Move, fronts_by_first_change, moves_are_possible, moves_between_carry_over,
@@ -54,11 +54,7 @@ impl Judged {
     {
         match &self.change {
             Change::Replace(_) => self.version + 1,
-            Change::Nothing
-            | Change::Pin(..)
-            | Change::Unpin(_)
-            | Change::Front(..)
-            | Change::Command(..) => self.version,
+            Change::Nothing | Change::Pins(_) | Change::Command(..) => self.version,
         }
     }
 
@@ -68,11 +64,7 @@ impl Judged {
     {
         match &self.change {
             Change::Replace(commit) => self.new_places(commit),
-            Change::Nothing
-            | Change::Pin(..)
-            | Change::Unpin(_)
-            | Change::Front(..)
-            | Change::Command(..) => Ok(Vec::new(self.alloc)),
+            Change::Nothing | Change::Pins(_) | Change::Command(..) => Ok(Vec::new(self.alloc)),
         }
     }
 
@@ -81,12 +73,16 @@ impl Judged {
         ensures { IfOk result (λ pins. pins.items ≡ changed_pins self.now.change) }
     {
         match &self.change {
-            Change::Replace(commit) => released(self.alloc, &commit.touched, &commit.freed),
-            Change::Pin(customer, vehicle) => {
+            Change::Replace(commit) => released(self.alloc, &commit.new.touched, &commit.new.freed),
+            Change::Pins(PinChange::Pin(customer, vehicle)) => {
                 Ok(vec![in self.alloc; (*customer, Some(*vehicle))]?)
             }
-            Change::Unpin(customer) => Ok(vec![in self.alloc; (*customer, None)]?),
-            Change::Nothing | Change::Front(..) | Change::Command(..) => Ok(Vec::new(self.alloc)),
+            Change::Pins(PinChange::Unpin(customer)) => {
+                Ok(vec![in self.alloc; (*customer, None)]?)
+            }
+            Change::Nothing | Change::Pins(PinChange::Front(..)) | Change::Command(..) => {
+                Ok(Vec::new(self.alloc))
+            }
         }
     }
 
@@ -95,11 +91,12 @@ impl Judged {
         ensures { IfOk result (λ frozen. frozen.items ≡ changed_fronts self.now.change) }
     {
         match &self.change {
-            Change::Front(vehicle, frozen) => Ok(vec![in self.alloc; (*vehicle, *frozen)]?),
+            Change::Pins(PinChange::Front(vehicle, frozen)) => {
+                Ok(vec![in self.alloc; (*vehicle, *frozen)]?)
+            }
             Change::Nothing
             | Change::Replace(_)
-            | Change::Pin(..)
-            | Change::Unpin(_)
+            | Change::Pins(PinChange::Pin(..) | PinChange::Unpin(_))
             | Change::Command(..) => Ok(Vec::new(self.alloc)),
         }
     }
@@ -119,12 +116,12 @@ impl Judged {
     /// The customers that stand on a named vehicle where they did not stand before.
     fn new_spots(&self, commit: &Commit) -> Result<Spots, AllocError>
         requires { IsCommittable self.now.of commit.now }
-        ensures { IfOk result (λ places. places.items ≡ flat_map (new_spots self.now.of.plan.routes (with_routes (changes_of commit.now.changes.items) self.now.of.plan.routes) commit.now.mv) (named_by commit.now.mv)) }
+        ensures { IfOk result (λ places. places.items ≡ flat_map (new_spots self.now.of.plan.routes (with_routes (changes_of commit.now.new.changes.items) self.now.of.plan.routes) commit.now.mv) (named_by commit.now.mv)) }
     {
         routes_replaced();
         moves_name_vehicles();
         let mut places = Vec::new(self.alloc);
-        let (vehicle, route) = &commit.changes[0];
+        let (vehicle, route) = &commit.new.changes[0];
         let kept = kept_by(&commit.mv, *vehicle);
         add_new_spots(
             &mut places,
@@ -136,7 +133,7 @@ impl Judged {
         match &commit.other {
             None => Ok(places),
             Some(former) => {
-                let (vehicle, route) = &commit.changes[1];
+                let (vehicle, route) = &commit.new.changes[1];
                 let kept = kept_by(&commit.mv, *vehicle);
                 add_new_spots(
                     &mut places,
@@ -156,7 +153,7 @@ impl Judged {
         ensures { result ≡ taken_off self.now.of.plan.routes commit.now.mv }
     {
         match commit.mv {
-            Move::Remove { .. } => Some(commit.touched[0].customer),
+            Move::Remove { .. } => Some(commit.new.touched[0].customer),
             Move::Insert { .. }
             | Move::Shift { .. }
             | Move::Swap { .. }

@@ -3,13 +3,14 @@ ghost use Rattle.std.specs.Prelude.{◌≡◌, ◌≤◌, ℕ, length, IfOk, IfN
 ghost use Rattle.std.specs.Result.{result_err};
 ghost use Rattle.dimension_core.specs.Setup.{setting};
 ghost use Rattle.pin_core.specs.Pins.{with_pin, with_front};
+ghost use Rattle.permission_table.specs.Compiled.{AreCompiled};
 ghost use Rattle.board_rules.specs.Pinning.{vehicle_of, pinned, pin_guard, freeze_guard, pin_refusal, unpin_refusal, freeze_refusal, thaw_refusal};
 ghost use Rattle.board_rules.specs.Rules.{is_one_of};
 ghost use Rattle.board_state.specs.Held.{held_basis};
 ghost use Rattle.board_state.specs.Changes.{PinsWillBe};
 ghost use Rattle.board_state.specs.Work.{WorksAtMost};
 
-use crate::change::Change;
+use crate::change::PinChange;
 use crate::named::is_one_of;
 use crate::state::State;
 use board_rules::{Refusal, customers_have_one_spot};
@@ -26,18 +27,20 @@ impl State {
         customer: u32,
         meter: &mut Meter,
     ) -> Option<Refusal>
+        requires { ∥ AreCompiled self.now.tables self.now.policy.now ∥₁ }
         ensures refused { result ≡ pin_guard (setting setup.now) (held_basis self.now session) customer }
         ensures low { IfNone result (1 ≤ customer) }
         ensures high { IfNone result (customer ≤ (setting setup.now).customers) }
         ensures work { WorksAtMost meter.old meter.new 0 1 }
     {
-        if !self.is_session(session) {
+        let may = self.may(session, Operation::Pin, Object::Customer(customer), meter);
+        if !self.is_open(session, may) {
             return Some(Refusal::NoSession);
         }
         if !is_one_of(setup.customers(), customer) {
             return Some(Refusal::BadCustomer);
         }
-        if !self.may(session, Operation::Pin, Object::Customer(customer), meter) {
+        if !may {
             return Some(Refusal::NoAccess);
         }
         None
@@ -51,18 +54,20 @@ impl State {
         vehicle: u32,
         meter: &mut Meter,
     ) -> Option<Refusal>
+        requires { ∥ AreCompiled self.now.tables self.now.policy.now ∥₁ }
         ensures refused { result ≡ freeze_guard (setting setup.now) (held_basis self.now session) vehicle }
         ensures low { IfNone result (1 ≤ vehicle) }
         ensures high { IfNone result (vehicle ≤ (setting setup.now).vehicles) }
         ensures work { WorksAtMost meter.old meter.new 0 1 }
     {
-        if !self.is_session(session) {
+        let may = self.may(session, Operation::Freeze, Object::Vehicle(vehicle), meter);
+        if !self.is_open(session, may) {
             return Some(Refusal::NoSession);
         }
         if !is_one_of(setup.vehicles(), vehicle) {
             return Some(Refusal::BadVehicle);
         }
-        if !self.may(session, Operation::Freeze, Object::Vehicle(vehicle), meter) {
+        if !may {
             return Some(Refusal::NoAccess);
         }
         None
@@ -87,8 +92,9 @@ impl State {
         session: u32,
         customer: u32,
         meter: &mut Meter,
-    ) -> Result<Change, Refusal>
-        requires { length self.now.pins.pins ≡ (setting setup.now).customers }
+    ) -> Result<PinChange, Refusal>
+        requires compiled { ∥ AreCompiled self.now.tables self.now.policy.now ∥₁ }
+        requires pins { length self.now.pins.pins ≡ (setting setup.now).customers }
         ensures refused { result_err result ≡ pin_refusal (setting setup.now) (held_basis self.now session) customer }
         ensures change { IfOk result (λ change. PinsWillBe self.now change (pinned self.now.plan.routes customer self.now.pins)) }
         ensures work { WorksAtMost meter.old meter.new 0 1 }
@@ -102,7 +108,7 @@ impl State {
         if self.pins.pinned(customer).is_some() {
             return Err(Refusal::Already);
         }
-        Ok(Change::Pin(customer, vehicle))
+        Ok(PinChange::Pin(customer, vehicle))
     }
 
     /// Judges that a customer be pinned no longer.
@@ -113,8 +119,9 @@ impl State {
         session: u32,
         customer: u32,
         meter: &mut Meter,
-    ) -> Result<Change, Refusal>
-        requires { length self.now.pins.pins ≡ (setting setup.now).customers }
+    ) -> Result<PinChange, Refusal>
+        requires compiled { ∥ AreCompiled self.now.tables self.now.policy.now ∥₁ }
+        requires pins { length self.now.pins.pins ≡ (setting setup.now).customers }
         ensures refused { result_err result ≡ unpin_refusal (setting setup.now) (held_basis self.now session) customer }
         ensures change { IfOk result (λ change. PinsWillBe self.now change (with_pin customer None self.now.pins)) }
         ensures work { WorksAtMost meter.old meter.new 0 1 }
@@ -125,7 +132,7 @@ impl State {
         if self.pins.pinned(customer).is_none() {
             return Err(Refusal::NotThere);
         }
-        Ok(Change::Unpin(customer))
+        Ok(PinChange::Unpin(customer))
     }
 
     /// Judges a longer frozen front.
@@ -137,7 +144,8 @@ impl State {
         vehicle: u32,
         frozen: u32,
         meter: &mut Meter,
-    ) -> Result<Change, Refusal>
+    ) -> Result<PinChange, Refusal>
+        requires compiled { ∥ AreCompiled self.now.tables self.now.policy.now ∥₁ }
         requires routes { length self.now.plan.routes ≡ (setting setup.now).vehicles }
         requires fronts { length self.now.pins.fronts ≡ (setting setup.now).vehicles }
         ensures refused { result_err result ≡ freeze_refusal (setting setup.now) (held_basis self.now session) vehicle frozen }
@@ -150,7 +158,7 @@ impl State {
         if self.pins.frozen(vehicle) >= frozen || frozen as usize > self.plan.route(vehicle).len() {
             return Err(Refusal::Length);
         }
-        Ok(Change::Front(vehicle, frozen))
+        Ok(PinChange::Front(vehicle, frozen))
     }
 
     /// Judges a shorter frozen front.
@@ -162,8 +170,9 @@ impl State {
         vehicle: u32,
         left: u32,
         meter: &mut Meter,
-    ) -> Result<Change, Refusal>
-        requires { length self.now.pins.fronts ≡ (setting setup.now).vehicles }
+    ) -> Result<PinChange, Refusal>
+        requires compiled { ∥ AreCompiled self.now.tables self.now.policy.now ∥₁ }
+        requires fronts { length self.now.pins.fronts ≡ (setting setup.now).vehicles }
         ensures refused { result_err result ≡ thaw_refusal (setting setup.now) (held_basis self.now session) vehicle left }
         ensures change { IfOk result (λ change. PinsWillBe self.now change (with_front vehicle left self.now.pins)) }
         ensures work { WorksAtMost meter.old meter.new 0 1 }
@@ -174,6 +183,6 @@ impl State {
         if self.pins.frozen(vehicle) <= left {
             return Err(Refusal::Length);
         }
-        Ok(Change::Front(vehicle, left))
+        Ok(PinChange::Front(vehicle, left))
     }
 }

@@ -12,7 +12,7 @@ ghost use Rattle.board_state.specs.Held.{Holds, IsReady, held_basis};
 ghost use Rattle.board_state.specs.Changes.{Tries, WillHold, IsSettleable};
 ghost use Rattle.board_state.specs.Work.{WorksAtMost, call_asks, call_probes, reply_asks};
 
-use crate::change::{Change, Judged};
+use crate::change::{Change, Commit, Judged, PinChange};
 use crate::state::State;
 use crate::stop::Stop;
 use board_rules::{Call, Refusal, Reply, changes_by_stamps, verdicts_by_agreeing_facts};
@@ -104,7 +104,7 @@ impl State {
 
     /// The reply to a proposal, and what it changes.
     fn answer_proposal(
-        &self,
+        &mut self,
         alloc: Global,
         setup: &Setup,
         session: u32,
@@ -112,20 +112,30 @@ impl State {
         mv: &Move,
         meter: &mut Meter,
     ) -> Result<(Reply, Change), AllocError>
-        requires { IsReady (setting setup.now) self.now }
-        ensures ready { IfOk result (λ r. IsSettleable self.now r.1) }
-        ensures reply { (state : BoardState) → Holds (setting setup.now) self.now state → IfOk result (λ r. ∥ IsReply (setting setup.now) state (Propose session base mv.now) r.0 ∥₁) }
-        ensures change { (state : BoardState) → Holds (setting setup.now) self.now state → IfOk result (λ r. WillHold (setting setup.now) self.now r.1 (after state (Propose session base mv.now) r.0)) }
-        ensures work { IfOk result (λ r. WorksAtMost meter.old meter.new (reply_asks (call_asks (setting setup.now) self.now.plan.routes (Propose session base mv.now)) r.0) (call_probes self.now.pins self.now.plan.routes (Propose session base mv.now))) }
-        ensures most { WorksAtMost meter.old meter.new (call_asks (setting setup.now) self.now.plan.routes (Propose session base mv.now)) (call_probes self.now.pins self.now.plan.routes (Propose session base mv.now)) }
+        requires { IsReady (setting setup.now) self.old }
+        ensures same { self.new ≡ self.old }
+        ensures ready { IfOk result (λ r. IsSettleable self.old r.1) }
+        ensures reply { (state : BoardState) → Holds (setting setup.now) self.old state → IfOk result (λ r. ∥ IsReply (setting setup.now) state (Propose session base mv.now) r.0 ∥₁) }
+        ensures change { (state : BoardState) → Holds (setting setup.now) self.old state → IfOk result (λ r. WillHold (setting setup.now) self.old r.1 (after state (Propose session base mv.now) r.0)) }
+        ensures work { IfOk result (λ r. WorksAtMost meter.old meter.new (reply_asks (call_asks (setting setup.now) self.old.plan.routes (Propose session base mv.now)) r.0) (call_probes self.old.pins self.old.plan.routes (Propose session base mv.now))) }
+        ensures most { WorksAtMost meter.old meter.new (call_asks (setting setup.now) self.old.plan.routes (Propose session base mv.now)) (call_probes self.old.pins self.old.plan.routes (Propose session base mv.now)) }
     {
         self.agrees();
         verdicts_by_agreeing_facts();
         moves_name_vehicles();
         stamps_by_one_more();
         let version = self.plan.version();
-        match self.judge_proposal(alloc, setup, session, base, mv, Vec::new(alloc), meter) {
-            Ok(commit) => Ok((Reply::Committed(version + 1), Change::Replace(commit))),
+        match self.judge_proposal(alloc, setup, session, base, mv, meter) {
+            Ok(new) => {
+                let (former, other) = self.former_routes(mv)?;
+                let commit = Commit {
+                    mv: *mv,
+                    new,
+                    former,
+                    other,
+                };
+                Ok((Reply::Committed(version + 1), Change::Replace(commit)))
+            }
             Err(Stop::Denied(denial)) => Ok((Reply::Denied(denial), Change::Nothing)),
             Err(Stop::NoMemory) => Err(AllocError),
         }
@@ -133,12 +143,12 @@ impl State {
 }
 
 /// The reply to a call on pins that was judged so, and what it changes.
-fn answered(judged: Result<Change, Refusal>) -> (Reply, Change)
+fn answered(judged: Result<PinChange, Refusal>) -> (Reply, Change)
     ensures reply { result.0 ≡ refused_by (result_err judged) }
-    ensures change { MatchResult judged (λ change. result.1 ≡ change) (λ refusal. result.1 ≡ Change.Nothing) }
+    ensures change { MatchResult judged (λ change. result.1 ≡ Change.Pins change) (λ refusal. result.1 ≡ Change.Nothing) }
 {
     match judged {
-        Ok(change) => (Reply::Done, change),
+        Ok(change) => (Reply::Done, Change::Pins(change)),
         Err(refusal) => (Reply::Refused(refusal), Change::Nothing),
     }
 }

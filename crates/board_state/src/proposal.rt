@@ -1,5 +1,5 @@
 //! Proposals: the rules in their order, and what passes them all.
-ghost use Rattle.std.specs.Prelude.{◌≡◌, ◌≤◌, ◌+◌, ℕ, true, length, All, None, Some, IfOk, IfErr, OnOk};
+ghost use Rattle.std.specs.Prelude.{◌≡◌, ◌≤◌, ◌+◌, ℕ, true, length, All, None, Some, IfOk, IfErr, OnOk, MatchOption};
 ghost use Rattle.dimension_core.specs.NewRoutes.{AllKnown};
 ghost use Rattle.dimension_core.specs.Setting.{Setting};
 ghost use Rattle.dimension_core.specs.Setup.{setting};
@@ -12,55 +12,82 @@ ghost use Rattle.move_core.specs.Moves.{vehicles_of, named_by, changes_by, effec
 ghost use Rattle.move_core.specs.Touched.{touched_by};
 ghost use Rattle.range_cache.specs.Asks.{judge_asks};
 ghost use Rattle.range_cache.specs.Pending.{AreNewRows};
-ghost use Rattle.board_rules.specs.Rules.{is_one_of, IsVerdictBy, PassesBase, PassesCustomers, PassesAll, routes_after};
+ghost use Rattle.board_rules.specs.Rules.{is_one_of, IsVerdictBy, PassesEffect, PassesCustomers, PassesAll, routes_after};
 ghost use Rattle.board_state.specs.Held.{held_basis, IsReady};
-ghost use Rattle.board_state.specs.Changes.{IsCommittable};
+ghost use Rattle.board_state.specs.Changes.{ArePlaceableRoutes, AreMadeBy};
 ghost use Rattle.board_state.specs.Verdicts.{ArePlaceable, IsStop, result_asks};
 ghost use Rattle.board_state.specs.Work.{WorksAtMost, leaving};
 
-use crate::change::Commit;
+use crate::change::{NewRoutes, Workspace};
 use crate::state::State;
 use crate::stop::Stop;
 use board_rules::{Denial, plans_are_judged_by_new_routes};
 use callback_store::Meter;
 use dimension_core::Setup;
-use move_core::{Move, MoveFault, moves_keep_plans, moves_keep_the_untouched, moves_name_vehicles};
+use move_core::{Move, moves_keep_plans, moves_keep_the_untouched, moves_name_vehicles};
 use pin_core::pins_after_commits;
 use plan_core::{Route, Touch, routes_are_known};
-use range_cache::JudgeFault;
+use range_cache::{JudgeFault, Room};
 use std::alloc::{AllocError, Global};
 use std::sync::Arc;
 
 impl State {
-    /// Judges a proposal: the new routes that it may put in place, or the first rule that it fails. The touched customers are listed in the
-    /// memory of `room`.
+    /// Judges a proposal: the new routes that it may put in place, or the first rule that it fails. What an early rule denies leaves the
+    /// kept memory where it is.
+    #[inline(always)]
     pub(crate) fn judge_proposal(
-        &self,
+        &mut self,
         alloc: Global,
         setup: &Setup,
         session: u32,
         base: u32,
         mv: &Move,
-        room: Vec<Touch>,
         meter: &mut Meter,
-    ) -> Result<Commit, Stop>
-        requires { IsReady (setting setup.now) self.now }
-        ensures passes { OnOk result (PassesAll (setting setup.now) (held_basis self.now session) base mv.now) }
-        ensures changes { IfOk result (λ commit. changes_of commit.changes.items ≡ changes_by self.now.plan.routes mv.now) }
-        ensures ready { IfOk result (IsCommittable self.now) }
-        ensures ranges { IfOk result (λ commit. AreNewRows (setting setup.now) (changes_by self.now.plan.routes mv.now) commit.pending.rows) }
-        ensures stop { IfErr result (IsStop (setting setup.now) (held_basis self.now session) base mv.now) }
-        ensures work { WorksAtMost meter.old meter.new (result_asks (judge_asks (length (setting setup.now).dimensions) self.now.plan.routes (changes_by self.now.plan.routes mv.now)) result)
-            (length (named_by mv.now) + length (touched_by self.now.plan.routes mv.now) + leaving self.now.pins (routes_after self.now.plan.routes mv.now) (touched_by self.now.plan.routes mv.now)) }
+    ) -> Result<NewRoutes, Stop>
+        requires { IsReady (setting setup.now) self.old }
+        ensures same { self.new ≡ self.old }
+        ensures passes { OnOk result (PassesAll (setting setup.now) (held_basis self.old session) base mv.now) }
+        ensures changes { IfOk result (λ new. changes_of new.changes.items ≡ changes_by self.old.plan.routes mv.now) }
+        ensures ready { IfOk result (ArePlaceableRoutes self.old) }
+        ensures made { IfOk result (AreMadeBy self.old mv.now) }
+        ensures ranges { IfOk result (λ new. AreNewRows (setting setup.now) (changes_by self.old.plan.routes mv.now) new.pending.rows) }
+        ensures stop { IfErr result (IsStop (setting setup.now) (held_basis self.old session) base mv.now) }
+        ensures work { WorksAtMost meter.old meter.new (result_asks (judge_asks (length (setting setup.now).dimensions) self.old.plan.routes (changes_by self.old.plan.routes mv.now)) result)
+            (length (named_by mv.now) + length (touched_by self.old.plan.routes mv.now) + leaving self.old.pins (routes_after self.old.plan.routes mv.now) (touched_by self.old.plan.routes mv.now)) }
     {
-        if let Some(denial) = self.base_denial(setup, session, base, mv, meter) {
+        if let Some(denial) = self.early_denial(setup, session, base, mv, meter) {
             return Err(Stop::Denied(denial));
         }
+        let room = self.workspace(alloc);
         self.judge_move(alloc, setup, session, base, mv, room, meter)
     }
 
-    /// The rules from the effect of the move on. It is kept out of line, so that a proposal that an earlier rule denies pays nothing for the
-    /// room that new routes take on the stack.
+    /// The denial of a proposal by its session, its vehicles, its base or its places.
+    fn early_denial(
+        &self,
+        setup: &Setup,
+        session: u32,
+        base: u32,
+        mv: &Move,
+        meter: &mut Meter,
+    ) -> Option<Denial>
+        requires { IsReady (setting setup.now) self.now }
+        ensures denial { MatchOption result (PassesEffect (setting setup.now) (held_basis self.now session) base mv.now)
+            (λ d. IsVerdictBy (setting setup.now) (held_basis self.now session) base mv.now (Some d)) }
+        ensures work { WorksAtMost meter.old meter.new 0 (length (named_by mv.now)) }
+    {
+        match self.base_denial(setup, session, base, mv, meter) {
+            Some(denial) => Some(denial),
+            None => if mv.is_possible(&self.plan) {
+                None
+            } else {
+                Some(Denial::BadPlace)
+            },
+        }
+    }
+
+    /// The rules from the touched customers on, of a move that has an effect. It is kept out of line, so that a proposal that an earlier rule
+    /// denies pays nothing for the room that new routes take on the stack.
     #[inline(never)]
     fn judge_move(
         &self,
@@ -69,28 +96,34 @@ impl State {
         session: u32,
         base: u32,
         mv: &Move,
-        room: Vec<Touch>,
+        room: Workspace,
         meter: &mut Meter,
-    ) -> Result<Commit, Stop>
+    ) -> Result<NewRoutes, Stop>
         requires ready { IsReady (setting setup.now) self.now }
-        requires passes { PassesBase (setting setup.now) (held_basis self.now session) base mv.now }
+        requires passes { PassesEffect (setting setup.now) (held_basis self.now session) base mv.now }
         ensures passes { OnOk result (PassesAll (setting setup.now) (held_basis self.now session) base mv.now) }
-        ensures changes { IfOk result (λ commit. changes_of commit.changes.items ≡ changes_by self.now.plan.routes mv.now) }
-        ensures ready { IfOk result (IsCommittable self.now) }
-        ensures ranges { IfOk result (λ commit. AreNewRows (setting setup.now) (changes_by self.now.plan.routes mv.now) commit.pending.rows) }
+        ensures changes { IfOk result (λ new. changes_of new.changes.items ≡ changes_by self.now.plan.routes mv.now) }
+        ensures ready { IfOk result (ArePlaceableRoutes self.now) }
+        ensures made { IfOk result (AreMadeBy self.now mv.now) }
+        ensures ranges { IfOk result (λ new. AreNewRows (setting setup.now) (changes_by self.now.plan.routes mv.now) new.pending.rows) }
         ensures stop { IfErr result (IsStop (setting setup.now) (held_basis self.now session) base mv.now) }
         ensures work { WorksAtMost meter.old meter.new (result_asks (judge_asks (length (setting setup.now).dimensions) self.now.plan.routes (changes_by self.now.plan.routes mv.now)) result)
             (length (touched_by self.now.plan.routes mv.now) + leaving self.now.pins (routes_after self.now.plan.routes mv.now) (touched_by self.now.plan.routes mv.now)) }
     {
-        let touched = match mv.touched_in(room, &self.plan) {
-            Ok(touched) => touched,
-            Err(MoveFault::BadPlace) => return Err(Stop::Denied(Denial::BadPlace)),
-            Err(MoveFault::NoMemory) => return Err(Stop::NoMemory),
+        let Workspace {
+            touched,
+            changes,
+            rows,
+        } = room;
+        let Ok(touched) = mv.touches_in(touched, &self.plan) else {
+            return Err(Stop::NoMemory);
         };
         if let Some(touch) = self.first_barred_customer(session, &touched, meter) {
             return Err(Stop::Denied(Denial::AccessCustomer(touch.vehicle, touch.place)));
         }
-        self.judge_routes(alloc, setup, session, base, mv, touched, meter)
+        self.judge_routes(
+            alloc, setup, session, base, mv, touched, changes, rows, meter,
+        )
     }
 
     /// The rules on the new routes: fronts, pins and bounds.
@@ -102,37 +135,35 @@ impl State {
         base: u32,
         mv: &Move,
         touched: Vec<Touch>,
+        room: Vec<(u32, Arc<Route>)>,
+        rows: Room,
         meter: &mut Meter,
-    ) -> Result<Commit, Stop>
+    ) -> Result<NewRoutes, Stop>
         requires ready { IsReady (setting setup.now) self.now }
         requires passes { PassesCustomers (setting setup.now) (held_basis self.now session) base mv.now }
         requires touched { touched.items ≡ touched_by self.now.plan.routes mv.now }
         ensures passes { OnOk result (PassesAll (setting setup.now) (held_basis self.now session) base mv.now) }
-        ensures changes { IfOk result (λ commit. changes_of commit.changes.items ≡ changes_by self.now.plan.routes mv.now) }
-        ensures ready { IfOk result (IsCommittable self.now) }
-        ensures ranges { IfOk result (λ commit. AreNewRows (setting setup.now) (changes_by self.now.plan.routes mv.now) commit.pending.rows) }
+        ensures changes { IfOk result (λ new. changes_of new.changes.items ≡ changes_by self.now.plan.routes mv.now) }
+        ensures ready { IfOk result (ArePlaceableRoutes self.now) }
+        ensures made { IfOk result (AreMadeBy self.now mv.now) }
+        ensures ranges { IfOk result (λ new. AreNewRows (setting setup.now) (changes_by self.now.plan.routes mv.now) new.pending.rows) }
         ensures stop { IfErr result (IsStop (setting setup.now) (held_basis self.now session) base mv.now) }
         ensures work { WorksAtMost meter.old meter.new (result_asks (judge_asks (length (setting setup.now).dimensions) self.now.plan.routes (changes_by self.now.plan.routes mv.now)) result)
             (leaving self.now.pins (routes_after self.now.plan.routes mv.now) (touched_by self.now.plan.routes mv.now)) }
     {
         pins_after_commits();
-        let Ok(changes) = self.new_routes(alloc, mv, &touched) else {
+        let Ok(changes) = self.new_routes(alloc, room, mv, &touched) else {
             return Err(Stop::NoMemory);
         };
         let freed = match self.judge_pins(alloc, session, &changes, &touched, meter) {
             Ok(freed) => freed,
             Err(stop) => return Err(stop),
         };
-        let Ok((former, other)) = self.former_routes(mv) else {
-            return Err(Stop::NoMemory);
-        };
-        match self.cache.judge(setup, &self.plan, &changes, meter) {
-            Ok(pending) => Ok(Commit {
-                mv: *mv,
+        let cache = &self.cache;
+        match cache.judge_in(rows, setup, &self.plan, &changes, meter) {
+            Ok(pending) => Ok(NewRoutes {
                 changes,
                 touched,
-                former,
-                other,
                 freed,
                 pending,
             }),
@@ -147,6 +178,7 @@ impl State {
     fn new_routes(
         &self,
         alloc: Global,
+        room: Vec<(u32, Arc<Route>)>,
         mv: &Move,
         touched: &[Touch],
     ) -> Result<Vec<(u32, Arc<Route>)>, AllocError>
@@ -169,14 +201,17 @@ impl State {
         plans_are_judged_by_new_routes();
         routes_are_known();
         let _sound = self.plan.customers();
-        match mv.routes(alloc, &self.plan) {
+        match mv.routes_in(room, alloc, &self.plan) {
             Ok(changes) => Ok(changes),
             Err(error) => Err(error),
         }
     }
 
     /// The routes of the vehicles that the move names, as they are.
-    fn former_routes(&self, mv: &Move) -> Result<(Arc<Route>, Option<Arc<Route>>), AllocError>
+    pub(crate) fn former_routes(
+        &self,
+        mv: &Move,
+    ) -> Result<(Arc<Route>, Option<Arc<Route>>), AllocError>
         requires { list_all (is_one_of (length self.now.plan.routes)) (named_by mv.now) ≡ true }
         ensures former { IfOk result (λ r. r.0.value ≡ route_at self.now.plan.routes (vehicles_of mv.now).0) }
         ensures other { IfOk result (λ r. option_map (λ route. route.value) r.1 ≡ option_map (route_at self.now.plan.routes) (vehicles_of mv.now).1) }

@@ -2,6 +2,7 @@
 ghost use Rattle.std.specs.Prelude.{◌≡◌, ◌≤◌, ◌+◌, ℕ, ◌∷◌, length, find, not, true, MatchOption, Some};
 ghost use Rattle.dimension_core.specs.Setup.{setting};
 ghost use Rattle.permission_table.specs.Tables.{allows};
+ghost use Rattle.permission_table.specs.Compiled.{AreCompiled};
 ghost use Rattle.plan_core.specs.declared.touch.Touch.{Touch};
 ghost use Rattle.permission_core.specs.declared.objects.Operation.TheVariants as operations;
 ghost use Rattle.permission_core.specs.declared.objects.Object.TheVariants as objects;
@@ -29,19 +30,21 @@ impl State {
         mv: &Move,
         meter: &mut Meter,
     ) -> Option<Denial>
-        requires { length self.now.plan.routes ≡ (setting setup.now).vehicles }
+        requires sized { length self.now.plan.routes ≡ (setting setup.now).vehicles }
+        requires compiled { ∥ AreCompiled self.now.tables self.now.policy.now ∥₁ }
         ensures denial { MatchOption result (PassesBase (setting setup.now) (held_basis self.now session) base mv.now)
             (λ d. IsVerdictBy (setting setup.now) (held_basis self.now session) base mv.now (Some d)) }
         ensures work { WorksAtMost meter.old meter.new 0 (length (named_by mv.now)) }
     {
-        if !self.is_session(session) {
+        let named = mv.vehicles();
+        let barred = self.first_barred_vehicle(session, named, meter);
+        if !self.is_open(session, barred.is_none()) {
             return Some(Denial::NoSession);
         }
-        let named = mv.vehicles();
         if !are_in_fleet(setup.vehicles(), named) {
             return Some(Denial::BadVehicle);
         }
-        if let Some(vehicle) = self.first_barred_vehicle(session, named, meter) {
+        if let Some(vehicle) = barred {
             return Some(Denial::AccessVehicle(vehicle));
         }
         if self.plan.version() < base {

@@ -9,9 +9,9 @@ ghost use Rattle.policy_core.specs.State.{PolicyState};
 ghost use Rattle.permission_table.specs.Compiled.{AreCompiled};
 ghost use Rattle.board_rules.specs.State.{BoardState};
 ghost use Rattle.board_state.specs.Held.{Holds};
-ghost use Rattle.board_state.specs.Changes.{WillHold, WillCompile, WillKeep, IsCommittable, IsSettleable, policy_made, plan_after, pins_after};
+ghost use Rattle.board_state.specs.Changes.{WillHold, WillCompile, WillKeep, ArePlaceableRoutes, IsSettleable, policy_made, plan_after, pins_after};
 
-use crate::change::{Change, Commit, Judged};
+use crate::change::{Change, Judged, NewRoutes, PinChange, Workspace};
 use crate::state::State;
 use board_rules::Reply;
 
@@ -51,10 +51,10 @@ impl State {
     {
         match change {
             Change::Nothing => {}
-            Change::Replace(commit) => self.replace(commit),
-            Change::Pin(customer, vehicle) => self.pins.pin(customer, vehicle),
-            Change::Unpin(customer) => self.pins.unpin(customer),
-            Change::Front(vehicle, frozen) => self.pins.freeze(vehicle, frozen),
+            Change::Replace(commit) => self.replace(commit.new),
+            Change::Pins(PinChange::Pin(customer, vehicle)) => self.pins.pin(customer, vehicle),
+            Change::Pins(PinChange::Unpin(customer)) => self.pins.unpin(customer),
+            Change::Pins(PinChange::Front(vehicle, frozen)) => self.pins.freeze(vehicle, frozen),
             Change::Command(rows, command) => {
                 self.policy.settle(command);
                 self.tables.put(rows);
@@ -62,25 +62,30 @@ impl State {
         }
     }
 
-    /// Gives the named vehicles their new routes and ranges, and takes away the pins of customers that left their vehicle.
-    #[inline(always)]
-    fn replace(&mut self, commit: Commit)
-        requires { IsCommittable self.old commit }
+    /// Gives the named vehicles their new routes and ranges, and takes away the pins of customers that left their vehicle. The memory of the
+    /// lists is kept for the next commit.
+    #[inline(never)]
+    pub(crate) fn replace(&mut self, new: NewRoutes)
+        requires { ArePlaceableRoutes self.old new }
         ensures policy { self.new.policy ≡ self.old.policy }
         ensures tables { self.new.tables ≡ self.old.tables }
-        ensures plan { self.new.plan ≡ replaced (changes_of commit.changes.items) self.old.plan }
-        ensures pins { self.new.pins ≡ after_commit (with_routes (changes_of commit.changes.items) self.old.plan.routes) self.old.pins }
-        ensures cache { (s : Setting) (routes : List (List ℕ)) (changes : Changes) → IsCacheOf s routes self.old.cache → AreNewRows s changes commit.pending.rows → IsCacheOf s (with_routes changes routes) self.new.cache }
+        ensures plan { self.new.plan ≡ replaced (changes_of new.changes.items) self.old.plan }
+        ensures pins { self.new.pins ≡ after_commit (with_routes (changes_of new.changes.items) self.old.plan.routes) self.old.pins }
+        ensures cache { (s : Setting) (routes : List (List ℕ)) (changes : Changes) → IsCacheOf s routes self.old.cache → AreNewRows s changes new.pending.rows → IsCacheOf s (with_routes changes routes) self.new.cache }
     {
-        let Commit {
+        let NewRoutes {
             changes,
             touched,
             pending,
             ..
-        } = commit;
-        self.plan.replace(changes);
+        } = new;
+        let changes = self.plan.replace(changes);
         self.pins.release(&self.plan, &touched);
-        self.cache.take(pending);
-        self.touched = touched;
+        let rows = self.cache.take(pending);
+        self.workspace = Workspace {
+            touched,
+            changes,
+            rows,
+        };
     }
 }

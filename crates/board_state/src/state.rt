@@ -1,5 +1,5 @@
 //! What is held of a board's state.
-ghost use Rattle.std.specs.Prelude.{◌≡◌, ◌≤◌, ℕ, replicate, [], None, IfOk};
+ghost use Rattle.std.specs.Prelude.{◌≡◌, ◌≤◌, ℕ, true, replicate, [], None, IfOk};
 ghost use Rattle.dimension_core.specs.Setting.{Setting};
 ghost use Rattle.dimension_core.specs.Setup.{setting};
 ghost use Rattle.policy_core.specs.Access.{has_access};
@@ -13,11 +13,12 @@ ghost use Rattle.permission_table.specs.Tables.{allows, rows_of};
 ghost use Rattle.std.specs.Option.{option_map};
 ghost use Rattle.policy_core.specs.State.{is_session};
 
+use crate::change::Workspace;
 use callback_store::Meter;
 use dimension_core::Setup;
 use permission_table::{SessionRows, Tables};
 use pin_core::Pins;
-use plan_core::{Plan, Touch};
+use plan_core::Plan;
 use range_cache::Cache;
 use rbac_core::{Object, Operation, Policy, Twin};
 use std::alloc::{AllocError, Global};
@@ -31,8 +32,8 @@ pub struct State {
     pub(crate) plan: Plan,
     pub(crate) pins: Pins,
     pub(crate) cache: Cache,
-    /// No part of what is held: the memory of the last commit's list of touched customers, for the next one's.
-    pub(crate) touched: Vec<Touch>,
+    /// No part of what is held: the memory of the last commit's lists.
+    pub(crate) workspace: Workspace,
 }
 
 // By hand, since a derived drop is written out, down to each list, at every place where a value is dropped.
@@ -44,7 +45,7 @@ impl Drop for State {
             plan: _,
             pins: _,
             cache: _,
-            touched: _,
+            workspace: _,
         } = self;
     }
 }
@@ -70,7 +71,7 @@ impl State {
             plan,
             pins,
             cache,
-            touched: Vec::new(alloc),
+            workspace: Workspace::new(alloc),
         })
     }
 
@@ -138,6 +139,15 @@ impl State {
         self.policy.policy().is_session(session)
     }
 
+    /// The same, where it is known that the session may do something, or not that: one that may is there, and is not looked for again.
+    #[inline(always)]
+    pub(crate) fn is_open(&self, session: u32, may: bool) -> bool
+        requires { may ≡ true → is_session self.now.policy.now session ≡ true }
+        ensures { result ≡ is_session self.now.policy.now session }
+    {
+        may || self.is_session(session)
+    }
+
     /// CheckAccess for a session whose permissions were found: one probe.
     #[inline(always)]
     pub(crate) fn may_by(
@@ -157,11 +167,11 @@ impl State {
         self.tables.allows(found, operation, object)
     }
 
-    /// The memory that is kept for a list of touched customers.
-    pub(crate) fn room_for_touched(&mut self, alloc: Global) -> Vec<Touch>
+    /// The memory that is kept for the lists of a commit.
+    pub(crate) fn workspace(&mut self, alloc: Global) -> Workspace
         ensures { self.new ≡ self.old }
     {
-        replace(&mut self.touched, Vec::new(alloc))
+        replace(&mut self.workspace, Workspace::new(alloc))
     }
 
     /// CheckAccess: one probe.

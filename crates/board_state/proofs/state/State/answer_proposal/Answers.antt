@@ -7,8 +7,8 @@ use Rattle.board_state.specs.Held.{HeldState, held_basis}
 use Rattle.board_state.proofs.Stepping.{commit_will}
 use Rattle.board_state.proofs.state.State.answer_proposal.Goals as goal
 
-pub returns-in-Ok-clause-reply : goal.returns-in-Ok-clause-reply
-returns-in-Ok-clause-reply g c state holds =
+pub returns-in_ok-former-in-Ok-clause-reply : goal.returns-in_ok-former-in-Ok-clause-reply
+returns-in_ok-former-in-Ok-clause-reply g c state holds =
     let a = c.args in
     let s = setting a.setup.now in
     let held = a.self.now in
@@ -18,16 +18,16 @@ returns-in-Ok-clause-reply g c state holds =
       c.verdicts_by_agreeing_facts.ensures s (held_basis held a.session) (basis_of state a.session) a.base a.mv.now None agree c.in-Ok.ensures.passes,
     ) ∣₁
 
-pub returns-in-Ok-clause-change : goal.returns-in-Ok-clause-change
-returns-in-Ok-clause-change g c state holds =
+pub returns-in_ok-former-in-Ok-clause-change : goal.returns-in_ok-former-in-Ok-clause-change
+returns-in_ok-former-in-Ok-clause-change g c state holds =
     let a = c.args in
     let s = setting a.setup.now in
     let held = a.self.now in
     let sizes = subst (λ (h : HeldState). AreSizes h.plan) c.self.view_is c.version-version.ensures.sizes in
     let effect = c.in-Ok.ensures.passes.0.0.0.0.1 in
-    commit_will s held state holds c.in-Ok.commit a.mv.now c.in-Ok.ensures.changes
+    commit_will s held state holds _ a.mv.now c.in-Ok.ensures.changes
     (c.moves_name_vehicles.ensures.named s.customers held.plan.routes a.mv.now (changes_by held.plan.routes a.mv.now) effect)
-    c.in-Ok.ensures.ranges (subst (λ (n : ℕ). AreApart n (changes_of c.in-Ok.commit.changes.items)) (sym sizes.stamps) c.in-Ok.ensures.ready.changes.apart)
+    c.in-Ok.ensures.ranges (subst (λ (n : ℕ). AreApart n (changes_of c.in-Ok.new.changes.items)) (sym sizes.stamps) c.in-Ok.ensures.ready.changes.apart)
     c.stamps_by_one_more.ensures
 
 pub returns-in-Err-Denied-clause-reply : goal.returns-in-Err-Denied-clause-reply

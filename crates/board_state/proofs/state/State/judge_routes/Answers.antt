@@ -28,8 +28,8 @@ returns-in-Err-clause-stop g c =
     (subst (λ (cs : Changes). IsPinStop held.pins (may_override (held_basis held a.session)) held.plan.routes cs a.touched.items c.in-Err.stop) changes
     (subst (λ (ts : List Touch). IsPinStop held.pins (may_override (held_basis held a.session)) held.plan.routes (changes_of c.deref-2.result.now) ts c.in-Err.stop) c.deref-3.ensures.value c.in-Err.ensures.stop))
 
-pub returns-in-Ok-judge-clause-passes : goal.returns-in-Ok-judge-clause-passes
-returns-in-Ok-judge-clause-passes g c =
+pub returns-in-Ok-judge_in-clause-passes : goal.returns-in-Ok-judge_in-clause-passes
+returns-in-Ok-judge_in-clause-passes g c =
     let a = c.args in
     let held = a.self.now in
     let changes = ap (λ xs. changes_of xs) c.deref-2.ensures.value ∙ c.in-Ok.ensures.changes in
@@ -37,20 +37,15 @@ returns-in-Ok-judge-clause-passes g c =
     passes_all (setting a.setup.now) held a.session a.base a.mv.now c.requires.ready c.requires.passes c.in-Ok.ensures.named c.deref.result.now c.in-Ok.ensures.placeable
     (subst (λ (cs : Changes). AreFreezesKept held.pins held.plan.routes (with_routes cs held.plan.routes)) changes c.in-Ok-judge_pins.ensures.fronts)
     (subst (λ (cs : Changes). DoPinsAllow held.pins (may_override (held_basis held a.session)) (with_routes cs held.plan.routes)) changes c.in-Ok-judge_pins.ensures.pins)
-    (subst (λ (cs : Changes). AllFit (setting a.setup.now) cs) judged c.in-Ok-judge.ensures.fits)
+    (subst (λ (cs : Changes). AllFit (setting a.setup.now) cs) judged c.in-Ok-judge_in.ensures.fits)
 
-pub returns-in-Ok-judge-clause-ready : goal.returns-in-Ok-judge-clause-ready
-returns-in-Ok-judge-clause-ready g c =
+pub returns-in-Ok-judge_in-clause-ready : goal.returns-in-Ok-judge_in-clause-ready
+returns-in-Ok-judge_in-clause-ready g c =
     let a = c.args in
     let held = a.self.now in
     let same = sym c.in-Ok.ensures.changes in
     let placeable = subst (λ (ts : List Touch). ArePlaceable held (changes_by held.plan.routes a.mv.now) ts) c.deref.ensures.value c.in-Ok.ensures.placeable in
     record {
-      sound = c.new_routes.ensures.sound;
-      possible = subst (λ (n : ℕ). effect n held.plan.routes a.mv.now ≡ Some (changes_by held.plan.routes a.mv.now)) (sym c.requires.ready.customers) c.requires.passes.0.1 ∙ ap Some same;
-      by = c.requires.touched;
-      former = c.in-Ok-former_routes.ensures.former;
-      other = c.in-Ok-former_routes.ensures.other;
       lengths = c.in-Ok.ensures.short;
       freed = subst (λ (ts : List Touch). AreFreed held.pins (with_routes (changes_of c.in-Ok.changes.items) held.plan.routes) ts c.in-Ok-judge_pins.freed.items) c.deref-3.ensures.value
           (subst (λ (cs : Changes). AreFreed held.pins (with_routes cs held.plan.routes) c.deref-3.result.now c.in-Ok-judge_pins.freed.items) (ap (λ xs. changes_of xs) c.deref-2.ensures.value) c.in-Ok-judge_pins.ensures.freed);
@@ -60,7 +55,17 @@ returns-in-Ok-judge-clause-ready g c =
       known = subst (λ (n : ℕ). All (λ t. (1 ≤ t.customer) × (t.customer ≤ n)) a.touched.items) (sym placeable.pinned) placeable.known;
       touched = subst (λ (cs : Changes). (d : ℕ) → 1 ≤ d → IsHeld held.pins (with_routes cs held.plan.routes) d ⊎ IsTouched a.touched.items d) same
           (c.pins_after_commits.ensures.touched held.pins held.plan.routes (with_routes (changes_by held.plan.routes a.mv.now) held.plan.routes) a.touched.items placeable.holding placeable.touched);
-      pending = c.in-Ok-judge.ensures.of ∙ ap (λ (h : HeldState). h.cache) c.self.view_is;
+      pending = c.in-Ok-judge_in.ensures.of ∙ ap (λ (h : HeldState). h.cache) c.self.view_is;
+    }
+
+pub returns-in-Ok-judge_in-clause-made : goal.returns-in-Ok-judge_in-clause-made
+returns-in-Ok-judge_in-clause-made g c =
+    let a = c.args in
+    let held = a.self.now in
+    record {
+      sound = c.new_routes.ensures.sound;
+      possible = subst (λ (n : ℕ). effect n held.plan.routes a.mv.now ≡ Some (changes_by held.plan.routes a.mv.now)) (sym c.requires.ready.customers) c.requires.passes.0.1 ∙ ap Some (sym c.in-Ok.ensures.changes);
+      by = c.requires.touched;
     }
 
 pub returns-in-Err-Bound-clause-stop : goal.returns-in-Err-Bound-clause-stop
@@ -77,8 +82,8 @@ returns-in-Err-Bound-clause-stop g c =
     (subst (λ (cs : Changes). DoPinsAllow held.pins (may_override (held_basis held a.session)) (with_routes cs held.plan.routes)) changes c.in-Ok-judge_pins.ensures.pins)
     v d (subst (λ (cs : Changes). IsOut (setting a.setup.now) cs v d) judged out)
 
-pub returns-in-Ok-judge-clause-work : goal.returns-in-Ok-judge-clause-work
-returns-in-Ok-judge-clause-work g c =
+pub returns-in-Ok-judge_in-clause-work : goal.returns-in-Ok-judge_in-clause-work
+returns-in-Ok-judge_in-clause-work g c =
     let a = c.args in
     let held = a.self.now in
     let s = setting a.setup.now in
@@ -86,8 +91,8 @@ returns-in-Ok-judge-clause-work g c =
     let judged = ap (λ xs. changes_of xs) c.deref-4.ensures.value ∙ c.in-Ok.ensures.changes in
     let pins = subst (λ (cs : Changes). WorksAtMost a.meter.now c.judge_pins.new.meter 0 (leaving held.pins (with_routes cs held.plan.routes) a.touched.items)) changes
     (subst (λ (ts : List Touch). WorksAtMost a.meter.now c.judge_pins.new.meter 0 (leaving held.pins (with_routes (changes_of c.deref-2.result.now) held.plan.routes) ts)) c.deref-3.ensures.value c.judge_pins.ensures.work) in
-    let bounds = subst (λ (cs : Changes). AsksAtMost c.judge_pins.new.meter c.judge.new.meter (judge_asks (length s.dimensions) held.plan.routes cs)) judged
-    (subst (λ (h : HeldState). AsksAtMost c.judge_pins.new.meter c.judge.new.meter (judge_asks (length s.dimensions) h.plan.routes (changes_of c.deref-4.result.now))) c.self.view_is c.judge.ensures.asks) in
+    let bounds = subst (λ (cs : Changes). AsksAtMost c.judge_pins.new.meter c.judge_in.new.meter (judge_asks (length s.dimensions) held.plan.routes cs)) judged
+    (subst (λ (h : HeldState). AsksAtMost c.judge_pins.new.meter c.judge_in.new.meter (judge_asks (length s.dimensions) h.plan.routes (changes_of c.deref-4.result.now))) c.self.view_is c.judge_in.ensures.asks) in
     let touched = subst (λ (ts : List Touch). WorksAtMost a.meter.now c.judge_pins.new.meter 0 (leaving held.pins (routes_after held.plan.routes a.mv.now) ts)) c.requires.touched pins in
     then _ _ _ 0 (leaving held.pins (routes_after held.plan.routes a.mv.now) (touched_by held.plan.routes a.mv.now)) (judge_asks (length s.dimensions) held.plan.routes (changes_by held.plan.routes a.mv.now)) 0 _ _ touched
     (asks_alone _ _ _ 0 bounds) (omega arith) (omega arith)
@@ -101,14 +106,14 @@ returns-in-Err-Bound-clause-work g c =
     let judged = ap (λ xs. changes_of xs) c.deref-4.ensures.value ∙ c.in-Ok.ensures.changes in
     let pins = subst (λ (cs : Changes). WorksAtMost a.meter.now c.judge_pins.new.meter 0 (leaving held.pins (with_routes cs held.plan.routes) a.touched.items)) changes
     (subst (λ (ts : List Touch). WorksAtMost a.meter.now c.judge_pins.new.meter 0 (leaving held.pins (with_routes (changes_of c.deref-2.result.now) held.plan.routes) ts)) c.deref-3.ensures.value c.judge_pins.ensures.work) in
-    let bounds = subst (λ (cs : Changes). AsksAtMost c.judge_pins.new.meter c.judge.new.meter (judge_asks (length s.dimensions) held.plan.routes cs)) judged
-    (subst (λ (h : HeldState). AsksAtMost c.judge_pins.new.meter c.judge.new.meter (judge_asks (length s.dimensions) h.plan.routes (changes_of c.deref-4.result.now))) c.self.view_is c.judge.ensures.asks) in
+    let bounds = subst (λ (cs : Changes). AsksAtMost c.judge_pins.new.meter c.judge_in.new.meter (judge_asks (length s.dimensions) held.plan.routes cs)) judged
+    (subst (λ (h : HeldState). AsksAtMost c.judge_pins.new.meter c.judge_in.new.meter (judge_asks (length s.dimensions) h.plan.routes (changes_of c.deref-4.result.now))) c.self.view_is c.judge_in.ensures.asks) in
     let touched = subst (λ (ts : List Touch). WorksAtMost a.meter.now c.judge_pins.new.meter 0 (leaving held.pins (routes_after held.plan.routes a.mv.now) ts)) c.requires.touched pins in
     then _ _ _ 0 (leaving held.pins (routes_after held.plan.routes a.mv.now) (touched_by held.plan.routes a.mv.now)) (judge_asks (length s.dimensions) held.plan.routes (changes_by held.plan.routes a.mv.now)) 0 _ _ touched
     (asks_alone _ _ _ 0 bounds) (omega arith) (omega arith)
 
-pub judge-requires-clause-known : goal.judge-requires-clause-known
-judge-requires-clause-known g c =
+pub judge_in-requires-clause-known : goal.judge_in-requires-clause-known
+judge_in-requires-clause-known g c =
     let s = setting c.args.setup.now in
     let judged = ap (λ xs. changes_of xs) c.deref-4.ensures.value ∙ c.in-Ok.ensures.changes in
     subst (λ (cs : Changes). AllKnown s cs) (sym judged) (c.in-Ok.ensures.known s c.requires.ready.sized c.requires.ready.customers)
@@ -133,19 +138,8 @@ returns-clause-work g c =
     let judged = ap (λ xs. changes_of xs) c.deref-4.ensures.value ∙ c.in-Ok.ensures.changes in
     let pins = subst (λ (cs : Changes). WorksAtMost a.meter.now c.judge_pins.new.meter 0 (leaving held.pins (with_routes cs held.plan.routes) a.touched.items)) changes
     (subst (λ (ts : List Touch). WorksAtMost a.meter.now c.judge_pins.new.meter 0 (leaving held.pins (with_routes (changes_of c.deref-2.result.now) held.plan.routes) ts)) c.deref-3.ensures.value c.judge_pins.ensures.work) in
-    let bounds = subst (λ (cs : Changes). AsksAtMost c.judge_pins.new.meter c.judge.new.meter (judge_asks (length s.dimensions) held.plan.routes cs)) judged
-    (subst (λ (h : HeldState). AsksAtMost c.judge_pins.new.meter c.judge.new.meter (judge_asks (length s.dimensions) h.plan.routes (changes_of c.deref-4.result.now))) c.self.view_is c.judge.ensures.asks) in
+    let bounds = subst (λ (cs : Changes). AsksAtMost c.judge_pins.new.meter c.judge_in.new.meter (judge_asks (length s.dimensions) held.plan.routes cs)) judged
+    (subst (λ (h : HeldState). AsksAtMost c.judge_pins.new.meter c.judge_in.new.meter (judge_asks (length s.dimensions) h.plan.routes (changes_of c.deref-4.result.now))) c.self.view_is c.judge_in.ensures.asks) in
     let touched = subst (λ (ts : List Touch). WorksAtMost a.meter.now c.judge_pins.new.meter 0 (leaving held.pins (routes_after held.plan.routes a.mv.now) ts)) c.requires.touched pins in
     then _ _ _ 0 (leaving held.pins (routes_after held.plan.routes a.mv.now) (touched_by held.plan.routes a.mv.now)) (judge_asks (length s.dimensions) held.plan.routes (changes_by held.plan.routes a.mv.now)) 0 _ _ touched
     (asks_alone _ _ _ 0 bounds) (omega arith) (omega arith)
-
-pub returns-in_default-former_routes-clause-work : goal.returns-in_default-former_routes-clause-work
-returns-in_default-former_routes-clause-work g c =
-    let a = c.args in
-    let held = a.self.now in
-    let s = setting a.setup.now in
-    let changes = ap (λ xs. changes_of xs) c.deref-2.ensures.value ∙ c.in-Ok.ensures.changes in
-    let pins = subst (λ (cs : Changes). WorksAtMost a.meter.now c.judge_pins.new.meter 0 (leaving held.pins (with_routes cs held.plan.routes) a.touched.items)) changes
-    (subst (λ (ts : List Touch). WorksAtMost a.meter.now c.judge_pins.new.meter 0 (leaving held.pins (with_routes (changes_of c.deref-2.result.now) held.plan.routes) ts)) c.deref-3.ensures.value c.judge_pins.ensures.work) in
-    let touched = subst (λ (ts : List Touch). WorksAtMost a.meter.now c.judge_pins.new.meter 0 (leaving held.pins (routes_after held.plan.routes a.mv.now) ts)) c.requires.touched pins in
-    wider _ _ 0 (leaving held.pins (routes_after held.plan.routes a.mv.now) (touched_by held.plan.routes a.mv.now)) _ _ touched (omega arith) (omega arith)

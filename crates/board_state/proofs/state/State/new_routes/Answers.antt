@@ -7,8 +7,8 @@ use Rattle.board_state.specs.Held.{HeldState}
 use Rattle.board_state.proofs.NewPlans.{short_routes, has_effect}
 use Rattle.board_state.proofs.state.State.new_routes.Goals as goal
 
-pub routes-requires : goal.routes-requires
-routes-requires c =
+pub routes_in-requires : goal.routes_in-requires
+routes_in-requires c =
     let held = c.args.self.now in
     let mv = c.args.mv.now in
     subst (λ (h : HeldState). is_possible h.plan.customers h.plan.routes mv ≡ true) (sym c.self.view_is)
