@@ -63,7 +63,7 @@ impl State {
     }
 
     /// Gives the named vehicles their new routes and ranges, and takes away the pins of customers that left their vehicle. The memory of the
-    /// lists is kept for the next commit.
+    /// lists is kept for the next commit. It is kept out of line, so that a proposal that is denied pays nothing for it.
     #[inline(never)]
     pub(crate) fn replace(&mut self, new: NewRoutes)
         requires { ArePlaceableRoutes self.old new }
