@@ -184,7 +184,10 @@ impl Core {
     }
 }
 
-/// Makes room for one entry more: the journal doubles, from 16 entries on, and never has room for more than `most`.
+/// For how many entries a journal has room at first. So large a list is moved by its pages when it grows, and not copied.
+const FIRST_ENTRIES: usize = 4096;
+
+/// Makes room for one entry more: the journal doubles, from 4,096 entries on, and never has room for more than `most`.
 pub(crate) fn make_room(journal: &mut Vec<Entry>, most: u32) -> Result<(), AllocError>
     requires { vec_len journal.old < most }
     ensures items { journal.new.items ≡ journal.old.items }
@@ -195,7 +198,7 @@ pub(crate) fn make_room(journal: &mut Vec<Entry>, most: u32) -> Result<(), Alloc
     if len < journal.capacity() {
         return Ok(());
     }
-    journal.reserve_exact(len.max(16).min(most as usize - len))
+    journal.reserve_exact(len.max(FIRST_ENTRIES).min(most as usize - len))
 }
 
 /// Puts an event with its reply at the end, where there is room for it.

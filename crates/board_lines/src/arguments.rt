@@ -13,6 +13,7 @@ use text_words::number_of;
 
 // ---- one word
 
+#[inline(always)]
 pub(crate) fn number_argument(word: &[u8]) -> Result<u32, LineFault>
     ensures { result ≡ number_arg word.now }
 {
@@ -50,6 +51,7 @@ fn operation_argument(word: &[u8]) -> Result<Operation, LineFault>
 // ---- several numbers
 
 #[tactic(auto, unfolding(crate::specs::Arguments::number_then))]
+#[inline(always)]
 fn numbers_of_two(first: &[u8], second: &[u8]) -> Result<(u32, u32), LineFault>
     ensures { read_as (λ a. a_number a.0 (a_number a.1 no_more)) result ≡ number_then first.now (number_then second.now (Ok no_more)) }
 {
@@ -59,6 +61,7 @@ fn numbers_of_two(first: &[u8], second: &[u8]) -> Result<(u32, u32), LineFault>
 }
 
 #[tactic(auto, unfolding(crate::specs::Arguments::number_then))]
+#[inline(always)]
 fn numbers_of_three(first: &[u8], second: &[u8], third: &[u8]) -> Result<(u32, u32, u32), LineFault>
     ensures { read_as (λ a. a_number a.0 (a_number a.1 (a_number a.2 no_more))) result ≡ number_then first.now (number_then second.now (number_then third.now (Ok no_more))) }
 {
@@ -68,6 +71,7 @@ fn numbers_of_three(first: &[u8], second: &[u8], third: &[u8]) -> Result<(u32, u
 }
 
 #[tactic(auto, unfolding(crate::specs::Arguments::number_then))]
+#[inline(always)]
 fn numbers_of_four(
     first: &[u8],
     second: &[u8],
@@ -82,6 +86,7 @@ fn numbers_of_four(
 }
 
 #[tactic(auto, unfolding(crate::specs::Arguments::number_then))]
+#[inline(always)]
 fn numbers_of_five(
     first: &[u8],
     second: &[u8],
@@ -97,6 +102,7 @@ fn numbers_of_five(
 }
 
 #[tactic(auto, unfolding(crate::specs::Arguments::number_then))]
+#[inline(always)]
 fn numbers_of_six(
     first: &[u8],
     second: &[u8],
@@ -205,6 +211,7 @@ pub(crate) fn no_arguments(arguments: &[&[u8]]) -> Result<(), LineFault>
 }
 
 #[tactic(auto, unfolding(crate::specs::Arguments::arguments_of, crate::specs::Arguments::number_then))]
+#[inline(always)]
 pub(crate) fn one_number(arguments: &[&[u8]]) -> Result<u32, LineFault>
     ensures { read_as (λ a. a_number a no_more) result ≡ arguments_of (number nothing) (map (λ w. w.now) arguments.now) }
 {
@@ -237,6 +244,7 @@ pub(crate) fn three_numbers(arguments: &[&[u8]]) -> Result<(u32, u32, u32), Line
 }
 
 #[tactic(auto, unfolding(crate::specs::Arguments::arguments_of))]
+#[inline(always)]
 pub(crate) fn four_numbers(arguments: &[&[u8]]) -> Result<(u32, u32, u32, u32), LineFault>
     ensures { read_as (λ a. a_number a.0 (a_number a.1 (a_number a.2 (a_number a.3 no_more)))) result
         ≡ arguments_of (number (number (number (number nothing)))) (map (λ w. w.now) arguments.now) }
@@ -248,6 +256,7 @@ pub(crate) fn four_numbers(arguments: &[&[u8]]) -> Result<(u32, u32, u32, u32), 
 }
 
 #[tactic(auto, unfolding(crate::specs::Arguments::arguments_of))]
+#[inline(always)]
 pub(crate) fn five_numbers(arguments: &[&[u8]]) -> Result<(u32, u32, u32, u32, u32), LineFault>
     ensures { read_as (λ a. a_number a.0 (a_number a.1 (a_number a.2 (a_number a.3 (a_number a.4 no_more))))) result
         ≡ arguments_of (number (number (number (number (number nothing))))) (map (λ w. w.now) arguments.now) }
@@ -259,6 +268,7 @@ pub(crate) fn five_numbers(arguments: &[&[u8]]) -> Result<(u32, u32, u32, u32, u
 }
 
 #[tactic(auto, unfolding(crate::specs::Arguments::arguments_of))]
+#[inline(always)]
 pub(crate) fn six_numbers(arguments: &[&[u8]]) -> Result<(u32, u32, u32, u32, u32, u32), LineFault>
     ensures { read_as (λ a. a_number a.0 (a_number a.1 (a_number a.2 (a_number a.3 (a_number a.4 (a_number a.5 no_more)))))) result
         ≡ arguments_of (number (number (number (number (number (number nothing)))))) (map (λ w. w.now) arguments.now) }

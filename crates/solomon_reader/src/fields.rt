@@ -5,7 +5,7 @@ ghost use Rattle.solomon_reader.specs.Fields.{whole_number, is_zeros, field, is_
 ghost use Rattle.solomon_reader.specs.Checks.{is_vehicle, is_fleet_heading, is_customer, is_node_heading, heading_test};
 
 use crate::fault::Kind;
-use text_words::{cut_at, is_gap, number_of};
+use text_words::{cut_at, is_gap, number_by_digits};
 
 /// The greatest length of a name.
 const MAX_NAME: usize = 64;
@@ -16,7 +16,7 @@ fn whole_number(digits: &[u8]) -> Option<u32>
     if digits.len() > 7 {
         return None;
     }
-    number_of(digits)
+    number_by_digits(digits)
 }
 
 fn is_zeros(text: &[u8]) -> bool

@@ -1,7 +1,7 @@
 //! Words of a line, and the numbers that words are.
 #![tactic(auto)]
 
-ghost use Rattle.std.specs.Prelude.{◌≡◌, ◌<◌, ◌≤◌, ◌-◌, ◌==◌, ◌||◌, true, [], ◌∷◌, ◌++◌, IfOk, IfSome, OnOk, MatchOption, length, map, take, drop, slice_index};
+ghost use Rattle.std.specs.Prelude.{◌≡◌, if◌then◌else◌, Some, None, ◌<◌, ◌≤◌, ◌-◌, ◌==◌, ◌||◌, true, [], ◌∷◌, ◌++◌, IfOk, IfSome, OnOk, MatchOption, length, map, take, drop, slice_index};
 ghost use Rattle.std.specs.List.{slice_split};
 ghost use Rattle.text_words.specs.Words.{full_parts, words, number, is_gap, HasNoGap, HasNoFeed, HasNoLineFeed, IsLineEnd};
 
@@ -130,8 +130,54 @@ pub fn keep_line<'a>(kept: &mut Vec<&'a [u8]>, text: &'a [u8]) -> Result<Option<
     }
 }
 
-/// The number that a word is: 1 to 10 digits, with a value of at most 4,294,967,295.
-pub fn number_of(word: &[u8]) -> Option<u32>
+// Short numbers, without a loop. The byte of a digit is 48 more than its value, so what the bytes of one to four digits come to is
+// 48, 528, 5,328 or 53,328 too much.
+
+/// The number that one digit is, and whether it is a digit.
+#[inline(always)]
+fn one_digit(a: u8) -> (u32, bool)
+    ensures { (if result.1 then Some result.0 else None) ≡ number (a ∷ []) }
+{
+    (u32::from(a).saturating_sub(48), a.is_ascii_digit())
+}
+
+/// The number that two digits are, and whether they are digits.
+#[inline(always)]
+fn two_digits(a: u8, b: u8) -> (u32, bool)
+    ensures { (if result.1 then Some result.0 else None) ≡ number (a ∷ b ∷ []) }
+{
+    let sum = u32::from(a) * 10 + u32::from(b);
+    (
+        sum.saturating_sub(528),
+        a.is_ascii_digit() & b.is_ascii_digit(),
+    )
+}
+
+/// The number that three digits are, and whether they are digits.
+#[inline(always)]
+fn three_digits(a: u8, b: u8, c: u8) -> (u32, bool)
+    ensures { (if result.1 then Some result.0 else None) ≡ number (a ∷ b ∷ c ∷ []) }
+{
+    let sum = (u32::from(a) * 10 + u32::from(b)) * 10 + u32::from(c);
+    let are_digits = a.is_ascii_digit() & b.is_ascii_digit() & c.is_ascii_digit();
+    (sum.saturating_sub(5328), are_digits)
+}
+
+/// The number that four digits are, and whether they are digits.
+#[inline(always)]
+fn four_digits(a: u8, b: u8, c: u8, d: u8) -> (u32, bool)
+    ensures { (if result.1 then Some result.0 else None) ≡ number (a ∷ b ∷ c ∷ d ∷ []) }
+{
+    let sum = ((u32::from(a) * 10 + u32::from(b)) * 10 + u32::from(c)) * 10 + u32::from(d);
+    let are_digits = a.is_ascii_digit()
+        & b.is_ascii_digit()
+        & c.is_ascii_digit()
+        & d.is_ascii_digit();
+    (sum.saturating_sub(53328), are_digits)
+}
+
+/// What `number_of` answers, read digit by digit: in less room, and faster where words have more than four digits.
+pub fn number_by_digits(word: &[u8]) -> Option<u32>
     ensures { result ≡ number word.now }
 {
     if word.is_empty() || word.len() > 10 {
@@ -145,6 +191,40 @@ pub fn number_of(word: &[u8]) -> Option<u32>
         value = value * 10 + u64::from(*digit - b'0');
     }
     u32::try_from(value).ok()
+}
+
+// Apart, since most words are short.
+#[inline(never)]
+fn long_number(word: &[u8]) -> Option<u32>
+    ensures { result ≡ number word.now }
+{
+    number_by_digits(word)
+}
+
+/// The number that a word is, and whether it is one. Up to four digits are read without a loop.
+#[inline(always)]
+fn read_number(word: &[u8]) -> (u32, bool)
+    ensures { (if result.1 then Some result.0 else None) ≡ number word.now }
+{
+    match word {
+        [a] => one_digit(*a),
+        [a, b] => two_digits(*a, *b),
+        [a, b, c] => three_digits(*a, *b, *c),
+        [a, b, c, d] => four_digits(*a, *b, *c, *d),
+        _ => match long_number(word) {
+            Some(value) => (value, true),
+            None => (0, false),
+        },
+    }
+}
+
+/// The number that a word is: 1 to 10 digits, with a value of at most 4,294,967,295. It is made for short words.
+#[inline(always)]
+pub fn number_of(word: &[u8]) -> Option<u32>
+    ensures { result ≡ number word.now }
+{
+    let (value, is_number) = read_number(word);
+    if is_number { Some(value) } else { None }
 }
 
 #[cfg(test)]
