@@ -1,13 +1,19 @@
 use Rattle.std.proofs.Common.{◌≡◌, ◌∙◌, ℕ, ◌+◌, ◌-◌, ◌<◌, ◌≤◌, inl, refl, sym, ap, subst, arith, List, [], ◌∷◌, ◌++◌, length, take, drop, reverse, slice_index, slice_index_or, append_assoc, take_all, Option, Some, None, Bool, true, false, ◌==◌, All}
 use Rattle.std.proofs.lemmas.Bool.{eqb-true}
 use Rattle.std.proofs.lemmas.List.{take_more, take-append-drop, get_or_append_left, get_or-append-add, get_or-reverse, length-append, length-reverse}
-use Rattle.callback_store.specs.Tables.{Table}
+use Rattle.callback_store.specs.Tables.{Table, entry, table_at}
 use Rattle.dimension_core.specs.declared.range.Range.{Range}
-use Rattle.dimension_core.specs.Cumuls.{Bounds, IsStep, IsWithin, IsSpan, Reaches, last_of}
+use Rattle.dimension_core.specs.Cumuls.{Bounds, IsStep, IsWithin, IsSpan, Reaches, last_of, table_of}
 use Rattle.dimension_core.specs.Setting.{Setting}
 use Rattle.dimension_core.specs.Feasible.{FitsAll}
 use Rattle.neighbourhood.specs.Ways.{way_of}
 use Rattle.neighbourhood.specs.Laws.{Laws}
+
+-- what comes after the numbers of an interval, by the answer of the dimension's callback
+pub after_at : (ts : List Table) (d : Bounds) (id way i j v : ℕ) (r : Range) (o : Option Range)
+    → ((t : Table) (n : ℕ) → way ≡ entry t n j → IsSpan o (λ y. (x : ℕ) × IsWithin (Some r) x × IsStep t d v n x j y))
+    → id ≡ d.id → way ≡ entry (table_at ts id) i j → IsSpan o (λ y. (x : ℕ) × IsWithin (Some r) x × IsStep (table_of ts d) d v i x j y)
+after_at ts d id way i j v r o span e answer = span (table_of ts d) i (answer ∙ ap (λ (n : ℕ). entry (table_at ts n) i j) e)
 
 module _ (law : Laws) where
   pub last_push : (n : ℕ) (ms : List ℕ) (m : ℕ) → last_of n (ms ++ m ∷ []) ≡ m

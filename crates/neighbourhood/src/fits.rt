@@ -25,6 +25,8 @@ fn carry_back(
 ) -> Option<(Range, u32)>
     requires laws { Laws }
     requires served { IsServed (tables registry.now) dimension.now }
+    requires filled { range.lo ≤ range.hi }
+    requires small { range.hi ≤ 1000000000000 }
     requires from { from < length dimension.now.ranges }
     requires known { All (λ node. node < length dimension.now.ranges) nodes.now }
     requires low { 1 ≤ vehicle }
@@ -33,19 +35,22 @@ fn carry_back(
         → MatchOption result
         (IsSpan None (Reaches (table_of (tables registry.now) dimension.now) dimension.now vehicle (done ++ reverse nodes.now)))
         (λ r. IsSpan (Some r.0) (Reaches (table_of (tables registry.now) dimension.now) dimension.now vehicle (done ++ reverse nodes.now)) × (r.1 ≡ last_of 0 (done ++ reverse nodes.now))) }
+    ensures filled { IfSome result (λ r. r.0.lo ≤ r.0.hi) }
+    ensures small { IfSome result (λ r. r.0.hi ≤ 1000000000000) }
     ensures known { IfSome result (λ r. r.1 < length dimension.now.ranges) }
 {
     let mut range = range;
     let mut from = from;
     for k in 0..nodes.len() {
         let node = nodes[nodes.len() - 1 - k];
-        range = dimension.extend(registry, range, from, node, vehicle, meter)?;
+        let way = registry.ask(dimension.id(), meter, from, node);
+        range = dimension.after(range, way, node, vehicle)?;
         from = node;
     }
     Some((range, from))
 }
 
-/// The cumuls at the last of some more nodes, and that node: none where there are none. Often there are no more nodes.
+/// The cumuls at the last of some more nodes, and that node: none where there are none.
 #[inline(always)]
 fn carry_on(
     dimension: &Dimension,
@@ -58,6 +63,8 @@ fn carry_on(
 ) -> Option<(Range, u32)>
     requires laws { Laws }
     requires served { IsServed (tables registry.now) dimension.now }
+    requires filled { range.lo ≤ range.hi }
+    requires small { range.hi ≤ 1000000000000 }
     requires from { from < length dimension.now.ranges }
     requires known { All (λ node. node < length dimension.now.ranges) nodes.now }
     requires low { 1 ≤ vehicle }
@@ -66,12 +73,18 @@ fn carry_on(
         → MatchOption result
         (IsSpan None (Reaches (table_of (tables registry.now) dimension.now) dimension.now vehicle (done ++ nodes.now)))
         (λ r. IsSpan (Some r.0) (Reaches (table_of (tables registry.now) dimension.now) dimension.now vehicle (done ++ nodes.now)) × (r.1 ≡ last_of 0 (done ++ nodes.now))) }
+    ensures filled { IfSome result (λ r. r.0.lo ≤ r.0.hi) }
+    ensures small { IfSome result (λ r. r.0.hi ≤ 1000000000000) }
     ensures known { IfSome result (λ r. r.1 < length dimension.now.ranges) }
 {
-    if nodes.is_empty() {
-        return Some((range, from));
+    let mut range = range;
+    let mut from = from;
+    for node in nodes {
+        let way = registry.ask(dimension.id(), meter, from, *node);
+        range = dimension.after(range, way, *node, vehicle)?;
+        from = *node;
     }
-    dimension.carry(registry, range, from, nodes, vehicle, meter)
+    Some((range, from))
 }
 
 /// The cumuls at the last of some more nodes, as they stand or driven back, and that node: none where there are none.
@@ -88,6 +101,8 @@ fn carry_way(
 ) -> Option<(Range, u32)>
     requires laws { Laws }
     requires served { IsServed (tables registry.now) dimension.now }
+    requires filled { range.lo ≤ range.hi }
+    requires small { range.hi ≤ 1000000000000 }
     requires from { from < length dimension.now.ranges }
     requires known { All (λ node. node < length dimension.now.ranges) nodes.now }
     requires low { 1 ≤ vehicle }
@@ -96,6 +111,8 @@ fn carry_way(
         → MatchOption result
         (IsSpan None (Reaches (table_of (tables registry.now) dimension.now) dimension.now vehicle (done ++ way_of turned nodes.now)))
         (λ r. IsSpan (Some r.0) (Reaches (table_of (tables registry.now) dimension.now) dimension.now vehicle (done ++ way_of turned nodes.now)) × (r.1 ≡ last_of 0 (done ++ way_of turned nodes.now))) }
+    ensures filled { IfSome result (λ r. r.0.lo ≤ r.0.hi) }
+    ensures small { IfSome result (λ r. r.0.hi ≤ 1000000000000) }
     ensures known { IfSome result (λ r. r.1 < length dimension.now.ranges) }
 {
     if turned {
@@ -148,13 +165,15 @@ fn arrival(
     ensures { IsSpan result (Reaches (table_of (tables registry.now) dimension.now) dimension.now vehicle ((front.now ++ (way_of turned first.now ++ (second.now ++ third.now))) ++ next ∷ [])) }
 {
     let _nodes = dimension.nodes();
+    dimension.spans_are_small();
     let from = last_stop(front);
     let (range, from) = carry_way(
         dimension, registry, here, from, turned, first, vehicle, meter,
     )?;
     let (range, from) = carry_on(dimension, registry, range, from, second, vehicle, meter)?;
     let (range, from) = carry_on(dimension, registry, range, from, third, vehicle, meter)?;
-    dimension.extend(registry, range, from, next, vehicle, meter)
+    let way = registry.ask(dimension.id(), meter, from, next);
+    dimension.after(range, way, next, vehicle)
 }
 
 /// Whether two ranges have a number in common.
@@ -280,6 +299,7 @@ fn homecoming(
     requires laws { Laws }
     requires served { IsServed (tables registry.now) dimension.now }
     requires here { IsSpan (Some here) (Reaches (table_of (tables registry.now) dimension.now) dimension.now vehicle []) }
+    requires small { here.hi ≤ 1000000000000 }
     requires known { All (λ node. node < length dimension.now.ranges) (front.now ++ (way_of turned first.now ++ (second.now ++ (third.now ++ back.now)))) }
     requires low { 1 ≤ vehicle }
     requires high { vehicle ≤ length dimension.now.caps }
@@ -293,7 +313,8 @@ fn homecoming(
     let (range, from) = carry_on(dimension, registry, range, from, second, vehicle, meter)?;
     let (range, from) = carry_on(dimension, registry, range, from, third, vehicle, meter)?;
     let (range, from) = carry_on(dimension, registry, range, from, back, vehicle, meter)?;
-    dimension.extend(registry, range, from, 0, vehicle, meter)
+    let way = registry.ask(dimension.id(), meter, from, 0);
+    dimension.after(range, way, 0, vehicle)
 }
 
 /// Whether a route of five parts is in bounds in a dimension, by its whole way.

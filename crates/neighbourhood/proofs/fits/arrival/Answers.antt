@@ -1,6 +1,6 @@
 use Rattle.std.proofs.Common.{[], append_assoc, ◌++◌, ◌∙◌, ◌<◌, ℕ, arith, length, subst, sym}
 use Rattle.neighbourhood.specs.Ways.{way_of}
-use Rattle.neighbourhood.proofs.Carried.{append_nil, stop_none, stop_found, all_left, all_right, all_way}
+use Rattle.neighbourhood.proofs.Carried.{after_at, append_nil, stop_none, stop_found, all_left, all_right, all_way}
 use Rattle.neighbourhood.proofs.Keeping.{last_known}
 use Rattle.neighbourhood.proofs.fits.arrival.Goals as goal
 
@@ -38,7 +38,7 @@ returns g c =
     let s3 = c.in_ok-range-3.ensures.span ((c.args.front.now ++ way_of c.args.turned c.args.first.now) ++ c.args.second.now) s2.0 s2.1 in
     stop_found law _ _ _ _ _ _ _ _ _
     (append_assoc (c.args.front.now ++ way_of c.args.turned c.args.first.now) c.args.second.now c.args.third.now ∙ append_assoc c.args.front.now (way_of c.args.turned c.args.first.now) (c.args.second.now ++ c.args.third.now))
-    s3.0 s3.1 c.extend.ensures.span
+    s3.0 s3.1 (after_at _ _ _ _ _ _ _ _ _ c.after.ensures.span c.id.ensures c.ask-way.ensures.answer)
 
 pub carry_way-requires-clause-known : goal.carry_way-requires-clause-known
 carry_way-requires-clause-known g c =
@@ -65,3 +65,14 @@ carry_way-requires-clause-from g c =
     subst (λ (n : ℕ). n < length c.args.dimension.now.ranges) (sym c.last_stop-from.ensures)
     (last_known (λ n. n < length c.args.dimension.now.ranges) 0 c.args.front.now (omega arith)
     (all_left c.requires.laws (λ n. n < length c.args.dimension.now.ranges) c.args.front.now (way_of c.args.turned c.args.first.now ++ (c.args.second.now ++ c.args.third.now)) c.requires.known))
+
+pub carry_way-requires-clause-small : goal.carry_way-requires-clause-small
+carry_way-requires-clause-small g c =
+    let nodes = c.nodes-nodes.ensures.low in
+    let is = c.nodes-nodes.ensures.value in
+    c.spans_are_small.ensures _ _ _ _ c.requires.here
+    (last_known (λ n. n < length c.args.dimension.now.ranges) 0 c.args.front.now (omega arith)
+    (all_left c.requires.laws (λ n. n < length c.args.dimension.now.ranges) c.args.front.now (way_of c.args.turned c.args.first.now ++ (c.args.second.now ++ c.args.third.now)) c.requires.known))
+
+pub carry_way-requires-clause-filled : goal.carry_way-requires-clause-filled
+carry_way-requires-clause-filled g c = c.requires.here.filled

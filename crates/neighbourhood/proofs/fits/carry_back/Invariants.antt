@@ -1,4 +1,4 @@
-use Rattle.std.proofs.Common.{◌≡◌, ℕ, ◌<◌, List, ◌++◌, length, take, reverse, Some}
+use Rattle.std.proofs.Common.{◌≡◌, ℕ, ◌<◌, ◌≤◌, List, ◌++◌, length, take, reverse, Some}
 use Rattle.callback_store.specs.Registry.{tables}
 use Rattle.dimension_core.specs.Cumuls.{IsSpan, Reaches, table_of, last_of}
 use Rattle.neighbourhood.proofs.fits.carry_back.Given as goal
@@ -10,4 +10,6 @@ invariant-loop-k g l = record {
       → IsSpan (Some l.range) (Reaches (table_of (tables l.registry) l.dimension) l.dimension l.vehicle (done ++ take l.k (reverse l.nodes)))
       × (l.from ≡ last_of 0 (done ++ take l.k (reverse l.nodes)));
   known : l.from < length l.dimension.ranges;
+  filled : l.range.lo ≤ l.range.hi;
+  small : l.range.hi ≤ 1000000000000;
 }

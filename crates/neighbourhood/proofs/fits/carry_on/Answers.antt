@@ -1,14 +1,30 @@
-use Rattle.std.proofs.Common.{◌≡◌, ◌∙◌, ◌++◌, ℕ, List, Some, ap, subst, sym}
-use Rattle.callback_store.specs.Registry.{tables}
-use Rattle.dimension_core.specs.Cumuls.{IsSpan, Reaches, table_of, last_of}
-use Rattle.neighbourhood.proofs.Carried.{append_nil, empty_from}
+use Rattle.std.proofs.Common.{arith}
+use Rattle.std.proofs.lemmas.Grind.{common_steps}
+use Rattle.neighbourhood.proofs.Carried.{after_at, carry_more, carry_last, carry_none, carry_end}
 use Rattle.neighbourhood.proofs.fits.carry_on.Goals as goal
 
-pub returns-then-is_empty-clause-span : goal.returns-then-is_empty-clause-span
-returns-then-is_empty-clause-span g c = λ done s e.
-    let law = c.requires.laws in
-    let none = empty_from law c.args.nodes.now _ c.is_empty.ensures c.if-is_empty.true in
-    let same : done ++ c.args.nodes.now ≡ done = ap (λ (xs : List ℕ). done ++ xs) none ∙ append_nil law done in (
-      subst (λ (xs : List ℕ). IsSpan (Some c.args.range) (Reaches (table_of (tables c.args.registry.now) c.args.dimension.now) c.args.dimension.now c.args.vehicle xs)) (sym same) s,
-      subst (λ (xs : List ℕ). c.args.from ≡ last_of 0 xs) (sym same) e,
-    )
+pub returns-in_err-range-clause-span : goal.returns-in_err-range-clause-span
+returns-in_err-range-clause-span g c = λ done s e.
+    let i = c.loop-node.invariant.span done s e in
+    let n = after_at _ _ _ _ _ _ _ _ _ c.in_err-range.ensures.span c.id.ensures c.ask-way.ensures.answer in
+    rw c.from_residual.ensures
+    (carry_none c.requires.laws _ _ _ done c.args.nodes.now _ (carry_more c.requires.laws _ _ _ done c.args.nodes.now c.loop-node.node-index _ _ _ c.loop-node-test.true i.0 i.1 n))
+
+pub loop-node-preserved : goal.loop-node-preserved
+loop-node-preserved g c = record {
+  span = λ done s e.
+      let i = c.loop-node.invariant.span done s e in
+      let n = after_at _ _ _ _ _ _ _ _ _ c.in_ok-range.ensures.span c.id.ensures c.ask-way.ensures.answer in (
+        carry_more c.requires.laws _ _ _ done c.args.nodes.now c.loop-node.node-index _ _ _ c.loop-node-test.true i.0 i.1 n,
+        carry_last c.requires.laws done c.args.nodes.now c.loop-node.node-index c.loop-node-test.true,
+      );
+  known = grind (arith, common_steps);
+  filled = (after_at _ _ _ _ _ _ _ _ _ c.in_ok-range.ensures.span c.id.ensures c.ask-way.ensures.answer).filled;
+  small = c.in_ok-range.ensures.small;
+}
+
+pub returns-clause-span : goal.returns-clause-span
+returns-clause-span g c = λ done s e.
+    let i = c.loop-node.invariant.span done s e in
+    let t = c.loop-node-test.false in
+    carry_end c.requires.laws done c.args.nodes.now c.loop-node.node-index (omega arith) _ _ _ _ _ i.0 i.1

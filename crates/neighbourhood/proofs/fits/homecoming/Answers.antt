@@ -1,6 +1,6 @@
 use Rattle.std.proofs.Common.{[], append_assoc, ◌++◌, ◌∙◌, ◌<◌, refl, length}
 use Rattle.neighbourhood.specs.Ways.{way_of}
-use Rattle.neighbourhood.proofs.Carried.{append_nil, stop_none, stop_found, all_left, all_right, all_way}
+use Rattle.neighbourhood.proofs.Carried.{after_at, append_nil, stop_none, stop_found, all_left, all_right, all_way}
 use Rattle.neighbourhood.proofs.fits.homecoming.Goals as goal
 
 pub returns-in_err-range : goal.returns-in_err-range
@@ -50,7 +50,7 @@ returns g c =
     let s2 = c.in_ok-range-3.ensures.span (c.args.front.now ++ way_of c.args.turned c.args.first.now) s1.0 s1.1 in
     let s3 = c.in_ok-range-4.ensures.span ((c.args.front.now ++ way_of c.args.turned c.args.first.now) ++ c.args.second.now) s2.0 s2.1 in
     let s4 = c.in_ok-range-5.ensures.span (((c.args.front.now ++ way_of c.args.turned c.args.first.now) ++ c.args.second.now) ++ c.args.third.now) s3.0 s3.1 in
-    stop_found law _ _ _ _ _ _ _ _ _ (append_assoc ((c.args.front.now ++ way_of c.args.turned c.args.first.now) ++ c.args.second.now) c.args.third.now c.args.back.now ∙ append_assoc (c.args.front.now ++ way_of c.args.turned c.args.first.now) c.args.second.now (c.args.third.now ++ c.args.back.now) ∙ append_assoc c.args.front.now (way_of c.args.turned c.args.first.now) (c.args.second.now ++ (c.args.third.now ++ c.args.back.now))) s4.0 s4.1 c.extend.ensures.span
+    stop_found law _ _ _ _ _ _ _ _ _ (append_assoc ((c.args.front.now ++ way_of c.args.turned c.args.first.now) ++ c.args.second.now) c.args.third.now c.args.back.now ∙ append_assoc (c.args.front.now ++ way_of c.args.turned c.args.first.now) c.args.second.now (c.args.third.now ++ c.args.back.now) ∙ append_assoc c.args.front.now (way_of c.args.turned c.args.first.now) (c.args.second.now ++ (c.args.third.now ++ c.args.back.now))) s4.0 s4.1 (after_at _ _ _ _ _ _ _ _ _ c.after.ensures.span c.id.ensures c.ask-way.ensures.answer)
 
 pub carry_on-requires-clause-known : goal.carry_on-requires-clause-known
 carry_on-requires-clause-known g c = all_left c.requires.laws (λ n. n < length c.args.dimension.now.ranges) c.args.front.now (way_of c.args.turned c.args.first.now ++ (c.args.second.now ++ (c.args.third.now ++ c.args.back.now))) c.requires.known
@@ -71,3 +71,6 @@ carry_on-requires-3-clause-known g c =
 pub carry_on-requires-4-clause-known : goal.carry_on-requires-4-clause-known
 carry_on-requires-4-clause-known g c =
     all_right c.requires.laws (λ n. n < length c.args.dimension.now.ranges) c.args.third.now c.args.back.now (all_right c.requires.laws (λ n. n < length c.args.dimension.now.ranges) c.args.second.now (c.args.third.now ++ c.args.back.now) (all_right c.requires.laws (λ n. n < length c.args.dimension.now.ranges) (way_of c.args.turned c.args.first.now) (c.args.second.now ++ (c.args.third.now ++ c.args.back.now)) (all_right c.requires.laws (λ n. n < length c.args.dimension.now.ranges) c.args.front.now (way_of c.args.turned c.args.first.now ++ (c.args.second.now ++ (c.args.third.now ++ c.args.back.now))) c.requires.known)))
+
+pub carry_on-requires-clause-filled : goal.carry_on-requires-clause-filled
+carry_on-requires-clause-filled g c = c.requires.here.filled
