@@ -7,7 +7,8 @@ use Rattle.solomon_reader.specs.Checks.{Fault, fault}
 use Rattle.solomon_reader.specs.Instances.{Plain}
 use Rattle.solomon_reader.specs.Reading.{read_of}
 use Rattle.line_engine.specs.Answers.{is_refusal}
-use Rattle.board_text.specs.BoardRuns.{AreOutcomes}
+use Rattle.board_text.specs.BoardRuns.{AreOutcomes, EndsAt}
+use Rattle.board_text.specs.BoardSteps.{DeskState}
 use Rattle.line_engine.specs.declared.run_fault.Counts.{Counts}
 use Rattle.line_engine.specs.declared.run_fault.RunFault.{RunFault}
 use Rattle.line_engine.specs.declared.run_fault.RunFault.TheVariants as runs
@@ -16,7 +17,7 @@ use Rattle.solomon_reader.specs.declared.fault.ReadFault.{ReadFault}
 use Rattle.solomon_reader.specs.declared.fault.ReadFault.TheVariants as reads
 use Rattle.board_program.specs.Head.{Halves, halves, AreRead}
 use Rattle.board_program.specs.Stops.{IsStopOf, IsUnread, end_status}
-use Rattle.board_program.specs.Joined.{IsRun, IsCutOff, IsUnfinished, IsDone, IsBrokenOff, Ended, IsEnd, Says, IsJoined, IsScripted}
+use Rattle.board_program.specs.Joined.{IsRun, IsCutOff, IsUnfinished, IsDone, IsBrokenOff, IsCause, Ended, IsEnd, Says, IsJoined, IsScripted, IsOfFiles}
 use Rattle.board_program.specs.Standard.{opened}
 use Rattle.board_program.specs.declared.stop.Stop.{Stop}
 use Rattle.board_program.specs.declared.stop.Stop.TheVariants as stops
@@ -34,11 +35,11 @@ all_given script (Some ys) bytes c e = c ∙ ap (λ (xs : List ℕ). bytes ++ xs
 
 -- a front of a reader's bytes
 abbrev IsFront : List ℕ → Option (List ℕ) → List ℕ → List ℕ → Type 0
-IsFront script now bytes more = (rest : List ℕ) × (script ≡ bytes ++ rest) × (more ≡ [] → IsAtEnd now → rest ≡ [])
+IsFront script now bytes more = (rest : List ℕ) × (script ≡ bytes ++ rest) × (more ≡ [] → IsAtEnd now → rest ≡ []) × (behind : List ℕ) × (rest ≡ more ++ behind)
 
 front_given : (script : List ℕ) (now : Option (List ℕ)) (bytes more : List ℕ) → Consumes (Some script) now (bytes ++ more) → IsFront script now bytes more
 front_given script None bytes more c = absurd c
-front_given script (Some ys) bytes more c = (more ++ ys, c ∙ append_assoc bytes more ys, λ e f. ap (λ (l : List ℕ). l ++ ys) e ∙ f)
+front_given script (Some ys) bytes more c = (more ++ ys, c ∙ append_assoc bytes more ys, λ e f. ap (λ (l : List ℕ). l ++ ys) e ∙ f, ys, refl)
 
 -- ---- what was answered
 
@@ -61,6 +62,15 @@ done i script left now_left was now counts known h =
 
 -- ---- what was answered before the run ended early
 
+-- why the run ended, by all that comes next
+cause_of : (fault : RunFault) (mid new : DeskState) (used more behind all : List ℕ) (left : Option (List ℕ)) → all ≡ more ++ behind → EndsAt fault mid new used more left → IsCause fault all
+cause_of runs.Read mid new used more behind all left e h = tt
+cause_of runs.NoMemory mid new used more behind all left e h = tt
+cause_of runs.Write mid new used more behind all left e h = tt
+cause_of runs.LongLine mid new used more behind all left e h =
+    let long = h.1 in
+    (long.0, long.1 ++ behind, e ∙ ap (λ (xs : List ℕ). xs ++ behind) long.2 ∙ append_assoc long.0 long.1 behind, long.3, long.4)
+
 cut_off : (fault : RunFault) (i : Plain) (script : List ℕ) (left now_left was now : Option (List ℕ)) → left ≡ Some script → IsCutOff i left now_left was now fault → IsBrokenOff fault i script was now
 cut_off fault i script left now_left was now known h =
     let s = h.stopped in
@@ -69,6 +79,7 @@ cut_off fault i script left now_left was now known h =
       front.0,
       front.1,
       elim s.whole [ inl lines ↦ inl lines | inr end ↦ inr (front.2 end.0 end.1) ],
+      cause_of fault s.mid h.new s.used s.more front.3 front.0 now_left front.4 s.end,
       s.outcomes,
       record { sites = h.sites; of = h.of; new = s.mid; run = s.run },
       s.text,
@@ -92,7 +103,7 @@ board_end (Ok counts) h i instance script left now_left was now e r short known 
 board_end (Err (stops.Instance kind line)) h i instance script left now_left was now e r short known ok err = absurd err
 board_end (Err stops.Open) h i instance script left now_left was now e r short known ok err = err.1
 board_end (Err (stops.Run fault)) h i instance script left now_left was now e r short known ok err =
-    subst (λ (x : Halves). IsEnd x was now (Err (stops.Run fault))) (sym e) (inr (i, r, cut_off fault i script left now_left was now known err))
+    subst (λ (x : Halves). IsEnd x was now (Err (stops.Run fault))) (sym e) (inr (i, r, short, cut_off fault i script left now_left was now known err))
 
 -- nothing came of the head
 pub head_end : (stop : Stop) (h : Halves) (was : Option (List ℕ)) → IsUnread stop → Ended h was was stop
@@ -145,15 +156,21 @@ ended_says (stops.Instance kind line) h was now e = quiet (read_of h.instance) h
 ended_says stops.Open h was now e = quiet (read_of h.instance) h.script was now e
 ended_says (stops.Run f) h was now e = elim e [
   | inl k ↦ quiet (read_of h.instance) h.script was now k.1
-  | inr b ↦ broke (read_of h.instance) f b.0 h.script was now b.1 b.2
+  | inr b ↦ broke (read_of h.instance) f b.0 h.script was now b.1 b.3
 ]
+
+-- nothing was written, or the instance was not too long
+ended_short : (stop : Stop) (h : Halves) (was now : Option (List ℕ)) (status : ℕ) → status ≡ 3 → Ended h was now stop → ((status ≡ 3) × Keeps was now) ⊎ (length h.instance ≤ 16777216)
+ended_short (stops.Instance kind line) h was now status three e = inl (three, e.1)
+ended_short stops.Open h was now status three e = inl (three, e)
+ended_short (stops.Run f) h was now status three e = elim e [ inl k ↦ inl (three, k.1) | inr b ↦ inr b.2 ]
 
 -- by what came of the joined input
 pub joined_by : (r : Result Counts Stop) (status : ℕ) (known was now : Option (List ℕ)) → status ≡ end_status r → IfSome known (λ bytes. IsEnd (halves bytes) was now r) → IfSome known (λ bytes. IsJoined bytes was now status)
 joined_by r status None was now s e = tt
 joined_by (Ok counts) status (Some bytes) was now s e =
     subst (λ (n : ℕ). IsJoined bytes was now n) (sym s) (subst (λ (r : Result Plain Fault). Says r (halves bytes).script was now (end_status (Ok counts))) (sym e.1) (inl e.3), inr e.2)
-joined_by (Err stop) status (Some bytes) was now s e = subst (λ (n : ℕ). IsJoined bytes was now n) (sym s) (ended_says stop (halves bytes) was now e, inl refl)
+joined_by (Err stop) status (Some bytes) was now s e = subst (λ (n : ℕ). IsJoined bytes was now n) (sym s) (ended_says stop (halves bytes) was now e, ended_short stop (halves bytes) was now 3 refl e)
 
 -- by what came of an instance's board
 pub scripted_by : (r : Result Counts Stop) (status : ℕ) (i : Plain) (left now_left was now : Option (List ℕ)) → status ≡ end_status r → IfOk r (λ counts. IsRun i left now_left was now counts) → IfErr r (λ stop. IsUnfinished i left now_left was now stop) → IfSome left (λ script. Says (Ok i) script was now status)
@@ -162,3 +179,51 @@ scripted_by (Ok counts) status i (Some script) now_left was now s ok err = subst
 scripted_by (Err (stops.Instance kind line)) status i (Some script) now_left was now s ok err = absurd err
 scripted_by (Err stops.Open) status i (Some script) now_left was now s ok err = subst (λ (n : ℕ). Says (Ok i) script was now n) (sym s) (inr (refl, inl err.1))
 scripted_by (Err (stops.Run fault)) status i (Some script) now_left was now s ok err = subst (λ (n : ℕ). Says (Ok i) script was now n) (sym s) (inr (refl, inr (fault, cut_off fault i script (Some script) now_left was now refl err)))
+
+-- ---- whatever the bytes of the script are
+
+ran_to_end : (i : Plain) (left now_left was now : Option (List ℕ)) (counts : Counts) → IsRun i left now_left was now counts → (script : List ℕ) × IsDone i script was now (if counts.refused == 0 then 0 else 1)
+ran_to_end i left now_left was now counts h =
+    let a = h.answered in
+    (a.bytes, (a.outcomes, record { sites = h.sites; of = h.of; new = h.new; run = a.run }, a.text, status_by counts.refused (count_by is_refusal a.outcomes) a.refused))
+
+ran_off : (f : RunFault) (i : Plain) (left now_left was now : Option (List ℕ)) → IsCutOff i left now_left was now f → (script : List ℕ) × IsBrokenOff f i script was now
+ran_off f i left now_left was now h =
+    let s = h.stopped in (
+      s.used ++ s.more,
+      (
+        s.used,
+        s.more,
+        refl,
+        elim s.whole [ inl lines ↦ inl lines | inr end ↦ inr end.0 ],
+        cause_of f s.mid h.new s.used s.more [] s.more now_left (sym (append-nil s.more)) s.end,
+        s.outcomes,
+        record { sites = h.sites; of = h.of; new = s.mid; run = s.run },
+        s.text,
+      ),
+    )
+
+-- by what came of an instance's board
+pub ran_by : (r : Result Counts Stop) (status : ℕ) (i : Plain) (left now_left was now : Option (List ℕ)) → status ≡ end_status r → IfOk r (λ counts. IsRun i left now_left was now counts) → IfErr r (λ stop. IsUnfinished i left now_left was now stop)
+    → (script : List ℕ) × Says (Ok i) script was now status
+ran_by (Ok counts) status i left now_left was now s ok err =
+    let d = ran_to_end i left now_left was now counts ok in
+    (d.0, subst (λ (n : ℕ). Says (Ok i) d.0 was now n) (sym s) (inl d.1))
+ran_by (Err (stops.Instance kind line)) status i left now_left was now s ok err = absurd err
+ran_by (Err stops.Open) status i left now_left was now s ok err = ([], subst (λ (n : ℕ). Says (Ok i) [] was now n) (sym s) (inr (refl, inl err.1)))
+ran_by (Err (stops.Run fault)) status i left now_left was now s ok err =
+    let d = ran_off fault i left now_left was now err in
+    (d.0, subst (λ (n : ℕ). Says (Ok i) d.0 was now n) (sym s) (inr (refl, inr (fault, d.1))))
+
+-- nothing came of the instance
+pub quiet_ran : (r : Result Plain Fault) (was : Option (List ℕ)) → (script : List ℕ) × Says r script was was 3
+quiet_ran r was = ([], quiet r [] was was (keeps was))
+
+-- an instance's text says which it is
+pub script_ran : (text : List ℕ) (r : Result Plain Fault) (was now : Option (List ℕ)) (status : ℕ) → read_of text ≡ r → (script : List ℕ) × Says r script was now status → (script : List ℕ) × IsScripted text script was now status
+script_ran text r was now status e s = (s.0, subst (λ (x : Result Plain Fault). Says x s.0 was now status) (sym e) s.1)
+
+pub files_ran : (text : List ℕ) (r : Result Plain Fault) (was now : Option (List ℕ)) (status : ℕ) → read_of text ≡ r → (script : List ℕ) × Says r script was now status → IsOfFiles was now status
+files_ran text r was now status e s =
+    let d = script_ran text r was now status e s in
+    inr (text, d.0, d.1)

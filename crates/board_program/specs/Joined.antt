@@ -9,7 +9,7 @@ use Rattle.board_lines.specs.Replies.{ended}
 use Rattle.line_engine.specs.Answers.{Outcome, written, is_refusal}
 use Rattle.board_text.specs.BoardRuns.{AreOutcomes, IsAnswered, IsStopped}
 use Rattle.board_text.specs.BoardSteps.{DeskState}
-use Rattle.line_engine.specs.Running.{Reaches}
+use Rattle.line_engine.specs.Running.{Reaches, IsTooLong}
 use Rattle.line_engine.specs.declared.run_fault.Counts.{Counts}
 use Rattle.line_engine.specs.declared.run_fault.RunFault.{RunFault}
 use Rattle.line_engine.specs.declared.run_fault.RunFault.TheVariants as runs
@@ -58,18 +58,23 @@ status_of outcomes = if count_by is_refusal outcomes == 0 then 0 else 1
 abbrev pub IsDone : Plain → List ℕ → Option (List ℕ) → Option (List ℕ) → ℕ → Type 0
 IsDone i script was now status = (outcomes : List Outcome) × Replies i script outcomes × Appends was now (written outcomes) × (status ≡ status_of outcomes)
 
+-- The line that comes next is too long, where that is said.
+abbrev pub IsCause : RunFault → List ℕ → Type 0
+IsCause runs.LongLine more = IsTooLong more
+IsCause _ more = Unit {0}
+
 -- a front of the script, of whole lines, was answered, and its replies were written, or a front of them where the writer failed
 abbrev pub IsBrokenOff : RunFault → Plain → List ℕ → Option (List ℕ) → Option (List ℕ) → Type 0
 IsBrokenOff fault i script was now = (used : List ℕ) × (more : List ℕ) × (script ≡ used ++ more)
     × (((lines : List (List ℕ)) × (used ≡ flat_map ended lines)) ⊎ (more ≡ []))
-    × (outcomes : List Outcome) × Replies i used outcomes × Reaches fault was now (written outcomes)
+    × IsCause fault more × (outcomes : List Outcome) × Replies i used outcomes × Reaches fault was now (written outcomes)
 
 -- Why a run ended early, with what it wrote. Nothing: the instance has a fault; memory ran out before the script; or a read
 -- failed, or more than the limit came, before the mark. Or the run on its board ended early.
 abbrev pub Ended : Halves → Option (List ℕ) → Option (List ℕ) → Stop → Type 0
 Ended h was now (stops.Instance kind line) = (read_of h.instance ≡ fault kind line) × Keeps was now
 Ended h was now stops.Open = Keeps was now
-Ended h was now (stops.Run f) = ((f ≡ runs.Read) × Keeps was now) ⊎ ((i : Plain) × (read_of h.instance ≡ Ok i) × IsBrokenOff f i h.script was now)
+Ended h was now (stops.Run f) = ((f ≡ runs.Read) × Keeps was now) ⊎ ((i : Plain) × (read_of h.instance ≡ Ok i) × (length h.instance ≤ 16777216) × IsBrokenOff f i h.script was now)
 
 -- the same of a run that was not ended early
 abbrev pub IsEnd : Halves → Option (List ℕ) → Option (List ℕ) → Result Counts Stop → Type 0
@@ -86,6 +91,10 @@ Says (Ok i) script was now status = IsDone i script was now status ⊎ ((status 
 abbrev pub IsScripted : List ℕ → List ℕ → Option (List ℕ) → Option (List ℕ) → ℕ → Type 0
 IsScripted instance script was now status = Says (read_of instance) script was now status
 
--- The instance before the mark and the script behind it; where more than 16,777,216 bytes stand before it, the status is 3.
+-- The instance before the mark and the script behind it; where more than 16,777,216 bytes stand before it, nothing is written, and 3.
 abbrev pub IsJoined : List ℕ → Option (List ℕ) → Option (List ℕ) → ℕ → Type 0
-IsJoined bytes was now status = IsScripted (halves bytes).instance (halves bytes).script was now status × ((status ≡ 3) ⊎ (length (halves bytes).instance ≤ 16777216))
+IsJoined bytes was now status = IsScripted (halves bytes).instance (halves bytes).script was now status × (((status ≡ 3) × Keeps was now) ⊎ (length (halves bytes).instance ≤ 16777216))
+
+-- A file could not be read, and nothing is written, and 3; or an instance and a script were, whatever their bytes are.
+abbrev pub IsOfFiles : Option (List ℕ) → Option (List ℕ) → ℕ → Type 0
+IsOfFiles was now status = ((status ≡ 3) × (now ≡ was)) ⊎ ((instance : List ℕ) × (script : List ℕ) × IsScripted instance script was now status)

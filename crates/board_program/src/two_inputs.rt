@@ -1,8 +1,8 @@
 //! An instance and a script, each in an input or a file of its own: `dispatch run`.
 
-ghost use Rattle.std.specs.Prelude.{◌≡◌, ◌⊎◌, Ok, IfSome};
+ghost use Rattle.std.specs.Prelude.{◌≡◌, ◌⊎◌, ℕ, List, Ok, IfSome};
 ghost use Rattle.solomon_reader.specs.Instances.{view, IsSound};
-ghost use Rattle.board_program.specs.Joined.{IsScripted, Says};
+ghost use Rattle.board_program.specs.Joined.{IsOfFiles, IsScripted, Says};
 
 use crate::files::{read_path, unread};
 use crate::standard::run_board;
@@ -25,6 +25,7 @@ fn answered<R, I: Read, W: Write, F: Write>(
     requires { IsSound (view instance) }
     ensures status { (result ≡ 0) ⊎ (result ≡ 1) ⊎ (result ≡ 3) }
     ensures says { IfSome (I.remaining script.old) (λ bytes. Says (Ok (view instance)) bytes (W.contents writer.old) (W.contents writer.new) result) }
+    ensures ran { (bytes : List ℕ) × Says (Ok (view instance)) bytes (W.contents writer.old) (W.contents writer.new) result }
 {
     ended(faults, run_board(rt, alloc, instance, script, writer))
 }
@@ -45,6 +46,7 @@ pub fn scripted<R, I: Read, W: Write, F: Write>(
 ) -> u8
     ensures status { (result ≡ 0) ⊎ (result ≡ 1) ⊎ (result ≡ 3) }
     ensures scripted { IfSome (I.remaining script.old) (λ bytes. IsScripted instance.now bytes (W.contents writer.old) (W.contents writer.new) result) }
+    ensures ran { (bytes : List ℕ) × IsScripted instance.now bytes (W.contents writer.old) (W.contents writer.new) result }
 {
     match read(alloc, instance) {
         Ok(instance) => answered(rt, alloc, instance, script, writer, faults),
@@ -63,7 +65,8 @@ pub fn run_files<R: Files, W: Write, F: Write>(
     writer: &mut W,
     faults: &mut F,
 ) -> u8
-    ensures { (result ≡ 0) ⊎ (result ≡ 1) ⊎ (result ≡ 3) }
+    ensures status { (result ≡ 0) ⊎ (result ≡ 1) ⊎ (result ≡ 3) }
+    ensures files { IsOfFiles (W.contents writer.old) (W.contents writer.new) result }
 {
     let text = match read_path(rt, alloc, instance) {
         Ok(text) => text,

@@ -15,7 +15,7 @@ use Rattle.line_engine.specs.Answers.{Answer}
 use Rattle.line_engine.specs.Answers.{Outcome}
 use Rattle.line_engine.specs.declared.run_fault.RunFault.{RunFault}
 use Rattle.line_engine.specs.declared.run_fault.RunFault.TheVariants as runs
-use Rattle.line_engine.specs.Running.{HasNoEnd, IsLine, Runs, Progress, NextLine, Ends, Broken, Served, ServeBroken, BrokenWithin, Finished}
+use Rattle.line_engine.specs.Running.{HasNoEnd, IsLine, Runs, Progress, NextLine, Ends, Broken, Served, ServeBroken, BrokenWithin, EndsLast, Finished}
 
 -- ---- small facts
 
@@ -119,7 +119,7 @@ take_done step old new out partial more given rest s0 s1 n0 n1 r0 r1 h e f s =
 
 pub take_broken : {S : Type 0} (step : S → Command → Answer → S → Type 0) (refuses : S → S → Type 0) (fault : RunFault) (old new : S) (partial more given : List ℕ) (s0 : ℕ) → IsLine given → given ≡ partial ++ more → ServeBroken step refuses fault old new given → Broken step refuses fault old new [] s0 (partial ++ (more ++ 10 ∷ []))
 take_broken step refuses fault old new partial more given s0 h e s =
-    let b = line_broken step refuses fault old new given (given ++ 10 ∷ []) s0 (h, inr ([], sym (append-nil (ended given)))) s in
+    let b = line_broken step refuses fault old new given (given ++ 10 ∷ []) s0 (h, [], sym (append-nil (ended given))) s in
     let whole : given ++ 10 ∷ [] ≡ partial ++ (more ++ 10 ∷ []) = ap (λ (l : List ℕ). l ++ 10 ∷ []) e ∙ append_assoc partial more (10 ∷ []) in
     subst (λ (l : List ℕ). Broken step refuses fault old new [] s0 l) whole b
 
@@ -259,6 +259,19 @@ Progress-broken step refuses old new out bytes rest s0 s1 n0 n1 r0 r1 p = record
 }
 
 -- ---- the last line
+
+pub last_broken : {S : Type 0} (step : S → Command → Answer → S → Type 0) (refuses : S → S → Type 0) (fault : RunFault) (old new : S) (line : List ℕ) (seen : ℕ) → ServeBroken step refuses fault old new line → EndsLast step refuses fault old new seen line
+last_broken step refuses runs.Read old new line seen h = absurd h
+last_broken step refuses runs.LongLine old new line seen h = absurd h
+last_broken step refuses runs.NoMemory old new line seen h = h
+last_broken step refuses runs.Write old new line seen h = absurd h
+
+-- a fault at the last line, and then that of the writer
+pub last_write : {S : Type 0} (step : S → Command → Answer → S → Type 0) (refuses : S → S → Type 0) (fault : RunFault) (old new : S) (seen : ℕ) (line : List ℕ) → EndsLast step refuses fault old new seen line → EndsLast step refuses runs.Write old new seen line
+last_write step refuses runs.Read old new seen line h = inl h.0
+last_write step refuses runs.LongLine old new seen line h = absurd h
+last_write step refuses runs.NoMemory old new seen line h = h
+last_write step refuses runs.Write old new seen line h = h
 
 pub finished : {S : Type 0} (step : S → Command → Answer → S → Type 0) (old new : S) (out line : List ℕ) (s0 s1 n0 n1 r0 r1 : ℕ) → 0 < length line → Served step old new out line s0 s1 n0 n1 r0 r1 → Finished step old new out line n0 n1 r0 r1
 finished step old new out [] s0 s1 n0 n1 r0 r1 lt s = absurd (omega arith)

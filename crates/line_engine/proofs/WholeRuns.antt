@@ -7,9 +7,9 @@ use Rattle.board_lines.specs.declared.command.Command.{Command}
 use Rattle.line_engine.specs.Answers.{Answer}
 use Rattle.line_engine.specs.declared.run_fault.RunFault.{RunFault}
 use Rattle.line_engine.specs.declared.run_fault.RunFault.TheVariants as runs
-use Rattle.line_engine.specs.Running.{AppendsFront, Reaches, MayBeWrite, Progress, Broken, BrokenWithin, Finished, Answered, Stopped, last_line}
+use Rattle.line_engine.specs.Running.{AppendsFront, Reaches, MayBeWrite, Progress, Broken, BrokenWithin, EndsLast, Finished, Answered, Stopped, last_line}
 use Rattle.line_engine.proofs.Bytes.{Appends-none, Consumes-none, Consumes-then, Consumes-kept}
-use Rattle.line_engine.proofs.Runs.{empty_line, nothing_yet, no_memory, Runs-then, written_then, Broken-then, Broken-write, Progress-then, Progress-broken, count_then}
+use Rattle.line_engine.proofs.Runs.{empty_line, nothing_yet, no_memory, Runs-then, written_then, Broken-then, last_write, Progress-then, Progress-broken, count_then}
 
 open_end : (a b : Option (List ℕ)) (bytes : List ℕ) → Consumes a b bytes → Consumes a b (bytes ++ [])
 open_end a b bytes g = subst (λ (l : List ℕ). Consumes a b l) (sym (append-nil bytes)) g
@@ -19,13 +19,13 @@ started step f held rest s n r h e d k j = rw (h, e, d, k, j) (nothing_yet step 
 
 -- nothing was begun
 pub no_room : {S : Type 0} (step : S → Command → Answer → S → Type 0) (refuses : S → S → Type 0) (f : S) (a was : Option (List ℕ)) → Stopped step refuses runs.NoMemory f f a a was was
-no_room step refuses f a was = ([], [], [], Consumes-none a, Appends-none was, inr (inr (no_memory step refuses f [] 0)))
+no_room step refuses f a was = ([], [], [], Consumes-none a, Appends-none was, inr (inr (inr (no_memory step refuses f [] 0))))
 
 -- the replies were not written before a read
 pub unflushed : {S : Type 0} (step : S → Command → Answer → S → Type 0) (refuses : S → S → Type 0) (old new : S) (a b was now : Option (List ℕ)) (out bytes rest : List ℕ) (s n r : ℕ)
     → Consumes a b bytes → AppendsFront was now out → Progress step old new out bytes rest 0 s 0 n 0 r → Stopped step refuses runs.Write old new a b was now
 unflushed step refuses old new a b was now out bytes rest s n r g q p =
-    (bytes, [], out, open_end a b bytes g, q, inr (inr (Progress-broken step refuses old new out bytes rest 0 s 0 n 0 r p)))
+    (bytes, [], out, open_end a b bytes g, q, inr (inr (inr (Progress-broken step refuses old new out bytes rest 0 s 0 n 0 r p))))
 
 -- the reader failed
 pub unread : {S : Type 0} (step : S → Command → Answer → S → Type 0) (refuses : S → S → Type 0) (old new : S) (a b c was now : Option (List ℕ)) (out bytes rest : List ℕ) (s n r : ℕ)
@@ -38,28 +38,27 @@ pub ended : {S : Type 0} (step : S → Command → Answer → S → Type 0) (ref
     → Consumes a b bytes → MayBeWrite runs.Read last → Reaches last was now out → Progress step old new out bytes rest 0 s 0 n 0 r → Stopped step refuses last old new a b was now
 ended step refuses last old new a b was now out bytes rest s n r g m q p = elim m [
   | inl same ↦ (bytes, [], out, open_end a b bytes g, q, inl (same, refl, rest, s, n, r, p))
-  | inr write ↦ (bytes, [], out, open_end a b bytes g, q, inr (inr (subst (λ (f : RunFault). Broken step refuses f old new out 0 bytes) (sym write) (Progress-broken step refuses old new out bytes rest 0 s 0 n 0 r p))))
+  | inr write ↦ (bytes, [], out, open_end a b bytes g, q, inr (inr (inr (subst (λ (f : RunFault). Broken step refuses f old new out 0 bytes) (sym write) (Progress-broken step refuses old new out bytes rest 0 s 0 n 0 r p)))))
 ]
 
-may_be : {S : Type 0} (step : S → Command → Answer → S → Type 0) (refuses : S → S → Type 0) (fault last : RunFault) (old new : S) (out bytes : List ℕ) → MayBeWrite fault last → Broken step refuses fault old new out 0 bytes → Broken step refuses last old new out 0 bytes
-may_be step refuses fault last old new out bytes m b = elim m [
-  | inl same ↦ subst (λ (f : RunFault). Broken step refuses f old new out 0 bytes) (sym same) b
-  | inr write ↦ subst (λ (f : RunFault). Broken step refuses f old new out 0 bytes) (sym write) (Broken-write step refuses fault old new out 0 bytes b)
+may_be : {S : Type 0} (step : S → Command → Answer → S → Type 0) (refuses : S → S → Type 0) (fault last : RunFault) (old new : S) (seen : ℕ) (line : List ℕ) → MayBeWrite fault last → EndsLast step refuses fault old new seen line → EndsLast step refuses last old new seen line
+may_be step refuses fault last old new seen line m e = elim m [
+  | inl same ↦ subst (λ (f : RunFault). EndsLast step refuses f old new seen line) (sym same) e
+  | inr write ↦ subst (λ (f : RunFault). EndsLast step refuses f old new seen line) (sym write) (last_write step refuses fault old new seen line e)
 ]
 
 -- the last line was not answered
-pub last_stopped : {S : Type 0} (step : S → Command → Answer → S → Type 0) (refuses : S → S → Type 0) (fault last : RunFault) (old mid new : S) (a b c was now : Option (List ℕ)) (x y out bytes rest given chunk : List ℕ) (s n r : ℕ)
-    → Consumes a b bytes → Consumes b c chunk → chunk ≡ [] → MayBeWrite fault last → Reaches last was now out → out ≡ x ++ y → Progress step old mid x bytes rest 0 s 0 n 0 r → given ≡ rest → Broken step refuses fault mid new y s given → Stopped step refuses last old new a c was now
-last_stopped step refuses fault last old mid new a d c was now x y out bytes rest given chunk s n r g k none m q e p same b =
-    let b' = subst (λ (l : List ℕ). Broken step refuses fault mid new y s l) (same ∙ sym (append-nil rest)) b in
-    let whole = Broken-then step refuses fault old mid new x y bytes rest [] 0 s 0 n 0 r p b' in
+pub last_stopped : {S : Type 0} (step : S → Command → Answer → S → Type 0) (refuses : S → S → Type 0) (fault last : RunFault) (old mid new : S) (a b c was now : Option (List ℕ)) (x out bytes rest given chunk : List ℕ) (s n r : ℕ)
+    → Consumes a b bytes → Consumes b c chunk → chunk ≡ [] → IsAtEnd c → MayBeWrite fault last → Reaches last was now out → out ≡ x → Progress step old mid x bytes rest 0 s 0 n 0 r → given ≡ rest → EndsLast step refuses fault mid new s given → Stopped step refuses last old new a c was now
+last_stopped step refuses fault last old mid new a d c was now x out bytes rest given chunk s n r g k none end m q e p same b =
+    let b' = subst (λ (l : List ℕ). EndsLast step refuses fault mid new s l) same b in
     let given' = subst (λ (l : List ℕ). Consumes a c (bytes ++ l)) none (Consumes-then a d c bytes chunk g k) in (
-      bytes ++ [],
+      bytes,
       [],
       out,
-      open_end a c (bytes ++ []) given',
+      given',
       q,
-      inr (inr (may_be step refuses fault last old new out (bytes ++ []) m (subst (λ (l : List ℕ). Broken step refuses fault old new l 0 (bytes ++ [])) (sym e) whole))),
+      inr (inr (inl (refl, end, mid, rest, s, n, r, subst (λ (l : List ℕ). Progress step old mid l bytes rest 0 s 0 n 0 r) (sym e) p, may_be step refuses fault last mid new s rest m b'))),
     )
 
 -- the replies to the last lines were not written
@@ -105,7 +104,7 @@ piece_stopped step refuses fault old mid new a b c was now x y bytes rest piece 
       x ++ y,
       subst (λ (l : List ℕ). Consumes a c l) all (Consumes-then a b c bytes chunk g k),
       w,
-      inr (inr (Broken-then step refuses fault old mid new x y bytes rest q.0 0 s 0 n 0 r p q.3)),
+      inr (inr (inr (Broken-then step refuses fault old mid new x y bytes rest q.0 0 s 0 n 0 r p q.3))),
     )
 
 pub piece_done : {S : Type 0} (step : S → Command → Answer → S → Type 0) (a b c : S) (x sent held bytes rest piece chunk end : List ℕ) (s0 s1 n0 n1 r0 r1 : ℕ) → piece ≡ chunk → Progress step a b x bytes rest 0 s0 0 n0 0 r0 → Progress step b c (sent ++ held) (rest ++ piece) end s0 s1 n0 n1 r0 r1 → Progress step a c ((x ++ sent) ++ held) (bytes ++ chunk) end 0 s1 0 n1 0 r1

@@ -63,9 +63,9 @@ pub record Progress {S : Type 0} (step : S → Command → Answer → S → Type
   pub answers : lines_new ≡ lines_old + count_by has_reply outcomes
   pub refusals : refused_new ≡ refused_old + count_by is_refusal outcomes
 
--- the line that comes next, with its line end or at the end of all bytes
+-- the line that comes next, with its line end
 abbrev pub NextLine : List ℕ → List ℕ → Type 0
-NextLine left line = IsLine line × ((left ≡ line) ⊎ ((more : List ℕ) × (left ≡ ended line ++ more)))
+NextLine left line = IsLine line × (more : List ℕ) × (left ≡ ended line ++ more)
 
 -- more than a line may have comes before the next line end
 abbrev pub IsTooLong : List ℕ → Type 0
@@ -108,6 +108,13 @@ pub record Served {S : Type 0} (step : S → Command → Answer → S → Type 0
 abbrev pub ServeBroken : {S : Type 0} → (S → Command → Answer → S → Type 0) → (S → S → Type 0) → RunFault → S → S → List ℕ → Type 0
 ServeBroken step refuses runs.NoMemory old new line = (new ≡ old) ⊎ (refuses old new ⊎ ((outcome : Outcome) × Gives step old (read_of (body line)) outcome new))
 ServeBroken step refuses _ old new line = ⊥
+
+-- A fault came at the last line, which has no line end, with so many lines seen before.
+abbrev pub EndsLast : {S : Type 0} → (S → Command → Answer → S → Type 0) → (S → S → Type 0) → RunFault → S → S → ℕ → List ℕ → Type 0
+EndsLast step refuses runs.Read old new seen line = (new ≡ old) × (seen ≡ 4294967296)
+EndsLast step refuses runs.LongLine old new seen line = ⊥
+EndsLast step refuses runs.NoMemory old new seen line = ServeBroken step refuses runs.NoMemory old new line
+EndsLast step refuses runs.Write old new seen line = ServeBroken step refuses runs.NoMemory old new line
 
 -- A fault came at a front of the next bytes.
 abbrev pub BrokenWithin : {S : Type 0} → (S → Command → Answer → S → Type 0) → (S → S → Type 0) → RunFault → S → S → List ℕ → ℕ → List ℕ → List ℕ → Type 0
@@ -160,7 +167,13 @@ abbrev pub IsUnwritten : {S : Type 0} → (S → Command → Answer → S → Ty
 IsUnwritten step fault old new left out bytes more = (fault ≡ runs.Write) × (more ≡ []) × IsAtEnd left × (lines : List (List ℕ)) × (rest : List ℕ) × (outcomes : List Outcome)
     × Cut bytes lines rest × Runs step old (lines ++ last_line rest) outcomes new × (out ≡ written outcomes)
 
+-- The fault came at the last line, after all bytes, and each whole line of them was answered.
+abbrev pub IsLastBroken : {S : Type 0} → (S → Command → Answer → S → Type 0) → (S → S → Type 0) → RunFault → S → S → Option (List ℕ) → List ℕ → List ℕ → List ℕ → Type 0
+IsLastBroken {S} step refuses fault old new left out bytes more = (more ≡ []) × IsAtEnd left × (mid : S) × (rest : List ℕ) × (s : ℕ) × (n : ℕ) × (r : ℕ)
+    × Progress step old mid out bytes rest 0 s 0 n 0 r × EndsLast step refuses fault mid new s rest
+
 -- The run ended with a fault, at a front of the bytes that the reader gave.
 abbrev pub Stopped : {S : Type 0} → (S → Command → Answer → S → Type 0) → (S → S → Type 0) → RunFault → S → S → Option (List ℕ) → Option (List ℕ) → Option (List ℕ) → Option (List ℕ) → Type 0
 Stopped step refuses fault old new left_old left_new was now = (bytes : List ℕ) × (more : List ℕ) × (out : List ℕ) × Consumes left_old left_new (bytes ++ more) × Reaches fault was now out
-    × (IsHalted step fault old new out bytes more ⊎ (IsUnwritten step fault old new left_new out bytes more ⊎ Broken step refuses fault old new out 0 bytes))
+    × (IsHalted step fault old new out bytes more ⊎ (IsUnwritten step fault old new left_new out bytes more
+    ⊎ (IsLastBroken step refuses fault old new left_new out bytes more ⊎ Broken step refuses fault old new out 0 bytes)))

@@ -1,8 +1,8 @@
-use Rattle.std.proofs.Common.{◌≡◌, ◌<◌, length, [], arith, inl, refl, sym}
+use Rattle.std.proofs.Common.{◌≡◌, ◌<◌, length, [], arith, refl, sym}
 use Rattle.std.proofs.lemmas.List.{append-nil}
 use Rattle.std.proofs.lemmas.Bool.Decides.{nat_tests}
 use Rattle.std.proofs.lemmas.Result.{err_from_is_err_and}
-use Rattle.line_engine.proofs.Runs.{is_full, finished, nothing_left, line_broken, same_held}
+use Rattle.line_engine.proofs.Runs.{finished, nothing_left, last_broken}
 use Rattle.line_engine.proofs.engine.finish.Goals as goal
 
 pub returns-then-is_empty-clause-ok : goal.returns-then-is_empty-clause-ok
@@ -13,12 +13,12 @@ returns-then-is_empty-clause-ok g c =
 pub returns-then-is_full-clause-err : goal.returns-then-is_full-clause-err
 returns-then-is_full-clause-err g c =
     let e : c.args.outbox.now.tally.seen ≡ 4294967296 = grind (arith, nat_tests) in
-    ([], sym (append-nil _), is_full g.F.Front.step g.F.Front.refuses _ _ _ e)
+    (refl, e)
 
 pub returns-in_err-serve_whole-clause-err : goal.returns-in_err-serve_whole-clause-err
 returns-in_err-serve_whole-clause-err g c =
     let p = err_from_is_err_and c.from_residual.result c.from_residual.ensures.1 in
-    rw (p.1, p.2) ([], same_held _ _ c.in_err-serve_whole.ensures.held, line_broken g.F.Front.step g.F.Front.refuses _ _ _ c.args.partial.now c.args.partial.now _ (c.requires.line, inl refl) c.in_err-serve_whole.ensures.err)
+    rw (p.1, p.2) (last_broken g.F.Front.step g.F.Front.refuses _ _ _ c.args.partial.now _ c.in_err-serve_whole.ensures.err)
 
 pub returns-clause-ok : goal.returns-clause-ok
 returns-clause-ok g c =

@@ -1,4 +1,5 @@
-use Rattle.std.proofs.Common.{◌≡◌, [], ◌++◌, take, arith, refl, ap, List, ℕ}
+use Rattle.std.proofs.Common.{◌≡◌, ◌∙◌, [], ◌++◌, take, arith, refl, ap, List, ℕ}
+use Rattle.std.proofs.lemmas.List.{append-nil}
 use Rattle.std.proofs.lemmas.Result.{err_from_is_err_and}
 use Rattle.line_engine.proofs.Bytes.{Appends-none, Consumes-none, Consumes-then, Appends-then}
 use Rattle.line_engine.proofs.Sending.{AppendsFront-then, Reaches-then, nil_first}
@@ -28,11 +29,10 @@ pub returns-in-Err-clause-err : goal.returns-in-Err-clause-err
 returns-in-Err-clause-err g c =
     let i = c.reads.invariant in
     let x = i.1 ++ c.reads.outbox.held.items in
-    let f = c.in-Err.ensures.err in
-    let held : c.finish.new.outbox.held.items ≡ f.0 = nil_first _ f.0 _ c.in_ok-flush.ensures.none f.1 in
+    let held : c.finish.new.outbox.held.items ≡ [] = c.in-Err.ensures.held ∙ c.in_ok-flush.ensures.none in
     let sent = Appends-then _ _ _ i.1 _ i.3 c.in_ok-flush.ensures.ok in
-    last_stopped g.F.Front.step g.F.Front.refuses c.in-Err.fault c.close.result _ _ _ _ _ _ _ _ x f.0 (x ++ c.finish.new.outbox.held.items) i.0 c.reads.partial.items _ _ _ _ _ i.2 c.in-Ok.ensures.bytes.0 (rw c.if-count-eq0.true refl) c.close.ensures.fault
-    (Reaches-then c.close.result _ _ _ x c.finish.new.outbox.held.items sent c.close.ensures.bytes) (ap (λ (l : List ℕ). x ++ l) held) (rw (← c.flush.ensures.tally) at i.4) c.as_slice.ensures.value f.2
+    last_stopped g.F.Front.step g.F.Front.refuses c.in-Err.fault c.close.result _ _ _ _ _ _ _ _ x (x ++ c.finish.new.outbox.held.items) i.0 c.reads.partial.items _ _ _ _ _ i.2 c.in-Ok.ensures.bytes.0 (rw c.if-count-eq0.true refl) (c.in-Ok.ensures.bytes.1 c.if-count-eq0.true (omega arith)) c.close.ensures.fault
+    (Reaches-then c.close.result _ _ _ x c.finish.new.outbox.held.items sent c.close.ensures.bytes) (ap (λ (l : List ℕ). x ++ l) held ∙ append-nil x) (rw (← c.flush.ensures.tally) at i.4) c.as_slice.ensures.value c.in-Err.ensures.err
 
 pub returns-in_err-flush-2-clause-err : goal.returns-in_err-flush-2-clause-err
 returns-in_err-flush-2-clause-err g c =
