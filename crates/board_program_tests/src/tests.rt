@@ -5,19 +5,23 @@ mod examples;
 mod rows;
 
 use board_core::Board;
-use board_program::{check_bytes, check_file, joined, read_file, run_files, scripted};
-use board_text::{BoardFront, Counts, run_lines};
+use board_program::{
+    Stop, check_bytes, check_file, joined, read_file, run_files, scripted, stopped,
+};
+use board_text::{BoardFront, Counts, RunFault, run_lines};
 use callback_store::{Registry, Transit};
 use devices::{make_drip, make_line_by_line, make_narrow};
 use dimension_core::Setup;
 use examples::EXAMPLES;
 use rows::{CASES, LISTED};
+use solomon_reader::Kind;
 use std::alloc::AllocError;
 use std::io::{Read, Write};
 use std::process::Abort;
-use std::str;
+use std::rt::Files;
 use std::sync::Arc;
 use std::test::Fail;
+use std::{fs, str};
 
 /// An instance of four customers and two vehicles.
 const A: &str =
@@ -204,13 +208,14 @@ fn a_reader_that_fails(rt: HostRuntime) -> Result<(), Fail> {
     Ok(())
 }
 
-/// A script whose replies go to a writer that fails after so many writes, or so many flushes.
+/// A script of eight replies to a writer that fails after so many writes, or so many flushes: all replies were written only
+/// where it failed at none but the last flush.
 fn writes_fail<H: AllocGlobal + Abort>(
     rt: &H,
     script: &str,
     writes: usize,
     flushes: usize,
-    replies: &str,
+    wanted: Wanted<'_>,
 ) {
     let mut reader = make_line_by_line(script.as_bytes(), usize::MAX);
     let mut output = make_narrow(Vec::new(rt.alloc()), usize::MAX, writes, flushes);
@@ -223,9 +228,9 @@ fn writes_fail<H: AllocGlobal + Abort>(
         &mut output,
         &mut faults,
     );
-    let fits = writes == 9 || output.taken.len() < replies.len();
-    compare_front(rt, output.taken.as_slice(), replies, fits);
-    let wanted = ("", "dispatch: run fault write\n", 3);
+    let is_whole = output.taken.len() == wanted.0.len();
+    let fits = is_whole == (writes == 8 && flushes >= 8);
+    compare_front(rt, output.taken.as_slice(), wanted.0, fits);
     compare_end(rt, faults.as_slice(), status, wanted);
 }
 
@@ -233,19 +238,14 @@ fn writes_fail<H: AllocGlobal + Abort>(
 #[test]
 fn a_writer_that_fails(rt: HostRuntime) -> Result<(), Fail> {
     let (script, replies) = texts(&rt, LISTED)?;
-    for (writes, flushes) in [
-        (0, 9),
-        (1, 9),
-        (2, 9),
-        (5, 9),
-        (7, 9),
-        (9, 0),
-        (9, 1),
-        (9, 4),
-        (9, 8),
-    ] {
-        writes_fail(&rt, script.as_str(), writes, flushes, replies.as_str());
+    let wanted = (replies.as_str(), "dispatch: run fault write\n", 3);
+    for writes in 0..8 {
+        writes_fail(&rt, script.as_str(), writes, 10, wanted);
     }
+    for flushes in 0..10 {
+        writes_fail(&rt, script.as_str(), 8, flushes, wanted);
+    }
+    writes_fail(&rt, script.as_str(), 8, 10, (replies.as_str(), "", 0));
     Ok(())
 }
 
@@ -339,7 +339,9 @@ fn checks_an_instance(rt: HostRuntime) -> Result<(), Fail> {
 #[test]
 fn a_failing_reader(rt: HostRuntime) -> Result<(), Fail> {
     let fault = "dispatch: run fault read\n";
-    joined_gives(&rt, &mut make_drip(A.as_bytes(), 7, 9), ("", fault, 3));
+    for reads in 0..=(A.len() + 6) / 7 {
+        joined_gives(&rt, &mut make_drip(A.as_bytes(), 7, reads), ("", fault, 3));
+    }
     let input = format!(in rt.alloc(); "{A}%%\n1 list\n")?;
     let reads = (input.len() + 6) / 7;
     joined_gives(
@@ -417,13 +419,51 @@ fn a_full_journal(rt: HostRuntime) -> Result<(), Fail> {
     Ok(())
 }
 
+/// The second writer takes no byte, and the third fails once all is written.
 #[test]
 fn a_failing_writer(rt: HostRuntime) {
-    let mut output = make_narrow(Vec::new(rt.alloc()), 0, 0, 0);
-    let mut faults = Vec::new(rt.alloc());
-    let status = check_bytes(rt.alloc(), A.as_bytes(), &mut output, &mut faults);
-    let wanted = ("", "dispatch: run fault write\n", 3);
-    compare_end(&rt, faults.as_slice(), status, wanted);
+    for (most, writes, flushes, written) in [
+        (usize::MAX, 0, 9, ""),
+        (0, 9, 9, ""),
+        (usize::MAX, 9, 0, REPORT),
+    ] {
+        let mut output = make_narrow(Vec::new(rt.alloc()), most, writes, flushes);
+        let mut faults = Vec::new(rt.alloc());
+        let status = check_bytes(rt.alloc(), A.as_bytes(), &mut output, &mut faults);
+        let wanted = (written, "dispatch: run fault write\n", 3);
+        compare(
+            &rt,
+            output.taken.as_slice(),
+            faults.as_slice(),
+            status,
+            wanted,
+        );
+    }
+}
+
+#[test]
+fn lines_of_a_stop(rt: HostRuntime) {
+    for (stop, wanted) in [
+        (Stop::Open, "dispatch: open fault\n"),
+        (
+            Stop::Instance(Kind::Fleet, 4),
+            "dispatch: instance fault fleet line 4\n",
+        ),
+        (Stop::Run(RunFault::Read), "dispatch: run fault read\n"),
+        (Stop::Run(RunFault::Write), "dispatch: run fault write\n"),
+        (
+            Stop::Run(RunFault::LongLine),
+            "dispatch: run fault long-line\n",
+        ),
+        (
+            Stop::Run(RunFault::NoMemory),
+            "dispatch: run fault no-memory\n",
+        ),
+    ] {
+        let mut faults = Vec::new(rt.alloc());
+        let status = stopped(&mut faults, stop);
+        compare_end(&rt, faults.as_slice(), status, ("", wanted, 3));
+    }
 }
 
 /// How many bytes are read of a file of so many, or none where it is too long.
@@ -443,6 +483,14 @@ fn files_of_an_instance(rt: HostRuntime) -> Result<(), Fail> {
     Ok(())
 }
 
+/// A check of an instance's file gives what is wanted.
+fn check_file_gives<H: AllocGlobal + Abort + Files>(rt: &H, path: &str, wanted: Wanted<'_>) {
+    let mut output = Vec::new(rt.alloc());
+    let mut faults = Vec::new(rt.alloc());
+    let status = check_file(rt, rt.alloc(), path, &mut output, &mut faults);
+    compare(rt, output.as_slice(), faults.as_slice(), status, wanted);
+}
+
 #[test]
 fn paths_that_cannot_be_read(rt: HostRuntime) {
     // The second is a folder: it opens, and the first read fails.
@@ -450,16 +498,7 @@ fn paths_that_cannot_be_read(rt: HostRuntime) {
         ("no such file", "dispatch: cannot read no such file\n"),
         ("/", "dispatch: cannot read /\n"),
     ] {
-        let mut output = Vec::new(rt.alloc());
-        let mut faults = Vec::new(rt.alloc());
-        let status = check_file(&rt, rt.alloc(), path, &mut output, &mut faults);
-        compare(
-            &rt,
-            output.as_slice(),
-            faults.as_slice(),
-            status,
-            ("", wanted, 3),
-        );
+        check_file_gives(&rt, path, ("", wanted, 3));
     }
 }
 
@@ -473,6 +512,19 @@ fn a_long_instance(rt: HostRuntime) -> Result<(), Fail> {
     Ok(())
 }
 
+/// The run of an instance's file and a script's gives what is wanted.
+fn run_gives<H: AllocGlobal + Abort + Files>(
+    rt: &H,
+    instance: &str,
+    script: &str,
+    wanted: Wanted<'_>,
+) {
+    let mut output = Vec::new(rt.alloc());
+    let mut faults = Vec::new(rt.alloc());
+    let status = run_files(rt, rt.alloc(), instance, script, &mut output, &mut faults);
+    compare(rt, output.as_slice(), faults.as_slice(), status, wanted);
+}
+
 /// The instance is judged before the script is opened.
 #[test]
 fn files_of_a_run(rt: HostRuntime) {
@@ -481,22 +533,29 @@ fn files_of_a_run(rt: HostRuntime) {
         ("/", "dispatch: cannot read /\n"),
         ("/dev/null", "dispatch: instance fault name line 1\n"),
     ] {
-        let mut output = Vec::new(rt.alloc());
-        let mut faults = Vec::new(rt.alloc());
-        let status = run_files(
-            &rt,
-            rt.alloc(),
-            instance,
-            "no script",
-            &mut output,
-            &mut faults,
-        );
-        compare(
-            &rt,
-            output.as_slice(),
-            faults.as_slice(),
-            status,
-            ("", wanted, 3),
-        );
+        run_gives(&rt, instance, "no script", ("", wanted, 3));
     }
+}
+
+const INSTANCE_FILE: &str = "board_program_tests_instance";
+
+const SCRIPT_FILE: &str = "board_program_tests_script";
+
+/// The third script is a folder: it opens, and the first read fails.
+#[test]
+fn files_that_are_read(rt: HostRuntime) -> Result<(), Fail> {
+    let (script, replies) = texts(&rt, LISTED)?;
+    fs::write(&rt, INSTANCE_FILE, A)?;
+    fs::write(&rt, SCRIPT_FILE, script.as_str())?;
+    check_file_gives(&rt, INSTANCE_FILE, (REPORT, "", 0));
+    for (path, wanted) in [
+        (SCRIPT_FILE, (replies.as_str(), "", 0)),
+        ("no script", ("", "dispatch: cannot read no script\n", 3)),
+        ("/", ("", "dispatch: run fault read\n", 3)),
+    ] {
+        run_gives(&rt, INSTANCE_FILE, path, wanted);
+    }
+    fs::remove_file(&rt, SCRIPT_FILE)?;
+    fs::remove_file(&rt, INSTANCE_FILE)?;
+    Ok(())
 }

@@ -157,9 +157,10 @@ fn help_has_the_lines(rt: HostRuntime) {
     }
 }
 
-/// Takes so many writes, and so many flushes, and fails at the next.
+/// Keeps what it takes, and fails at a write or a flush once there were so many of it.
 #[derive(Drop)]
 struct Narrow {
+    taken: Vec<u8>,
     writes: usize,
     flushes: usize,
 }
@@ -170,6 +171,7 @@ impl Write for Narrow {
             return Err(io::Error::from(ErrorKind::Other));
         }
         self.writes -= 1;
+        self.taken.extend_from_slice(buf)?;
         Ok(buf.len())
     }
 
@@ -182,40 +184,65 @@ impl Write for Narrow {
     }
 }
 
-/// Compares what was said of words, and the status.
-fn compare_said(rt: &impl Abort, faults: &[u8], status: u8, begins: &str, wanted: u8) {
-    assert_eq!(rt; status, wanted);
-    assert_eq!(rt; faults.is_empty(), wanted == 0);
-    assert!(rt; faults.starts_with(begins.as_bytes()));
+/// What words give: what is written, what the faults begin with, and the status.
+type Told<'a> = (&'a str, &'a str, u8);
+
+/// Compares what was written and said of words, and the status.
+fn compare_said(rt: &impl Abort, written: &[u8], faults: &[u8], status: u8, wanted: Told<'_>) {
+    assert_eq!(rt; written, wanted.0.as_bytes());
+    assert_eq!(rt; status, wanted.2);
+    assert_eq!(rt; faults.is_empty(), wanted.2 == 0);
+    assert!(rt; faults.starts_with(wanted.1.as_bytes()));
 }
 
-/// What is said of words on the faults' stream begins so, where their text goes to a writer that may fail.
+/// What is told of words, where their text goes to a writer that takes so many writes and flushes.
 fn tells<H: AllocGlobal + Abort>(
     rt: &H,
     words: &[&str],
-    mut output: Narrow,
-    begins: &str,
-    wanted: u8,
+    writes: usize,
+    flushes: usize,
+    wanted: Told<'_>,
 ) {
+    let mut output = Narrow {
+        taken: Vec::new(rt.alloc()),
+        writes,
+        flushes,
+    };
     let mut faults = Vec::new(rt.alloc());
     let fault = options(rt.alloc(), words).expect_err(rt, "no options");
     let status = told(&fault, &mut output, &mut faults);
-    compare_said(rt, faults.as_slice(), status, begins, wanted);
+    compare_said(
+        rt,
+        output.taken.as_slice(),
+        faults.as_slice(),
+        status,
+        wanted,
+    );
 }
 
 /// Help that cannot be written is a fault.
 #[test]
 fn tells_of_words(rt: HostRuntime) {
+    let version = "dispatch 0.1.0\n";
     let unwritten = "dispatch: run fault write\n";
     let unknown = "error: unrecognized subcommand 'chek'\n";
-    for (words, writes, flushes, begins, wanted) in [
-        (["dispatch", "--version"].as_slice(), 9, 9, "", 0),
-        (["dispatch", "--version"].as_slice(), 0, 9, unwritten, 3),
-        (["dispatch", "--version"].as_slice(), 9, 0, unwritten, 3),
-        (["dispatch", "--help"].as_slice(), 0, 9, unwritten, 3),
-        (["dispatch", "chek"].as_slice(), 0, 0, unknown, 2),
+    for (words, writes, flushes, wanted) in [
+        (["dispatch", "--version"].as_slice(), 9, 9, (version, "", 0)),
+        (
+            ["dispatch", "--version"].as_slice(),
+            0,
+            9,
+            ("", unwritten, 3),
+        ),
+        (
+            ["dispatch", "--version"].as_slice(),
+            9,
+            0,
+            (version, unwritten, 3),
+        ),
+        (["dispatch", "--help"].as_slice(), 0, 9, ("", unwritten, 3)),
+        (["dispatch", "chek"].as_slice(), 0, 0, ("", unknown, 2)),
     ] {
-        let output = Narrow { writes, flushes };
-        tells(&rt, words, output, begins, wanted);
+        tells(&rt, words, writes, flushes, wanted);
     }
 }

@@ -22,9 +22,8 @@ use dimension_core::Setup;
 use move_core::Move;
 use pin_core::View;
 
-/// The better of the best so far and the crosses that keep so many customers of one vehicle, and `first` or more of the other
-/// but fewer than `end`. `here` is
-/// the ways from the last one kept, `next` those to the one after it.
+/// The better of the best so far and the crosses that keep so many customers of one vehicle, and `first` or more of the other but fewer
+/// than `end`. `here` is the ways from the last one kept, `next` those to the one after it.
 fn cross_row(
     view: &View,
     setup: &Setup,

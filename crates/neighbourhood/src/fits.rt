@@ -282,7 +282,8 @@ fn is_nothing(
     back.is_empty()
 }
 
-/// The cumuls with which a vehicle returns from a route of five parts, the second of which may be driven back, by those with which it leaves.
+/// The cumuls with which a vehicle returns from a route of five parts, the second of which may be driven back, by those with which it
+/// leaves.
 fn homecoming(
     dimension: &Dimension,
     registry: &Registry,

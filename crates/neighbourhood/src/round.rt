@@ -4,7 +4,8 @@ ghost use Rattle.rand_core.specs.Stream.{next_u32};
 
 use rand_core::Rng;
 
-/// The two vehicles of a round, of `k`: the remainders by `k` of the next two words, and 1 each.
+/// The two vehicles of a round, of `k`, which is at least 1: the remainders by `k` of the next two words, and 1 each. So both are numbers
+/// from 1 to `k`.
 pub fn draw<R: Rng>(rng: &mut R, k: u32) -> (u32, u32)
     requires { 1 ≤ k }
     ensures first { result.0 ≡ (next_u32 (R.stream rng.old)).0 % k + 1 }

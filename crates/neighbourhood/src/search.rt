@@ -212,7 +212,9 @@ fn best_between(
 
 /// The best move near two vehicles, or inside one, and what it saves; none where no move counts: of the shifts of at most three
 /// customers, the swaps, and the reverses inside one vehicle or the crosses of two, that fit, that pins and freezes allow, that are not to
-/// be skipped and that lower the cost, the first of those that lower it most.
+/// be skipped and that lower the cost, the first of those that lower it most. The first is meant by the kinds in the order Shift, Swap,
+/// Reverse, Cross, and within a kind by the fields of the move in their order. Vehicles count from 1. What the move saves is in the unit
+/// of the cost callback. `AllocError` means only that memory was refused.
 pub fn best_move(
     alloc: Global,
     view: &View,

@@ -47,7 +47,8 @@ impl Model for Ways {
     ghost view = { λ a. record { out = a.out.items; into = a.into.items } };
 }
 
-/// The ways along the stops of a vehicle: from each to the next, the dearest of these, and those over the first ones, as they are driven and driven back.
+/// The ways along the stops of a vehicle: from each to the next, the dearest of these, and those over the first ones, as they are driven
+/// and driven back.
 #[derive(Drop)]
 pub(crate) struct Along {
     pub(crate) edges: Vec<u32>,

@@ -133,7 +133,8 @@ fn all_but_one(stops: &[u32], begin: usize) -> &[u32]
     &stops[begin..begin + stops.len() - 1]
 }
 
-/// The same but for a row and a column: rows from one on and columns from one on are filled in, 0 or 1, one fewer than there are.
+/// What `table_of` makes, without one row and one column: rows from `first` on and columns from `column` on are filled in, each of which
+/// is 0 or 1, one fewer than there are.
 #[inline(always)]
 pub(crate) fn ways_from(
     alloc: Global,

@@ -249,11 +249,59 @@ const LARGE_NUMBERS: &str = "\
 1 insert 0 1 1 0 => denied bad-place\n\
 1 insert 1 0 1 0 => denied bad-vehicle";
 
+/// A static set is changed as long as no user has too many of its roles.
+const STATIC_CHANGES: &str = "\
+1 add-role a => done\n\
+1 add-role b => done\n\
+1 add-role c => done\n\
+1 add-user u => done\n\
+1 assign u a => done\n\
+1 assign u b => done\n\
+1 ssd-create s 2 a c => done\n\
+1 ssd-add s b => refused ssd s\n\
+1 ssd-number s 3 => refused number\n\
+1 deassign u b => done\n\
+1 ssd-add s b => done\n\
+1 ssd-drop s c => done\n\
+1 ssd-add s c => done\n\
+1 ssd-number s 3 => done\n\
+1 assign u b => done\n\
+1 ssd-number s 2 => refused ssd s\n\
+1 ssd-delete s => done\n\
+1 ssd-delete s => refused no-set";
+
+/// A dynamic set is changed as long as no session has too many of its roles.
+const DYNAMIC_CHANGES: &str = "\
+1 dsd-create d 2 a c => done\n\
+1 open u a b => session 2\n\
+1 dsd-add d b => refused dsd d\n\
+1 deactivate 2 b => done\n\
+2 deactivate 2 b => refused not-there\n\
+1 dsd-add d b => done\n\
+2 activate 2 b => refused dsd d\n\
+1 dsd-number d 3 => done\n\
+2 activate 2 b => done\n\
+1 dsd-drop d c => refused number\n\
+1 dsd-number d 2 => refused dsd d\n\
+1 close 2 => done\n\
+2 list => refused no-session\n\
+1 dsd-number d 2 => done\n\
+1 dsd-drop d c => done\n\
+1 dsd-drop d c => refused not-there\n\
+1 dsd-delete d => done\n\
+1 dsd-number d 2 => refused no-set";
+
+const REVOCATION: &str = "\
+1 revoke root move vehicle 1 1 => done\n\
+1 revoke root move vehicle 1 1 => done\n\
+1 insert 1 1 1 0 => denied access vehicle 1\n\
+1 insert 1 2 1 0 => committed 1";
+
 /// The parts of the script that is read and written in many ways.
 pub(crate) const LISTED: [&str; 4] = [GRANTS, VIEWS, INSERTS, LISTING];
 
 /// All cases: what a script is made of, and the status that its run ends with.
-pub(crate) const CASES: [([&str; 4], u8); 24] = [
+pub(crate) const CASES: [([&str; 4], u8); 25] = [
     (["", "", "", ""], 0),
     ([GRANTS, ONE_INSERT, "", ""], 0),
     ([NO_RIGHT, "", "", ""], 1),
@@ -278,4 +326,5 @@ pub(crate) const CASES: [([&str; 4], u8); 24] = [
     ([MIGRATION, "", "", ""], 1),
     ([GRANTS, ON_BOTH, PIN, OVERRIDE], 1),
     ([GRANTS, LARGE_NUMBERS, "", ""], 1),
+    ([GRANTS, STATIC_CHANGES, DYNAMIC_CHANGES, REVOCATION], 1),
 ];
