@@ -4,12 +4,12 @@ ghost use Rattle.neighbourhood.specs.View.{IsViewOf};
 
 use crate::plain::plain_best;
 use crate::views::{below, is_view, some_dimensions, some_plan, some_view};
-use callback_store::{Registry, Transit, Unary};
+use callback_store::{Meter, Registry, Transit, Unary};
 use dimension_core::Setup;
 use move_core::Move;
 use neighbourhood::{best_move, draw};
 use pin_core::View;
-use plan_core::{Plan, Route, plans_are_tested};
+use plan_core::{Plan, Route, plans_are_tested, route_cost};
 use rand_core::Rng;
 use rand_pcg::Lcg64Xsh32;
 use std::alloc::{AllocError, Global};
@@ -60,6 +60,16 @@ fn reverse(first: u32, last: u32) -> Move {
     }
 }
 
+/// What the route 2, 1, 3 costs, and what it costs after its best moves.
+fn costs_of_three(setup: &Setup) -> (u64, u64)
+    requires { (setting setup.now).customers ≡ 3 }
+{
+    let mut meter = Meter::new();
+    let before = route_cost(setup, &[2, 1, 3], &mut meter);
+    let after = route_cost(setup, &[1, 2, 3], &mut meter);
+    (before, after)
+}
+
 /// Customers 1 to 3 stand 30, 60 and 90 from the depot, on one line: of the route 2, 1, 3 each move saves 60 or nothing.
 #[test]
 fn the_best_moves_of_three_customers(rt: HostRuntime) -> Result<(), Fail> {
@@ -95,6 +105,7 @@ fn the_best_moves_of_three_customers(rt: HostRuntime) -> Result<(), Fail> {
         );
     }
     assert_eq!(&rt; best_move(rt.alloc(), &view, &setup, 1, 1, &tied)?, None);
+    assert_eq!(&rt; costs_of_three(&setup), (240, 180));
     let sorted = view_of_three(rt.alloc(), &[1, 2, 3])?;
     assert_eq!(&rt; best_move(rt.alloc(), &sorted, &setup, 1, 1, &[])?, None);
     Ok(())

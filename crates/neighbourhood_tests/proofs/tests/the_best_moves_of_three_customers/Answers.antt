@@ -59,3 +59,8 @@ best_move-requires-3-clause-view g c =
     let q = rw (c.expect-setup.ensures) at c.new-4.ensures.ok in
     rw (c.in_ok-sorted.ensures) (view_of (setting c.expect-setup.result) (1 ∷ 2 ∷ 3 ∷ []) c.plans_are_tested.ensures (ap (λ (s : Setting). s.customers) q) (ap (λ (s : Setting). s.vehicles) q)
     (ap (λ (s : Setting). s.dimensions) q ∙ c.new-3.ensures.items) refl)
+
+pub costs_of_three-requires : goal.costs_of_three-requires
+costs_of_three-requires g c =
+    let q = rw (c.expect-setup.ensures) at c.new-4.ensures.ok in
+    ap (λ (s : Setting). s.customers) q
