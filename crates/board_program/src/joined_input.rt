@@ -38,12 +38,12 @@ fn run_joined<R, I: Read, W: Write>(
 
 /// The joined form of the program: its input is an instance in Solomon's format, a line that is exactly `%%` and a script
 /// of lines for desk 1. Without the line `%%` the script is empty. One carriage return before the line's line feed is
-/// dropped. The replies go to `writer`, which is flushed before each read.
+/// dropped. The replies go to `writer`, which is flushed before each read and at the end.
 ///
 /// The status is 0 where each line was done, 1 where a line counted as refused, and 3 where the run ended early. `faults`
 /// then has one line, which begins with `dispatch: `: `instance fault KIND line N`; `open fault`, where memory ran out
-/// before the script, or the instance's numbers are out of a dimension's; or `run fault KIND`, where `read` also stands
-/// for a read that fails before the line `%%`, and for more than 16,777,216 bytes before it.
+/// before the script; or `run fault KIND`, where `read` also stands for a read that fails before the line `%%`, and for
+/// more than 16,777,216 bytes before it.
 pub fn joined<R, I: Read, W: Write, F: Write>(
     rt: &R,
     alloc: Global,

@@ -18,7 +18,7 @@ pub enum Stop {
     /// The text of the instance is no instance: the check that fails, and its line, counted from 1.
     #[error("instance fault {0} line {1}")]
     Instance(Kind, usize),
-    /// The board could not be opened: memory ran out, or its numbers are out of their ranges.
+    /// The board could not be opened: memory ran out. An instance that was read has no numbers that a dimension refuses.
     #[error("open fault")]
     Open,
     /// The reader or the writer failed, a line of the script was too long, or memory ran out at one.

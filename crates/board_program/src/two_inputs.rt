@@ -31,11 +31,11 @@ fn answered<R, I: Read, W: Write, F: Write>(
 }
 
 /// The program over two inputs: the bytes of an instance in Solomon's format, and a script of lines for desk 1. The replies
-/// go to `writer`, which is flushed before each read.
+/// go to `writer`, which is flushed before each read and at the end.
 ///
 /// The status is 0 where each line was done, 1 where a line counted as refused, and 3 where the run ended early. `faults`
 /// then has one line, which begins with `dispatch: `: `instance fault KIND line N`; `open fault`, where memory ran out
-/// before the script, or the instance's numbers are out of a dimension's; or `run fault KIND`.
+/// before the script; or `run fault KIND`.
 pub fn scripted<R, I: Read, W: Write, F: Write>(
     rt: &R,
     alloc: Global,
