@@ -58,7 +58,7 @@ status_of outcomes = if count_by is_refusal outcomes == 0 then 0 else 1
 abbrev pub IsDone : Plain → List ℕ → Option (List ℕ) → Option (List ℕ) → ℕ → Type 0
 IsDone i script was now status = (outcomes : List Outcome) × Replies i script outcomes × Appends was now (written outcomes) × (status ≡ status_of outcomes)
 
--- The line that comes next is too long, where that is said.
+-- What a fault says of what comes next: at LongLine, a line that is too long; at any other, nothing.
 abbrev pub IsCause : RunFault → List ℕ → Type 0
 IsCause runs.LongLine more = IsTooLong more
 IsCause _ more = Unit {0}
