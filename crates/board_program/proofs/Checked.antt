@@ -1,19 +1,17 @@
--- What a check leaves where it stops early.
-use Rattle.std.proofs.Common.{◌≡◌, ◌∙◌, ℕ, List, [], Option, Some, None, Result, Ok, Err, refl, sym, subst, append-nil, inr, true≢false}
-use Rattle.std.specs.Prelude.{IsErr}
+-- What a check comes to.
+use Rattle.std.proofs.Common.{◌≡◌, ◌∙◌, ℕ, List, [], Option, Some, None, Result, Ok, refl, sym, subst, append-nil}
 use Rattle.std.specs.Io.KnownBytes.{Appends, Keeps}
 use Rattle.solomon_reader.specs.Checks.{Fault}
 use Rattle.solomon_reader.specs.Instances.{Plain}
-use Rattle.board_program.specs.Report.{IsChecked, report_text, run_status}
+use Rattle.line_engine.specs.Running.{AppendsFront}
+use Rattle.line_engine.specs.declared.run_fault.RunFault.TheVariants as runs
+use Rattle.board_program.specs.Report.{IsCheckShort, report_text}
 use Rattle.board_program.specs.declared.stop.Stop.{Stop}
+use Rattle.board_program.specs.declared.stop.Stop.TheVariants as stops
 
 keeps : (was : Option (List ℕ)) → Keeps was was
 keeps None = tt
 keeps (Some xs) = refl
-
-adds_none : (was : Option (List ℕ)) → Appends was was []
-adds_none None = tt
-adds_none (Some xs) = sym (append-nil xs)
 
 adds_then_keeps : (was mid now : Option (List ℕ)) (bytes : List ℕ) → Appends was mid bytes → Keeps mid now → Appends was now bytes
 adds_then_keeps None mid now bytes h k = tt
@@ -21,15 +19,15 @@ adds_then_keeps (Some xs) None now bytes h k = absurd h
 adds_then_keeps (Some xs) (Some ys) None bytes h k = absurd k
 adds_then_keeps (Some xs) (Some ys) (Some zs) bytes h k = k ∙ h
 
--- before anything is written
-untouched : (r : Result Plain Fault) (was : Option (List ℕ)) → IsChecked r 3 was was
-untouched (Err fault) was = (refl, keeps was)
-untouched (Ok i) was = inr (refl, ([], report_text i, refl, adds_none was))
+-- memory ran out
+pub unreported : (stop : Stop) (r : Result Plain Fault) (was : Option (List ℕ)) → stop ≡ stops.Open → IsCheckShort r was was stop
+unreported stop r was s = subst (λ (x : Stop). IsCheckShort r was was x) (sym s) (keeps was)
 
--- after the report, where the flush failed
-pub unflushed : (r : Result Plain Fault) (i : Plain) (bytes : List ℕ) (was mid now : Option (List ℕ)) → r ≡ Ok i → bytes ≡ report_text i → Appends was mid bytes → Keeps mid now → IsChecked r 3 was now
-unflushed r i bytes was mid now is same h k = subst (λ (x : Result Plain Fault). IsChecked x 3 was now) (sym is) (inr (refl, (bytes, [], sym same ∙ sym (append-nil bytes), adds_then_keeps was mid now bytes h k)))
+-- the report was written in part
+pub half_written : (stop : Stop) (r : Result Plain Fault) (i : Plain) (bytes : List ℕ) (was now : Option (List ℕ)) → stop ≡ stops.Run runs.Write → r ≡ Ok i → bytes ≡ report_text i → AppendsFront was now bytes → IsCheckShort r was now stop
+half_written stop r i bytes was now s is same h =
+    subst (λ (x : Stop). IsCheckShort r was now x) (sym s) (i, is, subst (λ (x : List ℕ). AppendsFront was now x) same h)
 
-pub untouched_by : (r : Result Plain Fault) (result : Result (Unit {0}) Stop) (was : Option (List ℕ)) → IsErr result → IsChecked r (run_status result) was was
-untouched_by r (Ok done) was e = absurd (true≢false (sym e))
-untouched_by r (Err stop) was e = untouched r was
+-- it was written, and the flush failed
+pub unflushed : (r : Result Plain Fault) (i : Plain) (bytes : List ℕ) (was mid now : Option (List ℕ)) → r ≡ Ok i → bytes ≡ report_text i → Appends was mid bytes → Keeps mid now → IsCheckShort r was now (stops.Run runs.Write)
+unflushed r i bytes was mid now is same h k = (i, is, (bytes, [], sym same ∙ sym (append-nil bytes), adds_then_keeps was mid now bytes h k))

@@ -1,12 +1,13 @@
 -- From the parts of the input and what came of its board to all bytes.
 use Rattle.std.proofs.Common.{◌≡◌, ◌∙◌, ℕ, ◌≤◌, Bool, true, false, eqb, List, [], ◌++◌, length, Option, Some, None, Result, Ok, Err, refl, sym, ap, subst, append_assoc, append-nil, inl, inr}
-use Rattle.std.specs.Prelude.{◌⊎◌, ◌==◌, IfOk, IfErr, IfSome, count_by, if◌then◌else◌}
+use Rattle.std.specs.Prelude.{◌⊎◌, ◌==◌, IfOk, IfErr, IfSome, MatchResult, count_by, if◌then◌else◌}
 use Rattle.std.specs.Io.KnownBytes.{Keeps, Consumes, IsAtEnd}
 use Rattle.std.specs.Fmt.{option_append}
 use Rattle.solomon_reader.specs.Checks.{Fault, fault}
 use Rattle.solomon_reader.specs.Instances.{Plain}
 use Rattle.solomon_reader.specs.Reading.{read_of}
 use Rattle.line_engine.specs.Answers.{is_refusal}
+use Rattle.line_engine.specs.Running.{AppendsFront}
 use Rattle.board_text.specs.BoardRuns.{AreOutcomes, EndsAt}
 use Rattle.board_text.specs.BoardSteps.{DeskState}
 use Rattle.line_engine.specs.declared.run_fault.Counts.{Counts}
@@ -16,8 +17,9 @@ use Rattle.solomon_reader.specs.Reading.{Fails}
 use Rattle.solomon_reader.specs.declared.fault.ReadFault.{ReadFault}
 use Rattle.solomon_reader.specs.declared.fault.ReadFault.TheVariants as reads
 use Rattle.board_program.specs.Head.{Halves, halves, AreRead}
-use Rattle.board_program.specs.Stops.{IsStopOf, IsUnread, end_status}
-use Rattle.board_program.specs.Joined.{IsRun, IsCutOff, IsUnfinished, IsDone, IsBrokenOff, IsCause, Ended, IsEnd, Says, IsJoined, IsScripted, IsOfFiles}
+use Rattle.board_program.specs.Stops.{IsStopOf, end_status}
+use Rattle.board_program.specs.Joined.{IsRun, IsCutOff, IsUnfinished, IsDone, IsBrokenOff, IsCause, IsShort, IsEnd, Says, IsJoined, IsScripted, IsOfFiles}
+use Rattle.board_program.specs.Streams.{Streams, streams_of, stop_line}
 use Rattle.board_program.specs.Standard.{opened}
 use Rattle.board_program.specs.declared.stop.Stop.{Stop}
 use Rattle.board_program.specs.declared.stop.Stop.TheVariants as stops
@@ -101,23 +103,14 @@ pub board_end : (result : Result Counts Stop) (h : Halves) (i : Plain) (instance
 board_end (Ok counts) h i instance script left now_left was now e r short known ok err =
     subst (λ (x : Halves). IsEnd x was now (Ok counts)) (sym e) (i, r, short, done i script left now_left was now counts known ok)
 board_end (Err (stops.Instance kind line)) h i instance script left now_left was now e r short known ok err = absurd err
-board_end (Err stops.Open) h i instance script left now_left was now e r short known ok err = err.1
+board_end (Err stops.Open) h i instance script left now_left was now e r short known ok err = inr (tt, err.1)
 board_end (Err (stops.Run fault)) h i instance script left now_left was now e r short known ok err =
-    subst (λ (x : Halves). IsEnd x was now (Err (stops.Run fault))) (sym e) (inr (i, r, short, cut_off fault i script left now_left was now known err))
+    subst (λ (x : Halves). IsEnd x was now (Err (stops.Run fault))) (sym e) (inl (short, (i, r, cut_off fault i script left now_left was now known err)))
 
--- nothing came of the head
-pub head_end : (stop : Stop) (h : Halves) (was : Option (List ℕ)) → IsUnread stop → Ended h was was stop
-head_end (stops.Instance kind line) h was u = absurd u
-head_end stops.Open h was u = keeps was
-head_end (stops.Run runs.Read) h was u = inl (refl, keeps was)
-head_end (stops.Run runs.Write) h was u = absurd u
-head_end (stops.Run runs.LongLine) h was u = absurd u
-head_end (stops.Run runs.NoMemory) h was u = absurd u
-
--- the instance has a fault, or could not be kept
-pub read_end : (e : ReadFault) (stop : Stop) (h : Halves) (instance : List ℕ) (was : Option (List ℕ)) → h.instance ≡ instance → IsStopOf e stop → Fails e (read_of instance) → Ended h was was stop
-read_end reads.NoMemory stop h instance was same s f = subst (λ (x : Stop). Ended h was was x) (sym s) (keeps was)
-read_end (reads.At kind line) stop h instance was same s f = subst (λ (x : Stop). Ended h was was x) (sym s) (ap read_of same ∙ f, keeps was)
+-- nothing came of the instance
+unread_short : (e : ReadFault) (stop : Stop) (r : Result Plain Fault) (script : List ℕ) (was : Option (List ℕ)) → IsStopOf e stop → Fails e r → IsShort r script was was stop
+unread_short reads.NoMemory stop r script was s f = subst (λ (x : Stop). IsShort r script was was x) (sym s) (keeps was)
+unread_short (reads.At kind line) stop r script was s f = subst (λ (x : Stop). IsShort r script was was x) (sym s) (f, keeps was)
 
 pub if_known : (known : Option (List ℕ)) (P : List ℕ → Type 0) → ((bytes : List ℕ) → known ≡ Some bytes → P bytes) → IfSome known P
 if_known None P f = tt
@@ -139,46 +132,45 @@ some_status (Err stop) = inr (inr refl)
 pub status_among : (r : Result Counts Stop) (status : ℕ) → status ≡ end_status r → (status ≡ 0) ⊎ ((status ≡ 1) ⊎ (status ≡ 3))
 status_among r status s = subst (λ (n : ℕ). (n ≡ 0) ⊎ ((n ≡ 1) ⊎ (n ≡ 3))) (sym s) (some_status r)
 
-quiet : (r : Result Plain Fault) (script : List ℕ) (was now : Option (List ℕ)) → Keeps was now → Says r script was now 3
-quiet (Err fault) script was now k = (refl, k)
-quiet (Ok i) script was now k = inr (refl, inl k)
-
--- nothing came of the instance
-pub quiet_known : (r : Result Plain Fault) (known was : Option (List ℕ)) → IfSome known (λ script. Says r script was was 3)
-quiet_known r None was = tt
-quiet_known r (Some script) was = quiet r script was was (keeps was)
-
-broke : (r : Result Plain Fault) (fault : RunFault) (i : Plain) (script : List ℕ) (was now : Option (List ℕ)) → r ≡ Ok i → IsBrokenOff fault i script was now → Says r script was now 3
-broke r fault i script was now e b = subst (λ (x : Result Plain Fault). Says x script was now 3) (sym e) (inr (refl, inr (fault, b)))
-
-ended_says : (stop : Stop) (h : Halves) (was now : Option (List ℕ)) → Ended h was now stop → Says (read_of h.instance) h.script was now 3
-ended_says (stops.Instance kind line) h was now e = quiet (read_of h.instance) h.script was now e.1
-ended_says stops.Open h was now e = quiet (read_of h.instance) h.script was now e
-ended_says (stops.Run f) h was now e = elim e [
-  | inl k ↦ quiet (read_of h.instance) h.script was now k.1
-  | inr b ↦ broke (read_of h.instance) f b.0 h.script was now b.1 b.3
-]
-
--- nothing was written, or the instance was not too long
-ended_short : (stop : Stop) (h : Halves) (was now : Option (List ℕ)) (status : ℕ) → status ≡ 3 → Ended h was now stop → ((status ≡ 3) × Keeps was now) ⊎ (length h.instance ≤ 16777216)
-ended_short (stops.Instance kind line) h was now status three e = inl (three, e.1)
-ended_short stops.Open h was now status three e = inl (three, e)
-ended_short (stops.Run f) h was now status three e = elim e [ inl k ↦ inl (three, k.1) | inr b ↦ inr b.2 ]
+-- what a run's end is told by
+abbrev IsToldBy : Result Counts Stop → Option (List ℕ) → Option (List ℕ) → Type 0
+IsToldBy r told_was told_now = MatchResult r (λ _. Keeps told_was told_now) (λ stop. AppendsFront told_was told_now (stop_line stop))
 
 -- by what came of the joined input
-pub joined_by : (r : Result Counts Stop) (status : ℕ) (known was now : Option (List ℕ)) → status ≡ end_status r → IfSome known (λ bytes. IsEnd (halves bytes) was now r) → IfSome known (λ bytes. IsJoined bytes was now status)
-joined_by r status None was now s e = tt
-joined_by (Ok counts) status (Some bytes) was now s e =
-    subst (λ (n : ℕ). IsJoined bytes was now n) (sym s) (subst (λ (r : Result Plain Fault). Says r (halves bytes).script was now (end_status (Ok counts))) (sym e.1) (inl e.3), inr e.2)
-joined_by (Err stop) status (Some bytes) was now s e = subst (λ (n : ℕ). IsJoined bytes was now n) (sym s) (ended_says stop (halves bytes) was now e, ended_short stop (halves bytes) was now 3 refl e)
+pub joined_by : (r : Result Counts Stop) (status : ℕ) (known was now told_was told_now : Option (List ℕ)) → status ≡ end_status r → IsToldBy r told_was told_now
+    → IfSome known (λ bytes. IsEnd (halves bytes) was now r) → IfSome known (λ bytes. IsJoined bytes (streams_of was now told_was told_now) status)
+joined_by r status None was now told_was told_now s t e = tt
+joined_by (Ok counts) status (Some bytes) was now told_was told_now s t e =
+    subst (λ (n : ℕ). IsJoined bytes (streams_of was now told_was told_now) n) (sym s) (inl (e.2, inl (e.0, e.1, e.3, t)))
+joined_by (Err stop) status (Some bytes) was now told_was told_now s t e = elim e [
+  | inl k ↦ inl (k.0, inr (stop, k.1, (s, t)))
+  | inr u ↦ inr (stop, u.0, u.1, (s, t))
+]
 
 -- by what came of an instance's board
-pub scripted_by : (r : Result Counts Stop) (status : ℕ) (i : Plain) (left now_left was now : Option (List ℕ)) → status ≡ end_status r → IfOk r (λ counts. IsRun i left now_left was now counts) → IfErr r (λ stop. IsUnfinished i left now_left was now stop) → IfSome left (λ script. Says (Ok i) script was now status)
-scripted_by r status i None now_left was now s ok err = tt
-scripted_by (Ok counts) status i (Some script) now_left was now s ok err = subst (λ (n : ℕ). Says (Ok i) script was now n) (sym s) (inl (done i script (Some script) now_left was now counts refl ok))
-scripted_by (Err (stops.Instance kind line)) status i (Some script) now_left was now s ok err = absurd err
-scripted_by (Err stops.Open) status i (Some script) now_left was now s ok err = subst (λ (n : ℕ). Says (Ok i) script was now n) (sym s) (inr (refl, inl err.1))
-scripted_by (Err (stops.Run fault)) status i (Some script) now_left was now s ok err = subst (λ (n : ℕ). Says (Ok i) script was now n) (sym s) (inr (refl, inr (fault, cut_off fault i script (Some script) now_left was now refl err)))
+pub scripted_by : (r : Result Counts Stop) (status : ℕ) (i : Plain) (left now_left was now told_was told_now : Option (List ℕ)) → status ≡ end_status r → IsToldBy r told_was told_now
+    → IfOk r (λ counts. IsRun i left now_left was now counts) → IfErr r (λ stop. IsUnfinished i left now_left was now stop) → IfSome left (λ script. Says (Ok i) script (streams_of was now told_was told_now) status)
+scripted_by r status i None now_left was now told_was told_now s t ok err = tt
+scripted_by (Ok counts) status i (Some script) now_left was now told_was told_now s t ok err =
+    subst (λ (n : ℕ). Says (Ok i) script (streams_of was now told_was told_now) n) (sym s) (inl (i, refl, done i script (Some script) now_left was now counts refl ok, t))
+scripted_by (Err (stops.Instance kind line)) status i (Some script) now_left was now told_was told_now s t ok err = absurd err
+scripted_by (Err stops.Open) status i (Some script) now_left was now told_was told_now s t ok err = inr (stops.Open, err.1, (s, t))
+scripted_by (Err (stops.Run fault)) status i (Some script) now_left was now told_was told_now s t ok err =
+    inr (stops.Run fault, (i, refl, cut_off fault i script (Some script) now_left was now refl err), (s, t))
+
+-- nothing came of the instance, whatever the script is
+unread_says : (e : ReadFault) (stop : Stop) (r : Result Plain Fault) (script : List ℕ) (was told_was told_now : Option (List ℕ)) (status : ℕ) → IsStopOf e stop → Fails e r → status ≡ 3 → AppendsFront told_was told_now (stop_line stop)
+    → Says r script (streams_of was was told_was told_now) status
+unread_says e stop r script was told_was told_now status s f three t = inr (stop, unread_short e stop r script was s f, (three, t))
+
+pub unread_known : (e : ReadFault) (stop : Stop) (r : Result Plain Fault) (known was told_was told_now : Option (List ℕ)) (status : ℕ) → IsStopOf e stop → Fails e r → status ≡ 3 → AppendsFront told_was told_now (stop_line stop)
+    → IfSome known (λ script. Says r script (streams_of was was told_was told_now) status)
+unread_known e stop r None was told_was told_now status s f three t = tt
+unread_known e stop r (Some script) was told_was told_now status s f three t = unread_says e stop r script was told_was told_now status s f three t
+
+pub unread_ran : (e : ReadFault) (stop : Stop) (r : Result Plain Fault) (was told_was told_now : Option (List ℕ)) (status : ℕ) → IsStopOf e stop → Fails e r → status ≡ 3 → AppendsFront told_was told_now (stop_line stop)
+    → (script : List ℕ) × Says r script (streams_of was was told_was told_now) status
+unread_ran e stop r was told_was told_now status s f three t = ([], unread_says e stop r [] was told_was told_now status s f three t)
 
 -- ---- whatever the bytes of the script are
 
@@ -204,26 +196,28 @@ ran_off f i left now_left was now h =
     )
 
 -- by what came of an instance's board
-pub ran_by : (r : Result Counts Stop) (status : ℕ) (i : Plain) (left now_left was now : Option (List ℕ)) → status ≡ end_status r → IfOk r (λ counts. IsRun i left now_left was now counts) → IfErr r (λ stop. IsUnfinished i left now_left was now stop)
-    → (script : List ℕ) × Says (Ok i) script was now status
-ran_by (Ok counts) status i left now_left was now s ok err =
+pub ran_by : (r : Result Counts Stop) (status : ℕ) (i : Plain) (left now_left was now told_was told_now : Option (List ℕ)) → status ≡ end_status r → IsToldBy r told_was told_now
+    → IfOk r (λ counts. IsRun i left now_left was now counts) → IfErr r (λ stop. IsUnfinished i left now_left was now stop) → (script : List ℕ) × Says (Ok i) script (streams_of was now told_was told_now) status
+ran_by (Ok counts) status i left now_left was now told_was told_now s t ok err =
     let d = ran_to_end i left now_left was now counts ok in
-    (d.0, subst (λ (n : ℕ). Says (Ok i) d.0 was now n) (sym s) (inl d.1))
-ran_by (Err (stops.Instance kind line)) status i left now_left was now s ok err = absurd err
-ran_by (Err stops.Open) status i left now_left was now s ok err = ([], subst (λ (n : ℕ). Says (Ok i) [] was now n) (sym s) (inr (refl, inl err.1)))
-ran_by (Err (stops.Run fault)) status i left now_left was now s ok err =
+    (d.0, subst (λ (n : ℕ). Says (Ok i) d.0 (streams_of was now told_was told_now) n) (sym s) (inl (i, refl, d.1, t)))
+ran_by (Err (stops.Instance kind line)) status i left now_left was now told_was told_now s t ok err = absurd err
+ran_by (Err stops.Open) status i left now_left was now told_was told_now s t ok err = ([], inr (stops.Open, err.1, (s, t)))
+ran_by (Err (stops.Run fault)) status i left now_left was now told_was told_now s t ok err =
     let d = ran_off fault i left now_left was now err in
-    (d.0, subst (λ (n : ℕ). Says (Ok i) d.0 was now n) (sym s) (inr (refl, inr (fault, d.1))))
-
--- nothing came of the instance
-pub quiet_ran : (r : Result Plain Fault) (was : Option (List ℕ)) → (script : List ℕ) × Says r script was was 3
-quiet_ran r was = ([], quiet r [] was was (keeps was))
+    (d.0, inr (stops.Run fault, (i, refl, d.1), (s, t)))
 
 -- an instance's text says which it is
-pub script_ran : (text : List ℕ) (r : Result Plain Fault) (was now : Option (List ℕ)) (status : ℕ) → read_of text ≡ r → (script : List ℕ) × Says r script was now status → (script : List ℕ) × IsScripted text script was now status
-script_ran text r was now status e s = (s.0, subst (λ (x : Result Plain Fault). Says x s.0 was now status) (sym e) s.1)
+pub script_known : (text : List ℕ) (r : Result Plain Fault) (known : Option (List ℕ)) (streams : Streams) (status : ℕ) → read_of text ≡ r → IfSome known (λ script. Says r script streams status) → IfSome known (λ script. IsScripted text script streams status)
+script_known text r known streams status e s = subst (λ (x : Result Plain Fault). IfSome known (λ script. Says x script streams status)) (sym e) s
 
-pub files_ran : (text : List ℕ) (r : Result Plain Fault) (was now : Option (List ℕ)) (status : ℕ) → read_of text ≡ r → (script : List ℕ) × Says r script was now status → IsOfFiles was now status
-files_ran text r was now status e s =
-    let d = script_ran text r was now status e s in
+pub script_ran : (text : List ℕ) (r : Result Plain Fault) (streams : Streams) (status : ℕ) → read_of text ≡ r → (script : List ℕ) × Says r script streams status → (script : List ℕ) × IsScripted text script streams status
+script_ran text r streams status e s = (s.0, subst (λ (x : Result Plain Fault). Says x s.0 streams status) (sym e) s.1)
+
+pub files_ran : (instance_path script_path text : List ℕ) (r : Result Plain Fault) (streams : Streams) (status : ℕ) → read_of text ≡ r → (script : List ℕ) × Says r script streams status → IsOfFiles instance_path script_path streams status
+files_ran instance_path script_path text r streams status e s =
+    let d = script_ran text r streams status e s in
     inr (text, d.0, d.1)
+
+pub files_unread : (instance_path script_path text : List ℕ) (streams : Streams) (status : ℕ) → (script : List ℕ) × IsScripted text script streams status → IsOfFiles instance_path script_path streams status
+files_unread instance_path script_path text streams status s = inr (text, s.0, s.1)

@@ -16,6 +16,8 @@ use Rattle.line_engine.specs.declared.run_fault.RunFault.TheVariants as runs
 use Rattle.board_program.specs.Head.{Halves, halves}
 use Rattle.board_program.specs.Network.{Sites}
 use Rattle.board_program.specs.Standard.{AreSitesOf, opened}
+use Rattle.board_program.specs.Stops.{IsUnread}
+use Rattle.board_program.specs.Streams.{Streams, IsTold, IsUnreadable}
 use Rattle.board_program.specs.declared.stop.Stop.{Stop}
 use Rattle.board_program.specs.declared.stop.Stop.TheVariants as stops
 
@@ -69,32 +71,44 @@ IsBrokenOff fault i script was now = (used : List ℕ) × (more : List ℕ) × (
     × (((lines : List (List ℕ)) × (used ≡ flat_map ended lines)) ⊎ (more ≡ []))
     × IsCause fault more × (outcomes : List Outcome) × Replies i used outcomes × Reaches fault was now (written outcomes)
 
--- Why a run ended early, with what it wrote. Nothing: the instance has a fault; memory ran out before the script; or a read
--- failed, or more than the limit came, before the mark. Or the run on its board ended early.
+-- ---- all bytes
+
+-- Why no more came of the bytes of an instance and a script, with what was written: they are no instance, or memory ran out before the
+-- script, and nothing was; or the run on the instance's board ended early.
+abbrev pub IsShort : Result Plain Fault → List ℕ → Option (List ℕ) → Option (List ℕ) → Stop → Type 0
+IsShort read script was now (stops.Instance kind line) = (read ≡ fault kind line) × Keeps was now
+IsShort read script was now stops.Open = Keeps was now
+IsShort read script was now (stops.Run f) = (i : Plain) × (read ≡ Ok i) × IsBrokenOff f i script was now
+
+-- By what the instance's bytes say: the replies to the script are written, nothing is told, and the status is 0 or 1; or no more came, which
+-- is told, and it is 3.
+abbrev pub Says : Result Plain Fault → List ℕ → Streams → ℕ → Type 0
+Says read script streams status = ((i : Plain) × (read ≡ Ok i) × IsDone i script streams.was streams.now status × Keeps streams.told_was streams.told_now)
+    ⊎ ((stop : Stop) × IsShort read script streams.was streams.now stop × IsTold stop streams.told_was streams.told_now status)
+
+-- an instance and a script, each in bytes of its own
+abbrev pub IsScripted : List ℕ → List ℕ → Streams → ℕ → Type 0
+IsScripted instance script streams status = Says (read_of instance) script streams status
+
+-- The instance before the mark, which is not too long, and the script behind it. Or a read failed before the mark, or memory ran out, or more
+-- bytes than the limit came: nothing is written, and that is told.
+abbrev pub IsJoined : List ℕ → Streams → ℕ → Type 0
+IsJoined bytes streams status = ((length (halves bytes).instance ≤ 16777216) × IsScripted (halves bytes).instance (halves bytes).script streams status)
+    ⊎ ((stop : Stop) × IsUnread stop × Keeps streams.was streams.now × IsTold stop streams.told_was streams.told_now status)
+
+-- A file could not be read, which is told, and nothing is written; or an instance and a script were, whatever their bytes are.
+abbrev pub IsOfFiles : List ℕ → List ℕ → Streams → ℕ → Type 0
+IsOfFiles instance_path script_path streams status =
+    ((streams.now ≡ streams.was) × (IsUnreadable instance_path streams.told_was streams.told_now status ⊎ IsUnreadable script_path streams.told_was streams.told_now status))
+    ⊎ ((instance : List ℕ) × (script : List ℕ) × IsScripted instance script streams status)
+
+-- ---- a joined input, before what came of it is told
+
+-- it ended early: before the script, or at it
 abbrev pub Ended : Halves → Option (List ℕ) → Option (List ℕ) → Stop → Type 0
-Ended h was now (stops.Instance kind line) = (read_of h.instance ≡ fault kind line) × Keeps was now
-Ended h was now stops.Open = Keeps was now
-Ended h was now (stops.Run f) = ((f ≡ runs.Read) × Keeps was now) ⊎ ((i : Plain) × (read_of h.instance ≡ Ok i) × (length h.instance ≤ 16777216) × IsBrokenOff f i h.script was now)
+Ended h was now stop = ((length h.instance ≤ 16777216) × IsShort (read_of h.instance) h.script was now stop) ⊎ (IsUnread stop × Keeps was now)
 
 -- the same of a run that was not ended early
 abbrev pub IsEnd : Halves → Option (List ℕ) → Option (List ℕ) → Result Counts Stop → Type 0
 IsEnd h was now (Ok counts) = (i : Plain) × (read_of h.instance ≡ Ok i) × (length h.instance ≤ 16777216) × IsDone i h.script was now (if counts.refused == 0 then 0 else 1)
 IsEnd h was now (Err stop) = Ended h was now stop
-
--- By what the instance's bytes say. No instance: nothing is written, and 3. An instance: the replies to the script, and 0 or 1. Or 3, and
--- nothing or the replies to a front of the script, or a front of those.
-abbrev pub Says : Result Plain Fault → List ℕ → Option (List ℕ) → Option (List ℕ) → ℕ → Type 0
-Says (Err fault) script was now status = (status ≡ 3) × Keeps was now
-Says (Ok i) script was now status = IsDone i script was now status ⊎ ((status ≡ 3) × (Keeps was now ⊎ ((fault : RunFault) × IsBrokenOff fault i script was now)))
-
--- an instance and a script, each in bytes of its own
-abbrev pub IsScripted : List ℕ → List ℕ → Option (List ℕ) → Option (List ℕ) → ℕ → Type 0
-IsScripted instance script was now status = Says (read_of instance) script was now status
-
--- The instance before the mark and the script behind it; where more than 16,777,216 bytes stand before it, nothing is written, and 3.
-abbrev pub IsJoined : List ℕ → Option (List ℕ) → Option (List ℕ) → ℕ → Type 0
-IsJoined bytes was now status = IsScripted (halves bytes).instance (halves bytes).script was now status × (((status ≡ 3) × Keeps was now) ⊎ (length (halves bytes).instance ≤ 16777216))
-
--- A file could not be read, and nothing is written, and 3; or an instance and a script were, whatever their bytes are.
-abbrev pub IsOfFiles : Option (List ℕ) → Option (List ℕ) → ℕ → Type 0
-IsOfFiles was now status = ((status ≡ 3) × (now ≡ was)) ⊎ ((instance : List ℕ) × (script : List ℕ) × IsScripted instance script was now status)

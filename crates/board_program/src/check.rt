@@ -2,7 +2,8 @@
 
 ghost use Rattle.std.specs.Prelude.{◌≡◌, ◌⊎◌, ℕ, List};
 ghost use Rattle.solomon_reader.specs.Reading.{read_of};
-ghost use Rattle.board_program.specs.Report.{IsChecked, run_status};
+ghost use Rattle.board_program.specs.Report.{ChecksTo, IsChecked};
+ghost use Rattle.board_program.specs.Streams.{streams_of, IsUnreadable};
 
 use crate::files::{read_path, unread};
 use crate::report::report;
@@ -15,7 +16,7 @@ use std::rt::Files;
 
 /// Reads the instance, and writes its report.
 fn run_check<W: Write>(alloc: Global, bytes: &[u8], writer: &mut W) -> Result<(), Stop>
-    ensures { IsChecked (read_of bytes.now) (run_status result) (W.contents writer.old) (W.contents writer.new) }
+    ensures { ChecksTo (read_of bytes.now) (W.contents writer.old) (W.contents writer.new) result }
 {
     let instance = read(alloc, bytes)?;
     let text = report(alloc, &instance)?;
@@ -37,7 +38,8 @@ pub fn check_bytes<W: Write, F: Write>(
     writer: &mut W,
     faults: &mut F,
 ) -> u8
-    ensures { IsChecked (read_of bytes.now) result (W.contents writer.old) (W.contents writer.new) }
+    ensures { IsChecked (read_of bytes.now)
+        (streams_of (W.contents writer.old) (W.contents writer.new) (F.contents faults.old) (F.contents faults.new)) result }
 {
     match run_check(alloc, bytes, writer) {
         Ok(()) => 0,
@@ -54,8 +56,9 @@ pub fn check_file<R: Files, W: Write, F: Write>(
     writer: &mut W,
     faults: &mut F,
 ) -> u8
-    ensures { ((result ≡ 3) × (W.contents writer.new ≡ W.contents writer.old))
-        ⊎ ((bytes : List ℕ) × IsChecked (read_of bytes) result (W.contents writer.old) (W.contents writer.new)) }
+    ensures { ((W.contents writer.new ≡ W.contents writer.old) × IsUnreadable path.now (F.contents faults.old) (F.contents faults.new) result)
+        ⊎ ((bytes : List ℕ) × IsChecked (read_of bytes)
+        (streams_of (W.contents writer.old) (W.contents writer.new) (F.contents faults.old) (F.contents faults.new)) result) }
 {
     match read_path(rt, alloc, path) {
         Ok(bytes) => check_bytes(alloc, bytes.as_slice(), writer, faults),

@@ -1,7 +1,9 @@
 //! The files that the command line names.
 
 ghost use Rattle.std.specs.Prelude.{◌≡◌, ◌≤◌, IfOk, IfSome, length};
+ghost use Rattle.board_program.specs.Streams.{IsUnreadable};
 
+use crate::fault_line::tell_path;
 use crate::head::MOST_BYTES;
 use crate::stop::{Stop, stopped};
 use std::alloc::Global;
@@ -29,11 +31,11 @@ pub(crate) fn read_path<R: Files>(rt: &R, alloc: Global, path: &str) -> io::Resu
 
 /// Says that the file at a path cannot be read, or that memory ran out, and gives the status that the program ends with.
 pub(crate) fn unread<F: Write>(faults: &mut F, path: &str, error: &io::Error) -> u8
-    ensures { result ≡ 3 }
+    ensures { IsUnreadable path.now (F.contents faults.old) (F.contents faults.new) result }
 {
     if error.kind() == ErrorKind::OutOfMemory {
         return stopped(faults, Stop::Open);
     }
-    let _ = writeln!(faults, "dispatch: cannot read {path}");
+    tell_path(faults, path);
     3
 }

@@ -3,6 +3,7 @@
 ghost use Rattle.std.specs.Prelude.{◌≡◌, ◌⊎◌, IfSome};
 ghost use Rattle.board_program.specs.Head.{halves};
 ghost use Rattle.board_program.specs.Joined.{IsEnd, IsJoined};
+ghost use Rattle.board_program.specs.Streams.{streams_of};
 
 use crate::head::{Parts, read_parts};
 use crate::standard::run_board;
@@ -52,7 +53,8 @@ pub fn joined<R, I: Read, W: Write, F: Write>(
     faults: &mut F,
 ) -> u8
     ensures status { (result ≡ 0) ⊎ (result ≡ 1) ⊎ (result ≡ 3) }
-    ensures joined { IfSome (I.remaining reader.old) (λ bytes. IsJoined bytes (W.contents writer.old) (W.contents writer.new) result) }
+    ensures joined { IfSome (I.remaining reader.old) (λ bytes. IsJoined bytes
+        (streams_of (W.contents writer.old) (W.contents writer.new) (F.contents faults.old) (F.contents faults.new)) result) }
 {
     ended(faults, run_joined(rt, alloc, reader, writer))
 }

@@ -4,6 +4,7 @@
 #![tactic(auto)]
 
 mod check;
+mod fault_line;
 mod files;
 mod head;
 mod joined_input;

@@ -1,9 +1,13 @@
 //! Why a run ended before the end of its script.
 
-ghost use Rattle.std.specs.Prelude.{◌≡◌};
+ghost use Rattle.std.specs.Prelude.{◌≡◌, MatchResult};
+ghost use Rattle.std.specs.Io.KnownBytes.{Keeps};
+ghost use Rattle.line_engine.specs.Running.{AppendsFront};
 ghost use Rattle.board_program.specs.Stops.{IsStopOf, end_status};
+ghost use Rattle.board_program.specs.Streams.{stop_line};
 ghost use Rattle.board_program.specs.declared.stop.Stop.TheVariants.{Open, Run};
 
+use crate::fault_line::tell;
 use board_text::{Counts, RunFault};
 use callback_store::RegisterFault;
 use dimension_core::{DimensionFault, SetupFault};
@@ -85,18 +89,22 @@ impl From<RunFault> for Stop {
     }
 }
 
-/// Says why a run ended, as one line that begins with `dispatch: `, and gives the status that it ends with.
+/// Says why a run ended, as one line that begins with `dispatch: `, or a front of it where the stream fails, and gives the status that it
+/// ends with.
 pub fn stopped<F: Write>(faults: &mut F, stop: Stop) -> u8
-    ensures { result ≡ 3 }
+    ensures status { result ≡ 3 }
+    ensures told { AppendsFront (F.contents faults.old) (F.contents faults.new) (stop_line stop) }
 {
-    let _ = writeln!(faults, "dispatch: {stop}");
+    tell(faults, stop);
     3
 }
 
 /// Says how a run ended, and gives the status of the program: 0 where no line counted as refused, 1 where one did, and 3
 /// where the run ended early, which is told as `stopped` has it.
 pub(crate) fn ended<F: Write>(faults: &mut F, end: Result<Counts, Stop>) -> u8
-    ensures { result ≡ end_status end }
+    ensures status { result ≡ end_status end }
+    ensures told { MatchResult end (λ _. Keeps (F.contents faults.old) (F.contents faults.new))
+        (λ stop. AppendsFront (F.contents faults.old) (F.contents faults.new) (stop_line stop)) }
 {
     match end {
         Ok(counts) => u8::from(counts.refused > 0),

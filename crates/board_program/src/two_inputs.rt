@@ -3,6 +3,7 @@
 ghost use Rattle.std.specs.Prelude.{◌≡◌, ◌⊎◌, ℕ, List, Ok, IfSome};
 ghost use Rattle.solomon_reader.specs.Instances.{view, IsSound};
 ghost use Rattle.board_program.specs.Joined.{IsOfFiles, IsScripted, Says};
+ghost use Rattle.board_program.specs.Streams.{streams_of};
 
 use crate::files::{read_path, unread};
 use crate::standard::run_board;
@@ -24,8 +25,10 @@ fn answered<R, I: Read, W: Write, F: Write>(
 ) -> u8
     requires { IsSound (view instance) }
     ensures status { (result ≡ 0) ⊎ (result ≡ 1) ⊎ (result ≡ 3) }
-    ensures says { IfSome (I.remaining script.old) (λ bytes. Says (Ok (view instance)) bytes (W.contents writer.old) (W.contents writer.new) result) }
-    ensures ran { (bytes : List ℕ) × Says (Ok (view instance)) bytes (W.contents writer.old) (W.contents writer.new) result }
+    ensures says { IfSome (I.remaining script.old) (λ bytes. Says (Ok (view instance)) bytes
+        (streams_of (W.contents writer.old) (W.contents writer.new) (F.contents faults.old) (F.contents faults.new)) result) }
+    ensures ran { (bytes : List ℕ) × Says (Ok (view instance)) bytes
+        (streams_of (W.contents writer.old) (W.contents writer.new) (F.contents faults.old) (F.contents faults.new)) result }
 {
     ended(faults, run_board(rt, alloc, instance, script, writer))
 }
@@ -45,8 +48,10 @@ pub fn scripted<R, I: Read, W: Write, F: Write>(
     faults: &mut F,
 ) -> u8
     ensures status { (result ≡ 0) ⊎ (result ≡ 1) ⊎ (result ≡ 3) }
-    ensures scripted { IfSome (I.remaining script.old) (λ bytes. IsScripted instance.now bytes (W.contents writer.old) (W.contents writer.new) result) }
-    ensures ran { (bytes : List ℕ) × IsScripted instance.now bytes (W.contents writer.old) (W.contents writer.new) result }
+    ensures scripted { IfSome (I.remaining script.old) (λ bytes. IsScripted instance.now bytes
+        (streams_of (W.contents writer.old) (W.contents writer.new) (F.contents faults.old) (F.contents faults.new)) result) }
+    ensures ran { (bytes : List ℕ) × IsScripted instance.now bytes
+        (streams_of (W.contents writer.old) (W.contents writer.new) (F.contents faults.old) (F.contents faults.new)) result }
 {
     match read(alloc, instance) {
         Ok(instance) => answered(rt, alloc, instance, script, writer, faults),
@@ -66,7 +71,8 @@ pub fn run_files<R: Files, W: Write, F: Write>(
     faults: &mut F,
 ) -> u8
     ensures status { (result ≡ 0) ⊎ (result ≡ 1) ⊎ (result ≡ 3) }
-    ensures files { IsOfFiles (W.contents writer.old) (W.contents writer.new) result }
+    ensures files { IsOfFiles instance.now script.now
+        (streams_of (W.contents writer.old) (W.contents writer.new) (F.contents faults.old) (F.contents faults.new)) result }
 {
     let text = match read_path(rt, alloc, instance) {
         Ok(text) => text,

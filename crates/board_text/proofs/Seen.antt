@@ -112,22 +112,22 @@ ends_near see refuses same runs.NoMemory mid new n lines left more end cut count
 ends_near see refuses same runs.Write mid new n lines left more end cut count h = stands_near see refuses same mid new left more end h
 
 -- the last line, which has no line end
-last_near : {F : Type 0} (see : F → DeskState) (refuses : F → F → Type 0) → ((a b : F) → refuses a b → see b ≡ see a) → (mid new : F) (rest more : List ℕ) (end : Option (List ℕ)) → more ≡ [] → IsAtEnd end
+last_near : {F : Type 0} (see : F → DeskState) (refuses : F → F → Type 0) → ((a b : F) → refuses a b → see b ≡ see a) → (mid new : F) (rest more : List ℕ) (end : Option (List ℕ)) → IsLine rest → more ≡ [] → IsAtEnd end
     → ServeBroken (λ o c a n. IsBoardStep (see o) c a (see n)) refuses runs.NoMemory mid new rest → IsNear (see mid) (see new) (rest ++ more) end
-last_near see refuses same mid new rest more end none at_end h = elim h [
+last_near see refuses same mid new rest more end part none at_end h = elim h [
   | inl e ↦ inl (ap see e)
   | inr k ↦ elim k [
     | inl r ↦ inl (same mid new r)
-    | inr o ↦ inr (rest, o.0, inr (ap (λ (xs : List ℕ). rest ++ xs) none ∙ append-nil rest, at_end), gives_seen IsBoardStep see mid new (read_of (body rest)) o.0 o.1)
+    | inr o ↦ inr (rest, o.0, inr (ap (λ (xs : List ℕ). rest ++ xs) none ∙ append-nil rest, part, at_end), gives_seen IsBoardStep see mid new (read_of (body rest)) o.0 o.1)
   ]
 ]
 
 last_ends : {F : Type 0} (see : F → DeskState) (refuses : F → F → Type 0) → ((a b : F) → refuses a b → see b ≡ see a) → (fault : RunFault) (mid new : F) (n : ℕ) (lines : List (List ℕ)) (rest more : List ℕ) (end : Option (List ℕ))
-    → lines_of (flat_map ended lines) ≡ lines → n ≡ 0 + length lines → more ≡ [] → IsAtEnd end → EndsLast (λ o c a n. IsBoardStep (see o) c a (see n)) refuses fault mid new n rest → EndsAt fault (see mid) (see new) (flat_map ended lines) (rest ++ more) end
-last_ends see refuses same runs.Read mid new n lines rest more end cut count none at_end h = (ap see h.0, inr (all_seen lines n cut count h.1))
-last_ends see refuses same runs.LongLine mid new n lines rest more end cut count none at_end h = absurd h
-last_ends see refuses same runs.NoMemory mid new n lines rest more end cut count none at_end h = last_near see refuses same mid new rest more end none at_end h
-last_ends see refuses same runs.Write mid new n lines rest more end cut count none at_end h = last_near see refuses same mid new rest more end none at_end h
+    → lines_of (flat_map ended lines) ≡ lines → n ≡ 0 + length lines → IsLine rest → more ≡ [] → IsAtEnd end → EndsLast (λ o c a n. IsBoardStep (see o) c a (see n)) refuses fault mid new n rest → EndsAt fault (see mid) (see new) (flat_map ended lines) (rest ++ more) end
+last_ends see refuses same runs.Read mid new n lines rest more end cut count part none at_end h = (ap see h.0, inr (all_seen lines n cut count h.1))
+last_ends see refuses same runs.LongLine mid new n lines rest more end cut count part none at_end h = absurd h
+last_ends see refuses same runs.NoMemory mid new n lines rest more end cut count part none at_end h = last_near see refuses same mid new rest more end part none at_end h
+last_ends see refuses same runs.Write mid new n lines rest more end cut count part none at_end h = last_near see refuses same mid new rest more end part none at_end h
 
 -- lines with their ends were answered, and what comes behind them was not
 lines_stopped : {F : Type 0} (see : F → DeskState) (fault : RunFault) (old mid new : F) (left_old left_new was now : Option (List ℕ)) (bytes more out left : List ℕ) (lines : List (List ℕ)) (outcomes : List Outcome)
@@ -165,9 +165,9 @@ unwritten_stopped cut_lines see fault old new left_old left_new was now bytes mo
     }
 
 -- a read failed behind whole lines and a part of the next
-halted_ends : (fault : RunFault) (mid : DeskState) (used rest more : List ℕ) (end : Option (List ℕ)) → fault ≡ runs.Read → more ≡ [] → HasNoEnd rest → EndsAt fault mid mid used (rest ++ more) end
-halted_ends fault mid used rest more end is none plain =
-    let open_end : HasNoEnd (rest ++ more) = subst (λ (xs : List ℕ). HasNoEnd xs) (sym (ap (λ (xs : List ℕ). rest ++ xs) none ∙ append-nil rest)) plain in
+halted_ends : (fault : RunFault) (mid : DeskState) (used rest more : List ℕ) (end : Option (List ℕ)) → fault ≡ runs.Read → more ≡ [] → IsLine rest → EndsAt fault mid mid used (rest ++ more) end
+halted_ends fault mid used rest more end is none part =
+    let open_end : IsLine (rest ++ more) = subst (λ (xs : List ℕ). IsLine xs) (sym (ap (λ (xs : List ℕ). rest ++ xs) none ∙ append-nil rest)) part in
     let read : EndsAt runs.Read mid mid used (rest ++ more) end = (refl, inl open_end) in
     subst (λ (f : RunFault). EndsAt f mid mid used (rest ++ more) end) (sym is) read
 
@@ -175,14 +175,14 @@ pub stopped_seen : TextsHaveTheirLines → WholeTextsHaveTheirLines → {F : Typ
 stopped_seen cut_lines full_lines see refuses same fault old new left_old left_new was now h = elim h.5 [
   | inl k ↦
       let p = k.6 in
-      lines_stopped see fault old new new left_old left_new was now h.0 h.1 h.2 k.2 p.lines p.outcomes h.3 p.cut.whole (full_lines p.lines p.cut.each) p.cut.each p.run (halted_ends fault (see new) (flat_map ended p.lines) k.2 h.1 left_new k.0 k.1 p.cut.partial.plain) p.text h.4
+      lines_stopped see fault old new new left_old left_new was now h.0 h.1 h.2 k.2 p.lines p.outcomes h.3 p.cut.whole (full_lines p.lines p.cut.each) p.cut.each p.run (halted_ends fault (see new) (flat_map ended p.lines) k.2 h.1 left_new k.0 k.1 p.cut.partial) p.text h.4
   | inr r ↦ elim r [
     | inl u ↦ unwritten_stopped cut_lines see fault old new left_old left_new was now h.0 h.1 h.2 h.3 h.4 u
     | inr q ↦ elim q [
       | inl l ↦
           let p = l.7 in
           let full = full_lines p.lines p.cut.each in
-          lines_stopped see fault old l.2 new left_old left_new was now h.0 h.1 h.2 l.3 p.lines p.outcomes h.3 p.cut.whole full p.cut.each p.run (last_ends see refuses same fault l.2 new l.4 p.lines l.3 h.1 left_new full p.seen l.0 l.1 l.8) p.text h.4
+          lines_stopped see fault old l.2 new left_old left_new was now h.0 h.1 h.2 l.3 p.lines p.outcomes h.3 p.cut.whole full p.cut.each p.run (last_ends see refuses same fault l.2 new l.4 p.lines l.3 h.1 left_new full p.seen p.cut.partial l.0 l.1 l.8) p.text h.4
       | inr b ↦
           let full = full_lines b.lines b.each in
           lines_stopped see fault old b.mid new left_old left_new was now h.0 h.1 h.2 b.left b.lines b.outcomes h.3 b.whole full b.each b.run (ends_near see refuses same fault b.mid new (0 + length b.lines) b.lines b.left h.1 left_new full refl b.end) b.text h.4

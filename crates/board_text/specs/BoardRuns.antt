@@ -6,7 +6,7 @@ use Rattle.board_lines.specs.Reading.{read_of}
 use Rattle.board_lines.specs.Replies.{ended}
 use Rattle.line_engine.specs.Answers.{Outcome, written, has_reply, is_refusal}
 use Rattle.line_engine.specs.Fronts.{Gives}
-use Rattle.line_engine.specs.Running.{Runs, Reaches, HasNoEnd, IsLine, IsTooLong, NextLine, body}
+use Rattle.line_engine.specs.Running.{Runs, Reaches, IsLine, IsTooLong, NextLine, body}
 use Rattle.line_engine.specs.TextLines.{lines_of}
 use Rattle.line_engine.specs.declared.run_fault.RunFault.{RunFault}
 use Rattle.line_engine.specs.declared.run_fault.RunFault.TheVariants as runs
@@ -34,7 +34,7 @@ AreWholeLines used more left = ((lines : List (List ℕ)) × (used ≡ flat_map 
 
 -- the line that comes next: one with its line end, or the last, at the end of all bytes
 abbrev pub ComesNext : List ℕ → Option (List ℕ) → List ℕ → Type 0
-ComesNext more left line = NextLine more line ⊎ ((more ≡ line) × IsAtEnd left)
+ComesNext more left line = NextLine more line ⊎ ((more ≡ line) × IsLine line × IsAtEnd left)
 
 -- the board stands where the lines left it, or after the call of the line that comes next
 abbrev pub IsNear : DeskState → DeskState → List ℕ → Option (List ℕ) → Type 0
@@ -44,10 +44,10 @@ IsNear mid new more left = (new ≡ mid) ⊎ ((line : List ℕ) × (outcome : Ou
 abbrev pub AllLines : List ℕ → Type 0
 AllLines used = length (lines_of used) ≡ 4294967296
 
--- Why a run ended behind the lines of used, and where the board stands: a read failed, and what was read of the next line has no end, or
--- no more lines are seen; the next line is too long; or, at want of memory and at a failed write, the next line may have been answered.
+-- Why a run ended behind the lines of used, and where the board stands: a read failed, and what was read of the next line has no end and
+-- is not too long, or no more lines are seen; the next line is too long; or, at want of memory and at a failed write, the next line may have been answered.
 abbrev pub EndsAt : RunFault → DeskState → DeskState → List ℕ → List ℕ → Option (List ℕ) → Type 0
-EndsAt runs.Read mid new used more left = (new ≡ mid) × (HasNoEnd more ⊎ AllLines used)
+EndsAt runs.Read mid new used more left = (new ≡ mid) × (IsLine more ⊎ AllLines used)
 EndsAt runs.LongLine mid new used more left = (new ≡ mid) × IsTooLong more
 EndsAt runs.NoMemory mid new used more left = IsNear mid new more left
 EndsAt runs.Write mid new used more left = IsNear mid new more left

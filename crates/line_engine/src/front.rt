@@ -1,6 +1,6 @@
 //! What answers commands.
 
-ghost use Rattle.std.specs.Prelude.{◌≡◌, ◌++◌, List, IfOk, IfErr, OnOk, string_bytes};
+ghost use Rattle.std.specs.Prelude.{◌≡◌, ◌≢◌, ◌++◌, List, IfOk, IfErr, OnOk, string_bytes};
 ghost use Rattle.board_rules.specs.declared.call.Entry.{Entry};
 ghost use Rattle.board_lines.specs.Listings.{audit_text};
 ghost use Rattle.board_lines.specs.declared.command.Command.{Command};
@@ -22,12 +22,16 @@ pub trait Front<R> {
     // What want of memory may leave.
     ghost refuses: { Self → Self → Type 0 };
 
+    // It takes a call, unless memory runs out: no other fault is due.
+    ghost takes: { Self → Type 0 };
+
     /// Hands a call in, and gives the reply.
     fn submit(&mut self, rt: &R, call: Call) -> Result<Reply, Fault>
         requires { ready self.old }
         ensures ready { ready self.new }
         ensures ok { IfOk result (λ reply. step self.old (Command.Submit call) (Replied reply) self.new) }
-        ensures err { IfErr result (λ fault. MayFault step refuses self.old call fault self.new) };
+        ensures err { IfErr result (λ fault. MayFault step refuses self.old call fault self.new) }
+        ensures memory { IfErr result (λ fault. fault ≡ Fault.NoMemory → takes self.old) };
 
     /// The rows that the session may view.
     fn list(&mut self, rt: &R, session: u32) -> Result<Vec<Row>, AskFault>
@@ -37,13 +41,14 @@ pub trait Front<R> {
         ensures err { IfErr result (λ fault. MayRefuse step refuses self.old (Command.List session) fault self.new) };
 
     /// Puts the text of the journal at the end, where the session may audit the board. The journal may be long, so no
-    /// entry is handed out. After a refusal the text is as it was, or longer where memory ran out.
+    /// entry is handed out. After a refusal the text is as it was; where memory ran out it may have a part of the journal's.
     fn audit(&mut self, rt: &R, session: u32, text: &mut String) -> Result<(), AskFault>
         requires { ready self.old }
         ensures ready { ready self.new }
         ensures ok { OnOk result ((entries : List Entry) × step self.old (Command.Audit session) (Audited entries) self.new
             × (string_bytes text.new ≡ string_bytes text.old ++ audit_text entries)) }
-        ensures err { IfErr result (λ fault. MayRefuse step refuses self.old (Command.Audit session) fault self.new) };
+        ensures err { IfErr result (λ fault. MayRefuse step refuses self.old (Command.Audit session) fault self.new) }
+        ensures kept { IfErr result (λ fault. fault ≢ AskFault.NoMemory → string_bytes text.new ≡ string_bytes text.old) };
 
     /// The names of a part of the policy, where the session may audit the board.
     fn review(&mut self, rt: &R, session: u32, which: Review) -> Result<Vec<Name>, AskFault>

@@ -143,6 +143,8 @@ impl<R> Front<R> for Small {
 
     ghost refuses = { λ old new. Unit {0} };
 
+    ghost takes = { λ front. Unit {0} };
+
     fn submit(&mut self, _rt: &R, call: Call) -> Result<Reply, Fault> {
         if self.calls >= self.most {
             return Err(Fault::Full);

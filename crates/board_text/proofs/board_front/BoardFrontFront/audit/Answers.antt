@@ -1,4 +1,4 @@
-use Rattle.std.proofs.Common.{◌≡◌, refl, sym, ap, ◌∙◌, subst, List, ◌++◌, string_bytes}
+use Rattle.std.proofs.Common.{refl, sym, ap, ◌∙◌, List, ◌++◌, string_bytes}
 use Rattle.std.specs.Result.{result_err}
 use Rattle.dimension_core.specs.Setup.{setting}
 use Rattle.board_rules.specs.declared.call.Entry.{Entry}
