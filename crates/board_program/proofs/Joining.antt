@@ -1,5 +1,5 @@
 -- From the parts of the input and what came of its board to all bytes.
-use Rattle.std.proofs.Common.{◌≡◌, ◌∙◌, ℕ, ◌≤◌, Bool, true, false, eqb, List, [], ◌++◌, length, Option, Some, None, Result, Ok, Err, refl, sym, ap, subst, append_assoc, append-nil, inl, inr}
+use Rattle.std.proofs.Common.{◌≡◌, ◌∙◌, ℕ, ◌≤◌, Bool, true, false, eqb, List, [], ◌++◌, length, Option, Some, None, Result, Ok, Err, refl, sym, ap, subst, append_assoc, append-nil, inl, inr, arith}
 use Rattle.std.specs.Prelude.{◌⊎◌, ◌==◌, IfOk, IfErr, IfSome, MatchResult, count_by, if◌then◌else◌}
 use Rattle.std.specs.Io.KnownBytes.{Keeps, Consumes, IsAtEnd}
 use Rattle.std.specs.Fmt.{option_append}
@@ -19,7 +19,7 @@ use Rattle.solomon_reader.specs.declared.fault.ReadFault.TheVariants as reads
 use Rattle.board_program.specs.Head.{Halves, halves, AreRead}
 use Rattle.board_program.specs.Stops.{IsStopOf, end_status}
 use Rattle.board_program.specs.Joined.{IsRun, IsCutOff, IsUnfinished, IsDone, IsBrokenOff, IsCause, IsShort, IsEnd, Says, IsJoined, IsScripted, IsOfFiles}
-use Rattle.board_program.specs.Streams.{Streams, streams_of, stop_line}
+use Rattle.board_program.specs.Streams.{Streams, streams_of, stop_line, AgreesWithStatus}
 use Rattle.board_program.specs.Standard.{opened}
 use Rattle.board_program.specs.declared.stop.Stop.{Stop}
 use Rattle.board_program.specs.declared.stop.Stop.TheVariants as stops
@@ -135,6 +135,15 @@ status_among r status s = subst (λ (n : ℕ). (n ≡ 0) ⊎ ((n ≡ 1) ⊎ (n �
 -- what a run's end is told by
 abbrev IsToldBy : Result Counts Stop → Option (List ℕ) → Option (List ℕ) → Type 0
 IsToldBy r told_was told_now = MatchResult r (λ _. Keeps told_was told_now) (λ stop. AppendsFront told_was told_now (stop_line stop))
+
+few_chosen : (b : Bool) → chosen b ≤ 1
+few_chosen true = omega arith
+few_chosen false = omega arith
+
+-- nothing is told of a whole run
+pub told_by : (r : Result Counts Stop) (status : ℕ) (told_was told_now : Option (List ℕ)) → status ≡ end_status r → IsToldBy r told_was told_now → AgreesWithStatus told_was told_now status
+told_by (Ok counts) status told_was told_now s t = inl (subst (λ (n : ℕ). n ≤ 1) (sym s) (few_chosen (eqb counts.refused 0)), t)
+told_by (Err stop) status told_was told_now s t = inr (stop, (s, t))
 
 -- by what came of the joined input
 pub joined_by : (r : Result Counts Stop) (status : ℕ) (known was now told_was told_now : Option (List ℕ)) → status ≡ end_status r → IsToldBy r told_was told_now

@@ -1,6 +1,7 @@
 -- What is written to the two streams: the replies, and one line, with its line end, where a fault is told.
-use Rattle.std.specs.Prelude.{◌≡◌, ℕ, ◌⊎◌, List, ◌++◌, codes, Option}
+use Rattle.std.specs.Prelude.{◌≡◌, ◌≤◌, ℕ, ◌⊎◌, List, ◌++◌, codes, Option}
 use Rattle.std.specs.Fmt.{decimal}
+use Rattle.std.specs.Io.KnownBytes.{Keeps}
 use Rattle.solomon_reader.specs.declared.fault.Kind.{Kind}
 use Rattle.solomon_reader.specs.declared.fault.Kind.TheVariants as kinds
 use Rattle.line_engine.specs.Running.{AppendsFront}
@@ -54,6 +55,10 @@ path_line path = codes "dispatch: cannot read " ++ (path ++ codes "\n")
 abbrev pub IsTold : Stop → Option (List ℕ) → Option (List ℕ) → ℕ → Type 0
 IsTold stop was now status = (status ≡ 3) × AppendsFront was now (stop_line stop)
 
--- The same of a path that cannot be read, or at which memory ran out.
+-- Nothing is told where the status is 0 or 1, and else the line of some stop is.
+abbrev pub AgreesWithStatus : Option (List ℕ) → Option (List ℕ) → ℕ → Type 0
+AgreesWithStatus was now status = ((status ≤ 1) × Keeps was now) ⊎ ((stop : Stop) × IsTold stop was now status)
+
+-- The status is 3, and the line of a path that cannot be read is told, or that of memory which ran out.
 abbrev pub IsUnreadable : List ℕ → Option (List ℕ) → Option (List ℕ) → ℕ → Type 0
 IsUnreadable path was now status = (status ≡ 3) × (AppendsFront was now (path_line path) ⊎ AppendsFront was now (stop_line stops.Open))

@@ -3,7 +3,7 @@
 ghost use Rattle.std.specs.Prelude.{◌≡◌, ◌⊎◌, IfSome};
 ghost use Rattle.board_program.specs.Head.{halves};
 ghost use Rattle.board_program.specs.Joined.{IsEnd, IsJoined};
-ghost use Rattle.board_program.specs.Streams.{streams_of};
+ghost use Rattle.board_program.specs.Streams.{streams_of, AgreesWithStatus};
 
 use crate::head::{Parts, read_parts};
 use crate::standard::run_board;
@@ -53,6 +53,7 @@ pub fn joined<R, I: Read, W: Write, F: Write>(
     faults: &mut F,
 ) -> u8
     ensures status { (result ≡ 0) ⊎ (result ≡ 1) ⊎ (result ≡ 3) }
+    ensures told { AgreesWithStatus (F.contents faults.old) (F.contents faults.new) result }
     ensures joined { IfSome (I.remaining reader.old) (λ bytes. IsJoined bytes
         (streams_of (W.contents writer.old) (W.contents writer.new) (F.contents faults.old) (F.contents faults.new)) result) }
 {

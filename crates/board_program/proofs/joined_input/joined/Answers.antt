@@ -1,4 +1,4 @@
-use Rattle.board_program.proofs.Joining.{joined_by, status_among}
+use Rattle.board_program.proofs.Joining.{joined_by, told_by, status_among}
 use Rattle.board_program.proofs.joined_input.joined.Goals as goal
 
 pub returns-clause-status : goal.returns-clause-status
@@ -6,3 +6,6 @@ returns-clause-status g c = status_among c.run_joined.result c.ended.result c.en
 
 pub returns-clause-joined : goal.returns-clause-joined
 returns-clause-joined g c = joined_by c.run_joined.result c.ended.result (g.I.Read.remaining c.args.reader.now) (g.W.Write.contents c.args.writer.now) (g.W.Write.contents c.run_joined.new.writer) _ _ c.ended.ensures.status c.ended.ensures.told c.run_joined.ensures
+
+pub returns-clause-told : goal.returns-clause-told
+returns-clause-told g c = told_by c.run_joined.result c.ended.result _ _ c.ended.ensures.status c.ended.ensures.told
