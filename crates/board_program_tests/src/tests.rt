@@ -512,6 +512,16 @@ fn a_long_instance(rt: HostRuntime) -> Result<(), Fail> {
     Ok(())
 }
 
+#[test]
+fn the_longest_instance(rt: HostRuntime) -> Result<(), Fail> {
+    // Just 16,777,216 bytes stand before the line `%%`, the last of them a blank line.
+    let mut input = Vec::from_slice(rt.alloc(), A.as_bytes())?;
+    input.resize(16_777_215, b' ')?;
+    input.extend_from_slice(b"\n%%\n1 list\n")?;
+    joined_gives(&rt, &mut input.as_slice(), ("end\n", "", 0));
+    Ok(())
+}
+
 /// The run of an instance's file and a script's gives what is wanted.
 fn run_gives<H: AllocGlobal + Abort + Files>(
     rt: &H,
