@@ -6,4 +6,6 @@ mod plain;
 #[cfg(test)]
 mod tests;
 #[cfg(test)]
+mod three;
+#[cfg(test)]
 mod views;

@@ -96,7 +96,7 @@ fn are_fit(setup: &Setup, changes: &[(u32, Arc<Route>)]) -> bool {
 }
 
 /// Moves a customer where it can stand.
-fn put(rt: &impl Abort, alloc: Global, setup: &Setup, plan: &mut Plan, mv: Move)
+pub(crate) fn put(rt: &impl Abort, alloc: Global, setup: &Setup, plan: &mut Plan, mv: Move)
     ensures customers { plan.new.customers ≡ plan.old.customers }
     ensures vehicles { length plan.new.routes ≡ length plan.old.routes }
 {
@@ -131,7 +131,7 @@ pub(crate) fn some_plan(rt: &impl Abort, alloc: Global, setup: &Setup, rng: &mut
 }
 
 /// The routes of a plan.
-fn shared_routes(rt: &impl Abort, alloc: Global, plan: &Plan) -> Vec<Arc<Route>>
+pub(crate) fn shared_routes(rt: &impl Abort, alloc: Global, plan: &Plan) -> Vec<Arc<Route>>
     ensures { routes_of result.items ≡ plan.now.routes }
 {
     let mut routes = Vec::new(alloc);

@@ -1,0 +1,179 @@
+//! One vehicle and three customers, on one line with the depot: 30, 60 and 90 from it. Of the route 2, 1, 3 each move saves 60 or nothing.
+ghost use Rattle.std.specs.Prelude.{◌≡◌, ◌+◌, ◌-◌, ◌*◌, ◌≤◌, length};
+ghost use Rattle.dimension_core.specs.Setup.{setting};
+ghost use Rattle.neighbourhood.specs.View.{IsViewOf};
+
+use crate::views::{is_view, put, shared_routes};
+use callback_store::{Meter, Registry, Transit, TransitId, Unary};
+use dimension_core::{Dimension, Range, Setup};
+use move_core::Move;
+use neighbourhood::best_move;
+use pin_core::View;
+use plan_core::Plan;
+use std::alloc::Global;
+use std::process::Abort;
+use std::test::Fail;
+
+/// A dimension of one vehicle, whose cumuls are at most its capacity at each of four nodes.
+fn dimension(
+    rt: &impl Abort,
+    alloc: Global,
+    registry: &Registry,
+    id: TransitId,
+    slack: u64,
+    cap: u64,
+    fixed: bool,
+) -> Dimension {
+    let caps = vec![in alloc; cap; 1].expect(rt, "memory");
+    let ranges = vec![in alloc; Range { lo: 0, hi: cap }; 4].expect(rt, "memory");
+    Dimension::new(registry, id, slack, caps, fixed, ranges).expect(rt, "bounds")
+}
+
+/// The loads, of which ten fit, and the times: a day of 10,000, through which the vehicle may wait.
+fn loads_and_times(
+    rt: &impl Abort,
+    alloc: Global,
+    registry: &Registry,
+    load: TransitId,
+    time: TransitId,
+) -> Vec<Dimension> {
+    let loads = dimension(rt, alloc, registry, load, 0, 10, true);
+    let times = dimension(rt, alloc, registry, time, 10_000, 10_000, false);
+    vec![in alloc; loads, times].expect(rt, "memory")
+}
+
+/// A plan that serves the customers in an order.
+fn plan_of_three(rt: &impl Abort, alloc: Global, setup: &Setup, order: &[u32]) -> Plan
+    ensures { (result.customers ≡ 3) × (length result.routes ≡ 1) }
+{
+    let mut plan = Plan::new(alloc, 3, 1).expect(rt, "memory");
+    for customer in order.iter().rev() {
+        let mv = Move::Insert {
+            customer: *customer,
+            vehicle: 1,
+            place: 1,
+        };
+        put(rt, alloc, setup, &mut plan, mv);
+    }
+    plan
+}
+
+/// A view of a plan, in which no customer is pinned and no stop is frozen.
+fn view_of_three(rt: &impl Abort, alloc: Global, plan: &Plan) -> View
+    ensures { result.routes ≡ plan.now.routes }
+{
+    View {
+        routes: shared_routes(rt, alloc, plan),
+        pinned: vec![in alloc; None, None, None].expect(rt, "memory"),
+        frozen: vec![in alloc; 0].expect(rt, "memory"),
+        version: plan.version(),
+    }
+}
+
+/// Asks for the best move until there is none, each skipped once it was the answer: these are wanted, each with a gain of 60.
+fn ask_in_turn(rt: &impl Abort, alloc: Global, setup: &Setup, view: &View, tied: &[Move])
+    requires view { IsViewOf (setting setup.now) view.now }
+    requires vehicles { (setting setup.now).vehicles ≡ 1 }
+{
+    for k in 0..tied.len() {
+        let found = best_move(alloc, view, setup, 1, 1, &tied[..k]).expect(rt, "memory");
+        assert_eq!(rt; found, Some((tied[k], 60)));
+    }
+    let found = best_move(alloc, view, setup, 1, 1, tied).expect(rt, "memory");
+    assert_eq!(rt; found, None);
+}
+
+/// Asks for the best moves of the customers in an order, which has a cost.
+fn ask_in_order(
+    rt: &impl Abort,
+    alloc: Global,
+    setup: &Setup,
+    order: &[u32],
+    cost: u64,
+    tied: &[Move],
+)
+    requires customers { (setting setup.now).customers ≡ 3 }
+    requires vehicles { (setting setup.now).vehicles ≡ 1 }
+{
+    let plan = plan_of_three(rt, alloc, setup, order);
+    let view = view_of_three(rt, alloc, &plan);
+    assert!(rt; is_view(setup, &plan, &view));
+    assert_eq!(rt; plan.cost(setup, &mut Meter::new()), cost);
+    ask_in_turn(rt, alloc, setup, &view, tied);
+}
+
+/// Moves inside vehicle 1.
+fn shift(place: u32, length: u32, at: u32) -> Move {
+    Move::Shift {
+        vehicle: 1,
+        place,
+        length,
+        to: 1,
+        at,
+    }
+}
+
+fn swap(place: u32, at: u32) -> Move {
+    Move::Swap {
+        vehicle: 1,
+        place,
+        other: 1,
+        at,
+    }
+}
+
+fn reverse(first: u32, last: u32) -> Move {
+    Move::Reverse {
+        vehicle: 1,
+        first,
+        last,
+    }
+}
+
+/// The moves of the route 2, 1, 3 that save 60, in the order of ties, and none of the route 1, 2, 3.
+fn ask_in_both_orders(rt: &impl Abort, alloc: Global, setup: &Setup)
+    requires customers { (setting setup.now).customers ≡ 3 }
+    requires vehicles { (setting setup.now).vehicles ≡ 1 }
+{
+    let tied = [
+        shift(1, 1, 2),
+        shift(1, 1, 3),
+        shift(1, 2, 2),
+        shift(2, 1, 1),
+        shift(2, 1, 3),
+        shift(2, 2, 1),
+        shift(3, 1, 1),
+        shift(3, 1, 2),
+        swap(1, 2),
+        swap(2, 3),
+        reverse(1, 2),
+        reverse(2, 3),
+    ];
+    ask_in_order(rt, alloc, setup, &[2, 1, 3], 240, &tied);
+    ask_in_order(rt, alloc, setup, &[1, 2, 3], 180, &[]);
+}
+
+#[test]
+fn the_best_moves_of_three_customers(rt: HostRuntime) -> Result<(), Fail> {
+    let drive = Box::new(
+        rt.alloc(),
+        move |i: u32, j: u32| -> u64
+            ensures { result ≡ 30 * i - 30 * j + (30 * j - 30 * i) }
+        { u64::from(i.abs_diff(j)) * 30 },
+    )?;
+    let demand = Box::new(
+        rt.alloc(),
+        move |i: u32| -> u64
+            ensures { result ≡ i - (i - 1) }
+        { u64::from(i.min(1)) },
+    )?;
+    let drives = Transit::new(4, drive);
+    let wants = Unary::new(4, demand);
+    let mut registry = Registry::new(rt.alloc());
+    let time = registry.register(drives).expect(&rt, "room");
+    let load = registry.register_unary(wants).expect(&rt, "room");
+    let dimensions = loads_and_times(&rt, rt.alloc(), &registry, load, time);
+    let setup = Setup::new(3, 1, registry, dimensions, time, 9).expect(&rt, "setup");
+    ask_in_both_orders(&rt, rt.alloc(), &setup);
+    Ok(())
+}
