@@ -7,7 +7,7 @@ use borrow.Rule.Slice.PartMut.{put_mid, post_of}
 use Rattle.callback_store.specs.Tables.{Table, entry}
 use Rattle.plan_core.specs.Cost.{way}
 use Rattle.neighbourhood.proofs.Ways.{way_append, last_take}
-use Rattle.neighbourhood.specs.Ways.{hop, hop_by, entry_by, along, AreHops, AreSums}
+use Rattle.neighbourhood.specs.Ways.{hop, hop_by, entry_by, along, AreHopsFrom, AreSums}
 
 -- a row lies inside its table
 pub row_fits : (a n w : ℕ) → a < n → a * w + w ≤ n * w
@@ -22,36 +22,6 @@ pushed_before cells x k h = get_or_append_left cells (x ∷ []) 0 k h
 pushed_last : (cells : List ℕ) (x k : ℕ) → length cells ≡ k → slice_index (cells ++ x ∷ []) k ≡ x
 pushed_last cells x k h = get_or_push cells x 0 k h
 
--- the first n numbers of a table that is filled in place: the ways from some stops to others, row by row, or back
-pub record AreFilled (turned : Bool) (t : Table) (from to : List ℕ) (n : ℕ) (cells : List ℕ) : Type 0 where
-  pub whole : length cells ≡ length from * length to
-  pub hops : (a b : ℕ) → b < length to → a * length to + b < n → slice_index cells (a * length to + b) ≡ hop_by turned t (slice_index from a) (slice_index to b)
-
-pub filled_none : (turned : Bool) (t : Table) (from to cells : List ℕ) → length cells ≡ length from * length to → AreFilled turned t from to 0 cells
-filled_none turned t from to cells e = record { whole = e; hops = λ a b k below. absurd (omega arith) }
-
-pub filled_at : (turned : Bool) (t : Table) (from to cells : List ℕ) (n m : ℕ) → n ≡ m → AreFilled turned t from to n cells → AreFilled turned t from to m cells
-filled_at turned t from to cells n m e h = subst (λ (k : ℕ). AreFilled turned t from to k cells) e h
-
--- one number more
-pub filled_more : (turned : Bool) (t : Table) (from to cells : List ℕ) (i j x : ℕ) → i < length from → j < length to → AreFilled turned t from to (i * length to + j) cells
-    → x ≡ hop_by turned t (slice_index from i) (slice_index to j) → AreFilled turned t from to (i * length to + (j + 1)) (set cells (i * length to + j) x)
-filled_more turned t from to cells i j x g h f r =
-    let fits = row_fits i (length from) (length to) g in
-    let whole = f.whole in
-    let room : i * length to + j < length cells = omega arith in
-    record {
-      whole = length-set cells (i * length to + j) x ∙ f.whole;
-      hops = λ a b k below. elim (cases_lt (a * length to + b) (i * length to + j)) [
-        | inl less ↦ get_or-set_other cells (i * length to + j) (a * length to + b) x 0 (λ same. absurd (omega (arith, same))) ∙ f.hops a b k less
-        | inr more ↦
-            let place : i * length to + j ≡ a * length to + b = omega arith in
-            let same = same_from_place a b i j (length to) k h (sym place) in
-            subst (λ (n : ℕ). slice_index (set cells (i * length to + j) x) n ≡ x) place (get_or-set_same cells (i * length to + j) x 0 room) ∙ r
-            ∙ ap (λ (n : ℕ). hop_by turned t (slice_index from n) (slice_index to j)) (sym same.0) ∙ ap (λ (n : ℕ). hop_by turned t (slice_index from a) (slice_index to n)) (sym same.1)
-      ];
-    }
-
 -- a part of a list is put anew
 pub put_at : (a k : ℕ) (xs ys : List ℕ) (n : ℕ) → a ≤ length xs → n < length ys → slice_index (put_mid a k xs ys) (a + n) ≡ slice_index ys n
 put_at a k xs ys n fits h =
@@ -65,30 +35,6 @@ put_before a k xs ys n fits h =
 -- what a list holds after it was lent whole
 pub written_back : (n : ℕ) (xs ys : List ℕ) → length xs ≡ n → xs ≡ take n (xs ++ ys)
 written_back n xs ys e = subst (λ (m : ℕ). xs ≡ take m (xs ++ ys)) e (sym (take-append_seam xs ys))
-
--- one row more
-pub filled_row : (turned : Bool) (t : Table) (from to cells filled : List ℕ) (i : ℕ) → AreFilled turned t from to (i * length to) cells
-    → length filled ≡ length cells → ((k : ℕ) → k < length to → slice_index filled (i * length to + k) ≡ hop_by turned t (slice_index from i) (slice_index to k))
-    → ((k : ℕ) → k < i * length to → slice_index filled k ≡ slice_index cells k) → AreFilled turned t from to ((i + 1) * length to) filled
-filled_row turned t from to cells filled i f sized ways kept =
-    let w = length to in
-    record {
-      whole = sized ∙ f.whole;
-      hops = λ a b k below. elim (cases_lt (a * w + b) (i * w)) [
-        | inl less ↦ kept (a * w + b) less ∙ f.hops a b k less
-        | inr more ↦
-            let place : a * w + b ≡ i * w + (a * w + b - i * w) = omega arith in
-            let same = same_from_place a b i (a * w + b - i * w) w k (omega arith) place in
-            let here : i * w + b ≡ a * w + b = ap (λ (n : ℕ). n * w + b) (sym same.0) in
-            subst (λ (n : ℕ). slice_index filled n ≡ hop_by turned t (slice_index from i) (slice_index to b)) here (ways b k)
-            ∙ ap (λ (n : ℕ). hop_by turned t (slice_index from n) (slice_index to b)) (sym same.0)
-      ];
-    }
-
--- the whole table
-pub filled_all : (turned : Bool) (t : Table) (from to cells : List ℕ) (n : ℕ) → n ≡ length from * length to → AreFilled turned t from to n cells
-    → AreHops turned t from to (length from * length to) cells
-filled_all turned t from to cells n e f = let g = filled_at turned t from to cells n (length from * length to) e f in record { counted = g.whole; hops = g.hops }
 
 -- the rows up to one of a table that lacks a column
 pub record AreFilledFrom (turned : Bool) (t : Table) (from to : List ℕ) (row column n : ℕ) (cells : List ℕ) : Type 0 where
@@ -118,6 +64,56 @@ filled_from turned t from to cells filled row column i few f sized ways kept =
             (ap (λ (n : ℕ). slice_index filled n) (sym place) ∙ ways (b - column) (omega arith) ∙ ap (λ (n : ℕ). hop_by turned t (slice_index from i) n) here)
       ];
     }
+
+-- a table that is turned: the rows before one, and the first numbers of this one
+pub record AreTurned (t : Table) (S : List ℕ) (i j : ℕ) (cells : List ℕ) : Type 0 where
+  pub rows : AreFilledFrom true t S S 1 0 i cells
+  pub row : (b : ℕ) → b < j → slice_index cells (i * length S + b) ≡ hop_by true t (slice_index S i) (slice_index S b)
+
+pub turned_none : (t : Table) (S cells : List ℕ) → length cells ≡ length S * length S → AreFilledFrom true t S S 1 0 1 cells
+turned_none t S cells e = record { whole = e; hops = λ a b la ha lb hb. absurd (omega arith) }
+
+pub turned_begin : (t : Table) (S cells : List ℕ) (i : ℕ) → AreFilledFrom true t S S 1 0 i cells → AreTurned t S i 0 cells
+turned_begin t S cells i f = record { rows = f; row = λ b h. absurd (omega arith) }
+
+-- one number more
+pub turned_more : (t : Table) (S cells : List ℕ) (i j x : ℕ) → i < length S → j < length S → AreTurned t S i j cells
+    → x ≡ hop_by true t (slice_index S i) (slice_index S j) → AreTurned t S i (j + 1) (set cells (i * length S + j) x)
+turned_more t S cells i j x g h f r =
+    let w = length S in
+    let fits = row_fits i w w g in
+    let whole = f.rows.whole in
+    let room : i * w + j < length cells = omega arith in
+    record {
+      rows = record {
+        whole = length-set cells (i * w + j) x ∙ f.rows.whole;
+        hops = λ a b la ha lb hb.
+            let before = row_fits a i w ha in
+            get_or-set_other cells (i * w + j) (a * w + b) x 0 (λ same. absurd (omega (arith, same))) ∙ f.rows.hops a b la ha lb hb;
+      };
+      row = λ b below. elim (cases_lt b j) [
+        | inl less ↦ get_or-set_other cells (i * w + j) (i * w + b) x 0 (λ same. absurd (omega (arith, same))) ∙ f.row b less
+        | inr more ↦
+            let same : j ≡ b = omega arith in
+            subst (λ (n : ℕ). slice_index (set cells (i * w + j) x) (i * w + n) ≡ hop_by true t (slice_index S i) (slice_index S n)) same
+            (get_or-set_same cells (i * w + j) x 0 room ∙ r)
+      ];
+    }
+
+-- one row more
+pub turned_row : (t : Table) (S cells : List ℕ) (i j : ℕ) → length S ≤ j + 1 → AreTurned t S i j cells → AreFilledFrom true t S S 1 0 (i + 1) cells
+turned_row t S cells i j all f = record {
+  whole = f.rows.whole;
+  hops = λ a b la ha lb hb. elim (cases_lt a i) [
+    | inl less ↦ f.rows.hops a b la less lb hb
+    | inr more ↦
+        let same : i ≡ a = omega arith in
+        subst (λ (n : ℕ). slice_index cells (n * length S + b) ≡ hop_by true t (slice_index S n) (slice_index S b)) same (f.row b (omega arith))
+  ];
+}
+
+pub turned_all : (t : Table) (S cells : List ℕ) (i : ℕ) → length S ≤ i → AreFilledFrom true t S S 1 0 i cells → AreHopsFrom true t S S 1 0 cells
+turned_all t S cells i all f = record { counted = f.whole; hops = λ a b la ha lb hb. f.hops a b la (omega arith) lb hb }
 
 -- a callback answers on each way that is driven
 hop_away : (t : Table) (i j : ℕ) → (i ≡ 0 → j ≢ 0) → hop t i j ≡ entry t i j
@@ -204,14 +200,10 @@ pub asked_column : (t : Table) (j : ℕ) (from row : List ℕ) → row ≡ map (
 asked_column t j from row e k h = ap (λ (xs : List ℕ). slice_index xs k) e ∙ get_or-map (λ i. entry t i j) from k 0 0 h
 
 -- a way between two stops that follow one another, as it is driven or driven back
-pub steps_by : (turned : Bool) (t : Table) (S cells : List ℕ) (i j : ℕ) → AreHops false t S S (length S * length S) cells → i + 1 ≡ j → j < length S
-    → (if turned then slice_index cells ((i + 1) * length S + i) else slice_index cells (i * length S + (i + 1))) ≡ hop_by turned t (slice_index S i) (slice_index S j)
-steps_by true t S cells i j all e h =
-    let fits = row_fits (i + 1) (length S) (length S) (omega arith) in
-    all.hops (i + 1) i (omega arith) (omega arith) ∙ ap (λ (k : ℕ). hop t (slice_index S k) (slice_index S i)) e
-steps_by false t S cells i j all e h =
-    let fits = row_fits i (length S) (length S) (omega arith) in
-    all.hops i (i + 1) (omega arith) (omega arith) ∙ ap (λ (k : ℕ). hop t (slice_index S i) (slice_index S k)) e
+pub steps_by : (turned : Bool) (t : Table) (S cells : List ℕ) (i : ℕ) → AreHopsFrom false t S S 0 1 cells → 1 ≤ i → i + 2 < length S
+    → (if turned then slice_index cells ((i + 1) * length S + i) else slice_index cells (i * length S + (i + 1))) ≡ hop_by turned t (slice_index S i) (slice_index S (i + 1))
+steps_by true t S cells i all l h = all.hops (i + 1) i (omega arith) (omega arith) l (omega arith)
+steps_by false t S cells i all l h = all.hops i (i + 1) (omega arith) (omega arith) (omega arith) (omega arith)
 
 -- one edge more
 pub edges_more : (t : Table) (stops edges : List ℕ) (x : ℕ) → ((k : ℕ) → k < length edges → slice_index edges k ≡ hop t (slice_index stops k) (slice_index stops (k + 1)))
@@ -235,20 +227,31 @@ along_more f R k h =
     ∙ ap (λ (x : ℕ). along f (0 ∷ R) k + x) (add-zero (f (slice_index (0 ∷ R) k) (slice_index R k)))
     ∙ ap (λ (n : ℕ). along f (0 ∷ R) k + f (slice_index (0 ∷ R) k) (slice_index (0 ∷ R) n)) (sym e)
 
-pub sums_more : (turned : Bool) (t : Table) (R sums : List ℕ) (n x : ℕ) → 1 ≤ n → n ≤ length R → AreSums turned t (0 ∷ R) n sums
-    → x ≡ slice_index sums (n - 1) + hop_by turned t (slice_index (0 ∷ R) (n - 1)) (slice_index (0 ∷ R) n) → AreSums turned t (0 ∷ R) (n + 1) (sums ++ x ∷ [])
-sums_more turned t R sums n x low high all new = record {
+-- one sum more, which is the last one and one way more
+pub sums_more : (turned : Bool) (t : Table) (S sums : List ℕ) (n x : ℕ) → AreSums turned t S n sums
+    → x + hop_by turned t (slice_index S 0) (slice_index S 1) ≡ along (hop_by turned t) S n → AreSums turned t S (n + 1) (sums ++ x ∷ [])
+sums_more turned t S sums n x all new = record {
   counted = length-append sums (x ∷ []) ∙ ap (λ (m : ℕ). m + 1) all.counted;
-  sums = λ k h. elim (cases_lt k n) [
-    | inl less ↦ pushed_before sums x k (subst (λ (m : ℕ). k < m) (sym all.counted) less) ∙ all.sums k less
+  sums = λ k l h. elim (cases_lt k n) [
+    | inl less ↦
+        ap (λ (y : ℕ). y + hop_by turned t (slice_index S 0) (slice_index S 1)) (pushed_before sums x k (subst (λ (m : ℕ). k < m) (sym all.counted) less)) ∙ all.sums k l less
     | inr more ↦
         let same : k ≡ n = omega arith in
-        let back : n - 1 + 1 ≡ n = omega arith in
-        let one = all.sums (n - 1) (omega arith) in
-        let two = along_more (hop_by turned t) R (n - 1) (omega arith) in
-        let three : along (hop_by turned t) (0 ∷ R) n ≡ along (hop_by turned t) (0 ∷ R) (n - 1) + hop_by turned t (slice_index (0 ∷ R) (n - 1)) (slice_index (0 ∷ R) n) =
-        subst (λ (m : ℕ). along (hop_by turned t) (0 ∷ R) m ≡ along (hop_by turned t) (0 ∷ R) (n - 1) + hop_by turned t (slice_index (0 ∷ R) (n - 1)) (slice_index (0 ∷ R) m)) back two in
-        pushed_last sums x k (all.counted ∙ sym same) ∙ new
-        ∙ ap (λ (y : ℕ). y + hop_by turned t (slice_index (0 ∷ R) (n - 1)) (slice_index (0 ∷ R) n)) one ∙ sym three ∙ ap (along (hop_by turned t) (0 ∷ R)) (sym same)
+        ap (λ (y : ℕ). y + hop_by turned t (slice_index S 0) (slice_index S 1)) (pushed_last sums x k (all.counted ∙ sym same)) ∙ new ∙ ap (along (hop_by turned t) S) (sym same)
   ];
 }
+
+pub sums_none : (turned : Bool) (t : Table) (S : List ℕ) → AreSums turned t S 1 (0 ∷ [])
+sums_none turned t S = record { counted = refl; sums = λ k l h. absurd (omega arith) }
+
+-- the first way alone
+pub first_way : (turned : Bool) (t : Table) (S R : List ℕ) → S ≡ 0 ∷ R → 1 ≤ length R → 0 + hop_by turned t (slice_index S 0) (slice_index S 1) ≡ along (hop_by turned t) S 1
+first_way turned t S R e h = rw e (sym (along_more (hop_by turned t) R 0 (omega arith)))
+
+-- one way more of a sum that lacks the first one
+pub next_way : (turned : Bool) (t : Table) (S R : List ℕ) (k sum x : ℕ) → S ≡ 0 ∷ R → k < length R
+    → sum + hop_by turned t (slice_index S 0) (slice_index S 1) ≡ along (hop_by turned t) S k → x ≡ hop_by turned t (slice_index S k) (slice_index S (k + 1))
+    → sum + x + hop_by turned t (slice_index S 0) (slice_index S 1) ≡ along (hop_by turned t) S (k + 1)
+next_way turned t S R k sum x e h so_far new =
+    let more : along (hop_by turned t) S (k + 1) ≡ along (hop_by turned t) S k + hop_by turned t (slice_index S k) (slice_index S (k + 1)) = rw e (along_more (hop_by turned t) R k h) in
+    omega arith

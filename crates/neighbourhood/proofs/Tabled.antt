@@ -6,7 +6,7 @@ use Rattle.pin_core.specs.View.{ViewState}
 use Rattle.move_core.specs.declared.moves.Move.{Move}
 use Rattle.move_core.specs.declared.moves.Move.TheVariants.{Shift, Swap, Reverse, Cross}
 use Rattle.move_core.specs.Moves.{is_possible}
-use Rattle.neighbourhood.specs.Ways.{hop, hop_by, turned, stops, AreStops, AreHops, AreHopsFrom, AreEdges, AreSums}
+use Rattle.neighbourhood.specs.Ways.{hop, hop_by, turned, stops, AreStops, AreHopsFrom, AreEdges, AreSums}
 use Rattle.neighbourhood.specs.Savings.{shift_lost, shift_gained, swap_lost, swap_gained, next_lost, next_gained, cross_lost, cross_gained, reverse_lost, reverse_gained}
 use Rattle.neighbourhood.specs.Search.{IsSaving}
 use Rattle.neighbourhood.specs.Laws.{Laws}
@@ -21,28 +21,11 @@ edge_at t stops edges k e low high =
     let back : k - 1 + 1 ≡ k = omega arith in
     e.hops (k - 1) (omega arith) ∙ ap (λ (n : ℕ). hop t (slice_index stops (k - 1)) (slice_index stops n)) back
 
--- a row of a table: the ways from one stop to others, or back to it
-abbrev pub IsRow : Bool → Table → List ℕ → List ℕ → ℕ → List ℕ → Type 0
-IsRow turned t from to a cells = (k : ℕ) → k < length to → slice_index cells k ≡ hop_by turned t (slice_index from a) (slice_index to k)
-
--- a row lies inside its table
-pub row_room : (turned : Bool) (t : Table) (from to cells : List ℕ) (a : ℕ) → AreHops turned t from to (length from * length to) cells → a < length from
-    → a * length to + length to ≤ length cells
-row_room turned t from to cells a all h =
-    let fits = row_fits a (length from) (length to) h in
-    let c = all.counted in
-    omega arith
-
-pub row_of : (turned : Bool) (t : Table) (from to cells row : List ℕ) (a : ℕ) → AreHops turned t from to (length from * length to) cells → a < length from
-    → ((k : ℕ) → k < length to → slice_index row k ≡ slice_index cells (a * length to + k)) → IsRow turned t from to a row
-row_of turned t from to cells row a all h is k b =
-    let fits = row_fits a (length from) (length to) h in
-    is k b ∙ all.hops a k b (omega arith)
-
--- the same of a table that lacks a row and a column
+-- a row of a table that lacks a row and a column: the ways from one stop to others, or back to it
 abbrev pub IsRowFrom : Bool → Table → List ℕ → List ℕ → ℕ → ℕ → List ℕ → Type 0
 IsRowFrom turned t from to column a cells = (k : ℕ) → column ≤ k → k + 1 < length to + column → slice_index cells k ≡ hop_by turned t (slice_index from a) (slice_index to k)
 
+-- it lies inside its table
 pub room_from : (turned : Bool) (t : Table) (from to cells : List ℕ) (row column a : ℕ) → AreHopsFrom turned t from to row column cells → a < length from
     → a * length to + length to ≤ length cells
 room_from turned t from to cells row column a all h =
@@ -54,9 +37,6 @@ pub row_from : (turned : Bool) (t : Table) (from to cells one : List ℕ) (row c
     → row ≤ a → a + 1 < length from + row
     → ((k : ℕ) → k < length to → slice_index one k ≡ slice_index cells (a * length to + k)) → IsRowFrom turned t from to column a one
 row_from turned t from to cells one row column a few all low high is k l h = is k (omega arith) ∙ all.hops a k low high l h
-
-pub row_part : (turned : Bool) (t : Table) (from to one : List ℕ) (column a : ℕ) → column ≤ 1 → IsRow turned t from to a one → IsRowFrom turned t from to column a one
-row_part turned t from to one column a few is k l h = is k (omega arith)
 
 -- what a row knows of its costs, by numbers
 pub shift_tabled : (s : Setting) (view : ViewState) (mv : Move) (t : Table) (from to from_edges to_edges into out : List ℕ) (p m o at gained : ℕ)
@@ -99,7 +79,7 @@ swap_tabled s view mv t from to from_edges to_edges before here next back p q sa
 
 pub next_tabled : (s : Setting) (view : ViewState) (mv : Move) (t : Table) (from edges before here back : List ℕ) (p : ℕ)
     → IsSaving s view mv (next_lost t from p) (next_gained t from p) → 1 ≤ p → p + 2 < length from
-    → AreEdges t from edges → IsRow false t from from (p - 1) before → IsRow false t from from p here → IsRow true t from from p back
+    → AreEdges t from edges → IsRowFrom false t from from 1 (p - 1) before → IsRowFrom false t from from 1 p here → IsRowFrom true t from from 0 p back
     → IsSaving s view mv (slice_index edges (p - 1) + slice_index edges p + slice_index edges (p + 1))
     (slice_index before (p + 1) + slice_index back (p + 1) + slice_index here (p + 2))
 next_tabled s view mv t from edges before here back p saving lp hp fe b h k =
@@ -109,9 +89,9 @@ next_tabled s view mv t from edges before here back p saving lp hp fe b h k =
     let x2 = fe.hops p (omega arith) in
     let x3 : slice_index edges (p + 1) ≡ hop t (slice_index from (p + 1)) (slice_index from (p + 2)) =
     fe.hops (p + 1) (omega arith) ∙ ap (λ (n : ℕ). hop t (slice_index from (p + 1)) (slice_index from n)) z in
-    let x4 = b (p + 1) (omega arith) in
-    let x5 = k (p + 1) (omega arith) in
-    let x6 = h (p + 2) hp in
+    let x4 = b (p + 1) (omega arith) (omega arith) in
+    let x5 = k (p + 1) (omega arith) (omega arith) in
+    let x6 = h (p + 2) (omega arith) (omega arith) in
     omega arith
 
 pub cross_tabled : (s : Setting) (view : ViewState) (mv : Move) (t : Table) (from to from_edges to_edges here next : List ℕ) (k l : ℕ)
@@ -129,20 +109,20 @@ cross_tabled s view mv t from to from_edges to_edges here next k l saving hk hl 
 
 pub reverse_tabled : (s : Setting) (view : ViewState) (mv : Move) (t : Table) (from edges sums back_sums before here : List ℕ) (i j : ℕ)
     → IsSaving s view mv (reverse_lost t from i j) (reverse_gained t from i j) → 1 ≤ i → i < j → j + 1 < length from
-    → AreEdges t from edges → AreSums false t from (length from) sums → AreSums true t from (length from) back_sums
-    → IsRow false t from from (i - 1) before → IsRow false t from from i here
+    → AreEdges t from edges → AreSums false t from (length from - 1) sums → AreSums true t from (length from - 1) back_sums
+    → IsRowFrom false t from from 1 (i - 1) before → IsRowFrom false t from from 1 i here
     → IsSaving s view mv (slice_index edges (i - 1) + slice_index back_sums i + slice_index sums j + slice_index edges j)
     (slice_index sums i + slice_index before j + slice_index back_sums j + slice_index here (j + 1))
 reverse_tabled s view mv t from edges sums back_sums before here i j saving li order hj fe f g b h =
     let fc = fe.counted in
     let x1 = edge_at t from edges i fe li (omega arith) in
     let x2 = fe.hops j (omega arith) in
-    let x3 = f.sums i (omega arith) in
-    let x4 = f.sums j (omega arith) in
-    let x5 = g.sums i (omega arith) in
-    let x6 = g.sums j (omega arith) in
-    let x7 = b j (omega arith) in
-    let x8 = h (j + 1) hj in
+    let x3 = f.sums i li (omega arith) in
+    let x4 = f.sums j (omega arith) (omega arith) in
+    let x5 = g.sums i li (omega arith) in
+    let x6 = g.sums j (omega arith) (omega arith) in
+    let x7 = b j (omega arith) (omega arith) in
+    let x8 = h (j + 1) (omega arith) (omega arith) in
     omega arith
 
 module _ (law : Laws) (s : Setting) (view : ViewState) where

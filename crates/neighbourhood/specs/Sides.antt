@@ -1,9 +1,9 @@
 -- What is gathered before a search: the stops of the vehicles, and what the ways between them cost.
-use Rattle.std.specs.Prelude.{◌≡◌, ℕ, ◌*◌, ◌≤◌, ◌^◌, true, false, List, ◌∷◌, ◌++◌, length, All}
+use Rattle.std.specs.Prelude.{◌≡◌, ℕ, ◌-◌, ◌≤◌, ◌^◌, true, false, List, ◌∷◌, ◌++◌, length, All}
 use Rattle.callback_store.specs.Tables.{Table, table_at}
 use Rattle.dimension_core.specs.Setting.{Setting}
 use Rattle.plan_core.specs.Plan.{route_at}
-use Rattle.neighbourhood.specs.Ways.{stops, AreEdges, AreHops, AreHopsFrom, AreSums}
+use Rattle.neighbourhood.specs.Ways.{stops, AreEdges, AreHopsFrom, AreSums}
 
 -- the stops of two vehicles, one after the other: the depot between them is the last stop of the one and the first of the other
 abbrev pub stops_of_both : List ℕ → List ℕ → List ℕ
@@ -23,11 +23,7 @@ pub record TwoWays : Type 0 where
   pub out : List ℕ
   pub into : List ℕ
 
-pub record AreTwoWays (t : Table) (from to : List ℕ) (ways : TwoWays) : Type 0 where
-  pub out : AreHops false t from to (length from * length to) ways.out
-  pub into : AreHops true t from to (length from * length to) ways.into
-
--- the same as moves between two vehicles need them: none goes from the last stop of one or to the first of the other
+-- none goes from the last stop of the one side or to the first of the other: no move needs these
 pub record AreWaysBetween (t : Table) (from to : List ℕ) (ways : TwoWays) : Type 0 where
   pub out : AreHopsFrom false t from to 0 1 ways.out
   pub into : AreHopsFrom true t from to 1 0 ways.into
@@ -43,6 +39,6 @@ pub record AlongState : Type 0 where
 pub record IsAlong (t : Table) (stops : List ℕ) (along : AlongState) : Type 0 where
   pub edges : AreEdges t stops along.edges
   pub most : All (λ x. x ≤ along.most) along.edges
-  pub sums : AreSums false t stops (length stops) along.sums
-  pub back_sums : AreSums true t stops (length stops) along.back_sums
+  pub sums : AreSums false t stops (length stops - 1) along.sums
+  pub back_sums : AreSums true t stops (length stops - 1) along.back_sums
   pub small : All (λ x. x ≤ 2 ^ 42) along.sums × All (λ x. x ≤ 2 ^ 42) along.back_sums

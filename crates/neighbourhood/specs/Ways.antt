@@ -40,11 +40,6 @@ hop_by turned t i j = if turned then hop t j i else hop t i j
 abbrev pub entry_by : Bool → Table → ℕ → ℕ → ℕ
 entry_by turned t i j = if turned then entry t j i else entry t i j
 
--- the first n numbers of a table: the ways from some stops to others, row by row, or back
-pub record AreHops (turned : Bool) (t : Table) (from to : List ℕ) (n : ℕ) (cells : List ℕ) : Type 0 where
-  pub counted : length cells ≡ n
-  pub hops : (a b : ℕ) → b < length to → a * length to + b < n → slice_index cells (a * length to + b) ≡ hop_by turned t (slice_index from a) (slice_index to b)
-
 -- the ways from some stops to others, row by row, or back, from a row and a column on, without the last ones where these are the first
 pub record AreHopsFrom (turned : Bool) (t : Table) (from to : List ℕ) (row column : ℕ) (cells : List ℕ) : Type 0 where
   pub counted : length cells ≡ length from * length to
@@ -56,10 +51,10 @@ pub record AreEdges (t : Table) (stops : List ℕ) (edges : List ℕ) : Type 0 w
   pub counted : length edges + 1 ≡ length stops
   pub hops : (k : ℕ) → k < length edges → slice_index edges k ≡ hop t (slice_index stops k) (slice_index stops (k + 1))
 
--- the ways over the first k stops, or back, for each k
+-- the ways over the first k stops, or back, without the first of these ways, for each k from 1 on
 pub record AreSums (turned : Bool) (t : Table) (stops : List ℕ) (n : ℕ) (cells : List ℕ) : Type 0 where
   pub counted : length cells ≡ n
-  pub sums : (k : ℕ) → k < n → slice_index cells k ≡ along (hop_by turned t) stops k
+  pub sums : (k : ℕ) → 1 ≤ k → k < n → slice_index cells k + hop_by turned t (slice_index stops 0) (slice_index stops 1) ≡ along (hop_by turned t) stops k
 
 -- some customers as they stand, or driven back
 abbrev pub way_of : Bool → List ℕ → List ℕ

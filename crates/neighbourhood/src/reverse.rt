@@ -9,7 +9,7 @@ ghost use Rattle.neighbourhood.specs.View.{IsViewOf};
 ghost use Rattle.neighbourhood.specs.Kept.{AreKept};
 ghost use Rattle.neighbourhood.specs.Laws.{Laws};
 ghost use Rattle.neighbourhood.specs.Search.{IsBestSoFar, IsSaving};
-ghost use Rattle.neighbourhood.specs.Ways.{AreStops, AreEdges, AreHops, AreSums};
+ghost use Rattle.neighbourhood.specs.Ways.{AreStops, AreEdges, AreHopsFrom, AreSums};
 
 use crate::allowed::first_free;
 use crate::best::better;
@@ -133,10 +133,10 @@ fn reverse_from(
     requires first { (1 ≤ first) × (first + 1 < length from.now) }
     requires from { AreStops (setting setup.now).customers view.now.routes v from.now }
     requires edges { AreEdges (table_at (setting setup.now).tables (setting setup.now).cost) from.now edges.now }
-    requires sums { AreSums false (table_at (setting setup.now).tables (setting setup.now).cost) from.now (length from.now) sums.now }
-    requires back_sums { AreSums true (table_at (setting setup.now).tables (setting setup.now).cost) from.now (length from.now) back_sums.now }
+    requires sums { AreSums false (table_at (setting setup.now).tables (setting setup.now).cost) from.now (length from.now - 1) sums.now }
+    requires back_sums { AreSums true (table_at (setting setup.now).tables (setting setup.now).cost) from.now (length from.now - 1) back_sums.now }
     requires small { All (λ x. x ≤ 2 ^ 42) sums.now × All (λ x. x ≤ 2 ^ 42) back_sums.now }
-    requires out { AreHops false (table_at (setting setup.now).tables (setting setup.now).cost) from.now from.now (length from.now * length from.now) out.now }
+    requires out { AreHopsFrom false (table_at (setting setup.now).tables (setting setup.now).cost) from.now from.now 0 1 out.now }
     requires best { IsBestSoFar (scope bounded (setting setup.now)) view.now skip.now v v (3 ∷ v ∷ first ∷ (first + 1) ∷ []) best }
     ensures { IsBestSoFar (scope bounded (setting setup.now)) view.now skip.now v v (3 ∷ v ∷ first ∷ (length from.now - 1) ∷ []) result }
 {
@@ -190,10 +190,10 @@ pub(crate) fn best_reverse(
     requires kept { AreKept (setting setup.now) view.now.routes v v kept.now }
     requires from { AreStops (setting setup.now).customers view.now.routes v from.now }
     requires edges { AreEdges (table_at (setting setup.now).tables (setting setup.now).cost) from.now edges.now }
-    requires sums { AreSums false (table_at (setting setup.now).tables (setting setup.now).cost) from.now (length from.now) sums.now }
-    requires back_sums { AreSums true (table_at (setting setup.now).tables (setting setup.now).cost) from.now (length from.now) back_sums.now }
+    requires sums { AreSums false (table_at (setting setup.now).tables (setting setup.now).cost) from.now (length from.now - 1) sums.now }
+    requires back_sums { AreSums true (table_at (setting setup.now).tables (setting setup.now).cost) from.now (length from.now - 1) back_sums.now }
     requires small { All (λ x. x ≤ 2 ^ 42) sums.now × All (λ x. x ≤ 2 ^ 42) back_sums.now }
-    requires out { AreHops false (table_at (setting setup.now).tables (setting setup.now).cost) from.now from.now (length from.now * length from.now) out.now }
+    requires out { AreHopsFrom false (table_at (setting setup.now).tables (setting setup.now).cost) from.now from.now 0 1 out.now }
     requires best { IsBestSoFar (scope bounded (setting setup.now)) view.now skip.now v v (3 ∷ []) best }
     ensures { IsBestSoFar (scope bounded (setting setup.now)) view.now skip.now v v (4 ∷ []) result }
 {

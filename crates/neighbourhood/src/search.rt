@@ -7,7 +7,7 @@ ghost use Rattle.neighbourhood.specs.Best.{IsBest, IsIdle};
 ghost use Rattle.neighbourhood.specs.Kept.{AreKept};
 ghost use Rattle.neighbourhood.specs.Laws.{Laws};
 ghost use Rattle.neighbourhood.specs.Scope.{scope};
-ghost use Rattle.neighbourhood.specs.Sides.{AreTwoWays, AreWaysBetween, IsAlong};
+ghost use Rattle.neighbourhood.specs.Sides.{AreWaysBetween, IsAlong};
 ghost use Rattle.neighbourhood.specs.Ways.{AreStops, AreEdges};
 
 use crate::allowed::allows;
@@ -42,7 +42,7 @@ fn best_of_one(
     requires laws { Laws }
     requires view { IsViewOf (setting setup.now) view.now }
     requires from { AreStops (setting setup.now).customers view.now.routes v from.now }
-    requires ways { AreTwoWays (table_at (setting setup.now).tables (setting setup.now).cost) from.now from.now ways.now }
+    requires ways { AreWaysBetween (table_at (setting setup.now).tables (setting setup.now).cost) from.now from.now ways.now }
     requires along { IsAlong (table_at (setting setup.now).tables (setting setup.now).cost) from.now along.now }
     requires kept { AreKept (setting setup.now) view.now.routes v v kept.now }
     ensures { MatchOption result (IsIdle (scope bounded (setting setup.now)) view.now skip.now v v) (λ p. IsBest (scope bounded (setting setup.now)) view.now skip.now v v p.0 p.1) }

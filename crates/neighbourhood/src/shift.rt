@@ -12,7 +12,7 @@ ghost use Rattle.neighbourhood.specs.View.{IsViewOf};
 ghost use Rattle.neighbourhood.specs.Kept.{AreKept};
 ghost use Rattle.neighbourhood.specs.Laws.{Laws};
 ghost use Rattle.neighbourhood.specs.Search.{AreLoose, IsBestSoFar, IsSaving};
-ghost use Rattle.neighbourhood.specs.Ways.{AreStops, AreEdges, AreHops, AreHopsFrom};
+ghost use Rattle.neighbourhood.specs.Ways.{AreStops, AreEdges, AreHopsFrom};
 
 use crate::allowed::{first_free, loose_from};
 use crate::best::{better, gain_of};
@@ -265,8 +265,8 @@ fn shift_within(
     requires from { AreStops (setting setup.now).customers view.now.routes v from.now }
     requires edges { AreEdges (table_at (setting setup.now).tables (setting setup.now).cost) from.now edges.now }
     requires most { All (λ x. x ≤ most) edges.now }
-    requires out { AreHops false (table_at (setting setup.now).tables (setting setup.now).cost) from.now from.now (length from.now * length from.now) out.now }
-    requires into { AreHops true (table_at (setting setup.now).tables (setting setup.now).cost) from.now from.now (length from.now * length from.now) into.now }
+    requires out { AreHopsFrom false (table_at (setting setup.now).tables (setting setup.now).cost) from.now from.now 0 1 out.now }
+    requires into { AreHopsFrom true (table_at (setting setup.now).tables (setting setup.now).cost) from.now from.now 1 0 into.now }
     requires best { IsBestSoFar (scope bounded (setting setup.now)) view.now skip.now v v (1 ∷ v ∷ place ∷ count ∷ v ∷ 1 ∷ []) best }
     ensures { IsBestSoFar (scope bounded (setting setup.now)) view.now skip.now v v (1 ∷ v ∷ place ∷ count ∷ v ∷ (length from.now - count) ∷ []) result }
 {
@@ -332,8 +332,8 @@ pub(crate) fn best_shift_inside(
     requires from { AreStops (setting setup.now).customers view.now.routes v from.now }
     requires edges { AreEdges (table_at (setting setup.now).tables (setting setup.now).cost) from.now edges.now }
     requires most { All (λ x. x ≤ most) edges.now }
-    requires out { AreHops false (table_at (setting setup.now).tables (setting setup.now).cost) from.now from.now (length from.now * length from.now) out.now }
-    requires into { AreHops true (table_at (setting setup.now).tables (setting setup.now).cost) from.now from.now (length from.now * length from.now) into.now }
+    requires out { AreHopsFrom false (table_at (setting setup.now).tables (setting setup.now).cost) from.now from.now 0 1 out.now }
+    requires into { AreHopsFrom true (table_at (setting setup.now).tables (setting setup.now).cost) from.now from.now 1 0 into.now }
     requires best { IsBestSoFar (scope bounded (setting setup.now)) view.now skip.now v v (1 ∷ []) best }
     ensures { IsBestSoFar (scope bounded (setting setup.now)) view.now skip.now v v (2 ∷ []) result }
 {

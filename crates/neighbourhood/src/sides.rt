@@ -5,12 +5,12 @@ ghost use Rattle.callback_store.specs.Tables.{table_at};
 ghost use Rattle.dimension_core.specs.Setup.{setting};
 ghost use Rattle.plan_core.specs.Plan.{route_at};
 ghost use Rattle.neighbourhood.specs.Laws.{Laws};
-ghost use Rattle.neighbourhood.specs.Sides.{AreSides, AreTwoWays, AreWaysBetween, IsAlong, stops_of_both};
+ghost use Rattle.neighbourhood.specs.Sides.{AreSides, AreWaysBetween, IsAlong, stops_of_both};
 ghost use Rattle.neighbourhood.specs.View.{IsViewOf};
-ghost use Rattle.neighbourhood.specs.Ways.{AreStops, AreEdges, AreHops};
+ghost use Rattle.neighbourhood.specs.Ways.{AreStops, AreEdges, AreHopsFrom};
 
 use crate::hops::stops_of_both;
-use crate::table::{edges_in, edges_of, most_of, sums_in, table_of, turned_of, ways_from};
+use crate::table::{edges_in, edges_of, most_of, sums_in, turned_of, ways_from};
 use callback_store::Meter;
 use dimension_core::Setup;
 use pin_core::View;
@@ -141,10 +141,11 @@ pub(crate) fn ways_among(
     meter: &mut Meter,
 ) -> Result<Ways, AllocError>
     requires known { All (λ c. c ≤ (setting setup.now).customers) stops.now }
+    requires some { 1 ≤ length stops.now }
     requires short { length stops.now ≤ 1002 }
-    ensures { IfOk result (λ ways. AreTwoWays (table_at (setting setup.now).tables (setting setup.now).cost) stops.now stops.now ways) }
+    ensures { IfOk result (λ ways. AreWaysBetween (table_at (setting setup.now).tables (setting setup.now).cost) stops.now stops.now ways) }
 {
-    let out = table_of(alloc, setup, false, stops, stops, meter)?;
+    let out = ways_from(alloc, setup, false, stops, stops, 0, 1, meter)?;
     let into = turned_of(alloc, setup, stops, &out)?;
     Ok(Ways { out, into })
 }
@@ -156,8 +157,9 @@ pub(crate) fn along_of(
     stops: &[u32],
     cells: &[u32],
 ) -> Result<Along, AllocError>
-    requires cells { AreHops false (table_at (setting setup.now).tables (setting setup.now).cost) stops.now stops.now (length stops.now * length stops.now) cells.now }
+    requires cells { AreHopsFrom false (table_at (setting setup.now).tables (setting setup.now).cost) stops.now stops.now 0 1 cells.now }
     requires depot { (rest : List ℕ) × (stops.now ≡ 0 ∷ rest) }
+    requires long { 2 ≤ length stops.now }
     requires short { length stops.now ≤ 1002 }
     ensures { IfOk result (λ along. IsAlong (table_at (setting setup.now).tables (setting setup.now).cost) stops.now along) }
 {

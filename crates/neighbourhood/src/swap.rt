@@ -9,7 +9,7 @@ ghost use Rattle.neighbourhood.specs.View.{IsViewOf};
 ghost use Rattle.neighbourhood.specs.Kept.{AreKept};
 ghost use Rattle.neighbourhood.specs.Laws.{Laws};
 ghost use Rattle.neighbourhood.specs.Search.{IsBestSoFar, IsSaving};
-ghost use Rattle.neighbourhood.specs.Ways.{AreStops, AreEdges, AreHops, AreHopsFrom};
+ghost use Rattle.neighbourhood.specs.Ways.{AreStops, AreEdges, AreHopsFrom};
 
 use crate::allowed::{first_free, may_leave};
 use crate::best::better;
@@ -257,8 +257,8 @@ fn swap_next(
     requires place { (1 ≤ place) × (place + 2 < length from.now) }
     requires from { AreStops (setting setup.now).customers view.now.routes v from.now }
     requires edges { AreEdges (table_at (setting setup.now).tables (setting setup.now).cost) from.now edges.now }
-    requires out { AreHops false (table_at (setting setup.now).tables (setting setup.now).cost) from.now from.now (length from.now * length from.now) out.now }
-    requires into { AreHops true (table_at (setting setup.now).tables (setting setup.now).cost) from.now from.now (length from.now * length from.now) into.now }
+    requires out { AreHopsFrom false (table_at (setting setup.now).tables (setting setup.now).cost) from.now from.now 0 1 out.now }
+    requires into { AreHopsFrom true (table_at (setting setup.now).tables (setting setup.now).cost) from.now from.now 1 0 into.now }
     requires best { IsBestSoFar (scope bounded (setting setup.now)) view.now skip.now v v (2 ∷ v ∷ place ∷ v ∷ (place + 1) ∷ []) best }
     ensures { IsBestSoFar (scope bounded (setting setup.now)) view.now skip.now v v (2 ∷ v ∷ place ∷ v ∷ (place + 2) ∷ []) result }
 {
@@ -305,8 +305,8 @@ fn swap_within(
     requires from { AreStops (setting setup.now).customers view.now.routes v from.now }
     requires edges { AreEdges (table_at (setting setup.now).tables (setting setup.now).cost) from.now edges.now }
     requires most { All (λ x. x ≤ most) edges.now }
-    requires out { AreHops false (table_at (setting setup.now).tables (setting setup.now).cost) from.now from.now (length from.now * length from.now) out.now }
-    requires into { AreHops true (table_at (setting setup.now).tables (setting setup.now).cost) from.now from.now (length from.now * length from.now) into.now }
+    requires out { AreHopsFrom false (table_at (setting setup.now).tables (setting setup.now).cost) from.now from.now 0 1 out.now }
+    requires into { AreHopsFrom true (table_at (setting setup.now).tables (setting setup.now).cost) from.now from.now 1 0 into.now }
     requires best { IsBestSoFar (scope bounded (setting setup.now)) view.now skip.now v v (2 ∷ v ∷ place ∷ v ∷ (place + 1) ∷ []) best }
     ensures { IsBestSoFar (scope bounded (setting setup.now)) view.now skip.now v v (2 ∷ v ∷ place ∷ v ∷ (length from.now - 1) ∷ []) result }
 {
@@ -371,8 +371,8 @@ pub(crate) fn best_swap_inside(
     requires from { AreStops (setting setup.now).customers view.now.routes v from.now }
     requires edges { AreEdges (table_at (setting setup.now).tables (setting setup.now).cost) from.now edges.now }
     requires most { All (λ x. x ≤ most) edges.now }
-    requires out { AreHops false (table_at (setting setup.now).tables (setting setup.now).cost) from.now from.now (length from.now * length from.now) out.now }
-    requires into { AreHops true (table_at (setting setup.now).tables (setting setup.now).cost) from.now from.now (length from.now * length from.now) into.now }
+    requires out { AreHopsFrom false (table_at (setting setup.now).tables (setting setup.now).cost) from.now from.now 0 1 out.now }
+    requires into { AreHopsFrom true (table_at (setting setup.now).tables (setting setup.now).cost) from.now from.now 1 0 into.now }
     requires best { IsBestSoFar (scope bounded (setting setup.now)) view.now skip.now v v (2 ∷ []) best }
     ensures { IsBestSoFar (scope bounded (setting setup.now)) view.now skip.now v v (3 ∷ []) result }
 {

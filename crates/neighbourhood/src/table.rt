@@ -2,7 +2,7 @@
 ghost use Rattle.std.specs.Prelude.{◌≡◌, ◌≤◌, ◌<◌, ◌+◌, ◌-◌, ◌*◌, ◌^◌, ◌∷◌, ◌==◌, if◌then◌else◌, ℕ, true, false, List, length, slice_index, take, drop, All, IfOk};
 ghost use Rattle.callback_store.specs.Tables.{table_at};
 ghost use Rattle.dimension_core.specs.Setup.{setting};
-ghost use Rattle.neighbourhood.specs.Ways.{entry_by, hop_by, AreHops, AreHopsFrom, AreEdges, AreSums};
+ghost use Rattle.neighbourhood.specs.Ways.{entry_by, hop_by, AreHopsFrom, AreEdges, AreSums};
 
 use crate::hops::hop;
 use callback_store::Meter;
@@ -93,36 +93,6 @@ fn fill_at(
 /// What stands in a table before it is filled. Its bytes differ, so that a table is made by wide stores and not byte by byte.
 const UNFILLED: u32 = 1;
 
-/// What the ways from each of some stops to each of others cost, row by row, as they are driven or driven back.
-pub(crate) fn table_of(
-    alloc: Global,
-    setup: &Setup,
-    turned: bool,
-    from: &[u32],
-    to: &[u32],
-    meter: &mut Meter,
-) -> Result<Vec<u32>, AllocError>
-    requires from { All (λ c. c ≤ (setting setup.now).customers) from.now }
-    requires to { All (λ c. c ≤ (setting setup.now).customers) to.now }
-    requires short { (length from.now ≤ 1002) × (length to.now ≤ 1002) }
-    ensures { IfOk result (λ cells. AreHops turned (table_at (setting setup.now).tables (setting setup.now).cost) from.now to.now (length from.now * length to.now) cells.items) }
-{
-    let width = to.len();
-    let mut cells = vec![in alloc; UNFILLED; from.len() * width]?;
-    for i in 0..from.len() {
-        fill_at(
-            setup,
-            turned,
-            from[i],
-            to,
-            cells.as_mut_slice(),
-            i * width,
-            meter,
-        );
-    }
-    Ok(cells)
-}
-
 /// Some stops without the last one, or without the first one.
 #[inline(always)]
 fn all_but_one(stops: &[u32], begin: usize) -> &[u32]
@@ -133,8 +103,8 @@ fn all_but_one(stops: &[u32], begin: usize) -> &[u32]
     &stops[begin..begin + stops.len() - 1]
 }
 
-/// What `table_of` makes, without one row and one column: rows from `first` on and columns from `column` on are filled in, each of which
-/// is 0 or 1, one fewer than there are.
+/// What the ways from each of some stops to each of others cost, row by row, as they are driven or driven back, without one row and one
+/// column: rows from `first` on and columns from `column` on are filled in, each of which is 0 or 1, one fewer than there are.
 #[inline(always)]
 pub(crate) fn ways_from(
     alloc: Global,
@@ -219,14 +189,14 @@ pub(crate) fn turned_of(
     stops: &[u32],
     cells: &[u32],
 ) -> Result<Vec<u32>, AllocError>
-    requires cells { AreHops false (table_at (setting setup.now).tables (setting setup.now).cost) stops.now stops.now (length stops.now * length stops.now) cells.now }
+    requires cells { AreHopsFrom false (table_at (setting setup.now).tables (setting setup.now).cost) stops.now stops.now 0 1 cells.now }
     requires short { length stops.now ≤ 1002 }
-    ensures { IfOk result (λ back. AreHops true (table_at (setting setup.now).tables (setting setup.now).cost) stops.now stops.now (length stops.now * length stops.now) back.items) }
+    ensures { IfOk result (λ back. AreHopsFrom true (table_at (setting setup.now).tables (setting setup.now).cost) stops.now stops.now 1 0 back.items) }
 {
     let width = stops.len();
     let mut back = vec![in alloc; UNFILLED; width * width]?;
-    for i in 0..width {
-        for j in 0..width {
+    for i in 1..width {
+        for j in 0..width - 1 {
             back[i * width + j] = cell(cells, width, j, i);
         }
     }
@@ -240,7 +210,7 @@ pub(crate) fn edges_in(
     stops: &[u32],
     cells: &[u32],
 ) -> Result<Vec<u32>, AllocError>
-    requires cells { AreHops false (table_at (setting setup.now).tables (setting setup.now).cost) stops.now stops.now (length stops.now * length stops.now) cells.now }
+    requires cells { AreHopsFrom false (table_at (setting setup.now).tables (setting setup.now).cost) stops.now stops.now 0 1 cells.now }
     requires some { 1 ≤ length stops.now }
     ensures { IfOk result (λ edges. AreEdges (table_at (setting setup.now).tables (setting setup.now).cost) stops.now edges.items) }
 {
@@ -266,7 +236,8 @@ fn step(cells: &[u32], width: usize, turned: bool, from: usize) -> u32
     }
 }
 
-/// What the ways over the first stops cost together, for each number of them, as they are driven or driven back, by the ways between all.
+/// What the ways over the first stops cost together, but the first of these ways, for each number of stops from 1 on, as they are driven
+/// or driven back, by the ways between all. The last way is in no sum.
 pub(crate) fn sums_in(
     alloc: Global,
     setup: &Setup,
@@ -274,18 +245,20 @@ pub(crate) fn sums_in(
     stops: &[u32],
     cells: &[u32],
 ) -> Result<Vec<u64>, AllocError>
-    requires cells { AreHops false (table_at (setting setup.now).tables (setting setup.now).cost) stops.now stops.now (length stops.now * length stops.now) cells.now }
+    requires cells { AreHopsFrom false (table_at (setting setup.now).tables (setting setup.now).cost) stops.now stops.now 0 1 cells.now }
     requires depot { (rest : List ℕ) × (stops.now ≡ 0 ∷ rest) }
+    requires long { 2 ≤ length stops.now }
     requires short { length stops.now ≤ 1002 }
-    ensures sums { IfOk result (λ sums. AreSums turned (table_at (setting setup.now).tables (setting setup.now).cost) stops.now (length stops.now) sums.items) }
+    ensures sums { IfOk result (λ sums. AreSums turned (table_at (setting setup.now).tables (setting setup.now).cost) stops.now (length stops.now - 1) sums.items) }
     ensures small { IfOk result (λ sums. All (λ x. x ≤ 2 ^ 42) sums.items) }
 {
-    let mut sums = Vec::with_capacity(alloc, stops.len())?;
+    let last = stops.len() - 1;
+    let mut sums = Vec::with_capacity(alloc, last)?;
     let mut sum = 0u64;
     sums.push(sum)?;
-    for k in 1..stops.len() {
-        sum += u64::from(step(cells, stops.len(), turned, k - 1));
+    for k in 1..last {
         sums.push(sum)?;
+        sum += u64::from(step(cells, stops.len(), turned, k));
     }
     Ok(sums)
 }

@@ -7,7 +7,7 @@ use Rattle.neighbourhood.proofs.Scoping.{view_within}
 use Rattle.neighbourhood.proofs.Possible.{reverse_can}
 use Rattle.neighbourhood.proofs.Rows.{reverses_past}
 use Rattle.neighbourhood.proofs.Still.{reverse_free}
-use Rattle.neighbourhood.proofs.Tabled.{row_of, reverse_by, reverse_tabled}
+use Rattle.neighbourhood.proofs.Tabled.{row_from, reverse_by, reverse_tabled}
 use Rattle.neighbourhood.proofs.reverse.reverse_from.Goals as goal
 
 pub reverse_row-requires-clause-possible : goal.reverse_row-requires-clause-possible
@@ -30,8 +30,8 @@ reverse_row-requires-clause-saving g c =
     let saving = reverse_by r.laws s c.args.view.now c.args.v c.args.first last c.args.from.now r.view.plan r.from can in
     rw (f) (reverse_tabled s c.args.view.now (Reverse c.args.v c.args.first last) t c.args.from.now c.args.edges.now c.args.sums.now c.args.back_sums.now
     c.row-before.result.now c.row-here.result.now c.args.first last saving low l (omega arith) r.edges r.sums r.back_sums
-    (row_of false t c.args.from.now c.args.from.now c.args.out.now c.row-before.result.now (c.args.first - 1) r.out (omega arith) c.row-before.ensures.cells)
-    (row_of false t c.args.from.now c.args.from.now c.args.out.now c.row-here.result.now c.args.first r.out (omega arith) c.row-here.ensures.cells))
+    (row_from false t c.args.from.now c.args.from.now c.args.out.now c.row-before.result.now 0 1 (c.args.first - 1) (omega arith) r.out (omega arith) (omega arith) c.row-before.ensures.cells)
+    (row_from false t c.args.from.now c.args.from.now c.args.out.now c.row-here.result.now 0 1 c.args.first (omega arith) r.out (omega arith) (omega arith) c.row-here.ensures.cells))
 
 pub returns-then-first-first_free : goal.returns-then-first-first_free
 returns-then-first-first_free g c =

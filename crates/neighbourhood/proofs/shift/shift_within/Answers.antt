@@ -11,7 +11,7 @@ use Rattle.neighbourhood.proofs.Firsts.{best_kept}
 use Rattle.neighbourhood.proofs.Shifts.{shift_next, shifts_past}
 use Rattle.neighbourhood.proofs.Still.{shift_inside_free}
 use Rattle.neighbourhood.proofs.Possible.{shift_inside_can}
-use Rattle.neighbourhood.proofs.Tabled.{row_of, row_part, row_room, shift_inside_by, shift_tabled}
+use Rattle.neighbourhood.proofs.Tabled.{row_from, room_from, shift_inside_by, shift_tabled}
 use Rattle.neighbourhood.proofs.shift.shift_within.Goals as goal
 
 pub shift_row-forwards-requires-clause-possible : goal.shift_row-forwards-requires-clause-possible
@@ -50,9 +50,9 @@ shift_row-forwards-requires-clause-saving g c =
     (around_before (route_at c.args.view.now.routes c.args.v) c.args.place c.args.count at low (omega arith) h) in
     rw (f, f2, f3) (shift_tabled s c.args.view.now (Shift c.args.v c.args.place c.args.count c.args.v at) t c.args.from.now c.args.from.now c.args.edges.now c.args.edges.now c.row-comes.result.now c.row-goes.result.now
     c.args.place c.args.count 0 at (slice_index c.row-closes.result.now (c.args.place + c.args.count)) saving low some fit (omega arith) (omega arith) r.edges r.edges
-    (row_part true t c.args.from.now c.args.from.now c.row-comes.result.now 0 c.args.place (omega arith) (row_of true t c.args.from.now c.args.from.now c.args.into.now c.row-comes.result.now c.args.place r.into (omega arith) c.row-comes.ensures.cells))
-    (row_part false t c.args.from.now c.args.from.now c.row-goes.result.now 1 (c.args.place + c.args.count - 1) (omega arith) (row_of false t c.args.from.now c.args.from.now c.args.out.now c.row-goes.result.now (c.args.place + c.args.count - 1) r.out (omega arith) c.row-goes.ensures.cells))
-    (row_of false t c.args.from.now c.args.from.now c.args.out.now c.row-closes.result.now (c.args.place - 1) r.out (omega arith) c.row-closes.ensures.cells (c.args.place + c.args.count) fit))
+    (row_from true t c.args.from.now c.args.from.now c.args.into.now c.row-comes.result.now 1 0 c.args.place (omega arith) r.into (omega arith) (omega arith) c.row-comes.ensures.cells)
+    (row_from false t c.args.from.now c.args.from.now c.args.out.now c.row-goes.result.now 0 1 (c.args.place + c.args.count - 1) (omega arith) r.out (omega arith) (omega arith) c.row-goes.ensures.cells)
+    (row_from false t c.args.from.now c.args.from.now c.args.out.now c.row-closes.result.now 0 1 (c.args.place - 1) (omega arith) r.out (omega arith) (omega arith) c.row-closes.ensures.cells (c.args.place + c.args.count) (omega arith) (omega arith)))
 
 pub shift_row-requires-clause-saving : goal.shift_row-requires-clause-saving
 shift_row-requires-clause-saving g c =
@@ -72,9 +72,9 @@ shift_row-requires-clause-saving g c =
     (around_after (route_at c.args.view.now.routes c.args.v) c.args.place c.args.count at low (omega arith) (omega arith)) in
     rw (f, f2, f3) (shift_tabled s c.args.view.now (Shift c.args.v c.args.place c.args.count c.args.v at) t c.args.from.now c.args.from.now c.args.edges.now c.args.edges.now c.row-comes.result.now c.row-goes.result.now
     c.args.place c.args.count c.args.count at (slice_index c.row-closes.result.now (c.args.place + c.args.count)) saving low some fit (omega arith) (omega arith) r.edges r.edges
-    (row_part true t c.args.from.now c.args.from.now c.row-comes.result.now 0 c.args.place (omega arith) (row_of true t c.args.from.now c.args.from.now c.args.into.now c.row-comes.result.now c.args.place r.into (omega arith) c.row-comes.ensures.cells))
-    (row_part false t c.args.from.now c.args.from.now c.row-goes.result.now 1 (c.args.place + c.args.count - 1) (omega arith) (row_of false t c.args.from.now c.args.from.now c.args.out.now c.row-goes.result.now (c.args.place + c.args.count - 1) r.out (omega arith) c.row-goes.ensures.cells))
-    (row_of false t c.args.from.now c.args.from.now c.args.out.now c.row-closes.result.now (c.args.place - 1) r.out (omega arith) c.row-closes.ensures.cells (c.args.place + c.args.count) fit))
+    (row_from true t c.args.from.now c.args.from.now c.args.into.now c.row-comes.result.now 1 0 c.args.place (omega arith) r.into (omega arith) (omega arith) c.row-comes.ensures.cells)
+    (row_from false t c.args.from.now c.args.from.now c.args.out.now c.row-goes.result.now 0 1 (c.args.place + c.args.count - 1) (omega arith) r.out (omega arith) (omega arith) c.row-goes.ensures.cells)
+    (row_from false t c.args.from.now c.args.from.now c.args.out.now c.row-closes.result.now 0 1 (c.args.place - 1) (omega arith) r.out (omega arith) (omega arith) c.row-closes.ensures.cells (c.args.place + c.args.count) (omega arith) (omega arith)))
 
 pub shift_row-requires-clause-best : goal.shift_row-requires-clause-best
 shift_row-requires-clause-best g c =
@@ -112,20 +112,20 @@ pub row-closes-requires : goal.row-closes-requires
 row-closes-requires g c =
     let low = c.requires.place.0 in
     let fit = c.requires.place.1 in
-    record { high = row_room false (table_at (setting c.args.setup.now).tables (setting c.args.setup.now).cost) c.args.from.now c.args.from.now c.args.out.now (c.args.place - 1) c.requires.out (omega arith) }
+    record { high = room_from false (table_at (setting c.args.setup.now).tables (setting c.args.setup.now).cost) c.args.from.now c.args.from.now c.args.out.now 0 1 (c.args.place - 1) c.requires.out (omega arith) }
 
 pub row-comes-requires : goal.row-comes-requires
 row-comes-requires g c =
     let low = c.requires.place.0 in
     let fit = c.requires.place.1 in
-    record { high = row_room true (table_at (setting c.args.setup.now).tables (setting c.args.setup.now).cost) c.args.from.now c.args.from.now c.args.into.now c.args.place c.requires.into (omega arith) }
+    record { high = room_from true (table_at (setting c.args.setup.now).tables (setting c.args.setup.now).cost) c.args.from.now c.args.from.now c.args.into.now 1 0 c.args.place c.requires.into (omega arith) }
 
 pub row-goes-requires : goal.row-goes-requires
 row-goes-requires g c =
     let low = c.requires.place.0 in
     let fit = c.requires.place.1 in
     let some = c.requires.count.0 in
-    record { high = row_room false (table_at (setting c.args.setup.now).tables (setting c.args.setup.now).cost) c.args.from.now c.args.from.now c.args.out.now (c.args.place + c.args.count - 1) c.requires.out (omega arith) }
+    record { high = room_from false (table_at (setting c.args.setup.now).tables (setting c.args.setup.now).cost) c.args.from.now c.args.from.now c.args.out.now 0 1 (c.args.place + c.args.count - 1) c.requires.out (omega arith) }
 
 pub first_free-begin-requires-clause-v : goal.first_free-begin-requires-clause-v
 first_free-begin-requires-clause-v g c =

@@ -4,7 +4,7 @@ use Rattle.dimension_core.specs.Setup.{setting}
 use Rattle.move_core.specs.declared.moves.Move.TheVariants.{Swap}
 use Rattle.neighbourhood.specs.Scope.{scope}
 use Rattle.neighbourhood.proofs.Possible.{swap_can}
-use Rattle.neighbourhood.proofs.Tabled.{row_of, swap_next_by, next_tabled}
+use Rattle.neighbourhood.proofs.Tabled.{row_from, swap_next_by, next_tabled}
 use Rattle.neighbourhood.proofs.Rows.{swap_next}
 use Rattle.neighbourhood.specs.Search.{IsNext}
 use Rattle.neighbourhood.specs.Best.{Counts}
@@ -29,9 +29,9 @@ better-requires-clause-saving g c =
     rw (f, f2, f3, f4, f5, f6) (next_tabled s c.args.view.now (Swap c.args.v c.args.place c.args.v (c.args.place + 1)) t c.args.from.now c.args.edges.now
     c.row-before.result.now c.row-here.result.now c.row-back.result.now
     c.args.place saving low fit r.edges
-    (row_of false t c.args.from.now c.args.from.now c.args.out.now c.row-before.result.now (c.args.place - 1) r.out (omega arith) c.row-before.ensures.cells)
-    (row_of false t c.args.from.now c.args.from.now c.args.out.now c.row-here.result.now c.args.place r.out (omega arith) c.row-here.ensures.cells)
-    (row_of true t c.args.from.now c.args.from.now c.args.into.now c.row-back.result.now c.args.place r.into (omega arith) c.row-back.ensures.cells))
+    (row_from false t c.args.from.now c.args.from.now c.args.out.now c.row-before.result.now 0 1 (c.args.place - 1) (omega arith) r.out (omega arith) (omega arith) c.row-before.ensures.cells)
+    (row_from false t c.args.from.now c.args.from.now c.args.out.now c.row-here.result.now 0 1 c.args.place (omega arith) r.out (omega arith) (omega arith) c.row-here.ensures.cells)
+    (row_from true t c.args.from.now c.args.from.now c.args.into.now c.row-back.result.now 1 0 c.args.place (omega arith) r.into (omega arith) (omega arith) c.row-back.ensures.cells))
 
 pub returns : goal.returns
 returns g c =

@@ -8,11 +8,11 @@ use Rattle.neighbourhood.proofs.Scoping.{view_within}
 use Rattle.neighbourhood.proofs.Possible.{swap_can}
 use Rattle.neighbourhood.proofs.Rows.{swaps_past}
 use Rattle.neighbourhood.proofs.Still.{swap_inside_free}
-use Rattle.neighbourhood.proofs.Tabled.{row_of, row_part, row_room, swap_inside_by, swap_tabled}
+use Rattle.neighbourhood.proofs.Tabled.{row_from, room_from, swap_inside_by, swap_tabled}
 use Rattle.neighbourhood.proofs.swap.swap_within.Goals as goal
 
 pub row-next-requires : goal.row-next-requires
-row-next-requires g c = record { high = row_room true (table_at (setting c.args.setup.now).tables (setting c.args.setup.now).cost) c.args.from.now c.args.from.now c.args.into.now (c.args.place + 1) c.requires.into (let p = c.requires.place.1 in omega arith) }
+row-next-requires g c = record { high = room_from true (table_at (setting c.args.setup.now).tables (setting c.args.setup.now).cost) c.args.from.now c.args.from.now c.args.into.now 1 0 (c.args.place + 1) c.requires.into (let p = c.requires.place.1 in omega arith) }
 
 pub returns-then-index-from : goal.returns-then-index-from
 returns-then-index-from g c =
@@ -44,10 +44,10 @@ swap_row-requires-clause-saving g c =
     rw (f, f2) (swap_tabled s c.args.view.now (Swap c.args.v c.args.place c.args.v at) t c.args.from.now c.args.from.now c.args.edges.now c.args.edges.now
     c.row-before.result.now c.row-here.result.now c.row-next.result.now c.row-back.result.now
     c.args.place at saving low fit (omega arith) (omega arith) r.edges r.edges
-    (row_part false t c.args.from.now c.args.from.now c.row-before.result.now 1 (c.args.place - 1) (omega arith) (row_of false t c.args.from.now c.args.from.now c.args.out.now c.row-before.result.now (c.args.place - 1) r.out (omega arith) c.row-before.ensures.cells))
-    (row_part false t c.args.from.now c.args.from.now c.row-here.result.now 1 c.args.place (omega arith) (row_of false t c.args.from.now c.args.from.now c.args.out.now c.row-here.result.now c.args.place r.out (omega arith) c.row-here.ensures.cells))
-    (row_part true t c.args.from.now c.args.from.now c.row-next.result.now 0 (c.args.place + 1) (omega arith) (row_of true t c.args.from.now c.args.from.now c.args.into.now c.row-next.result.now (c.args.place + 1) r.into (omega arith) c.row-next.ensures.cells))
-    (row_part true t c.args.from.now c.args.from.now c.row-back.result.now 0 c.args.place (omega arith) (row_of true t c.args.from.now c.args.from.now c.args.into.now c.row-back.result.now c.args.place r.into (omega arith) c.row-back.ensures.cells)))
+    (row_from false t c.args.from.now c.args.from.now c.args.out.now c.row-before.result.now 0 1 (c.args.place - 1) (omega arith) r.out (omega arith) (omega arith) c.row-before.ensures.cells)
+    (row_from false t c.args.from.now c.args.from.now c.args.out.now c.row-here.result.now 0 1 c.args.place (omega arith) r.out (omega arith) (omega arith) c.row-here.ensures.cells)
+    (row_from true t c.args.from.now c.args.from.now c.args.into.now c.row-next.result.now 1 0 (c.args.place + 1) (omega arith) r.into (omega arith) (omega arith) c.row-next.ensures.cells)
+    (row_from true t c.args.from.now c.args.from.now c.args.into.now c.row-back.result.now 1 0 c.args.place (omega arith) r.into (omega arith) (omega arith) c.row-back.ensures.cells))
 
 pub returns-then-place-first_free : goal.returns-then-place-first_free
 returns-then-place-first_free g c =
@@ -64,19 +64,19 @@ pub row-before-requires : goal.row-before-requires
 row-before-requires g c =
     let low = c.requires.place.0 in
     let fit = c.requires.place.1 in
-    record { high = row_room false (table_at (setting c.args.setup.now).tables (setting c.args.setup.now).cost) c.args.from.now c.args.from.now c.args.out.now (c.args.place - 1) c.requires.out (omega arith) }
+    record { high = room_from false (table_at (setting c.args.setup.now).tables (setting c.args.setup.now).cost) c.args.from.now c.args.from.now c.args.out.now 0 1 (c.args.place - 1) c.requires.out (omega arith) }
 
 pub row-here-requires : goal.row-here-requires
 row-here-requires g c =
     let low = c.requires.place.0 in
     let fit = c.requires.place.1 in
-    record { high = row_room false (table_at (setting c.args.setup.now).tables (setting c.args.setup.now).cost) c.args.from.now c.args.from.now c.args.out.now c.args.place c.requires.out (omega arith) }
+    record { high = room_from false (table_at (setting c.args.setup.now).tables (setting c.args.setup.now).cost) c.args.from.now c.args.from.now c.args.out.now 0 1 c.args.place c.requires.out (omega arith) }
 
 pub row-back-requires : goal.row-back-requires
 row-back-requires g c =
     let low = c.requires.place.0 in
     let fit = c.requires.place.1 in
-    record { high = row_room true (table_at (setting c.args.setup.now).tables (setting c.args.setup.now).cost) c.args.from.now c.args.from.now c.args.into.now c.args.place c.requires.into (omega arith) }
+    record { high = room_from true (table_at (setting c.args.setup.now).tables (setting c.args.setup.now).cost) c.args.from.now c.args.from.now c.args.into.now 1 0 c.args.place c.requires.into (omega arith) }
 
 pub first_free-requires-clause-v : goal.first_free-requires-clause-v
 first_free-requires-clause-v g c =

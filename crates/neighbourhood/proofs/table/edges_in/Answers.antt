@@ -16,7 +16,7 @@ loop-k-preserved g c =
     let so_far = c.loop-k.invariant in
     let pushed : c.push.new.self.items ≡ c.loop-k.edges.items ++ c.cell.result ∷ [] = grind (arith, common_steps) in
     let new : c.cell.result ≡ hop t (slice_index S c.loop-k.k) (slice_index S (c.loop-k.k + 1)) =
-    c.cell.ensures.value ∙ c.requires.cells.hops c.loop-k.k (c.loop-k.k + 1) (omega arith) (omega arith) in
+    c.cell.ensures.value ∙ c.requires.cells.hops c.loop-k.k (c.loop-k.k + 1) (omega arith) (omega arith) (omega arith) (omega arith) in
     record {
       counted = ap length pushed ∙ length-append c.loop-k.edges.items (c.cell.result ∷ []) ∙ ap (λ (n : ℕ). n + 1) so_far.counted;
       hops = subst (λ (xs : List ℕ). (k : ℕ) → k < length xs → slice_index xs k ≡ hop t (slice_index S k) (slice_index S (k + 1))) (sym pushed)
