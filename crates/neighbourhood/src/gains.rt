@@ -7,7 +7,8 @@ use move_core::Move;
 /// Rows of fewer candidates are not gone through twice.
 const FEW: usize = 16;
 
-/// What a candidate has to gain over what it gains already, to be better than the best so far. No candidate gains 2 to the power of 60.
+/// What a candidate has to gain over what it gains already, to be better than the best so far. No candidate gains 2 to the power of 60, so
+/// the remainder by it is the gain.
 #[inline(always)]
 pub(crate) fn wanted(gained: u64, best: Option<(Move, u64)>) -> u64
     requires { gained < 2 ^ 50 }
@@ -16,7 +17,7 @@ pub(crate) fn wanted(gained: u64, best: Option<(Move, u64)>) -> u64
 {
     match best {
         None => gained,
-        Some((_, gain)) => gained + gain.min(1_000_000_000_000_000_000),
+        Some((_, gain)) => gained + gain % 1_152_921_504_606_846_976,
     }
 }
 

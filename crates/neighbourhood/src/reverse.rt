@@ -59,6 +59,9 @@ fn reverse_row(
     requires best { IsBestSoFar (scope bounded (setting setup.now)) view.now skip.now v v (3 ∷ v ∷ first ∷ (first + 1) ∷ []) best }
     ensures { IsBestSoFar (scope bounded (setting setup.now)) view.now skip.now v v (3 ∷ v ∷ first ∷ end ∷ []) result }
 {
+    if first + 1 == end {
+        return best;
+    }
     let least = wanted(gained, best);
     if !may_reverse_gain(
         lost,

@@ -69,6 +69,9 @@ fn shift_row(
     requires best { IsBestSoFar (scope bounded (setting setup.now)) view.now skip.now v w (1 ∷ v ∷ place ∷ count ∷ w ∷ first ∷ []) best }
     ensures { IsBestSoFar (scope bounded (setting setup.now)) view.now skip.now v w (1 ∷ v ∷ place ∷ count ∷ w ∷ end ∷ []) result }
 {
+    if first == end {
+        return best;
+    }
     let least = wanted(gained, best);
     let begin = (first + offset) as usize - 1;
     if !may_gain(

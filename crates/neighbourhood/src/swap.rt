@@ -66,6 +66,9 @@ fn swap_row(
     requires best { IsBestSoFar (scope bounded (setting setup.now)) view.now skip.now v w (2 ∷ v ∷ place ∷ w ∷ first ∷ []) best }
     ensures { IsBestSoFar (scope bounded (setting setup.now)) view.now skip.now v w (2 ∷ v ∷ place ∷ w ∷ end ∷ []) result }
 {
+    if first == end {
+        return best;
+    }
     let least = wanted(0, best);
     if !may_swap_gain(
         lost,
