@@ -1,13 +1,14 @@
-use Rattle.std.proofs.Common.{add-zero, ◌≡◌, ◌≢◌, ℕ, ◌+◌, ◌-◌, ◌*◌, ◌<◌, ◌≤◌, ◌∙◌, refl, sym, ap, subst, arith, inl, inr, List, [], ◌∷◌, ◌++◌, length, map, set, slice_index, length-append, Bool, true, false, ◌==◌, if◌then◌else◌, take, drop, suc}
+use Rattle.std.proofs.Common.{add-zero, append_assoc, All, ◌^◌, ◌≡◌, ◌≢◌, ℕ, ◌+◌, ◌-◌, ◌*◌, ◌<◌, ◌≤◌, ◌∙◌, refl, sym, ap, subst, arith, inl, inr, List, [], ◌∷◌, ◌++◌, length, map, set, slice_index, length-append, Bool, true, false, ◌==◌, if◌then◌else◌, take, drop, suc}
 use Rattle.std.proofs.lemmas.Bool.{cases_lt, ne_eqb}
 use Rattle.std.proofs.lemmas.List.{get_or_push, get_or_append_left, get_or-append-add, get_or-take, get_or-drop, get_or-set_same, get_or-set_other, get_or-map, length-set, length-take-le, length-drop, take_more}
+use Rattle.std.proofs.lemmas.List.Elements.{All-append, All-cons, All-nil}
 use Rattle.std.proofs.lemmas.Nat.{same_from_place}
-use Rattle.std.proofs.Math.Seq.{take-append_seam}
+use Rattle.std.proofs.Math.Seq.{take-append_seam, drop-append_seam}
 use borrow.Rule.Slice.PartMut.{put_mid, post_of}
 use Rattle.callback_store.specs.Tables.{Table, entry}
 use Rattle.plan_core.specs.Cost.{way}
 use Rattle.neighbourhood.proofs.Ways.{way_append, last_take}
-use Rattle.neighbourhood.specs.Ways.{hop, hop_by, entry_by, along, AreHopsFrom, AreSums}
+use Rattle.neighbourhood.specs.Ways.{hop, hop_by, entry_by, along, AreHopsFrom, AreSums, AddsSums, AreBothSums}
 
 -- a row lies inside its table
 pub row_fits : (a n w : ℕ) → a < n → a * w + w ≤ n * w
@@ -227,8 +228,8 @@ along_more f R k h =
     ∙ ap (λ (x : ℕ). along f (0 ∷ R) k + x) (add-zero (f (slice_index (0 ∷ R) k) (slice_index R k)))
     ∙ ap (λ (n : ℕ). along f (0 ∷ R) k + f (slice_index (0 ∷ R) k) (slice_index (0 ∷ R) n)) (sym e)
 
--- one sum more, which is the last one and one way more
-pub sums_more : (turned : Bool) (t : Table) (S sums : List ℕ) (n x : ℕ) → AreSums turned t S n sums
+-- one sum more
+sums_more : (turned : Bool) (t : Table) (S sums : List ℕ) (n x : ℕ) → AreSums turned t S n sums
     → x + hop_by turned t (slice_index S 0) (slice_index S 1) ≡ along (hop_by turned t) S n → AreSums turned t S (n + 1) (sums ++ x ∷ [])
 sums_more turned t S sums n x all new = record {
   counted = length-append sums (x ∷ []) ∙ ap (λ (m : ℕ). m + 1) all.counted;
@@ -241,8 +242,37 @@ sums_more turned t S sums n x all new = record {
   ];
 }
 
-pub sums_none : (turned : Bool) (t : Table) (S : List ℕ) → AreSums turned t S 1 (0 ∷ [])
-sums_none turned t S = record { counted = refl; sums = λ k l h. absurd (omega arith) }
+pub adds_none : (turned : Bool) (t : Table) (S old new : List ℕ) → new ≡ old ++ 0 ∷ [] → AddsSums turned t S 1 old new
+adds_none turned t S old new e = record {
+  added = 0 ∷ [];
+  is = e;
+  sums = record { counted = refl; sums = λ k l h. absurd (omega arith) };
+  small = All-cons (λ y. y ≤ 2 ^ 42) 0 [] (omega arith) (All-nil (λ y. y ≤ 2 ^ 42));
+}
+
+pub adds_more : (turned : Bool) (t : Table) (S old sums new : List ℕ) (n x : ℕ) → AddsSums turned t S n old sums → new ≡ sums ++ x ∷ []
+    → x + hop_by turned t (slice_index S 0) (slice_index S 1) ≡ along (hop_by turned t) S n → x ≤ 2 ^ 42 → AddsSums turned t S (n + 1) old new
+adds_more turned t S old sums new n x all e here small = record {
+  added = all.added ++ x ∷ [];
+  is = e ∙ ap (λ (xs : List ℕ). xs ++ x ∷ []) all.is ∙ append_assoc old all.added (x ∷ []);
+  sums = sums_more turned t S all.added n x all.sums here;
+  small = All-append (λ y. y ≤ 2 ^ 42) all.added (x ∷ []) all.small (All-cons (λ y. y ≤ 2 ^ 42) x [] small (All-nil (λ y. y ≤ 2 ^ 42)));
+}
+
+-- the sums, and behind them those back
+pub both_sums : (t : Table) (S one all : List ℕ) → AddsSums false t S (length S - 1) [] one → AddsSums true t S (length S - 1) one all → AreBothSums t S all
+both_sums t S one all f g =
+    let n = length S - 1 in
+    let counted : length one ≡ n = ap length f.is ∙ f.sums.counted in
+    let front : take n all ≡ one = subst (λ (k : ℕ). take k all ≡ one) counted (ap (λ (xs : List ℕ). take (length one) xs) g.is ∙ take-append_seam one g.added) in
+    let back : drop n all ≡ g.added = subst (λ (k : ℕ). drop k all ≡ g.added) counted (ap (λ (xs : List ℕ). drop (length one) xs) g.is ∙ drop-append_seam one g.added) in
+    let both : length all ≡ length one + length g.added = ap length g.is ∙ length-append one g.added in
+    record {
+      long = omega arith;
+      sums = rw front (subst (λ (xs : List ℕ). AreSums false t S n xs) (sym f.is) f.sums);
+      back_sums = rw back g.sums;
+      small = (rw front (subst (λ (xs : List ℕ). All (λ y. y ≤ 2 ^ 42) xs) (sym f.is) f.small), rw back g.small);
+    }
 
 -- the first way alone
 pub first_way : (turned : Bool) (t : Table) (S R : List ℕ) → S ≡ 0 ∷ R → 1 ≤ length R → 0 + hop_by turned t (slice_index S 0) (slice_index S 1) ≡ along (hop_by turned t) S 1

@@ -1,9 +1,9 @@
 -- What is gathered before a search: the stops of the vehicles, and what the ways between them cost.
-use Rattle.std.specs.Prelude.{◌≡◌, ℕ, ◌-◌, ◌≤◌, ◌^◌, true, false, List, ◌∷◌, ◌++◌, length, All}
+use Rattle.std.specs.Prelude.{◌≡◌, ℕ, ◌≤◌, true, false, List, ◌∷◌, ◌++◌, length, All}
 use Rattle.callback_store.specs.Tables.{Table, table_at}
 use Rattle.dimension_core.specs.Setting.{Setting}
 use Rattle.plan_core.specs.Plan.{route_at}
-use Rattle.neighbourhood.specs.Ways.{stops, AreEdges, AreHopsFrom, AreSums}
+use Rattle.neighbourhood.specs.Ways.{stops, AreEdges, AreHopsFrom, AreBothSums}
 
 -- the stops of two vehicles, one after the other: the depot between them is the last stop of the one and the first of the other
 abbrev pub stops_of_both : List ℕ → List ℕ → List ℕ
@@ -29,16 +29,13 @@ pub record AreWaysBetween (t : Table) (from to : List ℕ) (ways : TwoWays) : Ty
   pub into : AreHopsFrom true t from to 1 0 ways.into
 
 -- the ways along some stops: from each to the next, a number that none of these is above, and those over the first ones, as they are
--- driven and driven back
+-- driven, then as they are driven back
 pub record AlongState : Type 0 where
   pub edges : List ℕ
   pub most : ℕ
   pub sums : List ℕ
-  pub back_sums : List ℕ
 
 pub record IsAlong (t : Table) (stops : List ℕ) (along : AlongState) : Type 0 where
   pub edges : AreEdges t stops along.edges
   pub most : All (λ x. x ≤ along.most) along.edges
-  pub sums : AreSums false t stops (length stops - 1) along.sums
-  pub back_sums : AreSums true t stops (length stops - 1) along.back_sums
-  pub small : All (λ x. x ≤ 2 ^ 42) along.sums × All (λ x. x ≤ 2 ^ 42) along.back_sums
+  pub sums : AreBothSums t stops along.sums

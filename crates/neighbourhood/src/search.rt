@@ -55,7 +55,7 @@ fn best_of_one(
     let swapped = best_swap_inside(
         view, setup, bounded, skip, v, from, edges, most, out, into, kept, shifted, meter,
     );
-    let (sums, back_sums) = (&along.sums, &along.back_sums);
+    let (sums, back_sums) = along.sums.split_at(from.len() - 1);
     best_reverse(
         view, setup, bounded, skip, v, from, edges, sums, back_sums, out, kept, swapped, meter,
     )

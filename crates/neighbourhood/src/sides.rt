@@ -48,13 +48,12 @@ impl Model for Ways {
 }
 
 /// The ways along the stops of a vehicle: from each to the next, the dearest of these, and those over the first ones, as they are driven
-/// and driven back.
+/// and behind them as they are driven back.
 #[derive(Drop)]
 pub(crate) struct Along {
     pub(crate) edges: Vec<u32>,
     pub(crate) most: u32,
     pub(crate) sums: Vec<u64>,
-    pub(crate) back_sums: Vec<u64>,
 }
 
 impl Model for Along {
@@ -62,7 +61,7 @@ impl Model for Along {
 
     ghost Value = { AlongState };
 
-    ghost view = { λ a. record { edges = a.edges.items; most = a.most; sums = a.sums.items; back_sums = a.back_sums.items } };
+    ghost view = { λ a. record { edges = a.edges.items; most = a.most; sums = a.sums.items } };
 }
 
 /// The stops of two vehicles, and the ways from each to the next.
@@ -165,12 +164,6 @@ pub(crate) fn along_of(
 {
     let edges = edges_in(alloc, setup, stops, cells)?;
     let most = most_of(&edges);
-    let sums = sums_in(alloc, setup, false, stops, cells)?;
-    let back_sums = sums_in(alloc, setup, true, stops, cells)?;
-    Ok(Along {
-        edges,
-        most,
-        sums,
-        back_sums,
-    })
+    let sums = sums_in(alloc, setup, stops, cells)?;
+    Ok(Along { edges, most, sums })
 }

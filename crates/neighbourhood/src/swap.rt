@@ -66,9 +66,6 @@ fn swap_row(
     requires best { IsBestSoFar (scope bounded (setting setup.now)) view.now skip.now v w (2 ∷ v ∷ place ∷ w ∷ first ∷ []) best }
     ensures { IsBestSoFar (scope bounded (setting setup.now)) view.now skip.now v w (2 ∷ v ∷ place ∷ w ∷ end ∷ []) result }
 {
-    if first == end {
-        return best;
-    }
     let least = wanted(0, best);
     if !may_swap_gain(
         lost,
@@ -323,6 +320,9 @@ fn swap_within(
     let near = swap_next(
         view, setup, bounded, skip, v, place, from, edges, out, into, kept, best, meter,
     );
+    if index + 3 >= from.len() {
+        return near;
+    }
     let lost = u64::from(edges[index - 1]) + u64::from(edges[index]);
     let before = row(out, from.len(), index - 1);
     let here = row(out, from.len(), index);

@@ -2,7 +2,7 @@
 ghost use Rattle.std.specs.Prelude.{◌≡◌, ◌≤◌, ◌<◌, ◌+◌, ◌-◌, ◌*◌, ◌^◌, ◌∷◌, ◌==◌, if◌then◌else◌, ℕ, true, false, List, length, slice_index, take, drop, All, IfOk};
 ghost use Rattle.callback_store.specs.Tables.{table_at};
 ghost use Rattle.dimension_core.specs.Setup.{setting};
-ghost use Rattle.neighbourhood.specs.Ways.{entry_by, hop_by, AreHopsFrom, AreEdges, AreSums};
+ghost use Rattle.neighbourhood.specs.Ways.{entry_by, hop_by, AreHopsFrom, AreEdges, AddsSums, AreBothSums};
 
 use crate::hops::hop;
 use callback_store::Meter;
@@ -236,12 +236,35 @@ fn step(cells: &[u32], width: usize, turned: bool, from: usize) -> u32
     }
 }
 
-/// What the ways over the first stops cost together, but the first of these ways, for each number of stops from 1 on, as they are driven
-/// or driven back, by the ways between all. The last way is in no sum.
+/// Adds what the ways over the first stops cost together, but the first of these ways, for each number of stops from 1 on, as they are
+/// driven or driven back, by the ways between all. The last way is in no sum.
+fn add_sums(
+    setup: &Setup,
+    turned: bool,
+    stops: &[u32],
+    cells: &[u32],
+    sums: &mut Vec<u64>,
+) -> Result<(), AllocError>
+    requires cells { AreHopsFrom false (table_at (setting setup.now).tables (setting setup.now).cost) stops.now stops.now 0 1 cells.now }
+    requires depot { (rest : List ℕ) × (stops.now ≡ 0 ∷ rest) }
+    requires long { 2 ≤ length stops.now }
+    requires short { length stops.now ≤ 1002 }
+    ensures { IfOk result (λ _. AddsSums turned (table_at (setting setup.now).tables (setting setup.now).cost) stops.now (length stops.now - 1) sums.old.items sums.new.items) }
+{
+    let last = stops.len() - 1;
+    let mut sum = 0u64;
+    sums.push(sum)?;
+    for k in 1..last {
+        sums.push(sum)?;
+        sum += u64::from(step(cells, stops.len(), turned, k));
+    }
+    Ok(())
+}
+
+/// These sums as the ways are driven, and behind them as they are driven back.
 pub(crate) fn sums_in(
     alloc: Global,
     setup: &Setup,
-    turned: bool,
     stops: &[u32],
     cells: &[u32],
 ) -> Result<Vec<u64>, AllocError>
@@ -249,17 +272,11 @@ pub(crate) fn sums_in(
     requires depot { (rest : List ℕ) × (stops.now ≡ 0 ∷ rest) }
     requires long { 2 ≤ length stops.now }
     requires short { length stops.now ≤ 1002 }
-    ensures sums { IfOk result (λ sums. AreSums turned (table_at (setting setup.now).tables (setting setup.now).cost) stops.now (length stops.now - 1) sums.items) }
-    ensures small { IfOk result (λ sums. All (λ x. x ≤ 2 ^ 42) sums.items) }
+    ensures { IfOk result (λ sums. AreBothSums (table_at (setting setup.now).tables (setting setup.now).cost) stops.now sums.items) }
 {
-    let last = stops.len() - 1;
-    let mut sums = Vec::with_capacity(alloc, last)?;
-    let mut sum = 0u64;
-    sums.push(sum)?;
-    for k in 1..last {
-        sums.push(sum)?;
-        sum += u64::from(step(cells, stops.len(), turned, k));
-    }
+    let mut sums = Vec::with_capacity(alloc, 2 * stops.len())?;
+    add_sums(setup, false, stops, cells, &mut sums)?;
+    add_sums(setup, true, stops, cells, &mut sums)?;
     Ok(sums)
 }
 

@@ -21,6 +21,13 @@ returns-then-index-from g c =
     let e : c.args.place + 1 ≡ length c.args.from.now - 1 = omega arith in
     subst (λ (k : ℕ). IsBestSoFar (scope c.args.bounded (setting c.args.setup.now)) c.args.view.now c.args.skip.now c.args.v c.args.v (2 ∷ c.args.v ∷ c.args.place ∷ c.args.v ∷ k ∷ []) c.args.best) e c.requires.best
 
+pub returns-then-index-from-2 : goal.returns-then-index-from-2
+returns-then-index-from-2 g c =
+    let t = c.if-index-from-2.true in
+    let room = c.if-index-from.false in
+    let e : c.args.place + 2 ≡ length c.args.from.now - 1 = omega arith in
+    subst (λ (k : ℕ). IsBestSoFar (scope c.args.bounded (setting c.args.setup.now)) c.args.view.now c.args.skip.now c.args.v c.args.v (2 ∷ c.args.v ∷ c.args.place ∷ c.args.v ∷ k ∷ []) c.swap_next-near.result) e c.swap_next-near.ensures
+
 pub swap_row-requires-clause-possible : goal.swap_row-requires-clause-possible
 swap_row-requires-clause-possible g c =
     let r = c.requires in
