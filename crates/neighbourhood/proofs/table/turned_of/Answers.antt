@@ -1,7 +1,7 @@
-use Rattle.std.proofs.Common.{◌∙◌, ◌+◌, length, arith}
+use Rattle.std.proofs.Common.{◌∙◌, arith}
 use Rattle.callback_store.specs.Tables.{table_at}
 use Rattle.dimension_core.specs.Setup.{setting}
-use Rattle.neighbourhood.proofs.Cells.{row_fits, turned_none, turned_begin, turned_more, turned_row, turned_all}
+use Rattle.neighbourhood.proofs.Cells.{turned_begin, turned_more, turned_row, turned_all}
 use Rattle.neighbourhood.proofs.table.turned_of.Goals as goal
 
 pub loop-j-init : goal.loop-j-init
