@@ -132,7 +132,7 @@ pub(crate) fn ways_between(
     Ok(Ways { out, into })
 }
 
-/// The ways between some stops, each asked once.
+/// The ways between some stops that a move inside their vehicle goes, each asked once.
 pub(crate) fn ways_among(
     alloc: Global,
     setup: &Setup,
