@@ -1,4 +1,4 @@
--- A core keeps its history with one call more, and what it holds is ready to be judged on.
+-- A core keeps its history after one more call, and what it holds is ready for the next judgement.
 use Rattle.std.proofs.Common.{◌≡◌, ℕ, zero, suc, Some, ◌+◌, ◌-◌, ◌<◌, ◌≤◌, true, List, [], ◌∷◌, ◌++◌, length, refl, sym, ap, ◌∙◌, subst, arith, inl, inr, length-set}
 use Rattle.std.specs.Prelude.{◌==◌, slice_get, slice_index, slice_set, replicate, cond, if◌then◌else◌}
 use Rattle.std.proofs.lemmas.Bool.{and_parts, leb-true, cases_eq, eq-eqb, ne_eqb, eqb-true}
@@ -19,7 +19,7 @@ use Rattle.board_state.specs.Held.{HeldState, Holds, IsOpening, IsReady}
 use Rattle.board_core.specs.Kept.{CoreState, IsKept}
 use Rattle.board_core.specs.Prepared.{PreparedState, Makes}
 
--- what is held of a good state, with room for one commit more, may be judged on
+-- calls may be judged on what is held of a good state that has room for one more commit
 pub ready : (s : Setting) (held : HeldState) (state : BoardState) → Holds s held state → IsGood s state → length state.commits < 16777216 → IsReady s held
 ready s held state holds good few = record {
   customers = holds.customers;
@@ -35,7 +35,7 @@ ready s held state holds good few = record {
   room = subst (λ (n : ℕ). n < 16777216) (sym holds.stamps.version) few;
 }
 
--- what was tried and how much room there is are no part of what stands for the state
+-- what stands for the state does not depend on what was tried or on how much room there is
 pub holds_tried : (s : Setting) (old new : HeldState) (state : BoardState) → Tries old new → Holds s old state → Holds s new state
 holds_tried s old new state tries holds = subst (λ (h : HeldState). Holds s h state) (sym tries) (record {
   policy = holds.policy;
@@ -48,11 +48,11 @@ holds_tried s old new state tries holds = subst (λ (h : HeldState). Holds s h s
   cache = holds.cache;
 })
 
--- a journal with no more entries and no greater capacity than it may have
+-- the entries and the free room are together within the limit where the length and the capacity are
 pub room_within : (n capacity most : ℕ) → n ≤ most → capacity ≤ most → n + (capacity - n) ≤ most
 room_within n capacity most few small = omega arith
 
--- the same journal and turns over what is held of the same state
+-- a core with the same journal and turns, which holds the same state, keeps its history too
 pub kept_same : (s : Setting) (old new : CoreState) → IsKept s old → new.journal ≡ old.journal → new.turns ≡ old.turns → Tries old.held new.held
     → length new.journal + new.room ≤ s.max_events → IsKept s new
 kept_same s old new kept journal turns tries room =
@@ -66,7 +66,7 @@ kept_same s old new kept journal turns tries room =
       few_desks = kept.few_desks;
     })
 
--- one entry more
+-- one more entry
 pub kept_after : (s : Setting) (core new : CoreState) (e : Entry)
     → ((o : Opening) (es : List Entry) (x : Entry) → IsLegal (record { opening = o; entries = es }) → IsNext o es x → IsLegal (record { opening = o; entries = es ++ x ∷ [] }))
     → ((t : Setting) (es : List Entry) (x : Entry) → state_after t (es ++ x ∷ []) ≡ after (state_after t es) x.call x.reply)

@@ -22,7 +22,7 @@ use Rattle.board_core.specs.Shown.{Grows}
 abbrev spot : ℕ → ℕ → ℕ → Touch
 spot vehicle place customer = record { vehicle = vehicle; place = place; customer = customer }
 
--- what a session may read, where it may view the vehicle, where it may not, and where there is none
+-- which rows a session reads: of a vehicle that it may view, of one that it may not, and of the unassigned customers
 module _ (may : Operation → Object → Bool) where
   on_vehicle : (v p c : ℕ) (b : Bool) → 1 ≤ v → may operations.View (objects.Vehicle v) ≡ true → may operations.View (objects.Customer c) ≡ b → is_readable may (spot v p c) ≡ b
   on_vehicle v p c b low seen e =
@@ -84,7 +84,7 @@ module _ (s : Setting) (state : BoardState) (session : ℕ) where
     early = λ h. subst (λ (rs : List RowShown). All (HasEarlyValues s state.routes) rs) (sym e) (All-push (HasEarlyValues s state.routes) old row h has);
   }
 
-  -- none of one that may not
+  -- a spot that may not be read adds no row
   grows_past : (x : Touch) (rows : List RowShown) → is_readable (has_access state.policy session) x ≡ false → Grows s state session (x ∷ []) rows rows
   grows_past x rows m = grows_same (x ∷ []) rows (ap (λ (b : Bool). cond b (x ∷ []) []) m)
 
@@ -94,7 +94,7 @@ touches-push v p (y ∷ ys) x =
     let e : p + 1 + length ys ≡ p + length (y ∷ ys) = omega arith in
     ap (λ (l : List Touch). spot v p y ∷ l) (touches-push v (p + 1) ys x ∙ ap (λ (n : ℕ). touches v (p + 1) ys ++ spot v n x ∷ []) e)
 
--- the spots of one place more
+-- the spots of one more place
 spots_at : (v : ℕ) (route : List ℕ) (i : ℕ) → i < length route
     → touches v 1 (take (i + 1) route) ≡ touches v 1 (take i route) ++ spot v (i + 1) (slice_index route i) ∷ []
 spots_at v route i h =
@@ -110,7 +110,7 @@ placed_spots-push v (y ∷ ys) r =
     ap (λ (l : List Touch). touches v 1 y ++ l) (placed_spots-push (v + 1) ys r ∙ ap (λ (n : ℕ). placed_spots (v + 1) ys ++ touches n 1 r) e)
     ∙ sym (append_assoc (touches v 1 y) (placed_spots (v + 1) ys) (touches (v + length (y ∷ ys)) 1 r))
 
--- the spots of one vehicle more
+-- the spots of one more vehicle
 vehicle_at : (routes : List (List ℕ)) (i : ℕ) → i < length routes
     → placed_spots 1 (take (i + 1) routes) ≡ placed_spots 1 (take i routes) ++ touches (i + 1) 1 (route_at routes (i + 1))
 vehicle_at routes i h =
@@ -132,7 +132,7 @@ last_one : (routes : List (List ℕ)) (c : ℕ) (b : Bool) → is_placed routes 
 last_one routes c true q = ap (λ (x : Bool). map (λ d. spot 0 0 d) (cond (not x) (c ∷ []) [])) q
 last_one routes c false q = ap (λ (x : Bool). map (λ d. spot 0 0 d) (cond (not x) (c ∷ []) [])) q
 
--- the spots of one customer more
+-- the spots of one more customer
 customer_at : (routes : List (List ℕ)) (n : ℕ) (b : Bool) → is_placed routes (n + 1) ≡ b
     → unassigned_spots (n + 1) routes ≡ unassigned_spots n routes ++ cond (not b) (spot 0 0 (n + 1) ∷ []) []
 customer_at routes n b h =
@@ -206,7 +206,7 @@ module _ (s : Setting) (state : BoardState) (session : ℕ) (old mid : List RowS
       subst (λ (xs : List Touch). Grows s state session xs old mid) (sym (customer_at state.routes n true there))
       (grows_more s state session (unassigned_spots n state.routes) [] old mid mid a (grows_none s state session mid))
 
--- a vehicle that may not be viewed is passed over
+-- a vehicle that may not be viewed is skipped
 pub vehicle_past : (s : Setting) (state : BoardState) (session v : ℕ) (route : List ℕ) (rows : List RowShown) → 1 ≤ v
     → has_access state.policy session operations.View (objects.Vehicle v) ≡ false → Grows s state session (touches v 1 route) rows rows
 vehicle_past s state session v route rows low unseen =

@@ -58,7 +58,7 @@ marked_more route i old mid h low high a =
 pub none_marked : (old : List Bool) → AreMarked [] old old
 none_marked old = record { sized = refl; each = λ k h. sym (or_false (slice_index_or old k false)) }
 
--- one route more
+-- one more route
 pub routes_marked : (routes : List (List ℕ)) (i : ℕ) (old mid new : List Bool) → i < length routes → AreMarked (take i routes) old mid
     → AreMarkedOn (route_at routes (i + 1)) mid new → AreMarked (take (i + 1) routes) old new
 routes_marked routes i old mid new h a b =
@@ -75,7 +75,7 @@ routes_marked routes i old mid new h a b =
           ∙ ap (λ (x : Bool). slice_index_or old k false || x) (sym front)));
     }
 
--- marks that began with none say who stands somewhere
+-- marks that were all unset at first say which customers stand somewhere
 pub marks_tell : (routes others : List (List ℕ)) (n : ℕ) (old new : List Bool) → old ≡ replicate n false → routes ≡ others → AreMarked routes old new
     → (k : ℕ) → k < length new → slice_index_or new k false ≡ is_placed others (k + 1)
 marks_tell routes others n old new e same a k below =
@@ -88,7 +88,7 @@ marks_tell routes others n old new e same a k below =
     none (suc m) zero = refl
     none (suc m) (suc i) = none m i
 
--- marks that are written back over as many
+-- marks that are written over a list of the same length
 pub written_back : (n : ℕ) (xs ys : List Bool) → n ≡ length xs → take n (xs ++ ys) ≡ xs
 written_back n xs ys e = ap (λ (m : ℕ). take m (xs ++ ys)) e ∙ front xs ys
   where

@@ -44,7 +44,7 @@ has_early s routes cache d v p stop low high = record {
 abbrev pub IsEarlyAt : Setting → List (List ℕ) → ℕ → ℕ → ℕ → ℕ → Type 0
 IsEarlyAt s routes v p k y = IsEarly (table_of s.tables (dimension_at s k)) (dimension_at s k) v (take p (route_at routes v)) y
 
--- one value more
+-- one more value
 pub early_more : (s : Setting) (routes : List (List ℕ)) (v p n y : ℕ) (early : List ℕ) → length early ≡ n
     → ((k : ℕ) → k < n → IsEarlyAt s routes v p k (slice_index early k)) → IsEarlyAt s routes v p n y
     → (k : ℕ) → k < n + 1 → IsEarlyAt s routes v p k (slice_index (early ++ y ∷ []) k)

@@ -1,4 +1,4 @@
--- Whether an event is taken, as the callers of a core are told.
+-- Whether an event is taken, in the form in which the public clauses of a core say it.
 use Rattle.std.proofs.Common.{◌≡◌, ◌<◌, ◌≤◌, ◌↔◌, ℕ, true, false, length, refl, sym, ◌∙◌, arith, Result, Ok, Err}
 use Rattle.std.specs.Prelude.{IsErrOf}
 use Rattle.dimension_core.specs.Setting.{Setting}

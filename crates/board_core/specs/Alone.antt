@@ -1,4 +1,4 @@
--- What a core keeps has one proof at most, so that a ghost field can say it.
+-- What a core keeps has at most one proof, so that a ghost field can state it.
 use Rattle.std.proofs.Props.{props}
 use Rattle.dimension_core.specs.Setting.{Setting}
 use Rattle.board_core.specs.Kept.{CoreState, IsKept}

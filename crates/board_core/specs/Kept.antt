@@ -7,7 +7,7 @@ use Rattle.board_rules.specs.declared.reply.Reply.{Reply}
 use Rattle.board_rules.specs.History.{History, state_after, turns_of, IsLegal}
 use Rattle.board_state.specs.Held.{HeldState, Holds}
 
--- the core as contracts see it: what it holds, the journal, each desk's last turn, and for how many entries more there is room
+-- The core as contracts see it: what it holds, the journal, each desk's last turn, and how many more entries fit without a growth.
 pub record CoreState : Type 0 where
   pub held : HeldState
   pub journal : List Entry
@@ -18,8 +18,8 @@ pub record CoreState : Type 0 where
 abbrev pub history_of : Setting → CoreState → History
 history_of s core = record { opening = record { setting = s; desks = length core.turns }; entries = core.journal }
 
--- The core's history is legal, what it holds stands for the state after it, its rows have the numbers of its entries, and the journal has
--- room for no more entries than it may have.
+-- The core's history is legal, and what it holds stands for the state after that history. Each desk's turn is the number of its entries,
+-- and there are 1 to 64 desks. The entries and the free room of the journal are together at most the setup's limit.
 pub record IsKept (s : Setting) (core : CoreState) : Type 0 where
   pub legal : IsLegal (history_of s core)
   pub held : Holds s core.held (state_after s core.journal)

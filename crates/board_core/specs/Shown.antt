@@ -23,7 +23,7 @@ pub record IsStop (s : Setting) (routes : List (List ℕ)) (cache : CacheState) 
   pub first_place : 1 ≤ place
   pub last_place : place ≤ length (route_at routes vehicle)
 
--- of the marks, one for each customer by number, those of the customers of a route were set, and the others kept
+-- Marks, one for each customer by number: those of the route's customers were set, and the others kept.
 pub record AreMarkedOn (route : List ℕ) (old new : List Bool) : Type 0 where
   pub sized : length new ≡ length old
   pub each : (k : ℕ) → k < length old → slice_index_or new k false ≡ (slice_index_or old k false || is_among (k + 1) route)

@@ -1,4 +1,4 @@
--- Whether an event is taken: it has its turn, and the journal may have one entry more.
+-- Whether an event is taken: it has its turn, and the journal is not full.
 use Rattle.std.specs.Prelude.{◌≡◌, ℕ, ◌<◌, ◌≤◌, true, false, length}
 use Rattle.dimension_core.specs.Setting.{Setting}
 use Rattle.board_rules.specs.declared.reply.Fault.{Fault}

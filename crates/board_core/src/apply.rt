@@ -16,8 +16,8 @@ use dimension_core::Setup;
 use std::alloc::AllocError;
 
 impl Core {
-    /// Judges an event, and journals it with its reply, as `prepare` and then `settle` do. Nothing stands between the two, so no judged event
-    /// is made and moved. Faults, in order: `OutOfTurn`, `Full`, `NoMemory`.
+    /// Judges an event, and journals it with its reply, as `prepare` and then `settle` do. No judged event is built in between, so none has
+    /// to be moved. The setup is the one with which the core was opened. Faults, in order: `OutOfTurn`, `Full`, `NoMemory`.
     #[inline(always)]
     pub fn apply(&mut self, setup: &Setup, event: Event, meter: &mut Meter) -> Result<Reply, Fault>
         requires { IsKept (setting setup.now) self.old }
@@ -43,7 +43,7 @@ impl Core {
         }
     }
 
-    /// The same for an event that has its turn, where the journal may have one entry more.
+    /// The same for an event that has its turn, where the journal is not full.
     fn carry_out(
         &mut self,
         setup: &Setup,

@@ -28,7 +28,7 @@ use separation_core::Name;
 use std::alloc::{AllocError, Global};
 use std::sync::Arc;
 
-/// A setup and the core that was opened with it. A crate above takes the two apart, and lends the setup to the core.
+/// A setup and the core that was opened with it. A crate above may take the two apart, and lend the setup to the core.
 #[derive(Drop)]
 pub struct Board {
     pub setup: Arc<Setup>,
@@ -70,7 +70,8 @@ impl Board {
         self.core.apply(&self.setup, event, meter)
     }
 
-    /// Judges an event, with every growth that it needs; the history stays as it is. Faults, in order: `OutOfTurn`, `Full`, `NoMemory`.
+    /// Judges an event, and makes every growth that it needs; the history stays as it is. Faults, in order: `OutOfTurn`, `Full`,
+    /// `NoMemory`.
     pub fn prepare(&mut self, event: Event, meter: &mut Meter) -> Result<Prepared, Fault>
         ensures history { history self.new ≡ history self.old }
         ensures of { IfOk result (λ prepared. prepared.of ≡ self.new.core) }
@@ -88,8 +89,12 @@ impl Board {
         self.core.prepare(&self.setup, event, meter)
     }
 
-    /// Puts a judged event in place: it is journaled with its reply. The caller owes that nothing was put in place since it was judged. No
-    /// memory is taken.
+    /// Puts a judged event in place: it is journaled with its reply. It takes no memory.
+    ///
+    /// The contract requires that the board's core still is, as contracts see it, the one for which the event was judged (`of`), and that
+    /// the entry may come next (`makes`). The last `prepare` promises both of what it answered. The core that it leaves may differ from the
+    /// one before in what was tried on the spare policy and in the room for growth, also where it answers a fault. So pass what the last
+    /// `prepare` of this very board answered, with no `prepare`, `settle` or `apply` in between.
     pub fn settle(&mut self, prepared: Prepared) -> Reply
         requires of { prepared.of ≡ self.old.core }
         requires makes { Makes (history self.old).opening.setting prepared }

@@ -20,14 +20,14 @@ use std::alloc::{AllocError, Global};
 use std::marker::Model;
 use std::snapshot::Snapshot;
 
-/// All of a board but its setup, which is lent to each call.
+/// All of a board except its setup, which is lent to each call.
 pub struct Core {
     pub(crate) state: State,
     pub(crate) journal: Vec<Entry>,
     pub(crate) turns: Vec<u32>,
 }
 
-// By hand, since a derived drop is written out, down to each list, at every place where a value is dropped.
+// Written by hand: a derived drop is expanded, down to each list, at every place where a value is dropped.
 impl Drop for Core {
     fn drop(self) {
         let Core {
@@ -48,7 +48,7 @@ impl Model for Core {
 }
 
 impl Core {
-    /// The core of a board with so many desks, before its first call.
+    /// The core of a board with this many desks, which are 1 to 64, before its first call.
     pub fn new(alloc: Global, setup: &Setup, desks: u32) -> Result<Core, AllocError>
         requires low { 1 ≤ desks }
         requires high { desks ≤ 64 }
@@ -64,7 +64,7 @@ impl Core {
         })
     }
 
-    /// Whether the desk is there and the turn is its last plus one.
+    /// Whether there is such a desk, and the turn is its last plus one.
     fn is_turn(&self, desk: u32, turn: u32) -> bool
         ensures { (s : Setting) → IsKept s self.now → result ≡ is_turn (length self.now.turns) self.now.journal desk turn }
     {
@@ -75,7 +75,7 @@ impl Core {
         u64::from(turn) == u64::from(last) + 1
     }
 
-    /// Why an event of a desk is not taken, but for want of memory: `OutOfTurn`, or `Full`.
+    /// Why an event of a desk is not taken, other than by running out of memory: `OutOfTurn`, or `Full`.
     pub(crate) fn due_fault(&self, setup: &Setup, desk: u32, turn: u32) -> Option<Fault>
         requires { IsKept (setting setup.now) self.now }
         ensures { MatchOption result (IsTaken (setting setup.now) self.now desk turn) (IsDue (setting setup.now) self.now desk turn) }
@@ -89,8 +89,9 @@ impl Core {
         None
     }
 
-    /// Judges an event, with every growth that it needs. Faults, in order: `OutOfTurn`, `Full`, `NoMemory`. Nothing that the history
-    /// tells changes.
+    /// Judges an event, and makes every growth that it needs. The setup is the one with which the core was opened. Faults, in order:
+    /// `OutOfTurn`, `Full`, `NoMemory`. The journal and the turns stay as they are; what was tried on the spare policy and the room for
+    /// growth may differ afterwards, also after a fault.
     pub fn prepare(
         &mut self,
         setup: &Setup,
@@ -122,7 +123,7 @@ impl Core {
         }
     }
 
-    /// Judges an event that has its turn, where the journal may have one entry more.
+    /// Judges an event that has its turn, where the journal is not full.
     fn judge(
         &mut self,
         setup: &Setup,
@@ -159,8 +160,11 @@ impl Core {
         })
     }
 
-    /// Puts a judged event in place: it is journaled with its reply. The caller owes that nothing was put in place since it was judged. No
-    /// memory is taken.
+    /// Puts a judged event in place: it is journaled with its reply. It takes no memory.
+    ///
+    /// The contract requires that the core still is, as contracts see it, the one for which the event was judged. So pass what the last
+    /// `prepare` of this very core answered, with no `prepare`, `settle` or `apply` in between: each of them may leave another core,
+    /// `prepare` also where it answers a fault. The core keeps its history where the entry may come next (`Makes`), as `prepare` promises.
     pub fn settle(&mut self, prepared: Prepared) -> Reply
         requires { prepared.of ≡ self.old }
         ensures journal { self.new.journal ≡ self.old.journal ++ prepared.entry ∷ [] }
@@ -184,10 +188,10 @@ impl Core {
     }
 }
 
-/// For how many entries a journal has room at first. So large a list is moved by its pages when it grows, and not copied.
+/// For how many entries a journal has room at first. A list this large grows by moving its pages, and is not copied.
 const FIRST_ENTRIES: usize = 4096;
 
-/// Makes room for one entry more: the journal doubles, from 4,096 entries on, and never has room for more than `most`.
+/// Makes room for one more entry: the journal doubles, from 4,096 entries on, and never has room for more than `most`.
 pub(crate) fn make_room(journal: &mut Vec<Entry>, most: u32) -> Result<(), AllocError>
     requires { vec_len journal.old < most }
     ensures items { journal.new.items ≡ journal.old.items }
@@ -201,7 +205,7 @@ pub(crate) fn make_room(journal: &mut Vec<Entry>, most: u32) -> Result<(), Alloc
     journal.reserve_exact(len.max(FIRST_ENTRIES).min(most as usize - len))
 }
 
-/// Puts an event with its reply at the end, where there is room for it.
+/// Appends an event with its reply, where there is room for it.
 #[inline(always)]
 pub(crate) fn record(journal: &mut Vec<Entry>, event: Event, reply: Reply)
     requires { vec_len journal.old < vec_capacity journal.old }
@@ -216,7 +220,7 @@ pub(crate) fn record(journal: &mut Vec<Entry>, event: Event, reply: Reply)
     });
 }
 
-/// The same reply.
+/// A copy of the reply.
 pub(crate) fn copy_of(reply: &Reply) -> Reply
     ensures { result ≡ reply.now }
 {

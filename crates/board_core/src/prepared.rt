@@ -34,9 +34,9 @@ impl Model for Prepared {
 }
 
 impl Prepared {
-    /// What the entry makes different: each customer that stands elsewhere afterwards, each whose pin differs, each vehicle whose frozen
-    /// length differs, and the version. It is made from what was judged: only the routes of the named vehicles are walked, from the first
-    /// place on at which they change, and the touched customers where a pin is released.
+    /// What the entry changes: each customer that stands elsewhere afterwards, each whose pin differs, each vehicle whose frozen length
+    /// differs, and the version. It is built from the judgement: only the routes of the named vehicles are walked, from the first changed
+    /// place on, and, where a pin is released, the touched customers.
     pub fn delta(&self) -> Result<Delta, AllocError>
         ensures { (s : Setting) → IsKept s self.now.of → Makes s self.now → IfOk result (IsDeltaOf s (state_after s self.now.of.journal) self.now.entry) }
     {

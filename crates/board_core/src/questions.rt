@@ -18,9 +18,9 @@ use rbac_core::{Object, Operation};
 use separation_core::Name;
 
 impl Core {
-    /// The rows of the whole plan that the session may read: by vehicle and place, and then the unassigned customers by number, with
-    /// `view` on the customer and, where it is placed, on its vehicle. A row of a placed customer has the early value of each dimension.
-    /// Faults, in order: `NoSession`, `NoMemory`.
+    /// The rows of the whole plan that the session may read: by vehicle and place, and then the unassigned customers by number, with `view`
+    /// on the customer and, where it is placed, on its vehicle. A row of a placed customer has the early value of each dimension. The setup
+    /// is the one with which the core was opened. Faults, in order: `NoSession`, `NoMemory`.
     ///
     /// It takes time in proportion to the vehicles and the customers, and memory for the rows and a mark for each customer.
     #[tactic(auto, unfolding(board_rules::specs::Questions::list_fault))]

@@ -1,4 +1,4 @@
-//! What stands of a board, for the crates above: no reader asks for rights or takes memory.
+//! Readers of a board, for the crates above. None of them checks a permission or takes memory.
 ghost use Rattle.std.specs.Prelude.{◌≡◌, ◌≤◌, length};
 ghost use Rattle.dimension_core.specs.Setting.{Setting};
 ghost use Rattle.plan_core.specs.Plan.{route_at};
@@ -36,7 +36,7 @@ impl Core {
         self.turns.len() as u32
     }
 
-    /// The desk's last turn, 0 before its first.
+    /// The desk's last turn, 0 before its first. The desk is 1 to `desks()`.
     pub fn turns(&self, desk: u32) -> u32
         requires low { 1 ≤ desk }
         requires high { desk ≤ length self.now.turns }

@@ -67,7 +67,7 @@ pub unnamed : (w : List ℕ) → (slice_index w 0 ≡ 97 → ⊥) → (slice_ind
 unnamed w h97 h99 h100 h102 h103 h105 h106 h108 h109 h111 h112 h114 h115 h116 h117 =
     no_first w (rw (differs (slice_index w 0) 97 h97) (rw (differs (slice_index w 0) 99 h99) (rw (differs (slice_index w 0) 100 h100) (rw (differs (slice_index w 0) 102 h102) (rw (differs (slice_index w 0) 103 h103) (rw (differs (slice_index w 0) 105 h105) (rw (differs (slice_index w 0) 106 h106) (rw (differs (slice_index w 0) 108 h108) (rw (differs (slice_index w 0) 109 h109) (rw (differs (slice_index w 0) 111 h111) (rw (differs (slice_index w 0) 112 h112) (rw (differs (slice_index w 0) 114 h114) (rw (differs (slice_index w 0) 115 h115) (rw (differs (slice_index w 0) 116 h116) (rw (differs (slice_index w 0) 117 h117) refl)))))))))))))))
 
--- nor one without letters
+-- nor does a word without letters name one
 pub unnamed_empty : (w : List ℕ) → length w < 1 → None ≡ word_of w
 unnamed_empty [] h = no_first [] refl
 unnamed_empty (b ∷ bs) h = absurd (omega (arith, h))

@@ -1,4 +1,4 @@
--- A listing as JSON is the text of its rows, in brackets and parted by commas.
+-- A listing as JSON is the text of its rows, in brackets and separated by commas.
 use Rattle.std.proofs.Common.{◌≡◌, ℕ, List, [], ◌∷◌, ◌++◌, map, true, false, codes, refl, sym, ap, ◌∙◌}
 use Rattle.std.specs.List.{flat_map}
 use Rattle.std.specs.Fmt.{decimal}

@@ -1,4 +1,4 @@
--- What a command says is what it is made of.
+-- A command and what it says determine each other.
 use Rattle.std.proofs.Common.{◌≡◌, ℕ, List, Some, refl}
 use Rattle.move_core.specs.declared.moves.Move.{Move}
 use Rattle.move_core.specs.declared.moves.Move.TheVariants as plan
@@ -154,7 +154,7 @@ pub audit_says : (s : ℕ) → Says (say s (Ask asks.Audit) no_more) (Audit s)
 unfolding command_of
 audit_says s = record { kinds = refl; made = refl }
 
--- ---- from the words of a command to what it is
+-- ---- from the words of a command to the command
 
 propose_text : (s : ℕ) (w : MoveWord) (a : Arguments) (ws : List (List ℕ)) → kinds_of a ≡ (row_of (Propose w)).kinds → IsLine ws (say s (Propose w) a) → IsCommandText ws (command_of s (Propose w) a)
 unfolding command_of

@@ -1,4 +1,4 @@
--- The words that numbers, names and commands are.
+-- Numbers, names and commands as words.
 use Rattle.std.proofs.Common.{◌≡◌, ℕ, ◌^◌, ◌<◌, ◌≤◌, Bool, true, false, eqb, List, [], ◌∷◌, ◌++◌, length, get_or, refl, ap, ◌∙◌, arith}
 use Rattle.std.specs.Prelude.{All, ◌&&◌, nat_lt, nat_le}
 use Rattle.std.specs.List.{slice_split, AllByRecursion, list_all}
@@ -27,7 +27,7 @@ keep : (w : List ℕ) (parts : List (List ℕ)) → 0 < length w → full_parts 
 keep [] parts lt = absurd (omega arith)
 keep (b ∷ w) parts lt = let e : eqb (length (b ∷ w)) 0 ≡ false = grind (arith, nat_tests) in rw e refl
 
--- words behind one another, with single spaces, are parted again
+-- words that are joined by single spaces are split into the same words again
 pub words_behind : (w : List ℕ) (ws : List (List ℕ)) → IsWord w → AllByRecursion IsWord ws → words (w ++ behind ws) ≡ w ∷ ws
 words_behind w [] p h = ap words (append-nil w) ∙ ap full_parts (slice_split_none is_gap w p.plain) ∙ keep w [] p.some
 words_behind w (v ∷ ws) p h = ap full_parts (slice_split_at is_gap w 32 (v ++ behind ws) p.plain refl) ∙ keep w (slice_split is_gap (v ++ behind ws)) p.some ∙ ap (λ (l : List (List ℕ)). w ∷ l) (words_behind v ws h.0 h.1)
@@ -50,7 +50,7 @@ no_comment : (w : List ℕ) → AllDigits 10 w → is_comment w ≡ false
 no_comment [] h = refl
 no_comment (b ∷ w) h = no_mark b (digit_at (b ∷ w) 0 h (omega arith))
 
--- the text of a number is a word, and is that number
+-- the text of a number is a word, and is read as that number
 pub record IsSpelled (n : ℕ) : Type 0 where
   pub word : IsWord (decimal n)
   pub numeral : IsNumeral (decimal n) n

@@ -1,4 +1,4 @@
--- The words of commands are made as names are.
+-- The words of commands are built as names are.
 use Rattle.std.proofs.Common.{◌≡◌, true, refl}
 use Rattle.separation_core.specs.Names.{is_name}
 use Rattle.board_lines.specs.declared.word.Word.{Word}

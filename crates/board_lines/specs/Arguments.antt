@@ -14,7 +14,7 @@ use Rattle.board_lines.specs.declared.command.LineFault.{LineFault}
 use Rattle.board_lines.specs.declared.command.LineFault.TheVariants as faults
 use Rattle.board_lines.specs.Table.{Kinds, nothing, object, range, names, number, name, operation}
 
--- what stands behind a command's word, by its kinds
+-- what follows a command's word, by its kinds
 pub data Arguments : Type 0 where
   no_more : Arguments
   the_object : Object → Arguments
@@ -50,8 +50,8 @@ operation_arg w =
 
 -- ---- the last words
 
--- As many words follow an object's kind as it asks for: none after board, and so many after vehicle and customer.
--- The words after another kind are not counted.
+-- The right number of words follows the kind of an object: none after board, and the given number after vehicle and customer. The words
+-- after another kind are not counted.
 abbrev pub is_counted : ℕ → List ℕ → List (List ℕ) → Bool
 is_counted each kind numbers =
     if bytes_eq kind (codes "board") then length numbers == 0
@@ -69,7 +69,7 @@ pair_arg (first ∷ last ∷ []) = do
   Ok (a, b)
 pair_arg _ = Err faults.Count
 
--- board, vehicle N or customer N, by its kind and the words behind it
+-- board, vehicle N or customer N, by its kind and the words after it
 abbrev pub object_arg : List ℕ → List (List ℕ) → Result Object LineFault
 object_arg kind numbers =
     if bytes_eq kind (codes "board") then Ok objects.Board
@@ -77,7 +77,7 @@ object_arg kind numbers =
     else (if bytes_eq kind (codes "customer") then (one_arg numbers >>= λ n. Ok (objects.Customer n))
     else Err faults.Object))
 
--- board, vehicle A B or customer A B, by its kind and the words behind it
+-- board, vehicle A B or customer A B, by its kind and the words after it
 abbrev pub range_arg : List ℕ → List (List ℕ) → Result ObjectRange LineFault
 range_arg kind numbers =
     if bytes_eq kind (codes "board") then Ok ranges.Board
@@ -102,7 +102,7 @@ name_then w more = name_arg w >>= λ n. (more >>= λ rest. Ok (a_name n rest))
 abbrev pub operation_then : List ℕ → Result Arguments LineFault → Result Arguments LineFault
 operation_then w more = operation_arg w >>= λ o. (more >>= λ rest. Ok (an_operation o rest))
 
--- as many words as the kinds ask for
+-- there are as many words as the kinds ask for
 abbrev pub counted : Kinds → List (List ℕ) → Bool
 counted nothing [] = true
 counted nothing (w ∷ ws) = false
@@ -133,7 +133,7 @@ each_read (name more) (w ∷ ws) = name_then w (each_read more ws)
 each_read (operation more) [] = Err faults.Count
 each_read (operation more) (w ∷ ws) = operation_then w (each_read more ws)
 
--- the arguments of these kinds: their count goes first
+-- the arguments of these kinds: the count of the words is checked first
 unfoldable pub arguments_of : Kinds → List (List ℕ) → Result Arguments LineFault
 arguments_of kinds ws = if counted kinds ws then each_read kinds ws else Err faults.Count
 

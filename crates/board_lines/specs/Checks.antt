@@ -10,7 +10,7 @@ use Rattle.board_lines.specs.Table.{Kinds, nothing, object, range, names, number
 use Rattle.board_lines.specs.Arguments.{counted}
 use Rattle.board_lines.specs.Reading.{is_comment, read_of}
 
--- a check: the fault that it answers, and whether it holds
+-- a check: the fault that it gives, and whether it holds
 pub record Check : Type 0 where
   pub fault : LineFault
   pub holds : Bool
@@ -62,7 +62,7 @@ argument_checks (operation more) (w ∷ ws) = check faults.Op (is_operation w) �
 
 -- ---- lines
 
--- the command's word, the count of the words behind it, and those words
+-- the command's word, the count of the words after it, and those words
 abbrev pub named_checks : List (List ℕ) → Option Word → List Check
 named_checks args None = check faults.Word false ∷ []
 named_checks args (Some word) =
@@ -78,6 +78,6 @@ abbrev pub line_checks : List (List ℕ) → List Check
 line_checks [] = []
 line_checks (first ∷ rest) = if is_comment first then [] else (number_check first ∷ word_checks rest)
 
--- A line is read as a fault exactly where that fault is the first check's that fails.
+-- A line is read as a fault exactly where that is the fault of the first check that fails.
 abbrev pub FaultsAreFirst : Type 0
 FaultsAreFirst = (line : List ℕ) → (fault : LineFault) → IsFirstFault (line_checks (words line)) fault ↔ (read_of line ≡ Err fault)

@@ -35,7 +35,7 @@ row_json row = 91 ∷ (decimal row.vehicle ++ (comma_number row.place ++ (comma_
 abbrev pub comma_row : RowShown → List ℕ
 comma_row row = 44 ∷ row_json row
 
--- rows, parted by commas
+-- rows, separated by commas
 abbrev pub rows_json : List RowShown → List ℕ
 rows_json [] = []
 rows_json (row ∷ rows) = row_json row ++ flat_map comma_row rows

@@ -6,7 +6,7 @@ use Rattle.board_rules.specs.declared.call.Entry.{Entry}
 use Rattle.board_lines.specs.Saying.{event_text}
 use Rattle.board_lines.specs.Replies.{ended, spaced, reply_text}
 
--- the line behind the last one of each listing
+-- the line that ends each listing
 abbrev pub end_line : List ℕ
 end_line = codes "end\n"
 
@@ -29,7 +29,7 @@ list_text rows = flat_map row_line rows ++ end_line
 abbrev pub tag_text : ℕ → Entry → List ℕ
 tag_text n entry = codes "event" ++ (spaced n ++ (spaced entry.desk ++ spaced entry.turn))
 
--- the call of an entry and its reply, each behind a bar
+-- the call of an entry and its reply, each after a bar
 abbrev pub answer_text : Entry → List ℕ
 answer_text entry = codes " | " ++ (event_text entry.call ++ (codes " | " ++ reply_text entry.reply))
 

@@ -40,7 +40,7 @@ SaysAs f (Err (Line fault)) read = read ≡ Err fault
 abbrev pub by_policy : ℕ → PolicyCommand → Command
 by_policy session command = Submit (calls.Policy session command)
 
--- ---- the command of a word and its arguments; no others stand behind it
+-- ---- the command of a word and its arguments; nothing else follows
 
 unfoldable pub command_of : ℕ → Word → Arguments → Command
 command_of s (Propose moves.Insert) (a_number c (a_number v (a_number p (a_number b no_more)))) = Submit (calls.Propose s b (plan.Insert c v p))
@@ -89,7 +89,7 @@ command_of s _ _ = Skip
 
 -- ---- lines
 
--- the words behind a command's
+-- the words after the command's word
 abbrev pub after_word : ℕ → Word → List (List ℕ) → Result Command LineFault
 after_word session word args = arguments_of (row_of word).kinds args >>= λ read. Ok (command_of session word read)
 
@@ -97,7 +97,7 @@ abbrev pub named_by : ℕ → List (List ℕ) → Option Word → Result Command
 named_by session args None = Err faults.Word
 named_by session args (Some word) = after_word session word args
 
--- the words behind the session
+-- the words after the session
 abbrev pub after_session : ℕ → List (List ℕ) → Result Command LineFault
 after_session session [] = Err faults.Word
 after_session session (word ∷ args) = named_by session args (word_of word)
@@ -115,8 +115,8 @@ words_read (first ∷ rest) = if is_comment first then Ok Skip else (number_arg 
 abbrev pub read_of : List ℕ → Result Command LineFault
 read_of line = words_read (words line)
 
--- What a function returned is what the line begins with, where this is what it says: a fault is the line's, and with the session and the
--- command the words behind them say the rest.
+-- What a function returned is what the line begins with, where this is what the line says: a fault is the line's fault, and after a session
+-- and a command the words that follow say the rest.
 abbrev pub Begins : Result Head LineFault → Result Command LineFault → Type 0
 Begins (Err fault) read = read ≡ Err fault
 Begins (Ok heads.Skip) read = read ≡ Ok Skip

@@ -64,7 +64,7 @@ reply_text (Committed version) = codes "committed" ++ spaced version
 reply_text (Denied denial) = denial_text denial
 reply_text (Refused refusal) = refusal_text refusal
 
--- ---- faults, without a line end; want of memory has no text, since it ends the run
+-- ---- faults, without a line end; running out of memory has no text, since it ends the run
 
 abbrev pub fault_text : Fault → List ℕ
 fault_text faults.OutOfTurn = codes "fault out-of-turn"

@@ -28,7 +28,7 @@ use Rattle.board_lines.specs.Table.{row_of}
 use Rattle.board_lines.specs.Arguments.{Arguments, no_more, the_object, the_range, the_names, a_number, a_name, an_operation}
 use Rattle.board_lines.specs.Reading.{read_of}
 
--- what stands on a line
+-- the content of a line
 pub record Said : Type 0 where
   pub session : ℕ
   pub word : Word

@@ -1,4 +1,4 @@
--- The table of commands: the word of each, and the arguments that stand behind it.
+-- The table of commands: the word of each, and the arguments that follow it.
 use Rattle.std.specs.Prelude.{ℕ, List, [], ◌∷◌, length, codes, map, filter, bytes_eq, Option, ◌==◌}
 use Rattle.std.specs.Map.{lookup}
 use Rattle.board_lines.specs.declared.word.Word.{Word}
@@ -11,8 +11,8 @@ use Rattle.board_lines.specs.declared.word.SetWord.TheVariants as sets
 use Rattle.board_lines.specs.declared.word.SessionWord.TheVariants as sessions
 use Rattle.board_lines.specs.declared.word.AskWord.TheVariants as asks
 
--- What stands behind a command's word: words that are a number, a name or an operation each, and at the end nothing more, an
--- object (board, vehicle N or customer N), a range (board, vehicle A B or customer A B) or any number of names.
+-- What follows a command's word: words that are each a number, a name or an operation, and then nothing more, an object (board, vehicle N
+-- or customer N), a range (board, vehicle A B or customer A B) or any number of names.
 pub data Kinds : Type 0 where
   nothing : Kinds
   object : Kinds
@@ -22,7 +22,7 @@ pub data Kinds : Type 0 where
   name : Kinds → Kinds
   operation : Kinds → Kinds
 
--- a command's word, and what stands behind it
+-- a command's word, and what follows it
 pub record Row : Type 0 where
   pub text : List ℕ
   pub kinds : Kinds

@@ -122,7 +122,8 @@ fn numbers_of_six(
 
 // ---- the last words
 
-/// Whether as many words follow the kind of an object as it asks for: none after `board`, and `each` after `vehicle` and `customer`.
+/// Whether the right number of words follows the kind of an object: none after `board`, and `each` after `vehicle` and `customer`. The
+/// words after another kind are not counted.
 fn is_counted(each: usize, kind: &[u8], numbers: &[&[u8]]) -> bool
     ensures { result ≡ is_counted each kind.now (map (λ w. w.now) numbers.now) }
 {

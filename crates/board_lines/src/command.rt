@@ -40,7 +40,7 @@ pub enum Command {
     },
 }
 
-/// Why a line says nothing that is known: the first that holds.
+/// Why a line is not a command: the first of these that holds.
 #[derive(Clone, Copy, Debug, PartialEq, Eq, Error)]
 pub enum LineFault {
     /// The first word, or an argument that stands for a number, is not 1 to 10 digits with a value of at most 4,294,967,295.
@@ -66,10 +66,10 @@ pub enum LineFault {
 /// Why a line was not read.
 #[derive(Clone, Copy, Debug, PartialEq, Eq, Error)]
 pub enum ReadFault {
-    /// The line says nothing that is known.
+    /// The line is not a command.
     #[error("{0}")]
     Line(LineFault),
-    /// A growth was refused.
+    /// Memory ran out.
     #[error("out of memory")]
     NoMemory,
 }

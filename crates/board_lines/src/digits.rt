@@ -1,4 +1,4 @@
-//! Numbers at the end of a text.
+//! Numbers, appended to a text.
 
 ghost use Rattle.std.specs.Prelude.{◌≡◌, ◌<◌, ◌++◌, [], ◌∷◌, OnOk, string_bytes};
 ghost use Rattle.std.specs.List.{flat_map};
@@ -8,7 +8,7 @@ ghost use Rattle.board_lines.specs.Replies.{spaced};
 use itoa::Buffer;
 use std::alloc::AllocError;
 
-/// Puts an ASCII character at the end, for half of what a text of one character takes.
+/// Appends an ASCII character, at half the cost of appending a text of one character.
 #[inline(always)]
 pub(crate) fn push_ascii(out: &mut String, ch: char) -> Result<(), AllocError>
     requires { ch < 128 }
@@ -17,7 +17,7 @@ pub(crate) fn push_ascii(out: &mut String, ch: char) -> Result<(), AllocError>
     out.push(ch)
 }
 
-/// Puts a number below ten at the end.
+/// Appends a number below ten.
 #[inline(always)]
 fn push_digit(out: &mut String, n: u64) -> Result<(), AllocError>
     requires { n < 10 }
@@ -26,7 +26,7 @@ fn push_digit(out: &mut String, n: u64) -> Result<(), AllocError>
     out.push(char::from(b'0' + n as u8))
 }
 
-/// Puts a number below a hundred at the end.
+/// Appends a number below a hundred.
 #[inline(always)]
 fn push_below_hundred(out: &mut String, n: u64) -> Result<(), AllocError>
     requires { n < 100 }
@@ -38,7 +38,7 @@ fn push_below_hundred(out: &mut String, n: u64) -> Result<(), AllocError>
     push_digit(out, n % 10)
 }
 
-/// Puts a number below a thousand at the end.
+/// Appends a number below a thousand.
 #[inline(always)]
 fn push_below_thousand(out: &mut String, n: u64) -> Result<(), AllocError>
     requires { n < 1000 }
@@ -50,7 +50,7 @@ fn push_below_thousand(out: &mut String, n: u64) -> Result<(), AllocError>
     push_digit(out, n % 10)
 }
 
-/// Puts a number below ten thousand at the end, digit by digit: for so few that is half of what the formatter takes.
+/// Appends a number below ten thousand, digit by digit, which takes half of what the formatter takes.
 fn push_small(out: &mut String, n: u64) -> Result<(), AllocError>
     requires { n < 10000 }
     ensures { OnOk result (string_bytes out.new ≡ string_bytes out.old ++ decimal n) }
@@ -61,7 +61,7 @@ fn push_small(out: &mut String, n: u64) -> Result<(), AllocError>
     push_digit(out, n % 10)
 }
 
-// Apart, so that a small number pays nothing for the formatter's buffer.
+// Out of line, so that a small number pays nothing for the formatter's buffer.
 #[inline(never)]
 fn push_large(out: &mut String, n: u64) -> Result<(), AllocError>
     ensures { OnOk result (string_bytes out.new ≡ string_bytes out.old ++ decimal n) }
@@ -70,7 +70,7 @@ fn push_large(out: &mut String, n: u64) -> Result<(), AllocError>
     out.push_str(digits.format(n))
 }
 
-/// Puts a number at the end, without leading zeros.
+/// Appends a number, without leading zeros.
 pub(crate) fn push_number(out: &mut String, n: u64) -> Result<(), AllocError>
     ensures { OnOk result (string_bytes out.new ≡ string_bytes out.old ++ decimal n) }
 {
@@ -80,7 +80,7 @@ pub(crate) fn push_number(out: &mut String, n: u64) -> Result<(), AllocError>
     push_large(out, n)
 }
 
-/// Puts a space and a number at the end.
+/// Appends a space and a number.
 pub(crate) fn push_spaced(out: &mut String, n: u64) -> Result<(), AllocError>
     ensures { OnOk result (string_bytes out.new ≡ string_bytes out.old ++ spaced n) }
 {
@@ -88,7 +88,7 @@ pub(crate) fn push_spaced(out: &mut String, n: u64) -> Result<(), AllocError>
     push_number(out, n)
 }
 
-/// Puts each of some numbers at the end, with a space before it.
+/// Appends some numbers, each with a space before it.
 pub(crate) fn push_each(out: &mut String, numbers: &[u32]) -> Result<(), AllocError>
     ensures { OnOk result (string_bytes out.new ≡ string_bytes out.old ++ flat_map spaced numbers.now) }
 {

@@ -37,7 +37,7 @@ fn push_row_values(list: &mut Vec<Value>, row: &Row) -> Result<(), AllocError>
     push_values(list, row.early())
 }
 
-// The list is put together by functions that own none, since each exit of one that does drops every value in it.
+// The list is filled by functions that own no value: a function that owns values drops each of them at each of its exits.
 fn row_value(alloc: Global, row: &Row) -> Result<Value, AllocError>
     ensures { IfOk result (λ value. view value ≡ row_data row.now) }
 {
@@ -56,8 +56,8 @@ fn rows_value(alloc: Global, rows: &[Row]) -> Result<Value, AllocError>
     Ok(Value::Array(list))
 }
 
-/// The text of a listing as JSON, compact and without a line end: an object with the one key `rows`, each row a list of its
-/// vehicle, its place, its customer and its early values.
+/// The text of a listing as JSON, compact and without a line end: an object with the one key `rows`, each row a list of its vehicle, its
+/// place, its customer and its early values.
 pub fn list_json(alloc: Global, rows: &[Row]) -> Result<String, AllocError>
     ensures { IfOk result (λ text. string_bytes text ≡ json_text rows.now) }
 {
@@ -66,7 +66,7 @@ pub fn list_json(alloc: Global, rows: &[Row]) -> Result<String, AllocError>
     whole.to_string(alloc)
 }
 
-// ---- the same text, put at the end piece by piece
+// ---- the same text, appended piece by piece
 
 fn push_comma(out: &mut String, n: u64) -> Result<(), AllocError>
     ensures { OnOk result (string_bytes out.new ≡ string_bytes out.old ++ comma_number n) }
@@ -123,7 +123,7 @@ fn push_pieces(out: &mut String, rows: &[Row]) -> Result<(), AllocError>
     out.push_str("]}")
 }
 
-/// Puts the text of a listing as JSON at the end, as `list_json` has it, without a value in between.
+/// Appends the text of a listing as JSON, the same as that of `list_json`, without building a value.
 pub fn push_json(out: &mut String, rows: &[Row]) -> Result<(), AllocError>
     ensures { OnOk result (string_bytes out.new ≡ string_bytes out.old ++ json_text rows.now) }
 {

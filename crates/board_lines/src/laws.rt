@@ -9,7 +9,7 @@ pub fn lines_are_commands()
     ensures { LinesAreCommands }
 {}
 
-/// A line is read as a fault exactly where that fault is the first check's that fails.
+/// A line is read as a fault exactly where that is the fault of the first check that fails.
 pub fn faults_are_first()
     ensures { FaultsAreFirst }
 {}

@@ -12,7 +12,7 @@ use board_rules::{Entry, Row};
 use separation_core::Name;
 use std::alloc::{AllocError, Global};
 
-/// Puts the line behind the last one of a listing at the end, with its line end.
+/// Appends the line that ends a listing, with its line end.
 pub fn push_end(out: &mut String) -> Result<(), AllocError>
     ensures { OnOk result (string_bytes out.new ≡ string_bytes out.old ++ end_line) }
 {
@@ -30,7 +30,7 @@ fn push_early(out: &mut String, early: &[u64]) -> Result<(), AllocError>
     Ok(())
 }
 
-/// Puts the line of a row at the end, with its line end: `row`, its vehicle, its place, its customer and its early values.
+/// Appends the line of a row, with its line end: `row`, its vehicle, its place, its customer and its early values.
 pub fn push_row(out: &mut String, row: &Row) -> Result<(), AllocError>
     ensures { OnOk result (string_bytes out.new ≡ string_bytes out.old ++ row_line row.now) }
 {
@@ -42,7 +42,7 @@ pub fn push_row(out: &mut String, row: &Row) -> Result<(), AllocError>
     push_ascii(out, '\n')
 }
 
-/// Puts a listing at the end: one line for each row, then the line `end`, each with its line end.
+/// Appends a listing: one line for each row, then the line `end`, each with its line end.
 pub fn push_list(out: &mut String, rows: &[Row]) -> Result<(), AllocError>
     ensures { OnOk result (string_bytes out.new ≡ string_bytes out.old ++ list_text rows.now) }
 {
@@ -81,8 +81,8 @@ fn push_answer(out: &mut String, entry: &Entry) -> Result<(), AllocError>
     push_reply(out, entry.reply)
 }
 
-/// Puts the line of the journal's n-th entry at the end, n from 1, with its line end: `event`, n, its desk, its turn, and
-/// behind bars the line of its call and the text of its reply.
+/// Appends the line of the journal's n-th entry, n from 1, with its line end: `event`, n, its desk, its turn, and after bars the line of
+/// its call and the text of its reply.
 #[tactic(auto, unfolding(crate::specs::Listings::entry_line))]
 pub fn push_entry(out: &mut String, n: u64, entry: &Entry) -> Result<(), AllocError>
     ensures { OnOk result (string_bytes out.new ≡ string_bytes out.old ++ entry_line n entry.now) }
@@ -92,7 +92,7 @@ pub fn push_entry(out: &mut String, n: u64, entry: &Entry) -> Result<(), AllocEr
     push_ascii(out, '\n')
 }
 
-/// Puts the journal at the end: one line for each entry from the first on, then the line `end`, each with its line end.
+/// Appends the journal: one line for each entry from the first on, then the line `end`, each with its line end.
 pub fn push_audit(out: &mut String, entries: &[Entry]) -> Result<(), AllocError>
     ensures { OnOk result (string_bytes out.new ≡ string_bytes out.old ++ audit_text entries.now) }
 {
@@ -114,7 +114,7 @@ fn push_name_line(out: &mut String, name: &Name) -> Result<(), AllocError>
     push_ascii(out, '\n')
 }
 
-/// Puts a review at the end: one line `name` for each name, then the line `end`, each with its line end.
+/// Appends a review: one line `name` for each name, then the line `end`, each with its line end.
 pub fn push_review(out: &mut String, names: &[Name]) -> Result<(), AllocError>
     ensures { OnOk result (string_bytes out.new ≡ string_bytes out.old ++ review_text names.now) }
 {
@@ -124,7 +124,7 @@ pub fn push_review(out: &mut String, names: &[Name]) -> Result<(), AllocError>
     push_end(out)
 }
 
-/// Puts the answer to a check at the end, `yes` or `no`, without a line end.
+/// Appends the answer to a check, `yes` or `no`, without a line end.
 pub fn push_check(out: &mut String, answer: bool) -> Result<(), AllocError>
     ensures { OnOk result (string_bytes out.new ≡ string_bytes out.old ++ check_text answer) }
 {

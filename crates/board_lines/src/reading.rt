@@ -22,7 +22,7 @@ use rbac_core::Command as PolicyCommand;
 use std::alloc::Global;
 use text_words::keep_all_words;
 
-// ---- each family of commands, by the words behind the command's; apart from one another, since each fills a large result
+// ---- each family of commands, by the words after the command's word; one function each, since each fills a large result
 
 #[inline(always)]
 fn proposed(session: u32, base: u32, mv: Move) -> Command
@@ -397,8 +397,8 @@ fn question(session: u32, word: AskWord, arguments: &[&[u8]]) -> Result<Command,
 
 // ---- lines
 
-/// What a line says whose session and command are known, by the words behind the command's; or its first fault.
-// Within its caller, which holds the large result: apart, it would be copied once more.
+/// What a line says, or its first fault, where its session and command are known, by the words after the command's word.
+// Inlined into its caller, which holds the large result; out of line, the result would be copied once more.
 #[inline(always)]
 pub fn read_command(
     alloc: Global,
@@ -428,7 +428,7 @@ pub fn read_command(
 pub enum Head<'a> {
     /// A line without words, or a comment.
     Skip,
-    /// The session, the command, and the words behind the command's.
+    /// The session, the command, and the words after the command's word.
     Asks {
         session: u32,
         word: Word,
@@ -436,8 +436,8 @@ pub enum Head<'a> {
     },
 }
 
-/// What the words of a line begin with, or the first fault: the session is no number, or there is no such command. What a
-/// line says is large, and most bad lines are told by this alone.
+/// What the words of a line begin with, or the first fault: the session is no number, or there is no such command. What a whole line says
+/// is large, and this part alone shows most bad lines.
 #[tactic(auto, unfolding(crate::specs::Reading::words_read))]
 #[inline(always)]
 pub fn read_head<'a>(words: &'a [&'a [u8]]) -> Result<Head<'a>, LineFault>
@@ -463,11 +463,11 @@ pub fn read_head<'a>(words: &'a [&'a [u8]]) -> Result<Head<'a>, LineFault>
     })
 }
 
-/// What the words of a line say, or the first fault. Only the names that a set or a session is made of take memory.
+/// What the words of a line say, or the first fault. Only the names of a set or a session take memory.
 ///
-/// A line without words, or whose first word begins with `#`, is skipped. Any other is `SESSION COMMAND ARGUMENTS`.
-/// The faults, in the order in which they are looked for: the session is no number, the command's word, the count of
-/// words (without the words of an object whose kind is none), then from the left the first argument that does not fit.
+/// A line without words, or whose first word begins with `#`, is skipped. Any other is `SESSION COMMAND ARGUMENTS`. The faults, in the
+/// order in which they are checked: the session is no number; the command's word; the count of words (without the words of an object whose
+/// kind is none of the three); then from the left the first argument that does not fit.
 pub fn read_words(alloc: Global, words: &[&[u8]]) -> Result<Command, ReadFault>
     ensures { Says result (words_read (map (λ w. w.now) words.now)) }
 {
@@ -481,8 +481,8 @@ pub fn read_words(alloc: Global, words: &[&[u8]]) -> Result<Command, ReadFault>
     }
 }
 
-/// What a line says, or its first fault. The line comes without its line end. Words are parted by spaces and tabs, and stand
-/// in `kept`, which the caller keeps from line to line. There is no limit on the length of a line here.
+/// What a line says, or its first fault. The line comes without its line end. Spaces and tabs separate the words, which are kept in `kept`;
+/// the caller reuses that from line to line. The length of a line is not limited here.
 pub fn read_kept<'a>(
     alloc: Global,
     kept: &mut Vec<&'a [u8]>,

@@ -75,7 +75,7 @@ fn push_refusal(out: &mut String, refusal: Refusal) -> Result<(), AllocError>
     }
 }
 
-/// Puts the text of a reply at the end, without a line end.
+/// Appends the text of a reply, without a line end.
 #[inline(always)]
 pub fn push_reply(out: &mut String, reply: Reply) -> Result<(), AllocError>
     ensures { OnOk result (string_bytes out.new ≡ string_bytes out.old ++ reply_text reply) }
@@ -98,7 +98,7 @@ pub fn reply_text(alloc: Global, reply: Reply) -> Result<String, AllocError>
     Ok(text)
 }
 
-/// Puts the text of a call that was not taken at the end, without a line end. Want of memory has none, since it ends the run.
+/// Appends the text of a call that was not taken, without a line end. `NoMemory` must not be passed: it has no text, since it ends the run.
 pub fn push_fault(out: &mut String, fault: Fault) -> Result<(), AllocError>
     requires { fault ≢ faults.NoMemory }
     ensures { OnOk result (string_bytes out.new ≡ string_bytes out.old ++ fault_text fault) }
@@ -110,7 +110,8 @@ pub fn push_fault(out: &mut String, fault: Fault) -> Result<(), AllocError>
     }
 }
 
-/// Puts the text of a question that was refused at the end, without a line end. Want of memory has none, since it ends the run.
+/// Appends the text of a question that was refused, without a line end. `NoMemory` must not be passed: it has no text, since it ends the
+/// run.
 pub fn push_ask_fault(out: &mut String, fault: AskFault) -> Result<(), AllocError>
     requires { fault ≢ asks.NoMemory }
     ensures { OnOk result (string_bytes out.new ≡ string_bytes out.old ++ ask_fault_text fault) }
@@ -125,7 +126,7 @@ pub fn push_ask_fault(out: &mut String, fault: AskFault) -> Result<(), AllocErro
     }
 }
 
-/// Puts the text of a line that says nothing that is known at the end, without a line end.
+/// Appends the text of a bad line's fault, without a line end.
 pub fn push_line_fault(out: &mut String, fault: LineFault) -> Result<(), AllocError>
     ensures { OnOk result (string_bytes out.new ≡ string_bytes out.old ++ line_fault_text fault) }
 {

@@ -31,7 +31,7 @@ fn push_names(out: &mut String, names: &[Name]) -> Result<(), AllocError>
     Ok(())
 }
 
-/// Puts a command's word, which begins with a space, and numbers at the end.
+/// Appends a command's word, which begins with a space, and numbers.
 fn push_numbers(out: &mut String, word: &str, numbers: &[u32]) -> Result<(), AllocError>
     ensures { OnOk result (string_bytes out.new ≡ string_bytes out.old ++ (word.now ++ flat_map spaced numbers.now)) }
 {
@@ -125,7 +125,7 @@ fn push_permission(
     push_range(out, range)
 }
 
-/// Puts a set's word, its name, its number and its roles at the end.
+/// Appends a set's word, its name, its number and its roles.
 fn push_set(
     out: &mut String,
     word: &str,
@@ -139,7 +139,7 @@ fn push_set(
     push_names(out, roles)
 }
 
-// ---- calls, behind the session
+// ---- calls, after the session
 
 fn push_move(out: &mut String, session: u32, base: u32, mv: Move) -> Result<(), AllocError>
     ensures { OnOk result (string_bytes out.new ≡ string_bytes out.old ++ after_number (move_said session base mv)) }
@@ -255,7 +255,7 @@ fn push_policy(out: &mut String, session: u32, command: &PolicyCommand) -> Resul
     }
 }
 
-/// Puts the line of a call at the end: single spaces, numbers without leading zeros, no line end.
+/// Appends the line of a call: single spaces, numbers without leading zeros, no line end.
 pub fn push_event(out: &mut String, call: &Call) -> Result<(), AllocError>
     ensures { OnOk result (string_bytes out.new ≡ string_bytes out.old ++ event_text call.now) }
 {
@@ -295,7 +295,7 @@ pub fn push_event(out: &mut String, call: &Call) -> Result<(), AllocError>
     }
 }
 
-/// The line of a call: single spaces, numbers without leading zeros, no line end. `read_line` of it gives that call again.
+/// The line of a call: single spaces, numbers without leading zeros, no line end. `read_line` reads that call from it again.
 pub fn event_text(alloc: Global, call: &Call) -> Result<String, AllocError>
     ensures { IfOk result (λ text. string_bytes text ≡ event_text call.now) }
 {

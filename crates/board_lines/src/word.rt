@@ -300,7 +300,7 @@ fn of_u(word: &[u8]) -> Option<Word>
 }
 
 impl Word {
-    /// The command that the word names, in lower case exactly. It is compared with the words of its first letter, and with no others.
+    /// The command that the word names, in lower case exactly. The word is compared only with those of the same first letter.
     pub fn of(word: &[u8]) -> Option<Word>
         ensures { result ≡ word_of word.now }
     {

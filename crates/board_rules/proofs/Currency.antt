@@ -31,8 +31,8 @@ among_named (c ∷ cs) v (inr later) =
     (suc r.0, omega (arith, below), r.2)
 
 module _ (law : Laws) (s : Setting) (v : ℕ) (low : 1 ≤ v) (final : BoardState) where
-  -- a state from which the final one came: its commits are the first of all, and the vehicle's route is the final one where no later
-  -- commit changed it
+  -- A state on the way to the final one: its commits are the first of all commits, and the vehicle's route is the final one where no later
+  -- commit changed it.
   IsBefore : BoardState → Type 0
   IsBefore state =
       ((rest : List (List ℕ)) × (state.commits ++ rest ≡ final.commits))

@@ -101,7 +101,7 @@ module _ (law : Laws) (spans : SpansGoOn) (s : Setting) (b : Basis) (base : ℕ)
     | inr lacks ↦ elim (pin_or_not c) [ inl held ↦ inl (λ _. held) | inr loose ↦ inr (λ h. loose (h lacks)) ]
   ]
 
-  -- who is pinned stays on its vehicle or is touched
+  -- a pinned customer stays on its vehicle or is touched
   all_allowed : PassesEffect s b base mv
       → ((k : ℕ) (t : Touch) → slice_get (touched_by b.routes mv) k ≡ Some t → IsAllowed b.pins (may_override b) (routes_after b.routes mv) t.customer)
       → DoPinsAllow b.pins (may_override b) (routes_after b.routes mv)

@@ -56,7 +56,7 @@ first_found p (y ∷ ys) (suc k) x h =
     ap (λ b. cond b (Some y) (find p ys)) (h.before zero y (omega arith) refl)
     ∙ first_found p ys k x (record { found = h.found; fails = h.fails; before = λ j z early at. h.before (suc j) z (omega (arith, early)) at })
 
--- the first for which one fact fails is that for which the same fact in other words does
+-- the first element for which a fact fails is the first for which an equivalent fact fails
 pub failing_same : {X : Type 0} (P Q : X → Type 0) (xs : List X) (k : ℕ) (x : X) → ((y : X) → P y → Q y) → ((y : X) → Q y → P y)
     → IsFirstFailing P xs k x → IsFirstFailing Q xs k x
 failing_same P Q xs k x there back h =
@@ -65,14 +65,14 @@ failing_same P Q xs k x there back h =
 not_later : {X : Type 0} (P : X → Type 0) (xs : List X) (k j : ℕ) (x y : X) → IsFirstFailing P xs k x → IsFirstFailing P xs j y → k < j → ⊥
 not_later P xs k j x y one other early = one.fails (other.before k x early one.found)
 
--- one thing is the first
+-- only one element is the first
 pub one_first : {X : Type 0} (P : X → Type 0) (xs : List X) (k j : ℕ) (x y : X) → IsFirstFailing P xs k x → IsFirstFailing P xs j y → Some x ≡ Some y
 one_first P xs k j x y one other = elim (cases_order k j) [
   | inl same ↦ sym one.found ∙ (ap (slice_get xs) same ∙ other.found)
   | inr q ↦ elim q [ inl h ↦ absurd (not_later P xs k j x y one other h) | inr h ↦ absurd (not_later P xs j k y x other one h) ]
 ]
 
--- what all have by places
+-- what holds of all elements, by their places
 pub all_by_place : {X : Type 0} (P : X → Type 0) (xs : List X) → ((k : ℕ) (x : X) → slice_get xs k ≡ Some x → P x) → All P xs
 all_by_place P xs h = λ k d below. h k (slice_index_or xs k d) (slice_get-get_or xs k d below)
 

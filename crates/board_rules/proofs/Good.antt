@@ -27,7 +27,7 @@ use Rattle.board_rules.specs.Good.{IsGood}
 use Rattle.board_rules.specs.Given.{Laws}
 use Rattle.board_rules.proofs.Standing.{on_its_vehicle, stands_or_not}
 
--- ---- what a refusal that does not come says
+-- ---- what follows where a refusal does not come
 
 is_done : (r : Option Refusal) → Done ≡ refused_by r → r ≡ None
 is_done None h = refl

@@ -25,7 +25,7 @@ use Rattle.board_rules.specs.Rules.{Basis, IsVerdict, basis_of, are_in_fleet, is
 use Rattle.board_rules.specs.Proposals.{FailsFirst, SessionExists, AreInFleet, MayMove, MayMoveVehicles, AreCurrent, MayMoveCustomers, IsFree, PinsAllow, IsFirstFailed, MayCommit}
 use Rattle.board_rules.proofs.Finds.{none_passes, none_found, first_passes, first_found, failing_same, all_by_place, place_by_all, list_all_from, list_all_by}
 
--- nothing is found exactly where all have what the test denies
+-- nothing is found exactly where every element has what the test denies
 none_all : {X : Type 0} (p : X → Bool) (P : X → Type 0) → ((x : X) → (p x ≡ false) ↔ P x) → (xs : List X) → (find p xs ≡ None) ↔ All P xs
 none_all p P same xs = (
   (λ h. all_by_place P xs (λ k x at. (same x).0 (none_passes p xs h k x at))),

@@ -19,7 +19,7 @@ use Rattle.board_rules.specs.Good.{IsGood}
 use Rattle.board_rules.specs.Given.{Laws}
 use Rattle.board_rules.proofs.Good.{good_after, good_opening, good_said}
 
--- the state after one entry more
+-- the state after one more entry
 state_from-push : (state : BoardState) (es : List Entry) (e : Entry) → state_from state (es ++ e ∷ []) ≡ after (state_from state es) e.call e.reply
 state_from-push state [] e = refl
 state_from-push state (x ∷ es) e = state_from-push (after state x.call x.reply) es e
@@ -33,11 +33,11 @@ entry_at [] k h = absurd (omega arith)
 entry_at (x ∷ es) zero h = (x, refl, refl)
 entry_at (x ∷ es) (suc k) h = let r = entry_at es k (omega arith) in (r.0, r.1, ap (λ xs. x ∷ xs) r.2)
 
--- how many of some entries and one more are a desk's
+-- how many of some entries and one more are those of a desk
 pub turns_more : (desk : ℕ) (es : List Entry) (e : Entry) → turns_of desk (es ++ e ∷ []) ≡ turns_of desk es + cond (e.desk == desk) 1 0
 turns_more desk es e = sum_by-append (λ (x : Entry). cond (x.desk == desk) 1 0) es (e ∷ []) ∙ ap (λ n. turns_of desk es + n) (omega arith)
 
--- what the opening state has, and every right reply keeps, each state of a legal history has
+-- what the opening state has, and what every right reply keeps, holds of each state of a legal history
 along : (o : Opening) (P : ℕ → BoardState → Type 0) → ((n : ℕ) (state : BoardState) → IsProp (P n state)) → P 0 (opening_state o.setting)
     → ((n : ℕ) (state : BoardState) (call : Call) (reply : Reply) → P n state → IsReply o.setting state call reply → P (suc n) (after state call reply))
     → (es : List Entry) → IsLegal (record { opening = o; entries = es }) → (k : ℕ) → k ≤ length es → P k (state_after o.setting (take k es))
@@ -50,7 +50,7 @@ along o P alone first next es legal (suc k) h =
     subst (λ (xs : List Entry). P (suc k) (state_after o.setting xs)) (sym r.2)
     (subst (λ (x : BoardState). P (suc k) x) (sym (state_after-push o.setting (take k es) r.0)) now)
 
--- one commit more at most
+-- at most one more commit
 few_more : (n : ℕ) (state : BoardState) (call : Call) (reply : Reply) → length state.commits ≤ n → length (after state call reply).commits ≤ suc n
 few_more n state (Propose session base mv) (Committed m) few = omega (arith, length-append state.commits (named_by mv ∷ []), few)
 few_more n state (Propose session base mv) Done few = omega (arith, few)

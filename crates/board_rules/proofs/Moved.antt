@@ -22,7 +22,7 @@ named_or_not (c ∷ cs) v = elim (cases_eq v c.0) [
   ]
 ]
 
--- within what was taken of a list its places are its own
+-- the places within a prefix of a list are those of the list
 within_taken : (n k : ℕ) (xs : List ℕ) → k < n → slice_get (take n xs) k ≡ slice_get xs k
 within_taken zero k xs h = absurd (omega (arith, h))
 within_taken (suc n) k [] h = refl
@@ -36,7 +36,7 @@ module _ (law : Laws) (n : ℕ) (routes : List (List ℕ)) (mv : Move) (c : ℕ)
   Found : Type 0
   Found = (v : ℕ) × ((p : ℕ) × IsNamed (changes_by routes mv) v × (first_change mv v ≤ p) × (StandsAt routes c v p ⊎ StandsAt (routes_after routes mv) c v p))
 
-  -- a place that is not at or behind a first change is the same before and after
+  -- a place that is not at or after a first change is the same before and after the move
   same_place : (v p : ℕ) → 1 ≤ v → 1 ≤ p → (IsNamed (changes_by routes mv) v → p < first_change mv v) → slice_get (route_at others v) (p - 1) ≡ slice_get (route_at routes v) (p - 1)
   unfolding others
   same_place v p low from early = elim (named_or_not (changes_by routes mv) v) [
@@ -66,7 +66,7 @@ module _ (law : Laws) (n : ℕ) (routes : List (List ℕ)) (mv : Move) (c : ℕ)
       let sized = count in
       record { low = at.low; high = omega (arith, high, sized); place = at.place; found = sym (same_place v p at.low at.place early) ∙ at.found }
 
-  -- a customer that stands at a place: there before and after, or on a named vehicle at or behind the first change
+  -- a customer that stands at a place: there before and after, or on a named vehicle at or after the first change
   here_or_found : (v p : ℕ) → (StandsAt routes c v p ⊎ StandsAt (routes_after routes mv) c v p) → (IsNamed (changes_by routes mv) v → p < first_change mv v) ⊎ Found
   unfolding Found
   here_or_found v p at = elim (named_or_not (changes_by routes mv) v) [

@@ -99,7 +99,7 @@ rows_less pairs slot rows a b h = elim (cases_lt a (length pairs)) [
       absurd (both_ways (has 0 b) (has-empty b) (sym (ap (λ r. has r b) none) ∙ h))
 ]
 
--- the policy is over so many customers and vehicles, and its order has the rows of 256 slots
+-- the policy is over this many customers and vehicles, and its order has the rows of 256 slots
 pub record IsSettled (customers vehicles : ℕ) (p : PolicyState) : Type 0 where
   pub customers_are : p.customers ≡ customers
   pub vehicles_are : p.vehicles ≡ vehicles

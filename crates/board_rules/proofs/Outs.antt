@@ -8,11 +8,11 @@ use Rattle.dimension_core.specs.Setting.{Setting}
 use Rattle.dimension_core.specs.Feasible.{FitsAll, IsFirstOut, IsFeasible}
 use Rattle.dimension_core.specs.NewRoutes.{AllKnown, AllFit, IsOut}
 
--- what is not refuted of two numbers' equality holds
+-- two numbers that cannot be shown to differ are equal
 not_other : (m n : ℕ) → ((m ≡ n → ⊥) → ⊥) → m ≡ n
 not_other m n h = elim (cases_eq m n) [ inl same ↦ same | inr other ↦ absurd (h other) ]
 
--- one vehicle and one dimension are the first that are out of bounds
+-- the first vehicle and dimension that are out of bounds are unique
 pub same_out : ((s : Setting) (vehicle : ℕ) (route : List ℕ) (d e : ℕ) → IsFirstOut s vehicle route d → IsFirstOut s vehicle route e → d ≡ e)
     → (s : Setting) (cs : Changes) (v d w e : ℕ) → IsOut s cs v d → IsOut s cs w e → (v ≡ w) × (d ≡ e)
 same_out alone s [] v d w e a b = absurd a

@@ -57,7 +57,7 @@ module _ (law : Laws) (alone : OneOut) (s : Setting) (b : Basis) (base : ℕ) (m
   Holds (suc (suc (suc (suc (suc (suc (suc (suc zero)))))))) = DoPinsAllow b.pins (may_override b) (routes_after b.routes mv)
   Holds _ = IsFeasible s (routes_after b.routes mv)
 
-  -- the first so many rules hold
+  -- the first n rules hold
   AllHold : ℕ → Type 0
   AllHold n = (k : ℕ) → k < n → Holds k
 
@@ -156,7 +156,7 @@ module _ (law : Laws) (alone : OneOut) (s : Setting) (b : Basis) (base : ℕ) (m
   unfolding AllHold
   not_before denial other f g early = broken denial f (before other g (stage (Some denial)) early)
 
-  -- verdicts about one rule are one
+  -- two verdicts about the same rule are equal
   named_of : Option ℕ → Option Denial → Option Denial → ℕ → ℕ
   named_of (Some v) a b n = v
   named_of None a b n = n

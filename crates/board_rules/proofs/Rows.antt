@@ -1,4 +1,4 @@
--- A listing has one list of rows.
+-- The rows of a listing are unique.
 use Rattle.std.proofs.Common.{◌≡◌, ℕ, zero, suc, ◌<◌, List, [], ◌∷◌, length, map, take, refl, sym, ap, ap₂, ◌∙◌, subst, arith}
 use Rattle.std.specs.Prelude.{All, slice_index, if◌then◌else◌, ◌==◌}
 use Rattle.std.proofs.lemmas.Grind.{same_number_lists}

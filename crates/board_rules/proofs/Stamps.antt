@@ -1,4 +1,4 @@
--- A stamp tells whether some commit after a base changed a vehicle, and so does the list of commits.
+-- A stamp says whether some commit after a base changed a vehicle, and so does the list of commits.
 use Rattle.std.proofs.Common.{◌≡◌, ℕ, zero, suc, ◌+◌, ◌≤◌, Bool, true, false, List, [], ◌∷◌, refl, sym, ap, ◌∙◌, arith}
 use Rattle.std.specs.Prelude.{◌||◌, ◌↔◌, nat_lt, if◌then◌else◌}
 use Rattle.std.proofs.lemmas.Bool.{ltb-false, le-ltb}
@@ -7,7 +7,7 @@ use Rattle.plan_core.specs.Among.{is_among}
 use Rattle.plan_core.specs.Commits.{IsCurrentAt, last_commit}
 use Rattle.board_rules.specs.Rules.{is_changed_after}
 
--- the number of the last commit of one more list, of whose rest the last is n
+-- the number of the last commit where one more list comes first, and n is that of the rest
 first_last : Bool → ℕ → ℕ
 first_last b n = if nat_lt 0 n then n + 1 else (if b then 1 else 0)
 

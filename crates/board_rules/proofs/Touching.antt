@@ -1,4 +1,4 @@
--- Pins judged by the answers to the touches are judged by all.
+-- Judging pins by the answers to the touches is judging them for all customers.
 use Rattle.std.proofs.Common.{◌≡◌, ℕ, ◌≤◌, ◌⊎◌, inl, inr, Bool, true, List, Some, sym, ◌∙◌, subst}
 use Rattle.std.specs.Prelude.{slice_get}
 use Rattle.plan_core.specs.declared.touch.Touch.{Touch}

@@ -1,4 +1,4 @@
--- Laws of plans, moves and pins that the laws of the board stand on, as the crates below state them.
+-- The laws of plans, moves and pins on which the board's laws depend, as the crates below state them.
 use Rattle.std.specs.Prelude.{◌≡◌, ℕ, ◌≤◌, List, length, replicate, Some, None}
 use Rattle.plan_core.specs.Plan.{route_at}
 use Rattle.plan_core.specs.Laws.{RoutesAreReplaced, CustomersStandByRoute, AmongIsTested}

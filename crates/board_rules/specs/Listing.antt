@@ -39,7 +39,7 @@ unassigned_spots customers routes =
 abbrev pub all_spots : ℕ → List (List ℕ) → List Touch
 all_spots customers routes = placed_spots 1 routes ++ unassigned_spots customers routes
 
--- whether a session that may do so much may read a spot: `view` on the customer, and where it is placed on its vehicle
+-- whether a session with these permissions may read a spot: it needs `view` on the customer and, where that is placed, on its vehicle
 abbrev pub is_readable : (Operation → Object → Bool) → Touch → Bool
 is_readable may spot =
     may operations.View (objects.Customer spot.customer)

@@ -12,7 +12,7 @@ use Rattle.board_rules.specs.declared.reply.Refusal.TheVariants as refusals
 use Rattle.board_rules.specs.declared.reply.Reply.{Reply}
 use Rattle.board_rules.specs.declared.reply.Reply.TheVariants.{Done, Session, Refused}
 
--- a refusal of the policy as one of the board, each by its name; want of memory is no answer of a step
+-- a refusal of the policy as one of the board, each by its name; running out of memory is no answer of a step
 abbrev pub board_refusal : PolicyRefusal → Refusal
 board_refusal narrow.NoSession = refusals.NoSession
 board_refusal narrow.NoAccess = refusals.NoAccess

@@ -55,14 +55,14 @@ module _ (s : Setting) (state : BoardState) (session base : ℕ) (mv : Move) whe
   abbrev pub MayMoveCustomers : Type 0
   MayMoveCustomers = All (λ t. MayMove (objects.Customer t.customer)) (touched_by state.routes mv)
 
-  -- the frozen front of a vehicle stays, and that of each
+  -- the frozen front of a vehicle stays; and so for each vehicle
   abbrev pub KeepsFront : ℕ → Type 0
   KeepsFront v = IsFrontKept state.pins state.routes (routes_after state.routes mv) v
 
   abbrev pub FrontsAreKept : Type 0
   FrontsAreKept = AreFreezesKept state.pins state.routes (routes_after state.routes mv)
 
-  -- a customer stands on the vehicle of its pin, if it has one, or the session may override that; and so each
+  -- a customer stands on the vehicle of its pin, if it has one, or the session may override that; and so for each customer
   abbrev pub IsFree : ℕ → Type 0
   IsFree c = IsHeld state.pins (routes_after state.routes mv) c ⊎ CheckAccess state.policy session operations.Override (objects.Customer c)
 

@@ -14,7 +14,7 @@ use Rattle.board_rules.specs.declared.review.Review.{Review}
 use Rattle.board_rules.specs.declared.review.Review.TheVariants.{Users, Roles, Active}
 use Rattle.board_rules.specs.State.{BoardState}
 
--- A fault is the one that is due, or want of memory, which may come at any time.
+-- A fault is the one that is due, or running out of memory, which may happen at any time.
 abbrev pub MayAsk : Option AskFault → AskFault → Type 0
 MayAsk expected NoMemory = ⊤
 MayAsk expected fault = expected ≡ Some fault

@@ -23,7 +23,7 @@ use Rattle.board_rules.specs.declared.reply.Denial.TheVariants.{NoSession, BadVe
 use Rattle.board_rules.specs.Override.{DoPinsAllow, IsFirstHeldBack}
 use Rattle.board_rules.specs.State.{BoardState}
 
--- What the rules are told of a state, for a session.
+-- What the rules know of a state, for a session.
 pub record Basis : Type 0 where
   -- whether the session exists
   pub is_open : Bool
@@ -66,7 +66,7 @@ pub record Agree (s : Setting) (b c : Basis) : Type 0 where
 abbrev pub is_one_of : ℕ → ℕ → Bool
 is_one_of n k = nat_le 1 k && nat_le k n
 
--- whether each named vehicle is in a fleet of so many
+-- whether each named vehicle is in a fleet of this size
 abbrev pub are_in_fleet : ℕ → Move → Bool
 are_in_fleet vehicles mv = list_all (is_one_of vehicles) (named_by mv)
 

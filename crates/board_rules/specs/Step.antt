@@ -15,7 +15,7 @@ use Rattle.board_rules.specs.State.{BoardState}
 use Rattle.board_rules.specs.Rules.{IsVerdict, basis_of, routes_after}
 use Rattle.board_rules.specs.Pinning.{pinned, pin_refusal, unpin_refusal, freeze_refusal, thaw_refusal}
 
--- the reply to a call that is refused so, or not at all
+-- the reply to a call, by its refusal or by none
 abbrev pub refused_by : Option Refusal → Reply
 refused_by None = Done
 refused_by (Some refusal) = Refused refusal
@@ -35,7 +35,7 @@ IsReply s state (Freeze session vehicle n) reply = reply ≡ refused_by (freeze_
 IsReply s state (Thaw session vehicle n) reply = reply ≡ refused_by (thaw_refusal s (basis_of state session) vehicle n)
 IsReply s state (Policy session command) reply = reply ≡ policy_reply state.policy session command
 
--- the state after a commit of the move: its routes, one commit more, and no pin of a customer that left its vehicle
+-- the state after a commit of the move: its routes, one more commit, and no pin of a customer that left its vehicle
 abbrev pub committed : BoardState → Move → BoardState
 committed state mv = record state {
   routes = routes_after state.routes mv;
@@ -43,7 +43,7 @@ committed state mv = record state {
   commits = state.commits ++ named_by mv ∷ [];
 }
 
--- the state after a call that was answered so; a call that is denied or refused changes nothing
+-- the state after a call with this reply; a call that is denied or refused changes nothing
 abbrev pub after : BoardState → Call → Reply → BoardState
 after state (Propose session base mv) (Committed n) = committed state mv
 after state (Pin session customer) Done = record state { pins = pinned state.routes customer state.pins }

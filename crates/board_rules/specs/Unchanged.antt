@@ -12,7 +12,7 @@ KeepsPolicy old new = new.policy ≡ old.policy
 abbrev pub KeepsPlan : BoardState → BoardState → Type 0
 KeepsPlan old new = (new.routes ≡ old.routes) × (new.commits ≡ old.commits)
 
--- A proposal leaves the policy and the frozen lengths; a pin and an unpin leave all but the pins, a freeze and a thaw all but the frozen
+-- A proposal keeps the policy and the frozen lengths. A pin and an unpin keep all but the pins, a freeze and a thaw all but the frozen
 -- lengths, and a command on the policy all but the policy.
 abbrev pub KeepsTheRest : BoardState → Call → BoardState → Type 0
 KeepsTheRest old (Propose session base mv) new = KeepsPolicy old new × (new.pins.fronts ≡ old.pins.fronts)

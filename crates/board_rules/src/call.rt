@@ -5,35 +5,42 @@ use rbac_core::Command;
 /// What a session asks of the board. Customers and vehicles count from 1, and each number may be any u32.
 #[derive(Debug, Drop)]
 pub enum Call {
-    /// A change of the plan, judged against the version `base` that the session has seen.
+    /// A change of the plan, judged against the version `base` that the session has seen. It is denied by the first rule that it fails, in
+    /// the order of `Denial`.
     Propose {
         session: u32,
         base: u32,
         mv: Move,
     },
-    /// The customer is pinned to the vehicle on which it stands.
+    /// The customer is pinned to the vehicle on which it stands. Refusals, in order: `NoSession`; `BadCustomer`; `NoAccess`, without `pin`
+    /// on the customer; `NotPlaced`, where it stands on no vehicle; `Already`, where it is pinned.
     Pin {
         session: u32,
         customer: u32,
     },
-    /// The customer is pinned no longer.
+    /// The customer is pinned no longer. Refusals, in order: `NoSession`; `BadCustomer`; `NoAccess`, without `pin` on the customer;
+    /// `NotThere`, where it is not pinned.
     Unpin {
         session: u32,
         customer: u32,
     },
-    /// The first `length` stops of the vehicle are frozen, which are more than before.
+    /// The first `length` stops of the vehicle are frozen, which are more than before and at most those of its route. Refusals, in order:
+    /// `NoSession`; `BadVehicle`; `NoAccess`, without `freeze` on the vehicle; `Length`, where `length` is not above the old one or is
+    /// above the route's.
     Freeze {
         session: u32,
         vehicle: u32,
         length: u32,
     },
-    /// The first `length` stops of the vehicle are left frozen, which are fewer than before.
+    /// Only the first `length` stops of the vehicle stay frozen, which are fewer than before. Refusals, in order: `NoSession`;
+    /// `BadVehicle`; `NoAccess`, without `freeze` on the vehicle; `Length`, where `length` is not below the old one.
     Thaw {
         session: u32,
         vehicle: u32,
         length: u32,
     },
-    /// A change of the policy.
+    /// A change of the policy. Refusals, in order: `NoSession`; `NoAccess`, without `admin` on the board, unless it is a session command
+    /// that concerns the session's own user; and then those of the command, which `Command` of `rbac_core` lists.
     Policy {
         session: u32,
         command: Command,

@@ -2,8 +2,8 @@ ghost use Rattle.std.specs.Prelude.{◌≡◌};
 
 use std::marker::Model;
 
-/// What one call changes of the plan, the pins and the freezes: of each customer whose spot or pin differs and of each vehicle whose frozen
-/// length differs the new value, and the version afterwards. Customers, vehicles and places count from 1.
+/// What one call changes of the plan, the pins and the freezes: the new value for each customer whose spot or pin differs and for each
+/// vehicle whose frozen length differs, and the version afterwards. Customers, vehicles and places count from 1.
 #[derive(Debug, Drop)]
 pub struct Delta {
     places: Vec<(u32, Option<(u32, u32)>)>,

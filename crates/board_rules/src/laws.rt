@@ -77,7 +77,7 @@ fn laws_below()
 
 // ---- what every legal history leaves
 
-/// The state before the first call is good, and a right reply leaves a good state.
+/// The state before the first call is good, and a right reply leads from a good state to a good one.
 pub fn right_replies_keep_good_states()
     ensures first { (s : Setting) → IsGood s (opening_state s) }
     ensures next { (s : Setting) (state : BoardState) (call : Call) (reply : Reply) → IsGood s state → IsReply s state call reply → IsGood s (after state call reply) }
@@ -95,7 +95,7 @@ pub fn legal_histories_leave_good_states()
     laws_below();
 }
 
-/// One entry more, which may come next, keeps a history legal, and its state is the one after that call and reply.
+/// A legal history stays legal with one more entry that may come next, and its state is the one after that call and reply.
 pub fn histories_grow_by_entries()
     ensures legal { (o : Opening) (es : List Entry) (e : Entry) → IsLegal (record { opening = o; entries = es }) → IsNext o es e → IsLegal (record { opening = o; entries = es ++ e ∷ [] }) }
     ensures state { (s : Setting) (es : List Entry) (e : Entry) → state_after s (es ++ e ∷ []) ≡ after (state_after s es) e.call e.reply }
@@ -162,10 +162,10 @@ pub fn calls_keep_the_rest()
     ensures rest { (state : BoardState) (call : Call) (reply : Reply) → KeepsTheRest state call (after state call reply) }
 {}
 
-// ---- what a crate that judges calls goes by
+// ---- for a crate that judges calls
 
-/// Facts that agree give one verdict. A crate that keeps other numbers of a state, as a stamp for each vehicle in place of all
-/// commits, judges by these.
+/// Facts that agree give one verdict. A crate that keeps other data of a state, such as a stamp for each vehicle in place of all commits,
+/// judges by these.
 pub fn verdicts_by_agreeing_facts()
     ensures { (s : Setting) (b c : Basis) (base : ℕ) (mv : Move) (verdict : Option Denial) → Agree s b c → IsVerdictBy s b base mv verdict → IsVerdictBy s c base mv verdict }
 {}
@@ -179,8 +179,8 @@ pub fn changes_by_stamps()
     currency_by_stamps();
 }
 
-/// Pins that are judged by the touches, with an answer for each whose customer would leave the vehicle of its pin, are judged by all
-/// customers, and the first touch that is forbidden so is the first whose pin forbids the new routes.
+/// Judging pins by the touches, with an answer for each customer that would leave the vehicle of its pin, is judging them for all
+/// customers: the first touch that is forbidden is the first whose pin forbids the new routes.
 pub fn pins_by_touches()
     ensures allow { (pins : PinState) (free : ℕ → Bool) (others : List (List ℕ)) (touched : List Touch) (answers : List Bool) → AreAnswers pins free others touched answers
         → DoPinsPass pins others touched answers → ((c : ℕ) → 1 ≤ c → IsHeld pins others c ⊎ IsTouched touched c) → DoPinsAllow pins free others }
@@ -188,8 +188,8 @@ pub fn pins_by_touches()
         → IsFirstForbidden pins others touched answers t → IsFirstHeldBack pins free others touched t }
 {}
 
-/// The right reply to a command on the policy, and the policy after it, by the parts of its step: the guard, the command's own refusals, and
-/// the command itself.
+/// The right reply to a command on the policy, and the policy after it, by the parts of its step: the guard, the command's own refusals,
+/// and the command itself.
 pub fn commands_by_parts()
     ensures barred { (p : PolicyState) (session : ℕ) (command : Command) (e : PolicyRefusal) → guard p session command ≡ Some e
         → (policy_reply p session command ≡ Refused (board_refusal e)) × (policy_after p session command ≡ p) }
@@ -211,8 +211,8 @@ pub fn plans_are_judged_by_new_routes()
     routes_are_known();
 }
 
-/// After a move that has an effect, each customer whose spot differs stands, before the move or after it, on a named vehicle at the first
-/// place at which that vehicle's route differs, or behind it.
+/// After a move that has an effect, each customer whose spot differs stands, before the move or after it, on a named vehicle, at or after
+/// the first place at which that vehicle's route differs.
 pub fn spots_change_on_named_vehicles()
     ensures { (n : ℕ) (routes : List (List ℕ)) (mv : Move) (c : ℕ) → IsPlan n routes → effect n routes mv ≡ Some (changes_by routes mv)
         → spot_in (routes_after routes mv) c ≢ spot_in routes c
@@ -221,7 +221,7 @@ pub fn spots_change_on_named_vehicles()
     laws_below();
 }
 
-/// In a plan a customer that stands at a place has that vehicle and that place and no other, and one that stands nowhere has none.
+/// In a plan a customer that stands at a place has that vehicle and that place and no other; one that stands nowhere has none.
 pub fn customers_have_one_spot()
     ensures vehicle { (n : ℕ) (routes : List (List ℕ)) (c v p : ℕ) → IsPlan n routes → StandsAt routes c v p → vehicle_of routes c ≡ Some v }
     ensures spot { (n : ℕ) (routes : List (List ℕ)) (c v p : ℕ) → IsPlan n routes → StandsAt routes c v p → spot_in routes c ≡ Some (v, p) }

@@ -1,7 +1,7 @@
 //! The rules of the board: its calls and replies, which reply is right in which state, and what a history of calls leaves.
 //!
-//! Nothing here runs: the types are those of the board's calls, the definitions stand in `specs/`, and the laws over them are the
-//! contracts of functions that do nothing.
+//! It keeps no running state. The types are those of the board's calls, the definitions are in `specs/`, and the laws over them are the
+//! contracts of functions that do nothing. What runs is small: the constructors and readers of `Delta` and `Row`, and `Refusal::of_policy`.
 #![tactic(auto)]
 
 mod call;

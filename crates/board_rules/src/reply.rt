@@ -32,7 +32,8 @@ pub enum Denial {
     Bound(u32, u32),
 }
 
-/// Why a call that is no proposal is refused. Each call has its own order of them.
+/// Why a call other than a proposal is refused. Which refusals a call has, and in which order they are tried, stands at its variant of
+/// `Call`.
 #[derive(Clone, Copy, Debug, PartialEq, Eq)]
 pub enum Refusal {
     /// The session does not exist.
@@ -41,7 +42,7 @@ pub enum Refusal {
     NoAccess,
     /// The vehicle is 0 or above the fleet.
     BadVehicle,
-    /// The customer is 0 or above the board's.
+    /// The customer is 0 or above the number of customers.
     BadCustomer,
     /// There is no such user.
     NoUser,
@@ -51,15 +52,15 @@ pub enum Refusal {
     NoSet,
     /// The range of objects is empty, begins at 0 or ends above the fleet or the customers.
     BadObject,
-    /// What the call brings is there already.
+    /// What the call would add is there already.
     Already,
-    /// What the call takes away is not there.
+    /// What the call would take away or change is not there.
     NotThere,
     /// The user is not authorized for the role.
     NotAuthorized,
     /// The senior role would be its own junior.
     Cycle,
-    /// The role stands in a set.
+    /// The role is a member of an SSD or DSD set.
     InSet,
     /// The set would have a number below 2 or above the number of its roles.
     Number,
@@ -71,14 +72,15 @@ pub enum Refusal {
     Full,
     /// The customer stands on no vehicle.
     NotPlaced,
-    /// The length does not lie between the old one and what the call allows.
+    /// The length is not one that the call allows: `Freeze` needs more than the old one and at most the route's, `Thaw` less than the old
+    /// one.
     Length,
 }
 
 impl Refusal {
     ghost use Rattle.board_rules.specs.Policies.{board_refusal};
 
-    /// What the policy refuses, as the board says it. Want of memory is no refusal, and stays that.
+    /// The refusal of the policy as one of the board. Running out of memory is no refusal of the board, and is answered as `AllocError`.
     pub fn of_policy(refusal: PolicyRefusal) -> Result<Refusal, AllocError>
         ensures ok { IfOk result (λ r. r ≡ board_refusal refusal) }
         ensures err { IsErr result ↔ (refusal ≡ NoMemory) }
@@ -119,7 +121,7 @@ pub enum Reply {
     Refused(Refusal),
 }
 
-/// Why an event was not taken, in the order in which the faults are tried. It is not journaled, and nothing changed.
+/// Why an event was not taken, in the order in which the faults are tried. Such an event is not journaled, and nothing changed.
 #[derive(Clone, Copy, Debug, PartialEq, Eq, Error)]
 pub enum Fault {
     #[error("there is no such desk, or the turn is not the desk's last plus one")]

@@ -1,6 +1,6 @@
 use separation_core::Name;
 
-/// What of the policy a session wants to see, as a list of names.
+/// The part of the policy that a session asks to see, as a list of names.
 #[derive(Clone, Copy, Debug, PartialEq, Eq)]
 pub enum Review {
     /// The users that are assigned to the role, in the order in which they were created (AssignedUsers).

@@ -2,8 +2,8 @@ ghost use Rattle.std.specs.Prelude.{◌≡◌, ◌<◌, ◌≤◌, ◌++◌, ◌
 
 use std::marker::Model;
 
-/// One line of a listing: where a customer stands, and when it is reached at the earliest. It is kept in place, so that no row takes
-/// memory of its own.
+/// One line of a listing: where a customer stands, and its early values. The values are kept inside the row, so that a row takes no memory
+/// of its own.
 #[derive(Debug, Drop)]
 pub struct Row {
     vehicle: u32,
@@ -25,7 +25,7 @@ impl Model for Row {
 }
 
 impl Row {
-    /// The row of a customer with its early values, one for each dimension of the setup, of which there are 8 at most.
+    /// The row of a customer with its early values, one for each dimension of the setup, of which there are at most 8.
     #[inline(always)]
     pub fn new(vehicle: u32, place: u32, customer: u32, early: &[u64]) -> Row
         requires { length early.now ≤ 8 }
@@ -45,7 +45,7 @@ impl Row {
         }
     }
 
-    /// Puts the early value of one dimension more behind those that are there, of which there are fewer than 8.
+    /// Appends the early value of one more dimension; there are fewer than 8 values before.
     #[inline(always)]
     pub fn push_early(&mut self, value: u64)
         requires { length self.old.early < 8 }
@@ -76,7 +76,9 @@ impl Row {
         self.customer
     }
 
-    /// The early value in each dimension, or none where the customer is unassigned.
+    /// The early value in each dimension, in the setup's order, or none where the customer is unassigned. An early value is the least cumul
+    /// that the vehicle can have at the stop, in the unit of that dimension's callback: for the program's two dimensions the load before
+    /// the stop in the file's unit, and the earliest time in tenths of the file's unit.
     pub fn early(&self) -> &[u64]
         ensures { result.now ≡ self.now.early }
     {

@@ -30,7 +30,7 @@ pub allows_access : (t : TablesState) (p : PolicyState) → ∥ AreCompiled t p 
     → allows t session operation object ≡ has_access p session operation object
 allows_access t p compiled session operation object = ∥∥₁_elim compiled (Bool-set _ _) (λ are. are session operation object)
 
--- a session that may do anything is there
+-- a session that may do something is there
 and_first : (a b : Bool) → (a && b) ≡ true → a ≡ true
 and_first true b e = refl
 and_first false b e = absurd cc
@@ -52,7 +52,7 @@ pub admin_guard : (p : PolicyState) (session : ℕ) (command : Command) → is_s
 unfolding guard_by
 admin_guard p session command e = ap (λ (b : Bool). if not b then Some NoSession else None) e
 
--- where none is barred the first may
+-- where no vehicle is barred, the first one is allowed
 pub first_allowed : (P : ℕ → Bool) (x : ℕ) (xs : List ℕ) → find (λ v. not (P v)) (x ∷ xs) ≡ None → P x ≡ true
 first_allowed P x xs e = by_test (P x) refl
   where
@@ -92,7 +92,7 @@ carried p session command free h = (
       ∙ ap (λ o. (answered p o (after p command) (outcome_of p command)).0) h,
 )
 
--- every refusal but want of memory is the one that is due
+-- every refusal but running out of memory is the one that is due
 pub says_other : (e : Refusal) (o : Option Refusal) → Says e o → (e ≡ NoMemory → ⊥) → o ≡ Some e
 says_other NoSession o h other = h
 says_other NoAccess o h other = h

@@ -31,7 +31,7 @@ feasible_all s (c ∷ cs) routes sized apart fits old =
     feasible_all s cs (slice_set routes (c.0 - 1) c.1) (length-set routes (c.0 - 1) c.1 ∙ sized) apart.3 fits.1
     (feasible_one s routes c.0 c.1 sized apart.0 apart.1 fits.0 old)
 
--- new routes that make a plan are no longer than there are customers
+-- no new route that makes a plan is longer than there are customers
 pub short_routes : {Z : Type 0} (customers limit : ℕ) (changes : List (ℕ × Arc (List ℕ) Z)) (routes : List (List ℕ)) → customers ≤ limit → IsPlan customers (with_routes (changes_of changes) routes)
     → AreApart (length routes) (changes_of changes)
     → ((n : ℕ) (cs : Changes) (rs : List (List ℕ)) (k : ℕ) (c : ℕ × List ℕ) → IsPlan n (with_routes cs rs) → AreApart (length rs) cs → slice_get cs k ≡ Some c → length c.1 ≤ n)
@@ -43,7 +43,7 @@ short_routes customers limit changes routes few plan apart law k d below =
     let short = law customers (changes_of changes) routes k (c.0, c.1.value) plan apart at in
     omega (arith, short, few)
 
--- new routes are the effect of a move that is possible alone
+-- new routes are an effect only of a move that is possible
 pub has_effect : (possible : Bool) (changes : Changes) → (if possible then Some changes else None) ≡ Some changes → possible ≡ true
 has_effect true changes h = refl
 has_effect false changes h = let none : None ≡ Some changes = h in absurd cc

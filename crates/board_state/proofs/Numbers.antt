@@ -1,4 +1,4 @@
--- Lists of numbers that do not come twice, and changes of so many numbers.
+-- Lists of numbers in which none comes twice, and changes at such numbers.
 use Rattle.std.proofs.Common.{◌≡◌, ◌≢◌, ℕ, zero, suc, ◌+◌, ◌<◌, ◌≤◌, ◌⊎◌, inl, inr, false, List, [], ◌∷◌, ◌++◌, length, map, take, drop, Contains, Option, Some, None, nat_eq, refl, sym, ap, subst, ◌∙◌, arith}
 use Rattle.std.specs.Prelude.{⊤, slice_get, slice_index_or}
 use Rattle.std.specs.List.{IsDistinct, AllByRecursion}
@@ -25,7 +25,7 @@ module _ {X : Type 0} where
   pub none_in : (x : X) → Contains (let xs : List X = [] in xs) x → ⊥
   none_in x h = let lt = h.1 in absurd (omega arith)
 
--- ---- numbers that do not come twice
+-- ---- numbers of which none comes twice
 
 -- none of the numbers comes twice
 abbrev pub Unlike : List ℕ → Type 0
@@ -51,7 +51,7 @@ unlike_joined (x ∷ xs) ys a b apart = (
   unlike_joined xs ys a.1 b (λ d left right. apart d (later x d xs left) right),
 )
 
--- a list of which no two places have one number
+-- a list in which no two places have the same number
 abbrev pub Once : List ℕ → Type 0
 Once cs = (i j c : ℕ) → slice_get cs i ≡ Some c → slice_get cs j ≡ Some c → i ≡ j
 
@@ -72,7 +72,7 @@ once_unlike (c ∷ cs) h = (
   once_unlike cs (once_rest c cs h),
 )
 
--- what stands behind so many
+-- what follows the first k elements
 pub behind : (a k j : ℕ) (xs : List ℕ) → j ≡ a + k → slice_get (drop a xs) k ≡ slice_get xs j
 behind zero k j xs h = let e : k ≡ j = omega (arith, h) in ap (slice_get xs) e
 behind (suc a) k j [] h = refl
@@ -92,14 +92,14 @@ taken (suc n) (suc k) c (x ∷ xs) h = taken n k c xs h
 pub once_taken : (n : ℕ) (xs : List ℕ) → Once xs → Once (take n xs)
 once_taken n xs h i j c at also = h i j c (taken n i c xs at) (taken n j c xs also)
 
--- within what was taken of a list its places are its own
+-- the places within a prefix of a list are those of the list
 pub within_taken : (n k : ℕ) (xs : List ℕ) → k < n → slice_get (take n xs) k ≡ slice_get xs k
 within_taken zero k xs h = absurd (omega (arith, h))
 within_taken (suc n) k [] h = refl
 within_taken (suc n) zero (x ∷ xs) h = refl
 within_taken (suc n) (suc k) (x ∷ xs) h = within_taken n k xs (omega (arith, h))
 
--- what is left of a list without one place stood at another one
+-- what stands in a list without one place stood at another place of the whole list
 pub left_over : (a k c : ℕ) (xs : List ℕ) → slice_get (take a xs ++ drop (suc a) xs) k ≡ Some c → (j : ℕ) × (j ≢ a) × (slice_get xs j ≡ Some c)
 left_over zero k c xs h = (suc k, (λ e. absurd (omega (arith, e))), sym (behind (suc zero) k (suc k) xs (omega arith)) ∙ h)
 left_over (suc a) k c [] h = absurd cc

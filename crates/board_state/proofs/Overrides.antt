@@ -1,4 +1,4 @@
--- Pins that a session may override: what is judged of the touched customers is so of all.
+-- Pins that a session may override: judging the touched customers is judging all customers.
 use Rattle.std.proofs.Common.{◌≡◌, ℕ, zero, suc, ◌+◌, ◌<◌, ◌≤◌, ◌⊎◌, inl, inr, Bool, true, false, List, [], ◌∷◌, ◌++◌, length, drop, get_or, Option, Some, None, refl, sym, ap, subst, ◌∙◌, arith, ⊎_elim, All, length-append}
 use Rattle.std.specs.Prelude.{slice_get, is_some, is_none, if◌then◌else◌}
 use Rattle.std.proofs.lemmas.Bool.{both_ways, cases_order}
@@ -28,7 +28,7 @@ module _ (pins : PinState) (free : ℕ → Bool) (others : List (List ℕ)) (tou
       (λ (yes : slice_get answers k ≡ Some true). ⊎_elim (λ (h : IsHeld pins others t.customer). h) (λ (e : free t.customer ≡ true). absurd (both_ways (free t.customer) bound e)) (same_answer k t true at yes))
       (passed t at)
 
-  -- pins that pass allow the new routes
+  -- where the pins pass, they allow the new routes
   pub passed_allow : (routes : List (List ℕ)) → DoPinsHold pins routes → AreAllTouched routes others touched → DoPinsPass pins others touched answers → DoPinsAllow pins free others
   passed_allow routes holds all passes c low bound v pinned =
       let stands = holds c low v pinned in
@@ -91,7 +91,7 @@ get_back [] ys k x low h = absurd (omega (arith, low))
 get_back (y ∷ xs) ys zero x low h = h
 get_back (y ∷ xs) ys (suc k) x low h = get_back xs ys k x (omega (arith, low)) h
 
--- one mark more
+-- one more mark
 pub marks_more : (Held : ℕ → Type 0) (touched : List Touch) (free : List Bool) (i : ℕ) (t : Touch) (b : Bool) → length free ≡ i
     → slice_get touched i ≡ Some t → (b ≡ true → ¬ Held t.customer)
     → ((k : ℕ) (u : Touch) → slice_get touched k ≡ Some u → slice_get free k ≡ Some true → ¬ Held u.customer)
@@ -117,7 +117,7 @@ none_freed pins others touched n known holds = record {
       inl (holds t.customer (subst (λ (u : Touch). 1 ≤ u.customer) (get_or_from_slice_get touched k t t at) (known k t (slice_get_within touched k t at)).0));
 }
 
--- how many are left to leave
+-- how many customers are still to leave
 pub leaving_left : (pins : PinState) (others : List (List ℕ)) (touched : List Touch) (i : ℕ) (d : Touch) → i < length touched
     → leaving pins others (drop i touched) ≡ (if is_leaving pins others (get_or touched i d).customer then 1 else 0) + leaving pins others (drop (i + 1) touched)
 leaving_left pins others touched i d h = sum_by-drop_more _ touched i d h

@@ -1,4 +1,4 @@
--- What judging the new routes of a proposal comes to.
+-- What follows from judging the new routes of a proposal.
 use Rattle.std.proofs.Common.{◌≡◌, ℕ, ◌+◌, ◌<◌, ◌≤◌, ◌⊎◌, List, length, Option, Some, None, refl, sym, ap, ◌∙◌, subst, All}
 use Rattle.dimension_core.specs.Setting.{Setting}
 use Rattle.dimension_core.specs.Feasible.{IsFeasible}

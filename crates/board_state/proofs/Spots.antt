@@ -36,7 +36,7 @@ pub record SpotLaws : Type 0 where
   pub back : (routes : List (List ℕ)) (c v p : ℕ) → spot_in routes c ≡ Some (v, p) → StandsAt routes c v p
   pub missing : (routes : List (List ℕ)) (c : ℕ) → ¬ IsPlaced routes c → spot_in routes c ≡ None
 
--- ---- the spots behind a place
+-- ---- the spots after a place
 
 spot_of : ℕ → ℕ → ℕ → Touch
 spot_of v q c = record { vehicle = v; place = q; customer = c }

@@ -1,4 +1,4 @@
--- What is held answers the rules as the state does, and stands for the next state once a call is put in place.
+-- What is held answers the rules as the state does, and stands for the next state once a call is in place.
 use Rattle.std.proofs.Common.{◌≡◌, ◌↔◌, ℕ, ◌+◌, ◌≤◌, ◌++◌, ◌∷◌, [], Bool, true, List, length, Option, Some, None, Ok, Err, Result, refl, sym, ap, ◌∙◌, subst, arith}
 use Rattle.std.specs.Prelude.{nat_lt}
 use Rattle.std.specs.Prelude.{MatchResult, IfOk}
@@ -134,7 +134,7 @@ new_holds s held after state new mv holds same names ranges apart law policy tab
           (subst (λ (cs : Changes). AreNewRows s cs new.pending.rows) (sym same) ranges));
     }
 
--- where nothing but what was tried and the room differs, the same is held
+-- what is held is the same where only what was tried and the room differ
 pub policy_will : (s : Setting) (old new : HeldState) (state : BoardState) (change : Change) (next : PolicyState) → Holds s old state
     → new ≡ record old { policy = new.policy; tables = new.tables } → PolicyWillBe new.policy new.tables change next → WillHold s new change (record state { policy = next })
 policy_will s old new state Nothing next holds kept will =
@@ -148,7 +148,7 @@ policy_will s old new state (Pins change) next holds kept will = absurd will.rea
 
 -- ---- calls on pins
 
--- a value that hangs on no commits is the same by facts that agree
+-- a value that does not depend on the commits is the same for facts that agree
 agreeing : {X : Type 0} (s : Setting) (b c : Basis) → Agree s b c → (F : Basis → X) → F (record c { is_changed = b.is_changed }) ≡ F c → F b ≡ F c
 agreeing s b c a F same =
     ap F (λ i. record {

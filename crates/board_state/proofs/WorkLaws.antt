@@ -1,4 +1,4 @@
--- Work after work.
+-- Work that follows other work.
 use Rattle.std.proofs.Common.{◌≡◌, ℕ, ◌+◌, ◌≤◌, ◌∙◌, refl, arith, min}
 use Rattle.callback_store.specs.declared.meter.Meter.{Meter}
 use Rattle.callback_store.specs.Meter.{AsksAtMost, after_probe}
@@ -19,7 +19,7 @@ wider old new asks probes more_asks more_probes h few_asks few_probes =
       probes_high = omega (arith, h.probes_high);
     }
 
--- work after work is at most as much as both together
+-- two pieces of work, one after the other, count at most what both may count together
 pub then : (a b c : Meter) (asks probes more_asks more_probes all_asks all_probes : ℕ) → WorksAtMost a b asks probes → WorksAtMost b c more_asks more_probes
     → asks + more_asks ≤ all_asks → probes + more_probes ≤ all_probes → WorksAtMost a c all_asks all_probes
 then a b c asks probes more_asks more_probes all_asks all_probes h k few_asks few_probes =

@@ -75,8 +75,8 @@ pub record WillHold (s : Setting) (held : HeldState) (change : Change) (next : B
   pub pins : pins_after held change ≡ next.pins
   pub cache : WillKeep s held change next.routes
 
--- New routes may be put in place: they are one or two, and make a plan, every customer that leaves its vehicle is touched, and those whose
--- pins are released are marked.
+-- New routes may be put in place: there are one or two of them, they make a plan, every customer that leaves its vehicle is touched, and
+-- those whose pins are released are marked.
 pub record ArePlaceableRoutes (held : HeldState) (new : NewRoutes) : Type 0 where
   pub lengths : All (λ c. length c.1.value ≤ 1000) new.changes.items
   pub freed : AreFreed held.pins (with_routes (changes_of new.changes.items) held.plan.routes) new.touched.items new.freed.items
@@ -93,16 +93,15 @@ pub record AreMadeBy (held : HeldState) (mv : Move) (new : NewRoutes) : Type 0 w
   pub possible : effect held.plan.customers held.plan.routes mv ≡ Some (changes_of new.changes.items)
   pub by : new.touched.items ≡ touched_by held.plan.routes mv
 
--- A commit may be put in place: its new routes may, they are those of its move, and the routes that this move's vehicles had are beside
--- them.
+-- A commit may be put in place: its new routes may, they are those of its move, and it has the routes that the move's vehicles had before.
 pub record IsCommittable (held : HeldState) (commit : Commit) : Type 0 where
   pub routes : ArePlaceableRoutes held commit.new
   pub made : AreMadeBy held commit.mv commit.new
   pub former : commit.former.value ≡ route_at held.plan.routes (vehicles_of commit.mv).0
   pub other : option_map (λ r. r.value) commit.other ≡ option_map (route_at held.plan.routes) (vehicles_of commit.mv).1
 
--- A change of pins or frozen lengths may be put in place, and it changes something: nobody is pinned or unpinned twice, and no frozen
--- length stays.
+-- A change of pins or frozen lengths may be put in place, and it changes something: a customer is pinned that was not, or unpinned that was
+-- pinned, or a frozen length differs from the old one.
 abbrev pub ArePinsSettleable : PinState → PinChange → Type 0
 ArePinsSettleable pins (Pin customer vehicle) = (1 ≤ customer) × (customer ≤ length pins.pins) × (pin_of pins customer ≡ None)
 ArePinsSettleable pins (Unpin customer) = (1 ≤ customer) × (customer ≤ length pins.pins) × (pin_of pins customer ≢ None)
@@ -125,7 +124,7 @@ pub record PinsWillBe (held : HeldState) (change : PinChange) (next : PinState) 
   pub made : pins_with change held.pins ≡ next
   pub ready : ArePinsSettleable held.pins change
 
--- the change is of the policy alone, if of anything, and may be put in place
+-- the change is of the policy alone, or there is none, and it may be put in place
 abbrev pub IsCommandReady : Tried → TablesState → Change → Type 0
 IsCommandReady policy tables (Command rows command) = (rows.of ≡ tables) × (refusal_of policy.now command ≡ None) × (policy.tried ≡ after policy.now command)
 IsCommandReady policy tables Nothing = Unit {0}
@@ -138,7 +137,7 @@ pub record PolicyWillBe (policy : Tried) (tables : TablesState) (change : Change
   pub compiled : ∥ WillCompile tables change next ∥₁
   pub sizes : HasSizes next tables
 
--- nothing is held otherwise, but what was tried on the spare policy, and for how many rows more there is room
+-- nothing that is held differs, except what was tried on the spare policy, and how many more rows there is room for
 abbrev pub Tries : HeldState → HeldState → Type 0
 Tries old new = new ≡ record old {
   policy = record { now = old.policy.now; tried = new.policy.tried };

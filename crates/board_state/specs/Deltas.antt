@@ -26,11 +26,11 @@ spot_change t = (t.customer, Some (t.vehicle, t.place))
 abbrev pub stood_there : List ℕ → Touch → Bool
 stood_there old t = nat_le t.place (length old) && (slice_index old (t.place - 1) == t.customer)
 
--- of customers that stand on a vehicle from a place on, those that did not stand there on its old route
+-- of the customers that stand on a vehicle from a place on, those that did not stand there on its old route
 abbrev pub spots_behind : ℕ → ℕ → List ℕ → List ℕ → List (ℕ × Option (ℕ × ℕ))
 spots_behind vehicle place old tail = map spot_change (filter (λ t. not (stood_there old t)) (touches vehicle place tail))
 
--- how many customers at the front of a named vehicle's route a move leaves as they are
+-- how many of the first customers of a named vehicle's route a move leaves as they are
 abbrev pub kept_by : Move → ℕ → ℕ
 kept_by mv v = first_change mv v - 1
 
@@ -43,13 +43,13 @@ abbrev pub taken_off : List (List ℕ) → Move → Option ℕ
 taken_off routes (Remove vehicle place) = Some (customer_at (route_at routes vehicle) place)
 taken_off routes _ = None
 
--- the new spots on the vehicles that a move names, in its order, and who stands nowhere any longer
+-- the new spots on the vehicles that a move names, in its order, and the customer that no longer stands anywhere
 abbrev pub places_by : List (List ℕ) → List (List ℕ) → Move → List (ℕ × Option (ℕ × ℕ))
 places_by routes others mv = flat_map (new_spots routes others mv) (named_by mv) ++ option_to_list (option_map {U = ℕ × Option (ℕ × ℕ)} (λ c. (c, None)) (taken_off routes mv))
 
 -- ---- pins
 
--- Marks on the touches in order: a marked customer leaves the vehicle of its pin, and each one that leaves it is marked.
+-- Marks for the touches in order: a marked customer leaves the vehicle of its pin, and each one that leaves it is marked.
 pub record AreFreed (pins : PinState) (others : List (List ℕ)) (touched : List Touch) (freed : List Bool) : Type 0 where
   pub short : length freed ≤ length touched
   pub leave : (k : ℕ) (t : Touch) → slice_get touched k ≡ Some t → slice_get freed k ≡ Some true → ¬ IsHeld pins others t.customer

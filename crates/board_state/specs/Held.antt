@@ -45,9 +45,9 @@ held_basis held session = record {
   pins = held.pins;
 }
 
--- What judging owes of what is held: the plan is the setup's, with a row for each customer's pin and each vehicle's front, the pins hold,
--- the fronts are within their routes, these are feasible, the ranges are the plan's, the
--- tables are the policy's, and one commit more may be counted.
+-- What judging requires of what is held: the plan has the setup's sizes, with a row for each customer's pin and each vehicle's frozen
+-- front; the pins hold; the fronts are within their routes; the routes are feasible; the ranges are those of the plan; the tables are those
+-- of the policy; and one more commit may be counted.
 pub record IsReady (s : Setting) (held : HeldState) : Type 0 where
   pub customers : held.plan.customers ≡ s.customers
   pub sized : length held.plan.routes ≡ s.vehicles

@@ -28,7 +28,7 @@ IsPinStop pins free routes changes touched (Denied (Pinned v p)) = AreFreezesKep
 IsPinStop pins free routes changes touched (Denied _) = ⊥
 IsPinStop pins free routes changes touched NoMemory = ⊤
 
--- what judging the pins and fronts of new routes owes: they are those of a move that has an effect, with the customers that it touches
+-- what judging the pins and fronts of new routes requires: they are those of a move that has an effect, with the customers that it touches
 pub record ArePlaceable (held : HeldState) (new : Changes) (touches : List Touch) : Type 0 where
   pub pinned : length held.pins.pins ≡ held.plan.customers
   pub frozen : length held.pins.fronts ≡ length held.plan.routes
@@ -39,7 +39,7 @@ pub record ArePlaceable (held : HeldState) (new : Changes) (touches : List Touch
   pub known : All (λ t. (1 ≤ t.customer) × (t.customer ≤ held.plan.customers)) touches
   pub touched : AreAllTouched held.plan.routes (with_routes new held.plan.routes) touches
 
--- how many of the asks of a judgement a stopped proposal may have made: none where a rule before the bounds stopped it
+-- how many of a judgement's asks a stopped proposal may have made: none where a rule before the bounds stopped it
 abbrev pub stop_asks : ℕ → Stop → ℕ
 stop_asks n (Denied (Bound v d)) = n
 stop_asks n (Denied _) = 0

@@ -15,7 +15,7 @@ use Rattle.board_rules.specs.declared.reply.Reply.{Reply}
 use Rattle.board_rules.specs.declared.reply.Reply.TheVariants.{Committed, Denied}
 use Rattle.board_rules.specs.Rules.{routes_after}
 
--- From the old meter to the new one at most so many asks and probes were counted, and no walk.
+-- From the old meter to the new one at most this many asks and probes were counted, and no walk.
 pub record WorksAtMost (old new : Meter) (asks probes : ℕ) : Type 0 where
   pub walks : new.walks ≡ old.walks
   pub asks_low : old.asks ≤ new.asks
@@ -23,7 +23,7 @@ pub record WorksAtMost (old new : Meter) (asks probes : ℕ) : Type 0 where
   pub probes_low : old.probes ≤ new.probes
   pub probes_high : new.probes ≤ old.probes + probes
 
--- a customer is pinned to a vehicle on which it would not stand in other routes, so that its pin would not outlive them
+-- a customer is pinned to a vehicle on which it would not stand in other routes, so that a commit of these would release its pin
 abbrev pub is_leaving : PinState → List (List ℕ) → ℕ → Bool
 is_leaving pins others c = is_some (pin_of pins c) && is_none (pin_of (after_commit others pins) c)
 
@@ -33,13 +33,14 @@ leaving pins others touched = count_by (λ t. is_leaving pins others t.customer)
 
 -- ---- what one call may cost
 
--- the asks of a proposal: for each named vehicle and dimension the stops of its new route after the longest common front, and the return
+-- the asks of a proposal: for each named vehicle and dimension one for each stop of its new route after the longest common prefix with the
+-- old one, and one for the return
 abbrev pub call_asks : Setting → List (List ℕ) → Call → ℕ
 call_asks s routes (Propose session base mv) = judge_asks (length s.dimensions) routes (changes_by routes mv)
 call_asks s routes _ = 0
 
--- its probes: one for each named vehicle and each touched customer, and one more for each of these that would leave the vehicle to which
--- it is pinned; every other call makes one at most
+-- its probes: one for each named vehicle and each touched customer, and one more for each of these that would leave the vehicle to which it
+-- is pinned; every other call makes at most one
 abbrev pub call_probes : PinState → List (List ℕ) → Call → ℕ
 call_probes pins routes (Propose session base mv) =
     length (named_by mv) + length (touched_by routes mv) + leaving pins (routes_after routes mv) (touched_by routes mv)

@@ -22,9 +22,9 @@ use plan_core::stamps_by_one_more;
 use std::alloc::{AllocError, Global};
 
 impl State {
-    /// Judges a call and puts it in place, as `prepare` and then `settle` do. Nothing stands between the two, so no judged call is made
-    /// and moved. Where a growth was refused, nothing changes that a contract sees but what is tried on the spare policy and for how many
-    /// rows there is room.
+    /// Judges a call and puts it in place, as `prepare` and then `settle` do. No judged call is built in between, so none has to be moved.
+    /// Where memory runs out, contracts see no change, except in what is tried on the spare policy and in how many rows there is room for.
+    /// What it requires of the setup and of what is held is `IsReady`, as for `prepare`.
     #[inline(always)]
     pub fn apply(
         &mut self,
@@ -73,8 +73,8 @@ impl State {
         }
     }
 
-    /// Puts a call on pins in place that was judged so, and gives its reply. It is written out for each call, so that none makes room for
-    /// the changes of the others.
+    /// Puts a judged call on pins in place, and gives its reply. It is inlined for each kind of call, so that none makes room for the
+    /// changes of the others.
     #[inline(always)]
     fn finish(&mut self, judged: Result<PinChange, Refusal>) -> Reply
         requires { IfOk judged (λ change. IsSettleable self.old (Pins change)) }
@@ -90,7 +90,8 @@ impl State {
         }
     }
 
-    /// The same for a proposal. The new routes go from the judgement to the plan without a change that could be of another kind.
+    /// The same for a proposal. The new routes go from the judgement to the plan directly, and not by way of a `Change`, which could be of
+    /// another kind.
     #[inline(always)]
     fn apply_proposal(
         &mut self,

@@ -11,7 +11,7 @@ use std::marker::Model;
 use std::snapshot::Snapshot;
 use std::sync::Arc;
 
-/// The memory of a commit's lists, for those of the next one.
+/// The memory of one commit's lists, kept for the lists of the next.
 #[derive(Drop)]
 pub(crate) struct Workspace {
     pub(crate) touched: Vec<Touch>,
@@ -20,7 +20,7 @@ pub(crate) struct Workspace {
 }
 
 impl Workspace {
-    /// No memory.
+    /// A workspace without memory.
     pub(crate) fn new(alloc: Global) -> Workspace {
         Workspace {
             touched: Vec::new(alloc),
@@ -35,12 +35,12 @@ impl Workspace {
 pub struct NewRoutes {
     pub(crate) changes: Vec<(u32, Arc<Route>)>,
     pub(crate) touched: Vec<Touch>,
-    /// For each touched customer whether it leaves the vehicle of its pin, or nothing where none does.
+    /// For each touched customer whether it leaves the vehicle of its pin; empty where none does.
     pub(crate) freed: Vec<bool>,
     pub(crate) pending: Pending,
 }
 
-/// New routes that pass every rule, with the move that makes them and the routes that its vehicles had.
+/// New routes that pass every rule, with the move that makes them and the routes that its vehicles had before.
 #[derive(Drop)]
 pub struct Commit {
     pub(crate) mv: Move,
@@ -60,7 +60,7 @@ pub enum PinChange {
     Front(u32, u32),
 }
 
-/// What a call changes of what is held.
+/// What a call changes in what is held.
 #[derive(Drop)]
 pub enum Change {
     /// The call was denied or refused.
@@ -69,11 +69,11 @@ pub enum Change {
     Replace(Commit),
     /// A pin or a frozen length.
     Pins(PinChange),
-    /// The policy is as this command was tried on it, and these are its rows.
+    /// The policy becomes the one that this command was tried for, and the compiled permissions get these rows.
     Command(Rows, Command),
 }
 
-/// A judged call, for what was held when it was judged, with the version then.
+/// A judged call, with what was held when it was judged, and the version at that time.
 #[derive(Drop)]
 pub struct Judged {
     pub(crate) of: Snapshot<State>,

@@ -25,7 +25,7 @@ use rbac_core::{
 use std::alloc::{AllocError, Global};
 
 impl State {
-    /// Why the session may not give the command. One that has `admin` on the board is there, and is not looked for.
+    /// Why the session may not give the command. A session that has `admin` on the board exists, so it is not looked up.
     fn command_guard(
         &self,
         session: u32,
@@ -43,7 +43,7 @@ impl State {
         guard_by(self.policy.policy(), session, command, admin)
     }
 
-    /// Judges a policy command, which is tried on the spare policy.
+    /// Judges a policy command by trying it on the spare policy.
     pub(crate) fn judge_command(
         &mut self,
         alloc: Global,
@@ -112,7 +112,7 @@ fn compile(
     Ok(Change::Command(rows, command))
 }
 
-/// The answer where the policy refuses a command so, unless that is want of memory.
+/// The answer to a refusal of the policy, unless that is running out of memory.
 #[tactic(auto, using(crate::proofs::Commanding::says_other))]
 fn refused(refusal: PolicyRefusal) -> Result<(Reply, Change), AllocError>
     ensures due { IfOk result (λ _. (o : Option PolicyRefusal) → Says refusal o → o ≡ Some refusal) }

@@ -25,8 +25,8 @@ use std::alloc::{AllocError, Global};
 type Spots = Vec<(u32, Option<(u32, u32)>)>;
 
 impl Judged {
-    /// What the call makes different of the plan, the pins and the freezes, and the version afterwards. Only what stands on the named
-    /// vehicles from the first place on at which they change is walked, and the touched customers where a pin is released.
+    /// What the call changes of the plan, the pins and the freezes, and the version afterwards. Only the named vehicles' routes are walked,
+    /// from the first changed place on, and, where a pin is released, the touched customers.
     pub fn delta(&self) -> Result<Delta, AllocError>
         ensures { (s : Setting) (state next : BoardState) → Holds s self.now.of state → IsGood s state → WillHold s self.now.of self.now.change next → IfOk result (IsDelta s state next) }
     {
@@ -182,7 +182,7 @@ fn released(
     Ok(pins)
 }
 
-/// How many customers at the front of a named vehicle's route a move leaves as they are.
+/// How many of the first customers of a named vehicle's route a move leaves as they are.
 fn kept_by(mv: &Move, vehicle: u32) -> u32
     ensures { result ≡ kept_by mv.now vehicle }
 {
@@ -221,7 +221,7 @@ fn first_of(vehicle: u32, from: u32, place: u32, to: u32, at: u32) -> u32
     if vehicle == from { place } else { at }
 }
 
-/// Adds the customers that stand on a vehicle behind so many, and did not stand there on its old route.
+/// Adds the customers that stand on a vehicle after the first few, and did not stand there on its old route.
 fn add_new_spots(
     places: &mut Spots,
     vehicle: u32,

@@ -1,4 +1,4 @@
-//! What is held of a board's state: how a call is judged by it, and how what was judged is put in place.
+//! What is held of a board's state: how a call is judged on it, and how a judged call is put in place.
 #![tactic(auto)]
 
 mod apply;

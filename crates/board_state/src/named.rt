@@ -16,7 +16,7 @@ use rbac_core::{Object, Operation};
 /// One vehicle, or two.
 pub(crate) type Named = (u32, Option<u32>);
 
-/// Whether each is in a fleet of so many.
+/// Whether each vehicle is in a fleet of this size.
 pub(crate) fn are_in_fleet(vehicles: u32, named: Named) -> bool
     ensures { result ≡ list_all (is_one_of vehicles) (named.0 ∷ option_to_list named.1) }
 {
@@ -38,7 +38,7 @@ pub(crate) fn is_one_of(last: u32, number: u32) -> bool
 }
 
 impl State {
-    /// The first that the session may not move.
+    /// The first vehicle that the session may not move.
     pub(crate) fn first_barred_vehicle(
         &self,
         session: u32,
@@ -72,7 +72,7 @@ impl State {
         None
     }
 
-    /// The first that a commit after the base changed.
+    /// The first vehicle that a commit after the base changed.
     pub(crate) fn first_stale(&self, base: u32, named: Named) -> Option<u32>
         requires { list_all (is_one_of (length self.now.plan.routes)) (named.0 ∷ option_to_list named.1) ≡ true }
         ensures { result ≡ find (λ v. nat_lt base (stamp_of self.now.plan v)) (named.0 ∷ option_to_list named.1) }

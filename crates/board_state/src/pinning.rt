@@ -111,7 +111,7 @@ impl State {
         Ok(PinChange::Pin(customer, vehicle))
     }
 
-    /// Judges that a customer be pinned no longer.
+    /// Judges whether a customer may be unpinned.
     #[tactic(auto, unfolding(board_rules::specs::Pinning::unpin_refusal))]
     pub(crate) fn judge_unpin(
         &self,
@@ -135,7 +135,7 @@ impl State {
         Ok(PinChange::Unpin(customer))
     }
 
-    /// Judges a longer frozen front.
+    /// Judges a longer frozen front. The length may be any number.
     #[tactic(auto, unfolding(board_rules::specs::Pinning::freeze_refusal))]
     pub(crate) fn judge_freeze(
         &self,

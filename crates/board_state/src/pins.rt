@@ -25,9 +25,8 @@ use std::alloc::{AllocError, Global};
 use std::sync::Arc;
 
 impl State {
-    /// Whether new routes keep the frozen fronts, and no pin forbids them. Only where a pinned customer would leave its vehicle the
-    /// session is asked for `override`. The answer marks the touched customers that leave the vehicle of their pin, and is empty where none
-    /// does.
+    /// Whether new routes keep the frozen fronts, and no pin forbids them. The session is asked for `override` only where a pinned customer
+    /// would leave its vehicle. The answer marks the touched customers that leave the vehicle of their pin, and is empty where none does.
     pub(crate) fn judge_pins(
         &self,
         alloc: Global,

@@ -24,8 +24,9 @@ use std::alloc::{AllocError, Global};
 use std::snapshot::Snapshot;
 
 impl State {
-    /// Judges a call, with every growth that it needs, and changes nothing that a contract sees but what is tried on the spare policy and
-    /// for how many rows there is room.
+    /// Judges a call, and makes every growth that it needs. Contracts see no change, except in what is tried on the spare policy and in how
+    /// many rows there is room for; those may change also where memory runs out. What it requires of the setup and of what is held is
+    /// `IsReady`.
     pub fn prepare(
         &mut self,
         alloc: Global,
@@ -142,7 +143,7 @@ impl State {
     }
 }
 
-/// The reply to a call on pins that was judged so, and what it changes.
+/// The reply to a judged call on pins, and what it changes.
 fn answered(judged: Result<PinChange, Refusal>) -> (Reply, Change)
     ensures reply { result.0 ≡ refused_by (result_err judged) }
     ensures change { MatchResult judged (λ change. result.1 ≡ Change.Pins change) (λ refusal. result.1 ≡ Change.Nothing) }

@@ -32,8 +32,8 @@ use std::alloc::{AllocError, Global};
 use std::sync::Arc;
 
 impl State {
-    /// Judges a proposal: the new routes that it may put in place, or the first rule that it fails. What an early rule denies leaves the
-    /// kept memory where it is.
+    /// Judges a proposal: the new routes that it may put in place, or the first rule that it fails. Where an early rule denies it, the kept
+    /// memory stays where it is.
     #[inline(always)]
     pub(crate) fn judge_proposal(
         &mut self,
@@ -86,8 +86,8 @@ impl State {
         }
     }
 
-    /// The rules from the touched customers on, of a move that has an effect. It is kept out of line, so that a proposal that an earlier rule
-    /// denies pays nothing for the room that new routes take on the stack.
+    /// The rules from the touched customers on, of a move that has an effect. Out of line, so that a proposal that an earlier rule denies
+    /// pays nothing for the stack space of new routes.
     #[inline(never)]
     fn judge_move(
         &self,

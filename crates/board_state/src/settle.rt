@@ -16,8 +16,11 @@ use crate::state::State;
 use board_rules::Reply;
 
 impl State {
-    /// Puts a judged call in place, and gives its reply. The caller owes that nothing was put in place since it was judged. No memory is
-    /// taken.
+    /// Puts a judged call in place, and gives its reply. It takes no memory.
+    ///
+    /// The contract requires that the state still is, as contracts see it, the one on which the call was judged. So pass what the last
+    /// `prepare` of this very state answered, with no `prepare`, `settle` or `apply` in between: each of them may leave another state,
+    /// `prepare` also where memory runs out.
     pub fn settle(&mut self, judged: Judged) -> Reply
         requires { judged.of ≡ self.old }
         ensures holds { (s : Setting) (next : BoardState) → WillHold s self.old judged.change next → Holds s self.new next }
@@ -28,7 +31,7 @@ impl State {
         reply
     }
 
-    /// Puts a change in place: what is held stands then for the state to which the change leads.
+    /// Puts a change in place. What is held then stands for the state to which the change leads.
     #[inline(always)]
     pub(crate) fn enact(&mut self, change: Change)
         requires { IsSettleable self.old change }
@@ -62,8 +65,8 @@ impl State {
         }
     }
 
-    /// Gives the named vehicles their new routes and ranges, and takes away the pins of customers that left their vehicle. The memory of the
-    /// lists is kept for the next commit. It is kept out of line, so that a proposal that is denied pays nothing for it.
+    /// Gives the named vehicles their new routes and ranges, and takes away the pins of customers that left their vehicle. The memory of
+    /// the lists is kept for the next commit. Out of line, so that a proposal that is denied pays nothing for it.
     #[inline(never)]
     pub(crate) fn replace(&mut self, new: NewRoutes)
         requires { ArePlaceableRoutes self.old new }

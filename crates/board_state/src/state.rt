@@ -32,11 +32,11 @@ pub struct State {
     pub(crate) plan: Plan,
     pub(crate) pins: Pins,
     pub(crate) cache: Cache,
-    /// No part of what is held: the memory of the last commit's lists.
+    /// This is no part of what is held: the memory of the last commit's lists.
     pub(crate) workspace: Workspace,
 }
 
-// By hand, since a derived drop is written out, down to each list, at every place where a value is dropped.
+// Written by hand: a derived drop is expanded, down to each list, at every place where a value is dropped.
 impl Drop for State {
     fn drop(self) {
         let State {
@@ -118,7 +118,7 @@ impl State {
         self.tables.session_rows(session)
     }
 
-    /// What `check` answers for a session that has these permissions, which are not looked for again.
+    /// What `check` answers for a session with these permissions, without looking them up again.
     #[inline(always)]
     pub fn check_in(
         &self,
@@ -139,7 +139,8 @@ impl State {
         self.policy.policy().is_session(session)
     }
 
-    /// The same, where it is known that the session may do something, or not that: one that may is there, and is not looked for again.
+    /// The same, for a caller that knows whether the session may do something: a session that may do something exists, and is not looked up
+    /// again.
     #[inline(always)]
     pub(crate) fn is_open(&self, session: u32, may: bool) -> bool
         requires { may ≡ true → is_session self.now.policy.now session ≡ true }

@@ -6,6 +6,6 @@ use board_rules::Denial;
 pub enum Stop {
     /// A rule denies it.
     Denied(Denial),
-    /// A growth was refused.
+    /// Memory ran out.
     NoMemory,
 }

@@ -15,7 +15,7 @@ use Rattle.line_engine.specs.Answers.{Refused, Audited}
 use Rattle.board_text.specs.BoardSteps.{DeskState, IsBoardStep}
 use Rattle.line_engine.specs.Fronts.{MayRefuse}
 
--- a fault that is due is a step, and want of memory leaves what it may
+-- a fault that is due is a step, and running out of memory leaves what it may
 pub refused : {F : Type 0} (see : F → DeskState) (refuses : F → F → Type 0) (front : F) (question : Command) (expected : Option AskFault) (fault : AskFault)
     → MayAsk expected fault → refuses front front → ((due : AskFault) → expected ≡ Some due → IsBoardStep (see front) question (Refused due) (see front))
     → MayRefuse (λ old command answer new. IsBoardStep (see old) command answer (see new)) refuses front question fault front
@@ -40,15 +40,15 @@ pub both : {A E X : Type 0} (P Q : A → Type 0) (r : Result A E) → OnOk r X �
 both P Q (Ok a) x p f = f a x p
 both P Q (Err e) x p f = tt
 
--- what want of memory leaves
+-- what running out of memory leaves
 abbrev pub stays : {i j : Type 0} {held : i → Type 0} {holds : j → Type 0} {calls : _} {asks : _} → BoardFront i j held holds calls asks → BoardFront i j held holds calls asks → Type 0
 stays old new = (history new.board ≡ history old.board) × (new.desk ≡ old.desk) × (new.turn ≡ old.turn)
 
--- a front stays as it is
+-- a front that stays the same
 pub same_front : {i j : Type 0} {held : i → Type 0} {holds : j → Type 0} {calls : _} {asks : _} (a : BoardFront i j held holds calls asks) → stays a a
 same_front a = (refl, refl, refl)
 
--- the journal's text was put behind a text
+-- the journal's text was appended to a text
 pub audited : {F E : Type 0} (see : F → DeskState) (front : F) (session : ℕ) (entries : List Entry) (old new put : List ℕ) (r : Result (Unit {0}) E)
     → audit_fault (state_of (see front).history) session ≡ None → entries ≡ (see front).history.entries → old ++ put ≡ old ++ audit_text entries → OnOk r (new ≡ old ++ put)
     → OnOk r ((es : List Entry) × IsBoardStep (see front) (commands.Audit session) (Audited es) (see front) × (new ≡ old ++ audit_text es))

@@ -19,7 +19,7 @@ use Rattle.board_text.specs.BoardSteps.{DeskState, desk_state, IsBoardStep}
 use Rattle.board_text.specs.BoardRuns.{AreOutcomes, AllLines, EndsAt, IsAnswered, IsNear, IsStopped}
 use Rattle.board_text.specs.declared.board_front.BoardFront.{BoardFront}
 
--- a text of lines with their ends, and of what stands behind the last, has these lines
+-- a text of lines with their ends, and of what follows the last end, has these lines
 abbrev pub TextsHaveTheirLines : Type 0
 TextsHaveTheirLines = (lines : List (List ℕ)) (rest : List ℕ) → AllByRecursion IsLine lines → HasNoEnd rest → lines_of (flat_map ended lines ++ rest) ≡ lines ++ last_line rest
 
@@ -34,7 +34,7 @@ same_desk : (h k : History) (a b m n : ℕ) → (k ≡ h) × (b ≡ a) × (n ≡
 same_desk h k a b m n e =
     ap (λ (x : History). desk_state x b n) e.0 ∙ ap (λ (x : ℕ). desk_state h x n) e.1 ∙ ap (λ (x : ℕ). desk_state h a x) e.2
 
--- what stays the same stays the same as it is seen
+-- what stays the same is seen as the same
 pub same_seen : {i j : Type 0} {held : i → Type 0} {holds : j → Type 0} {calls : _} {asks : _} (a b : BoardFront i j held holds calls asks) → (history b.board ≡ history a.board) × (b.desk ≡ a.desk) × (b.turn ≡ a.turn) → seen b ≡ seen a
 same_seen a b e = same_desk (history a.board) (history b.board) a.desk b.desk a.turn b.turn e
 
@@ -60,7 +60,7 @@ all_lines [] [] each partial = tt
 all_lines [] (b ∷ rest) each partial = (partial, tt)
 all_lines (line ∷ lines) rest each partial = (each.0, all_lines lines rest each.1 partial)
 
--- what lines come to, of a text that has these lines
+-- the outcomes of the lines of a text
 outcomes_seen : {F : Type 0} (see : F → DeskState) (old new : F) (text : List ℕ) (lines : List (List ℕ)) (outcomes : List Outcome) → lines_of text ≡ lines → AllByRecursion IsLine lines
     → Runs (λ o c a n. IsBoardStep (see o) c a (see n)) old lines outcomes new → AreOutcomes (see old) text outcomes (see new)
 outcomes_seen see old new text lines outcomes cut each run = record {
@@ -129,7 +129,7 @@ last_ends see refuses same runs.LongLine mid new n lines rest more end cut count
 last_ends see refuses same runs.NoMemory mid new n lines rest more end cut count part none at_end h = last_near see refuses same mid new rest more end part none at_end h
 last_ends see refuses same runs.Write mid new n lines rest more end cut count part none at_end h = last_near see refuses same mid new rest more end part none at_end h
 
--- lines with their ends were answered, and what comes behind them was not
+-- lines with their ends were answered, and what follows them was not
 lines_stopped : {F : Type 0} (see : F → DeskState) (fault : RunFault) (old mid new : F) (left_old left_new was now : Option (List ℕ)) (bytes more out left : List ℕ) (lines : List (List ℕ)) (outcomes : List Outcome)
     → Consumes left_old left_new (bytes ++ more) → bytes ≡ flat_map ended lines ++ left → lines_of (flat_map ended lines) ≡ lines → AllByRecursion IsLine lines → Runs (λ o c a n. IsBoardStep (see o) c a (see n)) old lines outcomes mid
     → EndsAt fault (see mid) (see new) (flat_map ended lines) (left ++ more) left_new → out ≡ written outcomes → Reaches fault was now out
@@ -164,7 +164,7 @@ unwritten_stopped cut_lines see fault old new left_old left_new was now bytes mo
       text = subst (λ (l : List ℕ). Reaches fault was now l) u.8 w;
     }
 
--- a read failed behind whole lines and a part of the next
+-- a read failed after whole lines and a part of the next
 halted_ends : (fault : RunFault) (mid : DeskState) (used rest more : List ℕ) (end : Option (List ℕ)) → fault ≡ runs.Read → more ≡ [] → IsLine rest → EndsAt fault mid mid used (rest ++ more) end
 halted_ends fault mid used rest more end is none part =
     let open_end : IsLine (rest ++ more) = subst (λ (xs : List ℕ). IsLine xs) (sym (ap (λ (xs : List ℕ). rest ++ xs) none ∙ append-nil rest)) part in

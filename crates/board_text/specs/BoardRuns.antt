@@ -1,4 +1,4 @@
--- What a run over a board comes to, by the bytes that it read.
+-- The result of a run over a board, by the bytes that it read.
 use Rattle.std.specs.Prelude.{◌≡◌, ℕ, ◌⊎◌, List, [], ◌++◌, length, Option, count_by}
 use Rattle.std.specs.List.{flat_map, AllByRecursion}
 use Rattle.std.specs.Io.KnownBytes.{Appends, Consumes, IsAtEnd}
@@ -12,7 +12,7 @@ use Rattle.line_engine.specs.declared.run_fault.RunFault.{RunFault}
 use Rattle.line_engine.specs.declared.run_fault.RunFault.TheVariants as runs
 use Rattle.board_text.specs.BoardSteps.{DeskState, IsBoardStep}
 
--- The lines of a text, each of 4,096 bytes at most, have these outcomes on a board, one after another.
+-- The lines of a text, each of at most 4,096 bytes, have these outcomes on a board, one after another.
 pub record AreOutcomes (old : DeskState) (text : List ℕ) (outcomes : List Outcome) (new : DeskState) : Type 0 where
   pub short : AllByRecursion IsLine (lines_of text)
   pub run : Runs IsBoardStep old (lines_of text) outcomes new
@@ -40,19 +40,20 @@ ComesNext more left line = NextLine more line ⊎ ((more ≡ line) × IsLine lin
 abbrev pub IsNear : DeskState → DeskState → List ℕ → Option (List ℕ) → Type 0
 IsNear mid new more left = (new ≡ mid) ⊎ ((line : List ℕ) × (outcome : Outcome) × ComesNext more left line × Gives IsBoardStep mid (read_of (body line)) outcome new)
 
--- so many lines are seen at most
+-- at most this many lines are seen
 abbrev pub AllLines : List ℕ → Type 0
 AllLines used = length (lines_of used) ≡ 4294967296
 
--- Why a run ended behind the lines of used, and where the board stands: a read failed, and what was read of the next line has no end and
--- is not too long, or no more lines are seen; the next line is too long; or, at want of memory and at a failed write, the next line may have been answered.
+-- Why a run ended after the lines of used, and where the board then stands. Either a read failed, and what was read of the next line has no
+-- end and is not too long, or no more lines are seen; or the next line is too long; or memory ran out or a write failed, and the next line
+-- may have been answered.
 abbrev pub EndsAt : RunFault → DeskState → DeskState → List ℕ → List ℕ → Option (List ℕ) → Type 0
 EndsAt runs.Read mid new used more left = (new ≡ mid) × (IsLine more ⊎ AllLines used)
 EndsAt runs.LongLine mid new used more left = (new ≡ mid) × IsTooLong more
 EndsAt runs.NoMemory mid new used more left = IsNear mid new more left
 EndsAt runs.Write mid new used more left = IsNear mid new more left
 
--- A front of the bytes, of whole lines, was answered, and the answers' texts were written, or a front of them where the writer failed.
+-- A prefix of the bytes, of whole lines, was answered, and the answers' texts were written, or a prefix of them where the writer failed.
 pub record IsStopped (fault : RunFault) (old new : DeskState) (left_old left_new was now : Option (List ℕ)) : Type 0 where
   pub used : List ℕ
   pub more : List ℕ

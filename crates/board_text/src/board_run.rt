@@ -12,9 +12,9 @@ use std::io::{Read, Write};
 
 /// Answers the lines of a reader on a desk of a board, as `run_lines` has it.
 ///
-/// What is written is the texts of a legal history's replies, and the texts of answers to questions in the states at which they come:
-/// each line is read, and a call is journaled with the reply that the board's rules give it. At a fault that holds for a front of the
-/// input, of whole lines; at `Write` a front of the texts was written, and at any other fault all of them.
+/// What is written is the texts of a legal history's replies, and the texts of the answers to questions in the states at which they come:
+/// each line is read, and a call is journaled with the reply that the board's rules give it. At a fault that holds for a prefix of the
+/// input, made of whole lines. At `Write` a prefix of the texts was written, and at any other fault all of them.
 pub fn run_board_lines<R, I: Read, W: Write>(
     rt: &R,
     alloc: Global,

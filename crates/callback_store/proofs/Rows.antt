@@ -13,7 +13,7 @@ pub record AreFirst (f : ℕ → ℕ) (nodes : List ℕ) (n : ℕ) (answers : Li
 pub first_none : (f : ℕ → ℕ) (nodes answers : List ℕ) → length answers ≡ length nodes → AreFirst f nodes 0 answers
 first_none f nodes answers e = record { sized = e; answered = λ k h. absurd (omega arith); small = λ k h. absurd (omega arith) }
 
--- one answer more
+-- one more answer
 pub first_more : (f : ℕ → ℕ) (nodes answers : List ℕ) (n x : ℕ) → n < length nodes → AreFirst f nodes n answers → x ≡ f (slice_index nodes n) → x ≤ 1000000000
     → AreFirst f nodes (n + 1) (set answers n x)
 first_more f nodes answers n x h so_far e small =
@@ -47,7 +47,7 @@ all_small f nodes answers n h done =
     All-from_get_or (λ x. x ≤ 1000000000) answers 0
     (λ k below. let here : k < length nodes = subst (λ (m : ℕ). k < m) done.sized below in done.small k (omega arith))
 
--- one answer for as many places is that for each of some nodes
+-- one answer, repeated for each place, is that for each of some nodes
 pub same_for_all : (x : ℕ) (f : ℕ → ℕ) (places nodes : List ℕ) → length places ≡ length nodes → ((j : ℕ) → x ≡ f j) → map (λ a. x) places ≡ map f nodes
 same_for_all x f places nodes sized same =
     same_number_lists (map (λ a. x) places) (map f nodes) (length-map places (λ a. x) ∙ sized ∙ sym (length-map nodes f))

@@ -1,5 +1,5 @@
--- What a caller says of the closures that it hands in: the table of a closure that answers by a function, and the entries of one that
--- is written out. No clause can carry these, since they speak of what a closure may answer.
+-- What a caller says of the closures that it passes: the table of a closure that answers by a function, and the entries of one that is
+-- written out. No clause can carry these, since they speak of what a closure may answer.
 use Rattle.std.proofs.Common.{◌≡◌, ℕ, zero, suc, ◌+◌, ◌*◌, ◌/◌, ◌%◌, ◌<◌, ◌≤◌, ◌∙◌, sym, ap, subst, arith, Bool, true, ◌&&◌, nat_le, List, [], ◌∷◌, slice_index}
 use Rattle.std.specs.List.{list_all}
 use Rattle.std.proofs.lemmas.Bool.{leb-true}

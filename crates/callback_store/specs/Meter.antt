@@ -10,7 +10,7 @@ counted n = min (n + 1) 18446744073709551615
 abbrev pub after_ask : Meter → Meter
 after_ask m = record m { asks = counted m.asks }
 
--- the meter after so many more asks
+-- the meter after this many more asks
 abbrev pub after_asks : Meter → ℕ → Meter
 after_asks m n = record m { asks = min (m.asks + n) 18446744073709551615 }
 
@@ -39,7 +39,7 @@ pub record NoCountFell (old new : Meter) : Type 0 where
 pub no_ask : (m : Meter) (n : ℕ) → AsksAtMost m m n
 no_ask m n = record { probes = refl; walks = refl; least = omega arith; most = omega arith }
 
--- asks after asks are at most as many as both together
+-- asks that follow others are at most as many as both together
 pub asks_after : (a b c : Meter) (m n k : ℕ) → AsksAtMost a b m → AsksAtMost b c n → m + n ≤ k → AsksAtMost a c k
 asks_after a b c m n k p q few =
     let low = p.least in
@@ -48,7 +48,7 @@ asks_after a b c m n k p q few =
     let most = q.most in
     record { probes = q.probes ∙ p.probes; walks = q.walks ∙ p.walks; least = omega arith; most = omega arith }
 
--- where at most so many asks were counted, no count went down
+-- where at most n asks were counted, no count went down
 pub none_fell : (old new : Meter) (n : ℕ) → AsksAtMost old new n → NoCountFell old new
 none_fell old new n p =
     let probes = p.probes in

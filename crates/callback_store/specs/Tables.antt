@@ -49,13 +49,13 @@ no_table = record { size = 0; paired = false; entries = [] }
 abbrev pub table_at : List Table → ℕ → Table
 table_at ts id = slice_index_or ts id no_table
 
--- what the tables of a registry keep: each knows as many nodes as the first, 2 to 1,001, and they are 16 at most
+-- what the tables of a registry keep: each knows as many nodes as the first, 2 to 1,001, and there are at most 16
 pub record AreTables (ts : List Table) : Type 0 where
   pub same : (k : ℕ) → k < length ts → (table_at ts k).size ≡ nodes_of ts
   pub low : 0 < length ts → 2 ≤ nodes_of ts
   pub high : nodes_of ts ≤ 1001
   pub few : length ts ≤ 16
 
--- whether a callback for so many nodes may join some tables
+-- whether a callback for this many nodes may join some tables
 abbrev pub is_fitting : List Table → ℕ → Bool
 is_fitting ts size = nat_le 2 size && nat_le size 1001 && (length ts == 0 || nodes_of ts == size)

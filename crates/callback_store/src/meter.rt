@@ -1,11 +1,11 @@
-/// Counts of work. Each count stays at its greatest value once there.
+/// Counts of work. Each count stops at its greatest value.
 ///
-/// Calls that work take a meter and add to it, so that a caller sees what its own calls cost.
+/// Calls that do work take a meter and add to it, so that a caller sees what its own calls cost.
 #[derive(Clone, Copy, Debug, PartialEq, Eq)]
 pub struct Meter {
     /// How often a callback was asked.
     pub asks: u64,
-    /// How often a permission was read from a table.
+    /// How often a compiled permission was read.
     pub probes: u64,
     /// How often a permission was found by a walk over the policy.
     pub walks: u64,

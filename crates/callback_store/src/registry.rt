@@ -12,7 +12,7 @@ use thiserror::Error;
 
 /// The name of a callback in its registry.
 ///
-/// It is a number, from 0 on in the order of registering, and means something only in the registry that gave it.
+/// It is a number, counted from 0 in the order of registering, and has a meaning only in the registry that gave it.
 #[derive(Clone, Debug, PartialEq, Eq)]
 pub struct TransitId {
     index: u32,
@@ -48,7 +48,7 @@ pub enum RegisterFault {
     /// There are 16 callbacks already.
     #[error("there are 16 callbacks")]
     Many,
-    /// There is no memory for one more.
+    /// Memory ran out.
     #[error("out of memory")]
     NoMemory,
 }
@@ -98,7 +98,7 @@ impl Registry {
         }
     }
 
-    /// Whether a callback for so many nodes may join.
+    /// Whether a callback for this many nodes may join.
     fn is_fitting(&self, size: u32) -> bool
         ensures { result ≡ is_fitting (tables self.now) size }
     {
@@ -151,8 +151,8 @@ impl Registry {
         }
     }
 
-    /// The answer of a callback on the way from node `i` to node `j`: that for the ordered pair, or that for `i`
-    /// where it is a one-node callback. It counts one ask.
+    /// The answer of a callback on the way from node `i` to node `j`: that for the ordered pair, or that for `i` where it is a one-node
+    /// callback. The callback must be registered here and know both nodes. It counts one ask.
     pub fn ask(&self, id: TransitId, meter: &mut Meter, i: u32, j: u32) -> u64
         requires registered { id < length (tables self.now) }
         requires from { i < nodes_of (tables self.now) }
@@ -162,15 +162,15 @@ impl Registry {
         ensures counted { meter.new ≡ after_ask meter.old }
         ensures one { AsksAtMost meter.old meter.new 1 }
     {
-        // The kinds are told apart here and not in the slot: each function on the way to a closure costs a test after it.
+        // The kinds are told apart here and not in the slot: each function between here and the closure would cost one more test after it.
         match &self.slots[id.index as usize] {
             Slot::Pair(transit) => transit.ask(meter, i, j),
             Slot::Node(unary) => unary.ask(meter, i),
         }
     }
 
-    /// The answers of a callback on the ways from node `i` to each of some nodes, in their order, one for each place of `answers`.
-    /// It counts one ask for each.
+    /// The answers of a callback on the ways from node `i` to each of some nodes, in their order, one for each place of `answers`, which
+    /// has as many places as there are nodes. The callback must be registered here and know all nodes. It counts one ask for each.
     pub fn ask_row(&self, id: TransitId, meter: &mut Meter, i: u32, to: &[u32], answers: &mut [u32])
         requires registered { id < length (tables self.now) }
         requires from { i < nodes_of (tables self.now) }
@@ -185,8 +185,8 @@ impl Registry {
         slot.ask_row(meter, i, to, answers)
     }
 
-    /// The answers of a callback on the ways to node `j` from each of some nodes, in their order, one for each place of `answers`.
-    /// It counts one ask for each.
+    /// The answers of a callback on the ways to node `j` from each of some nodes, in their order, one for each place of `answers`, which
+    /// has as many places as there are nodes. The callback must be registered here and know all nodes. It counts one ask for each.
     pub fn ask_column(
         &self,
         id: TransitId,

@@ -23,7 +23,9 @@ impl Transit {
 
     /// Keeps a closure for `size` nodes.
     ///
-    /// The closure may be called from any thread. Any size is taken here; a registry takes 2 to 1,001 nodes.
+    /// The contract requires that the closure may be called for each pair of these nodes (`callable`), and that it has a table (`table`):
+    /// one answer for each pair, none above 1,000,000,000. The closure may be called from any thread. Any size is taken here; a registry
+    /// takes 2 to 1,001 nodes.
     pub fn new(size: u32, call: TransitCall) -> Transit
         requires callable { (i j : ℕ) → i < size → j < size → TransitCall.pre call i j }
         requires table { PairsOf size (TransitCall.post call) }
@@ -40,7 +42,7 @@ impl Transit {
         self.size
     }
 
-    /// The answer for the way from node `i` to node `j`. It counts one ask.
+    /// The answer for the way from node `i` to node `j`, both below `size()`. It counts one ask.
     pub fn ask(&self, meter: &mut Meter, i: u32, j: u32) -> u64
         requires from { i < (pair_table self.now).size }
         requires to { j < (pair_table self.now).size }

@@ -23,7 +23,9 @@ impl Unary {
 
     /// Keeps a closure for `size` nodes.
     ///
-    /// The closure may be called from any thread. Any size is taken here; a registry takes 2 to 1,001 nodes.
+    /// The contract requires that the closure may be called for each of these nodes (`callable`), and that it has a table (`table`): one
+    /// answer for each node, none above 1,000,000,000. The closure may be called from any thread. Any size is taken here; a registry takes
+    /// 2 to 1,001 nodes.
     pub fn new(size: u32, call: UnaryCall) -> Unary
         requires callable { (i : ℕ) → i < size → UnaryCall.pre call i }
         requires table { TableOf size (UnaryCall.post call) }
@@ -40,7 +42,7 @@ impl Unary {
         self.size
     }
 
-    /// The answer for node `i`. It counts one ask.
+    /// The answer for node `i`, which is below `size()`. It counts one ask.
     pub fn ask(&self, meter: &mut Meter, i: u32) -> u64
         requires { i < (node_table self.now).size }
         ensures answer { result ≡ slice_index (node_table self.now).entries i }
@@ -68,7 +70,7 @@ impl Unary {
         }
     }
 
-    /// The answers for one node, as often as there is room. It counts one ask for each.
+    /// The answers for one node, one for each place of `answers`. It counts one ask for each.
     #[inline(never)]
     pub(crate) fn ask_again(&self, meter: &mut Meter, i: u32, answers: &mut [u32])
         requires { i < (node_table self.now).size }

@@ -13,8 +13,8 @@ fn say<W: Write>(output: &mut W, fault: &OptionFault) -> io::Result<()> {
     output.flush()
 }
 
-/// Writes help or the version to `output`, and a fault of usage to `faults`, and gives the status: that of the words, or
-/// 3 where help or the version could not be written, which is told as `dispatch: run fault write`.
+/// Writes help or the version to `output`, and a fault of usage to `faults`, and gives the status: that of the words, or 3 where help or
+/// the version could not be written, which is reported as `dispatch: run fault write`.
 pub fn told<W: Write, F: Write>(fault: &OptionFault, output: &mut W, faults: &mut F) -> u8
     ensures { (result ≡ status_of fault.now) ⊎ ((result ≡ 3) × (status_of fault.now ≡ 0)) }
 {

@@ -21,7 +21,7 @@ carry_more t d v done nodes k from r o h s last n =
 pub carry_last : (done nodes : List ℕ) (k : ℕ) → k < length nodes → slice_index nodes k ≡ last_of 0 (done ++ take (k + 1) nodes)
 carry_last done nodes k h = sym (ap (last_of 0) (push_take done nodes k h) ∙ last_of-push 0 (done ++ take k nodes) (slice_index nodes k))
 
--- where there is none at the first of them, there is none at the last
+-- where there is none at the first of these nodes, there is none at the last
 pub carry_none : (t : Table) (d : Bounds) (v : ℕ) (done nodes : List ℕ) (k : ℕ) → IsSpan None (Reaches t d v (done ++ take k nodes)) → IsSpan None (Reaches t d v (done ++ nodes))
 carry_none t d v done nodes k s =
     let e : (done ++ take k nodes) ++ drop k nodes ≡ done ++ nodes =

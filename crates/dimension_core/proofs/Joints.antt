@@ -1,4 +1,4 @@
--- Spans from the back, and where they meet those from the front.
+-- Spans from the back of a route, and where they meet those from the front.
 use Rattle.std.proofs.Common.{◌≡◌, ℕ, ◌+◌, ◌-◌, ◌<◌, ◌≤◌, ◌↔◌, max, min, refl, sym, subst, arith, List, [], ◌∷◌, ◌++◌, append_assoc, Option, Some, None}
 use Rattle.std.proofs.Math.Logic.{∥∥₁_elim, ∥∥₁_map}
 use Rattle.std.proofs.Props.{props}
@@ -55,7 +55,7 @@ preceding_far t d v i j r out = record {
   all = λ x p. let w = p.next.1 in let s = p.next.2 in absurd (omega arith);
 }
 
--- from where the way can go on over one node more
+-- from where the way over one more node can be continued
 pub onward_push : (t : Table) (d : Bounds) (v i j : ℕ) (js : List ℕ) (r : Range) (o : Option Range) → IsSpan (Some r) (IsOnward t d v j js)
     → IsSpan o (IsBefore t d v i j r) → IsSpan o (IsOnward t d v i (j ∷ js))
 onward_push t d v i j js r o s n = record {
@@ -81,7 +81,7 @@ onward_none t d v i j js s = record { filled = tt; inside = λ x w. absurd w; al
     none x [] g = g
     none x (y ∷ ys) g = s.all y (record { cumul = g.0.cumul; on = (ys, g.1) })
 
--- at the last node each cumul will do
+-- at the last node every cumul is good
 pub onward_end : (t : Table) (d : Bounds) (v i : ℕ) (o : Option Range) → IsSpan o (IsCumul d v i) → IsSpan o (IsOnward t d v i [])
 onward_end t d v i o s = record { filled = s.filled; inside = λ x w. record { cumul = s.inside x w; on = ([], tt) }; all = λ x p. s.all x p.cumul }
 
@@ -109,7 +109,7 @@ go_last t d v i x (j ∷ js) k (z ∷ zs) g = go_last t d v j z js k zs g.1
 le-prop : (m n : ℕ) → IsProp (m ≤ n)
 le-prop m n = hlevel props
 
--- A way by two intervals that meet at a stop z: what can be reached there, and from where the rest can be gone.
+-- A way from two intervals that meet at a stop z: what can be reached there, and from where the rest can be travelled.
 pub joint : (t : Table) (d : Bounds) (v : ℕ) (done : List ℕ) (z : ℕ) (rest : List ℕ) (f b : Range) → IsSpan (Some f) (Reaches t d v (done ++ z ∷ []))
     → IsSpan (Some b) (IsOnward t d v z rest) → (max f.lo b.lo ≤ min f.hi b.hi) ↔ ∥ ((cumuls : List ℕ) × AreCumuls t d v (done ++ (z ∷ rest)) cumuls) ∥₁
 joint t d v done z rest f b s n = (

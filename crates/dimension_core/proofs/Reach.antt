@@ -48,7 +48,7 @@ reach_push t d v js x k y reached s = ∥∥₁_map reached push
         let step : IsStep t d v (last_of 0 js) (last_of c cs) k y = subst (λ (n : ℕ). IsStep t d v (last_of 0 js) n k y) (sym e) s in
         (c ∷ (cs ++ y ∷ []), (a.0, go_push t d v 0 c js cs k y a.1 step), last_of-push c cs y)
 
--- what every earlier cumul of a reached one has, if it has one proof at most
+-- a fact with at most one proof, which follows from each cumul before a reached one
 reach_pop : (t : Table) (d : Bounds) (v : ℕ) (js : List ℕ) (k y : ℕ) (Q : Type 0) → IsProp Q → Reaches t d v (js ++ k ∷ []) y
     → ((x : ℕ) → Reaches t d v js x → IsStep t d v (last_of 0 js) x k y → Q) → Q
 reach_pop t d v js k y Q alone reached next = ∥∥₁_elim reached alone pop
@@ -86,7 +86,7 @@ span_start t d v o s = record {
   all = λ x p. s.all x (reach_start t d v x p);
 }
 
--- the cumuls at one node more
+-- the cumuls at one more node
 pub span_push : (t : Table) (d : Bounds) (v : ℕ) (js : List ℕ) (k : ℕ) (r : Range) (o : Option Range) → IsSpan (Some r) (Reaches t d v js)
     → IsSpan o (λ y. (x : ℕ) × IsWithin (Some r) x × IsStep t d v (last_of 0 js) x k y) → IsSpan o (Reaches t d v (js ++ k ∷ []))
 span_push t d v js k r o s n = record {
@@ -128,7 +128,7 @@ bounds_found t d v route None h s = (
 bounds_found t d v route (Some r) h s =
     (λ p. ∥∥₁_map (s.inside r.lo (omega arith, s.filled)) (λ q. inr (q.0, q.1)), λ b. refl)
 
--- the cumuls at one node more of a list
+-- the cumuls at one more node of a list
 pub span_more : (t : Table) (d : Bounds) (v : ℕ) (nodes : List ℕ) (k from node : ℕ) (r : Range) (o : Option Range) → k < length nodes
     → IsSpan (Some r) (Reaches t d v (take k nodes)) → from ≡ last_of 0 (take k nodes) → node ≡ slice_index nodes k
     → IsSpan o (λ y. (x : ℕ) × IsWithin (Some r) x × IsStep t d v from x node y) → IsSpan o (Reaches t d v (take (k + 1) nodes))

@@ -40,7 +40,7 @@ pub first_at : (s : Setting) (k v : ℕ) (ds : List Bounds) (d : Bounds) (o : Op
 first_at s k v ds d o ed h e span =
     subst (λ (x : Bounds). IsSpan o (Reaches (table_of s.tables x) x v [])) (dim_at s ds d k ed h e) (span_start (table_of s.tables d) d v o span)
 
--- the span at one stop more
+-- the span at one more stop
 pub next_at : (s : Setting) (k v : ℕ) (route : List ℕ) (before from to : ℕ) (ts : List Table) (ds : List Bounds) (d : Bounds) (r : Range) (o : Option Range)
     → ts ≡ s.tables → ds ≡ s.dimensions → k < length s.dimensions → d ≡ slice_index_or ds k d → before < length route
     → IsSpanOf s k v (take before route) r → from ≡ last_of 0 (take before route) → to ≡ slice_index route before
@@ -107,7 +107,7 @@ begun_more s v k spans r h new =
 pub begun_last : (s : Setting) (v k : ℕ) (spans : List Range) → k ≡ length s.dimensions → AreBegun s v k spans → AreSpans s v [] spans
 begun_last s v k spans e h = record { sized = h.sized ∙ e; each = λ n below. h.each n (omega (arith, e)) }
 
--- the spans of the first dimensions are those of one stop more
+-- the spans of the first dimensions are those of one more stop
 pub record AreHalf (s : Setting) (v : ℕ) (old new : List ℕ) (k : ℕ) (spans : List Range) : Type 0 where
   pub sized : length spans ≡ length s.dimensions
   pub done : (n : ℕ) → n < k → IsSpanOf s n v new (slice_index_or spans n no_range)

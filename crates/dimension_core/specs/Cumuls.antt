@@ -51,8 +51,8 @@ abbrev pub AreCumuls : Table → Bounds → ℕ → List ℕ → List ℕ → Ty
 AreCumuls t d vehicle nodes [] = ⊥
 AreCumuls t d vehicle nodes (x ∷ xs) = IsStart d vehicle x × GoOn t d vehicle 0 x nodes xs
 
--- The same by places: a cumul for each stop, a start at the first, and a step between each two neighbours.
--- The stops are the depot and then these nodes.
+-- The same by places: a cumul for each stop, a start at the first, and a step between any two neighbours. The stops are the depot and then
+-- these nodes.
 pub record AreCumulsByPlace (t : Table) (d : Bounds) (vehicle : ℕ) (nodes cumuls : List ℕ) : Type 0 where
   pub sized : length cumuls ≡ length nodes + 1
   pub start : IsStart d vehicle (slice_index cumuls 0)
@@ -60,7 +60,7 @@ pub record AreCumulsByPlace (t : Table) (d : Bounds) (vehicle : ℕ) (nodes cumu
       → IsStep t d vehicle (slice_index (0 ∷ nodes) k) (slice_index cumuls k) (slice_index (0 ∷ nodes) (k + 1)) (slice_index cumuls (k + 1))
 
 -- The route is empty, or there are cumuls for the depot, its customers and the depot. (Here and below it is said that there are cumuls, and
--- not which, so that the fact has one proof at most, and a ghost field can say it.)
+-- not which, so that the fact has at most one proof, and a ghost field can state it.)
 abbrev pub IsInBounds : Table → Bounds → ℕ → List ℕ → Type 0
 IsInBounds t d vehicle route = ∥ (route ≡ []) ⊎ ((cumuls : List ℕ) × AreCumuls t d vehicle (route ++ 0 ∷ []) cumuls) ∥₁
 
@@ -83,7 +83,7 @@ abbrev pub IsWithin : Option Range → ℕ → Type 0
 IsWithin None x = ⊥
 IsWithin (Some r) x = (r.lo ≤ x) × (x ≤ r.hi)
 
--- the numbers with P are exactly those of an interval that is not empty, and there is no interval where there are none
+-- the numbers with P are exactly those of an interval that is not empty; or there are none, and then there is no interval
 pub record IsSpan (o : Option Range) (P : ℕ → Type 0) : Type 0 where
   pub filled : IfSome o (λ r. r.lo ≤ r.hi)
   pub inside : (x : ℕ) → IsWithin o x → P x

@@ -5,9 +5,9 @@ use Rattle.dimension_core.specs.declared.range.Range.{Range}
 use Rattle.dimension_core.specs.Cumuls.{Bounds, IsCumul, IsStart, IsStep, IsWithin, IsSpan, Reaches, IsEarly, IsInBounds, AreCumuls, last_of}
 use Rattle.dimension_core.specs.Onward.{IsOnward, IsBefore}
 
--- How the span of a route is carried along with `Dimension::start` and `Dimension::extend`: it begins with what `start` gives (`start`),
--- goes on with what `extend` gives (`push`; `next` by the index of the stop in a route), stays away once there is none (`none`), its first
--- number is the early value (`early`), and with the way back to the depot it decides whether the route is in bounds (`bounds`).
+-- How the span of a route is carried along with `Dimension::start` and `Dimension::extend`. It begins with what `start` gives (`start`),
+-- goes on with what `extend` gives (`push`; `next` by the index of the stop in a route), and stays absent once there is none (`none`). Its
+-- first number is the early value (`early`), and with the way back to the depot it decides whether the route is in bounds (`bounds`).
 pub record SpansGoOn : Type 0 where
   pub start : (t : Table) (d : Bounds) (vehicle : ℕ) (span : Option Range) → IsSpan span (IsStart d vehicle) → IsSpan span (Reaches t d vehicle [])
   pub push : (t : Table) (d : Bounds) (vehicle : ℕ) (nodes : List ℕ) (node : ℕ) (range : Range) (span : Option Range)
@@ -24,8 +24,8 @@ pub record SpansGoOn : Type 0 where
   pub bounds : (t : Table) (d : Bounds) (vehicle : ℕ) (route : List ℕ) (span : Option Range) → 0 < length route
       → IsSpan span (Reaches t d vehicle (route ++ 0 ∷ [])) → IsTrue (is_some span) ↔ IsInBounds t d vehicle route
 
--- How the cumuls from which the rest of a route can be gone are carried from its end backwards with `Dimension::precede`: at the last node
--- each cumul will do (`end`), a node before it takes what `precede` gives (`push`), and they stay away once there are none (`none`).
+-- How the cumuls from which the rest of a route can be travelled are carried from its end backwards with `Dimension::precede`. At the last
+-- node every cumul is good (`end`), a node before it gets what `precede` gives (`push`), and they stay absent once there are none (`none`).
 -- At a stop z a span from the front and one from the back meet exactly where there are cumuls for the whole way (`joint`).
 pub record SpansMeet : Type 0 where
   pub end : (t : Table) (d : Bounds) (vehicle i : ℕ) (span : Option Range) → IsSpan span (IsCumul d vehicle i) → IsSpan span (IsOnward t d vehicle i [])

@@ -14,7 +14,7 @@ pub record Setting : Type 0 where
   pub cost : ℕ
   pub max_events : ℕ
 
--- whether a dimension is over so many customers and vehicles
+-- whether a dimension is over this many customers and vehicles
 abbrev pub is_over : ℕ → ℕ → Bounds → Bool
 is_over customers vehicles d = (length d.ranges == customers + 1) && (length d.caps == vehicles)
 

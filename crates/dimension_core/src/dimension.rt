@@ -30,9 +30,11 @@ pub enum DimensionFault {
 
 /// What bounds the cumuls along a route, in the manner of OR-Tools' dimensions.
 ///
-/// A cumul is kept at each stop: the depot, the route's customers, the depot. Each lies in its node's range and is at
-/// most the vehicle's capacity, and the next is this one plus the transit plus a slack of at most the greatest slack.
-/// Vehicles count from 1 and nodes from 0; node 0 is the depot.
+/// A cumul is kept at each stop: the depot, the route's customers, the depot. Each lies in its node's range and is at most the vehicle's
+/// capacity, and the next is this one plus the transit plus a slack of at most the greatest slack. Vehicles count from 1 and nodes from 0;
+/// node 0 is the depot.
+///
+/// A call must be passed vehicles and nodes of the dimension, and a registry that serves it: one that has its callback, over as many nodes.
 #[derive(Drop)]
 pub struct Dimension {
     id: TransitId,
@@ -83,8 +85,8 @@ fn is_sized(registry: &Registry, caps: &[u64], ranges: &[Range]) -> bool
 }
 
 impl Dimension {
-    /// A dimension over a callback of the registry: the greatest slack, a capacity for each vehicle (the first is that
-    /// of vehicle 1), whether the first cumul is 0, and a range for each node. It takes no memory.
+    /// A dimension over a callback of the registry: the greatest slack, a capacity for each vehicle (the first is that of vehicle 1),
+    /// whether the first cumul is 0, and a range for each node. It takes no memory.
     ///
     /// The refusals come in the order of `DimensionFault`.
     pub fn new(
@@ -240,7 +242,11 @@ impl Dimension {
     }
 
     /// The cumuls that a vehicle may have at node `j` after one of a range, where the callback's answer on the way there is known, and none
-    /// where there are none: what `extend` does with the answer.
+    /// where there are none: what `extend` does with that answer.
+    ///
+    /// The caller must pass a range that is not empty and does not end above 1,000,000,000,000, an answer of at most 1,000,000,000, and a
+    /// node and a vehicle (from 1) of the dimension. Which way it is the answer for is not checked: the result is right for each node `i`
+    /// for which the callback answers `way` on the way to `j`.
     pub fn after(&self, range: Range, way: u64, j: u32, vehicle: u32) -> Option<Range>
         requires filled { range.lo ≤ range.hi }
         requires range { range.hi ≤ 1000000000000 }
@@ -262,8 +268,8 @@ impl Dimension {
         }
     }
 
-    /// The cumuls that a vehicle may have at node `i` before one of the range at node `j`, and none where there are none: `extend`
-    /// backwards. It asks the callback once.
+    /// The cumuls that a vehicle may have at node `i` before one of the range at node `j`, which must not be empty, and none where there
+    /// are none: `extend` backwards. It asks the callback once.
     pub fn precede(
         &self,
         registry: &Registry,
@@ -299,9 +305,10 @@ impl Dimension {
         }
     }
 
-    /// The cumuls that a vehicle may have at the last of some more nodes, and that node, after those of the range at the node `from`, and
-    /// none where there are none. Whatever was done before, of which the range is the span and `from` the last node, the range that it
-    /// gives is the span of that and these nodes. It asks the callback at most once for each node.
+    /// The cumuls that a vehicle may have at the last of some further nodes, and that node, after those of the range at the node `from`,
+    /// and none where there are none. The range and `from` may come from anything that was done before: where the range is the span of
+    /// those stops and `from` the last of them, the result is the span of these and the further nodes. It asks the callback at most once
+    /// for each node.
     pub fn carry(
         &self,
         registry: &Registry,

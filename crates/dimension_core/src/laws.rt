@@ -9,12 +9,13 @@ pub fn spans_go_on()
     ensures { SpansGoOn }
 {}
 
-/// The cumuls from which the rest of a route can be gone are carried backwards with `Dimension::precede`, and meet those from the front.
+/// The cumuls from which the rest of a route can be travelled are carried backwards with `Dimension::precede`, and meet those from the
+/// front.
 pub fn spans_meet()
     ensures { SpansMeet }
 {}
 
-/// A law of the definitions: cumuls told stop by stop are cumuls told by places.
+/// A law of the definitions: cumuls by recursion, stop by stop, are cumuls by places.
 pub fn cumuls_are_by_place()
     ensures { (t : Table) (d : Bounds) (vehicle : ℕ) (nodes cumuls : List ℕ) → AreCumuls t d vehicle nodes cumuls ↔ AreCumulsByPlace t d vehicle nodes cumuls }
 {}

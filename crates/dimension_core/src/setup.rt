@@ -21,7 +21,7 @@ pub struct Setup {
     ghost sound: { IsSetting (record { customers = customers; vehicles = vehicles; tables = tables registry; dimensions = dimensions.items; cost = cost; max_events = max_events }) },
 }
 
-/// Whether each dimension is over so many customers and vehicles.
+/// Whether each dimension is over this many customers and vehicles.
 fn are_over(customers: u32, vehicles: u32, dimensions: &[Dimension]) -> bool
     requires { customers ≤ 1000 }
     ensures { result ≡ list_all (is_over customers vehicles) dimensions.now }
@@ -31,7 +31,7 @@ fn are_over(customers: u32, vehicles: u32, dimensions: &[Dimension]) -> bool
         .all(|d| d.nodes() == customers + 1 && d.vehicles() == vehicles)
 }
 
-/// Whether the callback of each dimension is among so many.
+/// Whether the callback of each dimension is among the first `count`.
 fn are_registered(count: u32, dimensions: &[Dimension]) -> bool
     ensures { result ≡ list_all (λ d. nat_lt d.id count) dimensions.now }
 {
@@ -83,7 +83,7 @@ impl Setup {
         })
     }
 
-    /// How many customers there are: 1 to 1,000, and each knows a node of its number. Node 0 is the depot.
+    /// How many customers there are: 1 to 1,000. Customer c is node c, and node 0 is the depot.
     pub fn customers(&self) -> u32
         ensures value { result ≡ (setting self.now).customers }
         ensures sound { IsSetting (setting self.now) }

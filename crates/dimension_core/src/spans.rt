@@ -41,7 +41,7 @@ fn first_span(setup: &Setup, k: usize, vehicle: u32, route: &[u32]) -> Range
     }
 }
 
-/// Brings the cumuls of each dimension to the next customer of the route, before whom so many others stand. The route is in bounds.
+/// Brings the cumuls of each dimension to the next customer of the route, after the first `before` of them. The route is in bounds.
 ///
 /// It asks the callback of each dimension once.
 pub fn extend_spans(

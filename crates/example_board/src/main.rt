@@ -19,9 +19,9 @@ use std::sync::Arc;
 pub enum Stop {
     /// The setup is refused.
     Setup,
-    /// A move was denied, or a command refused.
+    /// A move was denied, or a command was refused.
     Refused,
-    /// The board took a call no more.
+    /// The board did not take a call.
     Board(Fault),
     /// A question was not answered.
     Asked(AskFault),
@@ -71,7 +71,7 @@ impl From<AskFault> for Stop {
     }
 }
 
-/// What became of it.
+/// What was done.
 #[derive(Clone, Copy, Debug, PartialEq, Eq)]
 pub struct Outcome {
     pub version: u32,
@@ -79,7 +79,7 @@ pub struct Outcome {
     pub asks: u64,
 }
 
-/// Hands a call in as a turn of desk 1; whether it was done or committed, and neither denied nor refused.
+/// Submits a call as a turn of desk 1. True where it was carried out or committed, false where it was denied or refused.
 fn submit(board: &mut Board, turn: u32, call: Call, meter: &mut Meter) -> Result<bool, Fault> {
     let event = Event {
         desk: 1,
@@ -106,7 +106,7 @@ fn grant(root: Name, operation: Operation, range: ObjectRange) -> Call {
     }
 }
 
-/// Grants what it takes, plans customer 1 on van 1, and counts the rows of a listing. The turns of a desk count from 1.
+/// Grants what is needed, plans customer 1 on van 1, and counts the rows of a listing. The turns of a desk count from 1.
 fn play(board: &mut Board, root: Name, meter: &mut Meter) -> Result<usize, Stop> {
     let vans = ObjectRange::Vehicles { first: 1, last: 2 };
     let all = ObjectRange::Customers { first: 1, last: 3 };
@@ -132,7 +132,7 @@ fn play(board: &mut Board, root: Name, meter: &mut Meter) -> Result<usize, Stop>
 
 /// Opens a board of two vans with room for 7, a depot and three customers along a road.
 fn plan(alloc: Global, root: Name) -> Result<Outcome, Stop> {
-    // what is loaded at each node, and how far it is from each to each
+    // what is loaded at each node, and the distance from each node to each other
     let demand = vec![in alloc; 0u64, 4, 3, 3]?;
     let travel = vec![in alloc;
         0u64, 10, 20, 30, 10, 0, 10, 20, 20, 10, 0, 10, 30, 20, 10, 0,
@@ -157,7 +157,7 @@ fn plan(alloc: Global, root: Name) -> Result<Outcome, Stop> {
     let load = registry.register_unary(demands)?;
     let way = registry.register(travels)?;
 
-    // one dimension: the load, without slack, empty at the start, at most 7 anywhere
+    // one dimension: the load, without slack, 0 at the start, at most 7 anywhere
     let any = Range { lo: 0, hi: 7 };
     let caps = vec![in alloc; 7u64; 2]?;
     let ranges = vec![in alloc; any; 4]?;

@@ -18,7 +18,7 @@ first_of : (part : List ℕ) (parts : List (List ℕ)) → 0 < length parts → 
 first_of part [] lt = absurd (omega arith)
 first_of part (next ∷ parts) lt = refl
 
--- lines with their ends, and what stands behind the last
+-- lines with their ends, and what follows the last one
 pub cut_lines : (lines : List (List ℕ)) (rest : List ℕ) → AllByRecursion IsLine lines → HasNoEnd rest → lines_of (flat_map ended lines ++ rest) ≡ lines ++ last_line rest
 cut_lines [] rest each open_end = ap whole_lines (slice_split_none (λ b. eqb b 10) rest (plain rest open_end))
 cut_lines (line ∷ lines) rest each open_end =

@@ -56,7 +56,7 @@ dropped step refuses old new read command is (Err e) h = elim h [
   | inr o ↦ inr (inr (o.0, subst (λ (x : Result Command LineFault). Gives step old x o.0 new) (sym is) o.1))
 ]
 
--- a line that says nothing that is known
+-- a line that is not a command
 pub untold : {S E : Type 0} (step : S → Command → Answer → S → Type 0) (old : S) (read : Result Command LineFault) (got : Result Command ReadFault) (fault : ReadFault) → got ≡ Err fault → Says got read
     → (text : List ℕ) (r : Result Mark E) → IfOk r (IsUnread fault text) → IfOk r (Marks (λ outcome. Gives step old read outcome old) text)
 untold {E = E} step old read got fault is says text r h = of_fault fault (subst (λ (x : Result Command ReadFault). Says x read) is says) h

@@ -193,11 +193,11 @@ Broken-then step refuses fault a b c x y bytes rest more s0 s1 n0 n1 r0 r1 p q =
 
 -- ---- a piece, line by line
 
--- what stands behind the first line end of a piece
+-- what follows the first line end of a piece
 abbrev pub behind_line : List ℕ → ℕ → List ℕ
 behind_line piece i = take (length piece - (i + 1)) (drop (i + 1) piece)
 
--- a piece is its first line, the line end and what stands behind
+-- a piece is its first line, the line end and what follows
 pub line_first : (piece : List ℕ) (i : ℕ) → IsLineEnd piece i → piece ≡ take i piece ++ 10 ∷ behind_line piece i
 line_first piece i end =
     let lt : i < length piece = end.0 in
@@ -217,7 +217,7 @@ feed_broken_line step refuses fault a b c x y partial piece done line more rest 
 pub no_memory_within : {S : Type 0} (step : S → Command → Answer → S → Type 0) (refuses : S → S → Type 0) (s : S) (partial piece : List ℕ) (s0 : ℕ) → BrokenWithin step refuses runs.NoMemory s s [] s0 partial piece
 no_memory_within step refuses s partial piece s0 = ([], piece, refl, no_memory step refuses s (partial ++ []) s0)
 
--- a part of a piece was broken within
+-- a part of a piece stopped in the middle
 pub part_broken : {S : Type 0} (step : S → Command → Answer → S → Type 0) (refuses : S → S → Type 0) (fault : RunFault) (a b c : S) (x y partial piece done left rest : List ℕ) (s0 s1 n0 n1 r0 r1 : ℕ) → piece ≡ done ++ left → Progress step a b x (partial ++ done) rest s0 s1 n0 n1 r0 r1 → BrokenWithin step refuses fault b c y s1 rest left → BrokenWithin step refuses fault a c (x ++ y) s0 partial piece
 part_broken step refuses fault a b c x y partial piece done left rest s0 s1 n0 n1 r0 r1 e p q =
     feed_broken_line step refuses fault a b c x y partial piece done q.0 q.1 rest s0 s1 n0 n1 r0 r1 (e ∙ ap (λ (l : List ℕ). done ++ l) q.2) p q.3

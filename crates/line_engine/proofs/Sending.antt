@@ -1,4 +1,4 @@
--- Replies are handed to the writer as a run goes on.
+-- Replies are passed to the writer as a run goes on.
 use Rattle.std.proofs.Common.{◌≡◌, ℕ, inl, inr, List, [], ◌++◌, length, Option, sym, ap, subst, ◌∙◌, append_assoc}
 use Rattle.std.specs.Io.KnownBytes.{Appends}
 use Rattle.std.proofs.lemmas.List.{append-nil}
@@ -19,7 +19,7 @@ Reaches-then runs.Read a b c x y p q = Appends-then a b c x y p q
 Reaches-then runs.LongLine a b c x y p q = Appends-then a b c x y p q
 Reaches-then runs.NoMemory a b c x y p q = Appends-then a b c x y p q
 
--- what is held behind what was sent, as it grows
+-- what is held after what was sent, as it grows
 pub sent_more : (sent was held out : List ℕ) → held ≡ was ++ out → (sent ++ was) ++ out ≡ sent ++ held
 sent_more sent was held out e = append_assoc sent was out ∙ ap (λ (l : List ℕ). sent ++ l) (sym e)
 
@@ -50,13 +50,13 @@ pub part_unwritten : {S : Type 0} (step : S → Command → Answer → S → Typ
 part_unwritten step refuses a b out partial piece done left rest s0 s1 n0 n1 r0 r1 e p =
     (done, left, e, Progress-broken step refuses a b out (partial ++ done) rest s0 s1 n0 n1 r0 r1 p)
 
--- bytes behind others
+-- bytes that follow others
 pub behind : (piece done left used after : List ℕ) → piece ≡ done ++ left → left ≡ used ++ after → piece ≡ (done ++ used) ++ after
 behind piece done left used after e f = e ∙ ap (λ (l : List ℕ). done ++ l) f ∙ sym (append_assoc done used after)
 
 pub whole_piece : (piece done left : List ℕ) → piece ≡ done ++ left → length left ≡ 0 → done ≡ piece
 whole_piece piece done left e n = sym (e ∙ ap (λ (l : List ℕ). done ++ l) (nil_of left n) ∙ append-nil done)
 
--- what was held first was nothing
+-- nothing was held at first
 pub nil_first : (was out now : List ℕ) → was ≡ [] → now ≡ was ++ out → now ≡ out
 nil_first was out now e f = f ∙ ap (λ (l : List ℕ). l ++ out) e

@@ -30,7 +30,7 @@ pub data Answer : Type 0 where
   -- a question that was refused
   Refused : AskFault → Answer
 
--- What comes of a line: it is skipped, the front answered, or it is bad.
+-- What comes of a line: it is skipped, or the front answered, or the line is bad.
 pub data Outcome : Type 0 where
   Nothing : Outcome
   Said : Answer → Outcome

@@ -1,4 +1,4 @@
--- How a front may answer, where step says what answer a command may have, and refuses what want of memory may leave.
+-- How a front may answer, where step says which answers a command may have, and refuses what running out of memory may leave.
 use Rattle.std.specs.Prelude.{◌≡◌, ◌⊎◌, Result, Ok, Err}
 use Rattle.board_rules.specs.declared.call.Call.{Call}
 use Rattle.board_rules.specs.declared.reply.Fault.{Fault}
@@ -36,14 +36,14 @@ abbrev pub Gives : {S : Type 0} → (S → Command → Answer → S → Type 0) 
 Gives step old (Err fault) outcome new = (outcome ≡ Bad fault) × (new ≡ old)
 Gives step old (Ok command) outcome new = Does step old command outcome new
 
--- Want of memory left the front as it may, or it answered and the text is lost.
+-- Running out of memory left the front as it may, or the front answered and the text is lost.
 abbrev pub Fails : {S : Type 0} → (S → Command → Answer → S → Type 0) → (S → S → Type 0) → S → Command → S → Type 0
 Fails step refuses old command new = refuses old new ⊎ ((outcome : Outcome) × Does step old command outcome new)
 
--- and so for what the front answers by itself
+-- and the same for what the front answers by itself
 abbrev pub Loses : {S : Type 0} → (S → Command → Answer → S → Type 0) → (S → S → Type 0) → S → Command → S → Type 0
 Loses step refuses old command new = refuses old new ⊎ ((answer : Answer) × step old command answer new)
 
--- and so for a line, which may not have been read
+-- and the same for a line, which may not have been read
 abbrev pub Drops : {S : Type 0} → (S → Command → Answer → S → Type 0) → (S → S → Type 0) → S → Result Command LineFault → S → Type 0
 Drops step refuses old read new = (new ≡ old) ⊎ (refuses old new ⊎ ((outcome : Outcome) × Gives step old read outcome new))

@@ -42,7 +42,7 @@ pub record Marks (P : Outcome → Type 0) (text : List ℕ) (mark : Mark) : Type
   pub replied : mark_has_reply mark ≡ has_reply outcome
   pub refused : mark_is_refusal mark ≡ is_refusal outcome
 
--- from old the command was obeyed, which left new, with this text and mark
+-- from old the command was carried out, which left new, with this text and mark
 abbrev pub Obeys : {S : Type 0} → (S → Command → Answer → S → Type 0) → S → Command → S → List ℕ → Mark → Type 0
 Obeys step old command new text mark = Marks (λ outcome. Does step old command outcome new) text mark
 
@@ -56,7 +56,7 @@ abbrev pub TellsJson : {S : Type 0} → (S → Command → Answer → S → Type
 TellsJson step old session new text mark =
     (answer : Answer) × step old (ListRows session) answer new × (mark_text mark text ≡ answer_text (as_json answer)) × (mark_has_reply mark ≡ true) × (mark_is_refusal mark ≡ is_answer_refusal (as_json answer))
 
--- the text and the mark are those of a line that says nothing that is known; want of memory has none
+-- the text and the mark are those of a line that is not a command; running out of memory has none
 abbrev pub IsUnread : ReadFault → List ℕ → Mark → Type 0
 IsUnread (Line fault) text mark = (mark_text mark text ≡ ended (line_fault_text fault)) × (mark_has_reply mark ≡ true) × (mark_is_refusal mark ≡ true)
 IsUnread NoMemory text mark = ⊥

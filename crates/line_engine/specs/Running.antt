@@ -18,12 +18,12 @@ use Rattle.line_engine.specs.declared.run_fault.RunFault.TheVariants as runs
 abbrev pub HasNoEnd : List ℕ → Type 0
 HasNoEnd line = All (λ b. b ≢ 10) line
 
--- a line, or what has come of one
+-- a line, or the part of one that has been read
 pub record IsLine (line : List ℕ) : Type 0 where
   pub plain : HasNoEnd line
   pub short : length line ≤ 4096
 
--- the bytes are these lines, each with its line end, and then what has come of the next
+-- the bytes are these lines, each with its line end, and then what has been read of the next line
 pub record Cut (bytes : List ℕ) (lines : List (List ℕ)) (rest : List ℕ) : Type 0 where
   pub whole : bytes ≡ flat_map ended lines ++ rest
   pub each : AllByRecursion IsLine lines
@@ -42,7 +42,7 @@ Runs {S} step old (line ∷ lines) (outcome ∷ outcomes) new = (mid : S) × Giv
 Runs step old [] (outcome ∷ outcomes) new = ⊥
 Runs step old (line ∷ lines) [] new = ⊥
 
--- known bytes grow by a front of bs
+-- known bytes grow by a prefix of bs
 abbrev pub AppendsFront : Option (List ℕ) → Option (List ℕ) → List ℕ → Type 0
 AppendsFront old new bs = (front : List ℕ) × (more : List ℕ) × (bs ≡ front ++ more) × Appends old new front
 
@@ -52,7 +52,7 @@ AppendsFront old new bs = (front : List ℕ) × (more : List ℕ) × (bs ≡ fro
 abbrev pub Grows : List ℕ → List ℕ → (List ℕ → Type 0) → Type 0
 Grows old new P = (out : List ℕ) × (new ≡ old ++ out) × P out
 
--- Since old the bytes were taken: their lines were answered, and rest is what has come of the next one.
+-- Since old the bytes were taken: their lines were answered, and rest is what has been read of the next line.
 pub record Progress {S : Type 0} (step : S → Command → Answer → S → Type 0) (old new : S) (out bytes rest : List ℕ) (seen_old seen_new lines_old lines_new refused_old refused_new : ℕ) : Type 0 where
   pub lines : List (List ℕ)
   pub outcomes : List Outcome
@@ -67,16 +67,16 @@ pub record Progress {S : Type 0} (step : S → Command → Answer → S → Type
 abbrev pub NextLine : List ℕ → List ℕ → Type 0
 NextLine left line = IsLine line × (more : List ℕ) × (left ≡ ended line ++ more)
 
--- more than a line may have comes before the next line end
+-- more bytes than a line may have come before the next line end
 abbrev pub IsTooLong : List ℕ → Type 0
 IsTooLong left = (long : List ℕ) × (more : List ℕ) × (left ≡ long ++ more) × HasNoEnd long × (4096 < length long)
 
--- Where the front stands that answered the lines before and left mid: there, or where want of memory at the next line leaves it, or
--- after the call of that line.
+-- Where the front stands, which answered the lines before and left mid: there, or where running out of memory at the next line leaves it,
+-- or after the call of that line.
 abbrev pub StandsAt : {S : Type 0} → (S → Command → Answer → S → Type 0) → (S → S → Type 0) → S → S → List ℕ → Type 0
 StandsAt step refuses mid new left = (new ≡ mid) ⊎ (refuses mid new ⊎ ((line : List ℕ) × (outcome : Outcome) × NextLine left line × Gives step mid (read_of (body line)) outcome new))
 
--- how a run ended, with so many lines seen, after the lines that it answered, where left is what comes next
+-- how a run ended, with this many lines seen, after the lines that it answered, where left is what comes next
 abbrev pub Ends : {S : Type 0} → (S → Command → Answer → S → Type 0) → (S → S → Type 0) → RunFault → S → S → ℕ → List ℕ → Type 0
 Ends step refuses runs.Read mid new seen left = (new ≡ mid) × (seen ≡ 4294967296)
 Ends step refuses runs.LongLine mid new seen left = (new ≡ mid) × IsTooLong left
@@ -109,18 +109,18 @@ abbrev pub ServeBroken : {S : Type 0} → (S → Command → Answer → S → Ty
 ServeBroken step refuses runs.NoMemory old new line = (new ≡ old) ⊎ (refuses old new ⊎ ((outcome : Outcome) × Gives step old (read_of (body line)) outcome new))
 ServeBroken step refuses _ old new line = ⊥
 
--- A fault came at the last line, which has no line end, with so many lines seen before.
+-- A fault came at the last line, which has no line end, with this many lines seen before.
 abbrev pub EndsLast : {S : Type 0} → (S → Command → Answer → S → Type 0) → (S → S → Type 0) → RunFault → S → S → ℕ → List ℕ → Type 0
 EndsLast step refuses runs.Read old new seen line = (new ≡ old) × (seen ≡ 4294967296)
 EndsLast step refuses runs.LongLine old new seen line = ⊥
 EndsLast step refuses runs.NoMemory old new seen line = ServeBroken step refuses runs.NoMemory old new line
 EndsLast step refuses runs.Write old new seen line = ServeBroken step refuses runs.NoMemory old new line
 
--- A fault came at a front of the next bytes.
+-- A fault came within a prefix of the next bytes.
 abbrev pub BrokenWithin : {S : Type 0} → (S → Command → Answer → S → Type 0) → (S → S → Type 0) → RunFault → S → S → List ℕ → ℕ → List ℕ → List ℕ → Type 0
 BrokenWithin step refuses fault old new out seen partial piece = (used : List ℕ) × (more : List ℕ) × (piece ≡ used ++ more) × Broken step refuses fault old new out seen (partial ++ used)
 
--- what stands behind the last line end is a line, unless it is empty
+-- what follows the last line end is a line, unless it is empty
 abbrev pub last_line : List ℕ → List (List ℕ)
 last_line [] = []
 last_line (b ∷ bytes) = (b ∷ bytes) ∷ []
@@ -149,7 +149,7 @@ pub record Answered {S : Type 0} (step : S → Command → Answer → S → Type
   pub answered : answers ≡ count_by has_reply outcomes
   pub refused : refusals ≡ count_by is_refusal outcomes
 
--- The replies were written in full, or a front of them where the writer failed.
+-- The replies were written in full, or only a prefix of them where the writer failed.
 abbrev pub Reaches : RunFault → Option (List ℕ) → Option (List ℕ) → List ℕ → Type 0
 Reaches runs.Write was now out = AppendsFront was now out
 Reaches _ was now out = Appends was now out
@@ -172,7 +172,7 @@ abbrev pub IsLastBroken : {S : Type 0} → (S → Command → Answer → S → T
 IsLastBroken {S} step refuses fault old new left out bytes more = (more ≡ []) × IsAtEnd left × (mid : S) × (rest : List ℕ) × (s : ℕ) × (n : ℕ) × (r : ℕ)
     × Progress step old mid out bytes rest 0 s 0 n 0 r × EndsLast step refuses fault mid new s rest
 
--- The run ended with a fault, at a front of the bytes that the reader gave.
+-- The run ended with a fault, after a prefix of the bytes that the reader gave.
 abbrev pub Stopped : {S : Type 0} → (S → Command → Answer → S → Type 0) → (S → S → Type 0) → RunFault → S → S → Option (List ℕ) → Option (List ℕ) → Option (List ℕ) → Option (List ℕ) → Type 0
 Stopped step refuses fault old new left_old left_new was now = (bytes : List ℕ) × (more : List ℕ) × (out : List ℕ) × Consumes left_old left_new (bytes ++ more) × Reaches fault was now out
     × (IsHalted step fault old new out bytes more ⊎ (IsUnwritten step fault old new left_new out bytes more

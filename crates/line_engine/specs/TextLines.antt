@@ -3,7 +3,7 @@ use Rattle.std.specs.Prelude.{ℕ, ◌==◌, List, [], ◌∷◌}
 use Rattle.std.specs.List.{slice_split}
 use Rattle.line_engine.specs.Running.{last_line}
 
--- the lines of a text: what stands before each line end, and behind the last one unless that is empty
+-- the lines of a text: what comes before each line end, and what follows the last one unless that is empty
 abbrev pub whole_lines : List (List ℕ) → List (List ℕ)
 whole_lines [] = []
 whole_lines (part ∷ []) = last_line part

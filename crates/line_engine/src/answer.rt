@@ -225,8 +225,8 @@ fn json<R, F: Front<R>>(
 
 // ---- lines
 
-/// Has the front do what a line says, and tells what is to be written for it; where that is a text, it stands in the text, which is
-/// empty before.
+/// Has the front do what a line says, and answers what is to be written for it. Where that is a text, it is put into `text`, which is empty
+/// before.
 #[inline(always)]
 pub(crate) fn obey<R, F: Front<R>>(
     rt: &R,
@@ -255,7 +255,7 @@ pub(crate) fn obey<R, F: Front<R>>(
     }
 }
 
-/// How a line that says nothing that is known counts.
+/// How a line that is not a command counts.
 pub(crate) fn unread(fault: ReadFault) -> Result<Mark, OutOfMemory>
     ensures { (text : List ℕ) → IfOk result (IsUnread fault text) }
 {

@@ -18,9 +18,8 @@ use std::alloc::Global;
 use std::io::{Read, Write};
 use text_words::{keep_all_words, keep_line};
 
-/// Asks the front what a line says whose session and command are known, and puts the text of what it answers in the place of
-/// the text.
-// Apart, since what a line says is large: a line that is skipped or bad by its head pays nothing for it.
+/// Asks the front what a line says whose session and command are known, and replaces `text` by the text of the answer.
+// Out of line, since what a line says is large: a line that is skipped, or bad by its head, pays nothing for it.
 #[inline(never)]
 fn ask<R, F: Front<R>>(
     rt: &R,
@@ -43,7 +42,7 @@ fn ask<R, F: Front<R>>(
     }
 }
 
-/// Asks the front what a line of these words says, and puts the text of what it answers in the place of the text.
+/// Asks the front what a line of these words says, and replaces `text` by the text of the answer.
 #[inline(always)]
 fn answer_words<R, F: Front<R>>(
     rt: &R,
@@ -70,8 +69,8 @@ fn answer_words<R, F: Front<R>>(
     }
 }
 
-/// Answers a line that had a carriage return at its end, by what stands before that.
-// Apart, since few lines end so.
+/// Answers a line that had a carriage return at its end, by what comes before that.
+// Out of line, since few lines end so.
 #[inline(never)]
 fn answer_returned<R, F: Front<R>>(
     rt: &R,
@@ -90,8 +89,8 @@ fn answer_returned<R, F: Front<R>>(
     answer_words(rt, alloc, front, text, words.as_slice())
 }
 
-/// Asks the front what a line says, without the one carriage return at its end, and puts the text of what it answers in the
-/// place of the text. The words of a line that has none are cut already.
+/// Asks the front what a line says, without the one carriage return at its end, and replaces `text` by the text of the answer. The words of
+/// a line without a carriage return are cut already.
 fn answer<R, F: Front<R>>(
     rt: &R,
     alloc: Global,
@@ -112,7 +111,7 @@ fn answer<R, F: Front<R>>(
     }
 }
 
-/// Answers a line whose words are these, and holds the text of it.
+/// Answers a line of these words, and holds the reply.
 fn serve<R, F: Front<R>>(
     rt: &R,
     alloc: Global,
@@ -138,7 +137,7 @@ fn serve<R, F: Front<R>>(
     Ok(())
 }
 
-/// Answers a line that came in pieces, or has no line end, and holds the text of it.
+/// Answers a line that came in pieces, or has no line end, and holds the reply.
 #[inline(never)]
 fn serve_whole<R, F: Front<R>>(
     rt: &R,
@@ -166,7 +165,7 @@ fn serve_whole<R, F: Front<R>>(
 /// How many bytes a line may have.
 const MOST_BYTES: usize = 4096;
 
-/// Puts what has come of a line behind what had come of it.
+/// Appends a further part of a line to the part that was read before.
 fn keep(partial: &mut Vec<u8>, more: &[u8]) -> Result<(), RunFault>
     requires line { IsLine partial.old.items }
     requires plain { HasNoEnd more.now }
@@ -180,7 +179,7 @@ fn keep(partial: &mut Vec<u8>, more: &[u8]) -> Result<(), RunFault>
     Ok(())
 }
 
-/// Answers the line that ends behind these bytes, which have these words.
+/// Answers the line that ends with these bytes, which have these words.
 fn take_line<R, F: Front<R>>(
     rt: &R,
     alloc: Global,
@@ -214,8 +213,8 @@ fn take_line<R, F: Front<R>>(
     Ok(())
 }
 
-/// Takes the next bytes, and answers each line that is whole now, until the replies that are held are to be handed on:
-/// what is then left of the bytes.
+/// Takes the next bytes, and answers each line that is complete now, until the replies that are held are to be written: what is then left
+/// of the bytes.
 fn feed<'a, R, F: Front<R>>(
     rt: &R,
     alloc: Global,
@@ -258,10 +257,10 @@ fn feed<'a, R, F: Front<R>>(
     }
 }
 
-/// How many words most lines have at most.
+/// Most lines have at most this many words.
 const MANY_WORDS: usize = 8;
 
-/// Takes the next bytes, answers each line that is whole now, and hands on replies that are many.
+/// Takes the next bytes, answers each line that is complete now, and writes replies once they are many.
 fn take_piece<R, F: Front<R>, W: Write>(
     rt: &R,
     alloc: Global,
@@ -294,7 +293,7 @@ fn take_piece<R, F: Front<R>, W: Write>(
     Ok(())
 }
 
-/// Answers what stands behind the last line end, if anything does.
+/// Answers what follows the last line end, if anything does.
 fn finish<R, F: Front<R>>(
     rt: &R,
     alloc: Global,
@@ -325,13 +324,13 @@ const CHUNK_BYTES: usize = 65_536;
 
 /// Reads lines to the end of the input, has the front answer each, and writes the replies, in order.
 ///
-/// A line ends at a line feed or at the end of the input, and one carriage return before that end is dropped. Replies are
-/// gathered; before each read, and at the end, they are written and the writer is flushed. An error of the reader or the
-/// writer ends the run at once, also `Interrupted`; so does a write that takes no byte.
+/// A line ends at a line feed or at the end of the input, and one carriage return before that end is dropped. Replies are collected; before
+/// each read, and at the end, they are written and the writer is flushed. An error of the reader or the writer ends the run at once, also
+/// `Interrupted`; so does a write that takes no byte.
 ///
-/// At a fault other than `Write`, the replies to all earlier lines were written in full; at `Write` a front of them was,
-/// and the front stands after the calls of all lines that were answered, whether their replies were written or not. At
-/// `NoMemory` it may have taken the call of the line in work, whose reply is then not written.
+/// At a fault other than `Write`, the replies to all earlier lines were written in full. At `Write` only a prefix of them was written, and
+/// the front stands after the calls of all lines that were answered, whether their replies were written or not. At `NoMemory` the front may
+/// have taken the call of the current line, whose reply is then not written.
 pub fn run_lines<R, F: Front<R>, I: Read, W: Write>(
     rt: &R,
     alloc: Global,

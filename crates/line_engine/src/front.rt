@@ -13,19 +13,19 @@ use separation_core::Name;
 
 /// What answers calls and questions, with a runtime of type R.
 pub trait Front<R> {
-    // What a front must be to be asked. It stays so.
+    // What must hold of a front that is asked. It keeps holding.
     ghost ready: { Self → Type 0 };
 
-    // From the first state the command may be answered so, which leaves the second.
+    // From the first state the command may have this answer, which leaves the second.
     ghost step: { Self → Command → Answer → Self → Type 0 };
 
-    // What want of memory may leave.
+    // What running out of memory may leave.
     ghost refuses: { Self → Self → Type 0 };
 
     // It takes a call, unless memory runs out: no other fault is due.
     ghost takes: { Self → Type 0 };
 
-    /// Hands a call in, and gives the reply.
+    /// Submits a call, and gives the reply.
     fn submit(&mut self, rt: &R, call: Call) -> Result<Reply, Fault>
         requires { ready self.old }
         ensures ready { ready self.new }
@@ -40,8 +40,8 @@ pub trait Front<R> {
         ensures ok { IfOk result (λ rows. step self.old (Command.List session) (Listed rows.items) self.new) }
         ensures err { IfErr result (λ fault. MayRefuse step refuses self.old (Command.List session) fault self.new) };
 
-    /// Puts the text of the journal at the end, where the session may audit the board. The journal may be long, so no
-    /// entry is handed out. After a refusal the text is as it was; where memory ran out it may have a part of the journal's.
+    /// Appends the text of the journal, where the session may audit the board. The journal may be long, so no entry is returned. After a
+    /// refusal the text is as it was; where memory ran out, part of the journal's text may have been appended.
     fn audit(&mut self, rt: &R, session: u32, text: &mut String) -> Result<(), AskFault>
         requires { ready self.old }
         ensures ready { ready self.new }

@@ -5,21 +5,21 @@ ghost use Rattle.line_engine.specs.Marks.{mark_has_reply, mark_is_refusal};
 
 use board_lines::LineFault;
 
-/// What is written for a line. The shortest replies are told by themselves, so that nothing is spelled for them; every other
-/// one is a text that was spelled.
+/// What is written for a line. The shortest replies have variants of their own, so that nothing is spelled for them; every other reply is a
+/// text that was spelled.
 #[derive(Clone, Copy, Drop)]
 pub(crate) enum Mark {
     /// Nothing.
     Nothing,
     /// The text that was spelled, and whether it is a denial, a refusal, a fault or a refused question.
     Text(bool),
-    /// That a call was done.
+    /// A call was done.
     Done,
     /// Whether CheckAccess holds.
     Checked(bool),
-    /// That a proposal is denied, since there is no such session.
+    /// A proposal is denied, since there is no such session.
     NoSession,
-    /// That a line is bad.
+    /// The line is bad.
     Bad(LineFault),
 }
 

@@ -13,7 +13,7 @@ use board_lines::LineFault;
 use std::alloc::{AllocError, Global};
 use std::io::Write;
 
-/// From how many bytes on replies are handed to the writer before more lines are answered.
+/// From this many bytes on replies are written before more lines are answered.
 const FULL_BYTES: usize = 65_536;
 
 /// How long most replies are.
@@ -24,7 +24,7 @@ const REPLY_BYTES: usize = 64;
 pub(crate) struct Outbox {
     pub(crate) held: Vec<u8>,
     pub(crate) tally: Tally,
-    /// The reply to one line. Its memory serves for the next.
+    /// The reply to one line. Its memory is reused for the next.
     pub(crate) text: String,
 }
 
@@ -42,14 +42,14 @@ impl Outbox {
         })
     }
 
-    /// Whether the replies are to be handed on.
+    /// Whether the replies are to be written now.
     pub(crate) fn is_full(&self) -> bool
         ensures { result ≡ nat_le 65536 (length self.now.held.items) }
     {
         self.held.len() >= FULL_BYTES
     }
 
-    /// Puts what is written for a line behind the replies that are held. Want of memory changes nothing.
+    /// Appends what is written for a line to the replies that are held. Running out of memory changes nothing.
     #[inline(always)]
     fn hold(&mut self, mark: Mark) -> Result<(), AllocError>
         ensures text { OnOk result (self.new.held.items ≡ self.old.held.items ++ mark_text mark (string_bytes self.old.text)) }
@@ -72,7 +72,7 @@ impl Outbox {
         }
     }
 
-    /// Puts the text of a line's answer behind the replies that are held, and counts it. Want of memory changes neither.
+    /// Appends the text of a line's answer to the replies that are held, and counts it. Running out of memory changes neither.
     pub(crate) fn put(&mut self, mark: Mark) -> Result<(), AllocError>
         requires { self.old.tally.seen < 4294967296 }
         ensures text { OnOk result (self.new.held.items ≡ self.old.held.items ++ mark_text mark (string_bytes self.old.text)) }
@@ -86,7 +86,7 @@ impl Outbox {
         Ok(())
     }
 
-    /// Hands the replies that are held to a writer.
+    /// Writes the replies that are held.
     pub(crate) fn hand_on<W: Write>(&mut self, writer: &mut W) -> Result<(), RunFault>
         ensures ok { OnOk result (Appends (W.contents writer.old) (W.contents writer.new) self.old.held.items) }
         ensures none { OnOk result (self.new.held.items ≡ []) }
@@ -99,7 +99,7 @@ impl Outbox {
         Ok(())
     }
 
-    /// Hands the replies that are held to a writer, and flushes it.
+    /// Writes the replies that are held, and flushes the writer.
     pub(crate) fn flush<W: Write>(&mut self, writer: &mut W) -> Result<(), RunFault>
         ensures ok { OnOk result (Appends (W.contents writer.old) (W.contents writer.new) self.old.held.items) }
         ensures none { OnOk result (self.new.held.items ≡ []) }
@@ -114,7 +114,7 @@ impl Outbox {
         }
     }
 
-    /// Hands on what is held as a run ends with a fault: the fault of the run is then that one, or that of the writer.
+    /// Writes what is held as a run ends with a fault: the fault of the run is then that one, or that of the writer.
     pub(crate) fn close<W: Write>(&mut self, writer: &mut W, fault: RunFault) -> RunFault
         ensures bytes { Reaches result (W.contents writer.old) (W.contents writer.new) self.old.held.items }
         ensures fault { MayBeWrite fault result }

@@ -6,12 +6,12 @@ ghost use Rattle.line_engine.specs.declared.run_fault.RunFault.TheVariants.{NoMe
 use std::alloc::{AllocError, AllocFailed};
 use thiserror::Error;
 
-/// What came of a run's lines.
+/// What a run's lines came to.
 #[derive(Clone, Copy, Debug, PartialEq, Eq)]
 pub struct Counts {
-    /// The lines with a reply. Skipped lines have none.
+    /// The number of lines with a reply. Skipped lines have none.
     pub lines: u64,
-    /// Those of them that were a denial, a refusal, a fault, a refused question or a bad line.
+    /// How many of them were a denial, a refusal, a fault, a refused question or a bad line.
     pub refused: u64,
 }
 

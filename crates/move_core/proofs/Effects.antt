@@ -50,7 +50,7 @@ each_vehicle law Q changes routes v apart low each old = split (named_cases chan
     split (inl (k, (r, e))) = subst (λ (x : List ℕ). Q v x) (sym (law.named changes routes k (v, r) apart e)) (each_at Q changes k (v, r) each e)
     split (inr out) = subst (λ (x : List ℕ). Q v x) (sym (law.others changes routes v apart low out)) old
 
--- a fact on the new routes of a Shift or a Swap, by whether it names one vehicle or two
+-- a fact about the new routes of a Shift or a Swap, by whether it names one vehicle or two
 pub by_vehicles : (P : Changes → Type 0) (v w : ℕ) (one two : Changes) → (v ≡ w → P one) → (v ≢ w → P two) → P (if v == w then one else two)
 by_vehicles P v w one two same other = split (cases_eq v w)
   where

@@ -14,7 +14,7 @@ use Rattle.move_core.proofs.Placed.{placed_from_stands}
 use Rattle.move_core.proofs.Effects.{EachChange, by_vehicles}
 use Rattle.move_core.proofs.Tally.{stands_at}
 
--- what is read of the front of a joined list, and after it
+-- what is read in the first part of a joined list, and after it
 pub slice_get-take : (xs : List ℕ) (n i : ℕ) → i < n → slice_get (take n xs) i ≡ slice_get xs i
 slice_get-take xs zero i h = absurd (omega arith)
 slice_get-take [] (suc n) i h = refl
@@ -78,7 +78,7 @@ front_kept old new p f x = (λ e. before e (cases_order f p), λ h. shorter h)
     shorter h =
         sym (take-take f (p - 1) new (omega arith)) ∙ ap (λ (xs : List ℕ). take f xs) x.same ∙ take-take f (p - 1) old (omega arith)
 
--- what stays before the first change is the longest common front
+-- what stays before the first change is the longest common prefix
 pub common_before : (old new : List ℕ) (p : ℕ) → IsFirstChange old new p → IsCommonFront old new (p - 1)
 common_before old new p x =
     let reach = reached (cases_lt (length old) (p - 1)) in
@@ -236,7 +236,7 @@ turned_changes n routes v p q plan low here order high d e found =
       differs = λ same. places_differ n routes (v - 1) (v - 1) (q - 1) (p - 1) plan (omega arith) (λ (x, y). omega arith) (sym same ∙ read ∙ sym found);
     }
 
--- a turned stretch begins with its last customer
+-- a reversed stretch begins with its last customer
 turned_head : (r ys : List ℕ) (i j : ℕ) → 1 ≤ i → i < j → j ≤ length r → slice_get (reverse (stretch r i (j - i + 1)) ++ ys) 0 ≡ slice_get r (j - 1)
 turned_head r ys i j low order high =
     let m = j - i + 1 in

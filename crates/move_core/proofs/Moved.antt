@@ -15,7 +15,7 @@ moved_front r s t f e h high =
     let back : drop t (take f r ++ drop e r) ≡ take (f - t) (drop t r) ++ drop e r = drop-append-le t (take f r) (drop e r) reach ∙ ap (λ (xs : List ℕ). xs ++ drop e r) middle in
     rw (front, back) refl
 
--- and behind it
+-- and after it
 pub moved_back : (r s : List ℕ) (t f e n : ℕ) → f ≤ t → f + n ≡ e → t + n ≤ length r
     → take t (take f r ++ drop e r) ++ (s ++ drop t (take f r ++ drop e r)) ≡ take f r ++ (take (t + n - e) (drop e r) ++ (s ++ drop (t + n) r))
 moved_back r s t f e n h end high =

@@ -8,7 +8,7 @@ use Rattle.move_core.specs.Moves.{is_placed}
 use Rattle.move_core.proofs.PlanLaws.{PlanLaws}
 use Rattle.move_core.specs.Touched.{touches}
 
--- the test of all routes says whether a customer stands on some
+-- the test over all routes says whether a customer stands on some route
 pub placed_from_stands : PlanLaws → (routes : List (List ℕ)) (c v p : ℕ) → StandsAt routes c v p → is_placed routes c ≡ true
 placed_from_stands law routes c v p s =
     let low : 1 ≤ v = s.low in
@@ -33,13 +33,13 @@ not_placed law routes c out = split (is_placed routes c) refl
     split true e = absurd (out (stands_from_placed law routes c e))
     split false e = e
 
--- where a customer stands, if anywhere, answers whether it is placed
+-- knowing where a customer stands, if anywhere, decides whether it is placed
 pub placed_by_place : PlanLaws → (routes : List (List ℕ)) (c : ℕ) (o : Option (ℕ × ℕ)) → IfSome o (λ at. StandsAt routes c at.0 at.1) → IfNone o (¬ IsPlaced routes c)
     → is_some o ≡ is_placed routes c
 placed_by_place law routes c None there nowhere = sym (not_placed law routes c nowhere)
 placed_by_place law routes c (Some at) there nowhere = sym (placed_from_stands law routes c at.0 at.1 there)
 
--- one touch more
+-- one more touch
 pub touches_more : (before : List Touch) (v p i : ℕ) (cs : List ℕ) (all : List Touch) → i < length cs → before ++ touches v p (drop i cs) ≡ all
     → before ++ (record { vehicle = v; place = p; customer = get_or cs i 0 }) ∷ [] ++ touches v (p + 1) (drop (i + 1) cs) ≡ all
 touches_more before v p i cs all h e =

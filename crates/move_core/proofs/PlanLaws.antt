@@ -1,6 +1,6 @@
 use Rattle.plan_core.specs.Laws.{RoutesAreReplaced, CustomersStandByRoute, AmongIsTested}
 
--- what plans promise of new routes, of places and of the test who is among whom
+-- what plans promise of new routes, of places and of the test whether a number is among some numbers
 pub record PlanLaws : Type 0 where
   pub replaced : RoutesAreReplaced
   pub places : CustomersStandByRoute

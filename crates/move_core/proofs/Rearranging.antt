@@ -11,14 +11,14 @@ use Rattle.move_core.proofs.Facts.{can_swap, can_reverse}
 use Rattle.move_core.proofs.Effects.{by_vehicles, possible_from_effect}
 use Rattle.move_core.proofs.Tally.{once, count_at, place_of_count, count-more, count-parts, count-reverse}
 
--- what is taken out and what is left are all
+-- the customers that are taken out and those that are left are all customers
 pub count-without : (c : ℕ) (r : List ℕ) (p m : ℕ) → count c (without r p m) + count c (stretch r p m) ≡ count c r
 count-without c r p m = let all = count-parts c r [] (p - 1) m in omega (arith, none)
   where
     none : count c [] ≡ 0
     none = refl
 
--- a stretch that moves, two customers that change places, a stretch that is turned
+-- a stretch that moves, two customers that change places, a stretch that is reversed
 pub shift_count : (c : ℕ) (r : List ℕ) (p m at : ℕ) → count c (with_stretch (without r p m) at (stretch r p m)) ≡ count c r
 shift_count c r p m at = let less = count-without c r p m in let more = count-more c (without r p m) (stretch r p m) (at - 1) in omega arith
 
@@ -42,7 +42,7 @@ reverse_count c r i j low order =
     let turned = count-reverse c (stretch r i (j - i + 1)) in
     omega arith
 
--- who stands on a route as often as on another stands on it where it does on the other
+-- a customer that is on a route as often as on another is on it where it is on the other
 held_again : (c : ℕ) (xs ys : List ℕ) → count c ys ≡ count c xs → Contains xs c → Contains ys c
 held_again c xs ys e (k, h, same) =
     let one = count_at c xs k (slice_get-get_or xs k c h ∙ ap (λ (n : ℕ). Some n) same) in

@@ -43,7 +43,7 @@ place_of_count c (x ∷ xs) h = split (λ more. place_of_count c xs more) (cases
     split later (inl e) = (zero, ap (λ (m : ℕ). Some m) e)
     split later (inr o) = let none = once_other c x o in let rest = later (omega (arith, count-cons c x xs)) in (suc rest.0, rest.1)
 
--- once at most is at one place at most
+-- a customer that is counted at most once is at one place at most
 count_alone : (c : ℕ) (xs : List ℕ) (i j : ℕ) → count c xs ≤ 1 → slice_get xs i ≡ Some c → slice_get xs j ≡ Some c → i ≡ j
 count_alone c [] i j h e f = absurd cc
 count_alone c (x ∷ xs) zero zero h e f = refl
@@ -174,7 +174,7 @@ plan_from_tally n routes few known = record {
       (omega arith, omega arith);
 }
 
--- the count of a route with something more, with something less, turned, crossed, written over
+-- the count of a route with something more, with something less, reversed, crossed, written over
 pub count-more : (c : ℕ) (r s : List ℕ) (i : ℕ) → count c (take i r ++ (s ++ drop i r)) ≡ count c r + count c s
 count-more c r s i =
     let whole = ap (λ (xs : List ℕ). count c xs) (take-append-drop i r) in

@@ -36,13 +36,13 @@ has_right c xs ys h = list_any-append (λ w. w == c) xs ys ∙ or_right (is_amon
 has_head : (c : ℕ) (cs : List ℕ) → is_among c (c ∷ cs) ≡ true
 has_head c cs = or_left (c == c) (is_among c cs) (eq-eqb c c refl)
 
--- of touched customers none is left
+-- where all are touched, none is left
 pub none_left : (touched cs : List ℕ) → ((c : ℕ) → is_among c cs ≡ true → is_among c touched ≡ true) → filter (λ c. not (is_among c touched)) cs ≡ []
 none_left touched [] all = refl
 none_left touched (c ∷ cs) all =
     rw (all c (has_head c cs)) (none_left touched cs (λ d h. all d (or_right (c == d) (is_among d cs) h)))
 
--- a test keeps as much of a route with something more, or without something, that it drops
+-- a filter keeps as much of a route with something more, or something less, where it drops that
 pub filter-more : (keep : ℕ → Bool) (r s : List ℕ) (i : ℕ) → filter keep s ≡ [] → filter keep (take i r ++ (s ++ drop i r)) ≡ filter keep r
 filter-more keep r s i none =
     filter-append keep (take i r) (s ++ drop i r)
@@ -65,7 +65,7 @@ filter-parts keep r s i n none empty =
 pub filter-less : (keep : ℕ → Bool) (r : List ℕ) (i n : ℕ) → filter keep (take n (drop i r)) ≡ [] → filter keep (take i r ++ drop (i + n) r) ≡ filter keep r
 filter-less keep r i n none = filter-parts keep r [] i n none refl
 
--- one customer that it drops in place of another
+-- a customer that the filter drops in place of another one
 pub filter-set : (keep : ℕ → Bool) (r : List ℕ) (i d : ℕ) → keep (get_or r i 0) ≡ false → keep d ≡ false → filter keep (slice_set r i d) ≡ filter keep r
 filter-set keep [] i d old new = refl
 filter-set keep (x ∷ xs) zero d old new = rw (new, old) refl
@@ -203,7 +203,7 @@ touch_of (t ∷ ts) c h = split (λ more. touch_of ts c more) (cases_eq t.custom
     split later (inl e) = (zero, (t, refl, e))
     split later (inr o) = let rest = later (rw (ne_eqb t.customer c o) at h) in (suc rest.0, (rest.1.0, rest.1.1, rest.1.2))
 
--- who stands on a vehicle stays on it or is touched
+-- a customer that stands on a vehicle stays on it or is touched
 pub stays_or_touched : PlanLaws → (n : ℕ) (routes : List (List ℕ)) (mv : Move) (c v p : ℕ) → is_possible n routes mv ≡ true → StandsAt routes c v p
     → ((q : ℕ) × StandsAt (with_routes (changes_by routes mv) routes) c v q) ⊎ ((k : ℕ) × ((t : Touch) × (slice_get (touched_by routes mv) k ≡ Some t) × (t.customer ≡ c)))
 stays_or_touched law n routes mv c v p t s = split (is_touched routes mv c) refl

@@ -21,7 +21,7 @@ pub record MovesArePossible : Type 0 where
   pub reverse : (n : ℕ) (routes : List (List ℕ)) (v i j : ℕ) → (is_possible n routes (Reverse v i j) ≡ true) ↔ CanReverse routes v i j
   pub cross : (n : ℕ) (routes : List (List ℕ)) (v k w l : ℕ) → (is_possible n routes (Cross v k w l) ≡ true) ↔ CanCross routes v k w l
 
--- the test whether a customer stands on some route says that
+-- the test whether a customer stands on some route is right
 abbrev pub PlacedIsTested : Type 0
 PlacedIsTested = (routes : List (List ℕ)) (c : ℕ) → (is_placed routes c ≡ true) ↔ IsPlaced routes c
 
@@ -36,7 +36,7 @@ pub record MovesKeepPlans : Type 0 where
   pub known : (n : ℕ) (routes : List (List ℕ)) (mv : Move) (changes : Changes) → IsPlan n routes → effect n routes mv ≡ Some changes
       → All (λ t. (1 ≤ t.customer) × (t.customer ≤ n)) (touched_by routes mv)
 
--- customers that are not touched keep their vehicle and their order among themselves; who stands on a vehicle stays on it or is touched
+-- customers that are not touched keep their vehicle and their order among themselves; a customer on a vehicle stays on it or is touched
 pub record MovesKeepTheUntouched : Type 0 where
   pub order : (n : ℕ) (routes : List (List ℕ)) (mv : Move) (changes : Changes) (v : ℕ) → effect n routes mv ≡ Some changes → 1 ≤ v
       → untouched_of routes mv (route_at (with_routes changes routes) v) ≡ untouched_of routes mv (route_at routes v)
@@ -56,19 +56,19 @@ pub record FrontsByFirstChange : Type 0 where
   pub common : (n : ℕ) (routes : List (List ℕ)) (mv : Move) (changes : Changes) (v : ℕ) → IsPlan n routes → effect n routes mv ≡ Some changes → IsNamed changes v
       → common_front (route_at routes v) (route_at (with_routes changes routes) v) + 1 ≡ first_change mv v
 
--- a move of one vehicle, other than Insert and Remove, leaves each customer as often on it as before
+-- a move of one vehicle, other than Insert and Remove, leaves each customer on the route as often as before
 abbrev pub MovesInsideRearrange : Type 0
 MovesInsideRearrange = (n : ℕ) (routes : List (List ℕ)) (mv : Move) (v : ℕ) (r : List ℕ) → IsRearranging mv → effect n routes mv ≡ Some ((v, r) ∷ [])
     → AreRearranged (route_at routes v) r
 
--- who is touched by a move between two vehicles stands on one of them before and on the other afterwards
+-- a customer that a move between two vehicles touches stands on one of them before and on the other afterwards
 abbrev pub MovesBetweenCarryOver : Type 0
 MovesBetweenCarryOver = (n : ℕ) (routes : List (List ℕ)) (mv : Move) (v w : ℕ) (r q : List ℕ) → effect n routes mv ≡ Some ((v, r) ∷ (w, q) ∷ [])
     → (k : ℕ) (t : Touch) → slice_get (touched_by routes mv) k ≡ Some t
     → ((t.vehicle ≡ v) × Contains (route_at routes v) t.customer × Contains q t.customer)
     ⊎ ((t.vehicle ≡ w) × Contains (route_at routes w) t.customer × Contains r t.customer)
 
--- the new route of a shift inside a vehicle as parts of the old one, where the stretch goes forwards and where it goes back
+-- the new route of a shift inside a vehicle as parts of the old one, where the stretch moves forwards and where it moves back
 pub record ShiftsInParts : Type 0 where
   pub before : (r : List ℕ) (p n at : ℕ) → 1 ≤ at → at ≤ p → p ≤ length r + 1
       → with_stretch (without r p n) at (stretch r p n) ≡ take (at - 1) r ++ (stretch r p n ++ (take (p - at) (drop (at - 1) r) ++ drop (p - 1 + n) r))

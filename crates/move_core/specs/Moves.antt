@@ -31,27 +31,27 @@ is_place r p = nat_le 1 p && nat_le p (length r)
 abbrev pub is_placed : List (List ℕ) → ℕ → Bool
 is_placed routes c = list_any (λ r. is_among c r) routes
 
--- whether a customer is one of so many and stands on no route
+-- whether a customer is one of n and stands on no route
 abbrev pub is_free : ℕ → List (List ℕ) → ℕ → Bool
 is_free customers routes c = nat_le 1 c && (nat_le c customers && not (is_placed routes c))
 
--- the customers of a route from one place on, so many
+-- this many customers of a route, from one place on
 abbrev pub stretch : List ℕ → ℕ → ℕ → List ℕ
 stretch r place n = take n (drop (place - 1) r)
 
--- a route without them
+-- a route without this many customers from one place on
 abbrev pub without : List ℕ → ℕ → ℕ → List ℕ
 without r place n = take (place - 1) r ++ drop (place - 1 + n) r
 
--- a route with some customers more, the first of them at a place
+-- a route with some customers inserted, the first of them at a place
 abbrev pub with_stretch : List ℕ → ℕ → List ℕ → List ℕ
 with_stretch r place s = take (place - 1) r ++ (s ++ drop (place - 1) r)
 
--- a route with one of its customers written over
+-- a route with another customer at one place
 abbrev pub with_customer : List ℕ → ℕ → ℕ → List ℕ
 with_customer r place c = slice_set r (place - 1) c
 
--- who stands at a place
+-- the customer at a place
 abbrev pub customer_at : List ℕ → ℕ → ℕ
 customer_at r place = slice_index r (place - 1)
 
@@ -59,7 +59,7 @@ customer_at r place = slice_index r (place - 1)
 abbrev pub reversed_within : List ℕ → ℕ → ℕ → List ℕ
 reversed_within r first last = take (first - 1) r ++ (reverse (stretch r first (last - first + 1)) ++ drop last r)
 
--- the front of a route, then what stood on another after its front
+-- the first customers of a route, then those of another route after its first ones
 abbrev pub crossed : List ℕ → ℕ → List ℕ → ℕ → List ℕ
 crossed r keep q keep_other = take keep r ++ drop keep_other q
 
@@ -100,6 +100,6 @@ changes_by routes (Cross vehicle keep other keep_other) =
     (vehicle, crossed (route_at routes vehicle) keep (route_at routes other) keep_other)
     ∷ (other, crossed (route_at routes other) keep_other (route_at routes vehicle) keep) ∷ []
 
--- The effect of a move on a plan of so many customers: the new routes, or none.
+-- The effect of a move on a plan of this many customers: the new routes, or none.
 abbrev pub effect : ℕ → List (List ℕ) → Move → Option Changes
 effect customers routes mv = if is_possible customers routes mv then Some (changes_by routes mv) else None

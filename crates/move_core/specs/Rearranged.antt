@@ -6,7 +6,7 @@ use Rattle.move_core.specs.declared.moves.Move.TheVariants.{Insert, Remove, Shif
 abbrev pub count : ℕ → List ℕ → ℕ
 count c xs = sum_by (λ x. if x == c then 1 else 0) xs
 
--- a route has each customer as often as another; so it has the same customers
+-- a route has each customer as often as another, and so has the same customers
 pub record AreRearranged (old new : List ℕ) : Type 0 where
   pub often : (c : ℕ) → count c new ≡ count c old
   pub same : (c : ℕ) → Contains old c ↔ Contains new c

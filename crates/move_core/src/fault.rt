@@ -3,13 +3,13 @@ ghost use Rattle.std.specs.Prelude.{◌≡◌};
 use std::alloc::AllocError;
 use thiserror::Error;
 
-/// Why a move gives no touches or new routes. `BadPlace` is judged before any memory is asked for.
+/// Why a move gives no touches or new routes. `BadPlace` is decided before any memory is taken.
 #[derive(Clone, Copy, Debug, PartialEq, Eq, Error)]
 pub enum MoveFault {
     /// The move has no effect on this plan.
     #[error("the move has no effect")]
     BadPlace,
-    /// There was no memory.
+    /// Memory ran out.
     #[error("out of memory")]
     NoMemory,
 }

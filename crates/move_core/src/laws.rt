@@ -28,7 +28,7 @@ pub fn moves_keep_plans()
 }
 
 /// Customers that are not touched keep their vehicle and their order among themselves: on each vehicle they are the same list before and
-/// after. So who stands on a vehicle stays on it or is touched.
+/// after. So a customer on a vehicle stays on it or is touched.
 pub fn moves_keep_the_untouched()
     ensures { MovesKeepTheUntouched }
 {
@@ -38,7 +38,8 @@ pub fn moves_keep_the_untouched()
 }
 
 /// The routes that differ are exactly those of the named vehicles, and each differs first at the place that the move's numbers say. So a
-/// frozen front is kept exactly where it ends before that place, and the longest common front of the two routes is one less.
+/// frozen front is kept exactly where it ends before that place, and the length of the longest common prefix of the two routes is that
+/// place less one.
 pub fn fronts_by_first_change()
     ensures { FrontsByFirstChange }
 {
@@ -48,12 +49,13 @@ pub fn fronts_by_first_change()
     fronts_are_common();
 }
 
-/// A move of one vehicle, other than Insert and Remove, leaves each customer as often on it as before, and so on it.
+/// A move of one vehicle, other than Insert and Remove, leaves each customer on the route as often as before, so the route keeps its
+/// customers.
 pub fn moves_inside_rearrange()
     ensures { MovesInsideRearrange }
 {}
 
-/// Who is touched by a move between two vehicles stands on one of them before and on the other afterwards.
+/// A customer that a move between two vehicles touches stands on one of them before and on the other afterwards.
 pub fn moves_between_carry_over()
     ensures { MovesBetweenCarryOver }
 {}

@@ -1,4 +1,4 @@
-//! The new routes of a move of each kind, listed in the memory of a list that is given up.
+//! The new routes of a move of each kind, listed in the memory of a list that the caller gives up.
 ghost use Rattle.std.specs.Prelude.{◌≡◌, true, IfOk};
 ghost use Rattle.plan_core.specs.Plan.{changes_of};
 ghost use Rattle.move_core.specs.Moves.{is_possible, changes_by};

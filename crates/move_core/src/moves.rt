@@ -7,21 +7,24 @@ use plan_core::{Plan, Route, Touch};
 use std::alloc::{AllocError, Global};
 use std::sync::Arc;
 
-/// A change of one or two routes. Vehicles count from 1, places within a route from 1.
+/// A change of one or two routes. Vehicles count from 1, places within a route from 1. A move has an effect exactly where the vehicles that
+/// it names are in the fleet and its numbers are in the ranges given here.
 #[derive(Clone, Copy, Debug, PartialEq, Eq)]
 pub enum Move {
-    /// An unassigned customer is put at a place; later ones move up.
+    /// Insertion: the unassigned customer is put at the place, and later ones move up. The place is 1 to one after the last.
     Insert {
         customer: u32,
         vehicle: u32,
         place: u32,
     },
-    /// The customer at a place is taken out, and is then unassigned.
+    /// Removal: the customer at the place is taken off the route, and is then unassigned.
     Remove {
         vehicle: u32,
         place: u32,
     },
-    /// So many customers from a place on are taken out and stand in `to` from place `at` on, counted once they are out.
+    /// Relocate, or Or-opt for more than one: `length` customers from `place` on, at least one and all of them there, are taken out, and
+    /// then stand in `to` from place `at` on. `at` is counted once they are out, is 1 to one after the last, and differs from `place` where
+    /// `to` is the same vehicle.
     Shift {
         vehicle: u32,
         place: u32,
@@ -29,20 +32,23 @@ pub enum Move {
         to: u32,
         at: u32,
     },
-    /// Two customers change places.
+    /// Exchange: the customer at `place` of the vehicle and the one at `at` of `other` change places. The two places differ; the vehicles
+    /// may be the same.
     Swap {
         vehicle: u32,
         place: u32,
         other: u32,
         at: u32,
     },
-    /// The customers from `first` to `last` stand in the opposite order.
+    /// 2-opt: the customers from `first` to `last` stand in the opposite order. `first` is below `last`.
     Reverse {
         vehicle: u32,
         first: u32,
         last: u32,
     },
-    /// What stands after the first `keep` of one route and after the first `keep_other` of another change sides.
+    /// 2-opt*, an exchange of tails (a cross-exchange in which both stretches reach to the end): what follows the first `keep` of one route
+    /// and what follows the first `keep_other` of another change sides. The vehicles differ, neither number is above its route's length,
+    /// and at least one tail is not empty.
     Cross {
         vehicle: u32,
         keep: u32,
@@ -109,8 +115,8 @@ impl Move {
         }
     }
 
-    /// The customers that the move touches, in the order of its fields, each with the vehicle and place where it stands before the move; an
-    /// inserted customer has those where it will stand.
+    /// The customers that the move touches, in the order of its fields, each with the vehicle and place where it stands before the move;
+    /// for an inserted customer those where it will stand.
     pub fn touched(&self, alloc: Global, plan: &Plan) -> Result<Vec<Touch>, MoveFault>
         ensures ok { IfOk result (λ touched. touched.items ≡ touched_by plan.now.routes self.now) }
         ensures possible { IfOk result (λ _. effect plan.now.customers plan.now.routes self.now ≡ Some (changes_by plan.now.routes self.now)) }
@@ -139,7 +145,7 @@ impl Move {
         Ok(changes)
     }
 
-    /// What `touched` gives of a move that has an effect, for a caller that has asked whether it has.
+    /// What `touched` gives of a move that has an effect, for a caller that has asked whether it has one.
     pub fn touches(&self, alloc: Global, plan: &Plan) -> Result<Vec<Touch>, AllocError>
         requires { is_possible plan.now.customers plan.now.routes self.now ≡ true }
         ensures { IfOk result (λ touched. touched.items ≡ touched_by plan.now.routes self.now) }
@@ -147,7 +153,7 @@ impl Move {
         self.touches_in(Vec::new(alloc), plan)
     }
 
-    /// What `touches` gives, in the memory of a list that is given up: it takes more only where that is too small.
+    /// What `touches` gives, in the memory of a list that the caller gives up: more memory is taken only where that is too small.
     pub fn touches_in(&self, room: Vec<Touch>, plan: &Plan) -> Result<Vec<Touch>, AllocError>
         requires { is_possible plan.now.customers plan.now.routes self.now ≡ true }
         ensures { IfOk result (λ touched. touched.items ≡ touched_by plan.now.routes self.now) }
@@ -186,7 +192,7 @@ impl Move {
         }
     }
 
-    /// What `new_routes` gives of a move that has an effect, for a caller that has asked whether it has.
+    /// What `new_routes` gives of a move that has an effect, for a caller that has asked whether it has one.
     pub fn routes(&self, alloc: Global, plan: &Plan) -> Result<Vec<(u32, Arc<Route>)>, AllocError>
         requires { is_possible plan.now.customers plan.now.routes self.now ≡ true }
         ensures { IfOk result (λ changes. changes_of changes.items ≡ changes_by plan.now.routes self.now) }
@@ -194,7 +200,7 @@ impl Move {
         self.routes_in(Vec::new(alloc), alloc, plan)
     }
 
-    /// What `routes` gives, listed in the memory of a list that is given up: the list takes more only where that is too small.
+    /// What `routes` gives, listed in the memory of a list that the caller gives up: the list takes more only where that is too small.
     pub fn routes_in(
         &self,
         room: Vec<(u32, Arc<Route>)>,
@@ -239,7 +245,7 @@ impl Move {
     }
 }
 
-/// The second of two vehicles, if it is another one.
+/// The second of two vehicles, where it is another one.
 fn second(vehicle: u32, other: u32) -> Option<u32>
     ensures { result ≡ (if vehicle == other then None else Some other) }
 {

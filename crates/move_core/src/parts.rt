@@ -11,7 +11,7 @@ use std::sync::Arc;
 /// Vehicles with their new routes.
 pub(crate) type Changes = Vec<(u32, Arc<Route>)>;
 
-/// Puts a part of a route behind what is there. Parts at the ends are often empty, and then nothing is called.
+/// Appends a part of a route. Parts at the ends are often empty, and then nothing is called.
 #[inline(always)]
 fn push_part(customers: &mut Vec<u32>, part: &[u32]) -> Result<(), AllocError>
     ensures { OnOk result (customers.new.items ≡ customers.old.items ++ part.now) }
@@ -22,7 +22,7 @@ fn push_part(customers: &mut Vec<u32>, part: &[u32]) -> Result<(), AllocError>
     customers.extend_from_slice(part)
 }
 
-/// A route of three parts. Its memory is asked for once.
+/// A route of three parts. Its memory is taken at once.
 fn joined(
     alloc: Global,
     first: &[u32],
@@ -39,7 +39,7 @@ fn joined(
     Ok(route)
 }
 
-/// A route of four parts. Its memory is asked for once.
+/// A route of four parts. Its memory is taken at once.
 fn joined_four(
     alloc: Global,
     first: &[u32],
@@ -59,7 +59,7 @@ fn joined_four(
     Ok(route)
 }
 
-/// The route with some customers more, the first of them at `place`.
+/// The route with some customers inserted, the first of them at `place`.
 pub(crate) fn with_stretch(
     alloc: Global,
     route: &[u32],
@@ -74,7 +74,7 @@ pub(crate) fn with_stretch(
     joined(alloc, front, customers, back)
 }
 
-/// The route without so many customers from `place` on.
+/// The route without `count` customers from `place` on.
 pub(crate) fn without(
     alloc: Global,
     route: &[u32],
@@ -90,7 +90,7 @@ pub(crate) fn without(
     joined(alloc, &route[..first], back, &[])
 }
 
-/// So many customers of a route from `place` on.
+/// `count` customers of a route, from `place` on.
 pub(crate) fn stretch(route: &[u32], place: u32, count: u32) -> &[u32]
     requires low { 1 ≤ place }
     requires high { place + count ≤ length route.now + 1 }
@@ -101,7 +101,7 @@ pub(crate) fn stretch(route: &[u32], place: u32, count: u32) -> &[u32]
     &route[first..first + count as usize]
 }
 
-/// The route with so many customers from `place` on taken out and put in again, the first of them at `at`.
+/// The route with `count` customers from `place` on taken out and put in again, the first of them at `at`.
 pub(crate) fn moved_within(
     alloc: Global,
     route: &[u32],
@@ -149,7 +149,7 @@ pub(crate) fn with_customer(
     Ok(made)
 }
 
-/// The route with two of its customers in each other's place.
+/// The route with two of its customers exchanged.
 pub(crate) fn swapped_within(
     alloc: Global,
     route: &[u32],
@@ -237,7 +237,7 @@ pub(crate) fn two_changes(
     Ok(changes)
 }
 
-/// A list of no touch in the memory of another, with room for so many.
+/// An empty list of touches in the memory of another one, with room for `count`.
 pub(crate) fn emptied(room: Vec<Touch>, count: usize) -> Result<Vec<Touch>, AllocError>
     ensures { IfOk result (λ touched. touched.items ≡ []) }
 {
@@ -247,7 +247,7 @@ pub(crate) fn emptied(room: Vec<Touch>, count: usize) -> Result<Vec<Touch>, Allo
     Ok(touched)
 }
 
-/// Adds customers that stand on a vehicle one after the other, the first of them at `place`.
+/// Appends customers that stand on a vehicle one after the other, the first of them at `place`.
 pub(crate) fn push_touches(
     touched: &mut Vec<Touch>,
     vehicle: u32,

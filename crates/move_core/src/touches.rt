@@ -1,4 +1,4 @@
-//! The touches of a move of each kind, in the memory of a list that is given up.
+//! The touches of a move of each kind, in the memory of a list that the caller gives up.
 ghost use Rattle.std.specs.Prelude.{◌≡◌, true, IfOk};
 ghost use Rattle.move_core.specs.Moves.{is_possible};
 ghost use Rattle.move_core.specs.Touched.{touched_by};

@@ -18,7 +18,7 @@ same_test true u f g = sym (f refl)
 same_test false true f g = g refl
 same_test false false f g = refl
 
--- where the digits of a mask stand
+-- where the digits of a mask are 1
 one_of : (a : ℕ) → a < 2 → eqb a 1 ≡ true → a ≡ 1
 one_of a h e = eqb-true a 1 e
 
@@ -50,7 +50,7 @@ module _ (ws : List ℕ) (small : AllByRecursion IsWord ws) (place low high : �
   outside_none : (q : ℕ) → (q % 64 < low) ⊎ (high ≤ q % 64) → bit_at mask (q % 64) ≡ 0
   outside_none q c = elim c [ inl under ↦ bit_at_mask_below low high (q % 64) under | inr past ↦ bit_at_mask_above low high (q % 64) past ]
 
-  -- an object of the word stands inside the digits, or outside
+  -- an object of the word lies within the digits, or outside
   sides : (q : ℕ) → q / 64 ≡ place → ((64 * place + low ≤ q) × (q < 64 * place + low + (high - low)) × (low ≤ q % 64) × (q % 64 < high))
       ⊎ (((q < 64 * place + low) ⊎ (64 * place + low + (high - low) ≤ q)) × ((q % 64 < low) ⊎ (high ≤ q % 64)))
   sides q e = elim (cases_lt (q % 64) low) [
@@ -153,7 +153,7 @@ module _ (ws : List ℕ) (small : AllByRecursion IsWord ws) (place low high : �
               by_test false h = h
               by_test true h = elim ((has-without_range (joined ws) (64 * place + low) (high - low) q).0 h).1 [ inl under ↦ absurd (omega (arith, inside.0, under)) | inr past ↦ absurd (omega (arith, inside.1, past)) ]
 
--- two ranges, one after the other
+-- two ranges, one following the other
 pub with_range-join : (set first n m : ℕ) → with_range (with_range set first n) (first + n) m ≡ with_range set first (n + m)
 unfolding with_range
 with_range-join set first n zero = (let same : n ≡ n + 0 = omega arith in ap (with_range set first) same)
@@ -170,14 +170,14 @@ without_range-join set first n (suc m) =
     let more : suc (n + m) ≡ n + suc m = omega arith in
     ap₂ without (without_range-join set first n m) next ∙ ap (without_range set first) more
 
--- a range that goes on where it ended
+-- a range that continues where another ended
 pub with_range-on : (set first from at n end : ℕ) → first ≤ from → at ≡ from → end ≡ from + n → with_range (with_range set first (from - first)) at n ≡ with_range set first (end - first)
 with_range-on set first from at n end h is ends =
     let start : at ≡ first + (from - first) = omega arith in
     let size : from - first + n ≡ end - first = omega arith in
     ap (λ a. with_range (with_range set first (from - first)) a n) start ∙ with_range-join set first (from - first) n ∙ ap (with_range set first) size
 
--- a range that goes on where it ended
+-- a range that continues where another ended
 pub without_range-on : (set first from at n end : ℕ) → first ≤ from → at ≡ from → end ≡ from + n → without_range (without_range set first (from - first)) at n ≡ without_range set first (end - first)
 without_range-on set first from at n end h is ends =
     let start : at ≡ first + (from - first) = omega arith in

@@ -39,7 +39,7 @@ without_range-next set first i h =
 in_one : (set first n o : ℕ) → (eqb o (first + n) ≡ true) → (first ≤ o) × (o < first + suc n)
 in_one set first n o h = (let same : o ≡ first + n = eqb-true _ _ h in (omega arith, omega arith))
 
--- after GRANT over a range a set has what it had, and the objects of the range
+-- after GRANT over a range a set has what it had before, and the objects of the range
 pub has-with_range : (set first n o : ℕ) → (has (with_range set first n) o ≡ true) ↔ ((has set o ≡ true) ⊎ ((first ≤ o) × (o < first + n)))
 unfolding with_range
 has-with_range set first zero o = ((λ h. inl h), (λ c. elim c [ inl h ↦ h | inr r ↦ absurd (omega (arith, r.0, r.1)) ]))
@@ -59,7 +59,7 @@ has-with_range set first (suc n) o =
       ]),
     )
 
--- after REVOKE over a range a set has what it had but for the objects of the range
+-- after REVOKE over a range a set has what it had before, except the objects of the range
 pub has-without_range : (set first n o : ℕ) → (has (without_range set first n) o ≡ true) ↔ ((has set o ≡ true) × ((o < first) ⊎ (first + n ≤ o)))
 unfolding without_range
 has-without_range set first zero o = ((λ h. (h, elim (cases_lt o first) [ inl low ↦ inl low | inr high ↦ inr (omega arith) ])), (λ c. c.0))

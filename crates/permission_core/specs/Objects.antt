@@ -40,7 +40,7 @@ number_of Board = 0
 number_of (Vehicle k) = k
 number_of (Customer c) = 1000 + c
 
--- there is such an object among so many customers and vehicles
+-- there is such an object among this many customers and vehicles
 abbrev pub is_object : ℕ → ℕ → Object → Bool
 is_object customers vehicles Board = true
 is_object customers vehicles (Vehicle k) = nat_le 1 k && nat_le k vehicles
@@ -67,7 +67,7 @@ size_of range.Board = 1
 size_of (range.Vehicles first last) = last + 1 - first
 size_of (range.Customers first last) = last + 1 - first
 
--- the numbers are none, begin at 0 or end above the limit
+-- the range of numbers is empty, begins at 0 or ends above the limit
 abbrev pub is_bad_span : ℕ → ℕ → ℕ → Bool
 is_bad_span limit first last = nat_lt last first || (first == 0 || nat_lt limit last)
 

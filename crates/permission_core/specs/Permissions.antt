@@ -3,7 +3,7 @@ use Rattle.std.specs.Prelude.{ℕ, zero, suc, ◌+◌, ◌*◌, List, slice_inde
 use Rattle.permission_core.specs.declared.objects.Operation.{Operation}
 use Rattle.permission_core.specs.Objects.{index_of}
 
--- at 7 * slot + operation the objects to which the role of the slot may do it
+-- at 7 * slot + operation the objects to which the slot's role may do the operation
 abbrev pub Rows : Type 0
 Rows = List ℕ
 

@@ -7,16 +7,23 @@ ghost use Rattle.permission_core.specs.Objects.{AreWords, index_of, number_of, i
 
 use std::marker::Model;
 
-/// What a session may do to an object.
+/// What a session may do to an object. For what an operation is needed is decided by the crates above; here it is one row of a role's
+/// permissions.
 #[derive(Clone, Copy, Debug, PartialEq, Eq)]
 pub enum Operation {
+    /// To see a customer in a listing: needed on the customer and, where it is placed, on its vehicle.
     View,
+    /// To change the plan by a move: needed on each vehicle that the move names and on each customer that it touches.
     Move,
+    /// To pin and unpin a customer: needed on the customer.
     Pin,
+    /// To freeze and thaw the first stops of a route: needed on the vehicle.
     Freeze,
+    /// To change the policy: needed on the board.
     Admin,
+    /// To read the journal and the reviews of the policy: needed on the board.
     Audit,
-    /// A pin does not hold the customer for this session.
+    /// To move a customer off the vehicle to which it is pinned: needed on the customer. Its pin does not hold it for such a session.
     Override,
 }
 
@@ -41,14 +48,17 @@ impl Operation {
 /// What an operation is done to. Vehicles and customers count from 1.
 #[derive(Clone, Copy, Debug, PartialEq, Eq)]
 pub enum Object {
+    /// The board itself.
     Board,
+    /// The vehicle of this number.
     Vehicle(u32),
+    /// The customer of this number.
     Customer(u32),
 }
 
 impl Object {
-    /// Its number, which does not hang on the sizes: the board is 0, vehicle k is k, customer c
-    /// is 1000 + c. `None` where there is no such object among so many customers and vehicles.
+    /// Its number, which does not depend on the sizes: the board is 0, vehicle k is k, customer c is 1000 + c. `None` where there is no
+    /// such object among this many customers and vehicles, of which there are at most 1,000 each.
     pub fn number(self, customers: u32, vehicles: u32) -> Option<u32>
         requires customers { customers ≤ 1000 }
         requires vehicles { vehicles ≤ 1000 }
@@ -70,14 +80,17 @@ impl Object {
 /// Objects that are granted together: the board, or the vehicles or customers from `first` to `last`, both included.
 #[derive(Clone, Copy, Debug, PartialEq, Eq)]
 pub enum ObjectRange {
+    /// The board itself.
     Board,
+    /// The vehicles from `first` to `last`.
     Vehicles { first: u32, last: u32 },
+    /// The customers from `first` to `last`.
     Customers { first: u32, last: u32 },
 }
 
 impl ObjectRange {
-    /// The numbers of its first object and of the one past its last; `None` where the range is
-    /// empty, begins at 0, or ends above the customers or vehicles.
+    /// The numbers of its first object and of the one past its last; `None` where the range is empty, begins at 0, or ends above the
+    /// customers or vehicles, of which there are at most 1,000 each.
     pub fn span(self, customers: u32, vehicles: u32) -> Option<(u32, u32)>
         requires customers { customers ≤ 1000 }
         requires vehicles { vehicles ≤ 1000 }
@@ -105,7 +118,7 @@ impl ObjectRange {
     }
 }
 
-/// A set of objects, each a number below 2,048. Contracts see the number whose binary digits 1 stand at its members.
+/// A set of objects, each a number below 2,048. Contracts see the number whose binary digits are 1 at its members.
 #[derive(Clone, Copy)]
 pub struct ObjectSet {
     words: [u64; 32],
@@ -136,8 +149,7 @@ impl ObjectSet {
         ObjectSet { words: [0; 32] }
     }
 
-    /// The words in which the members stand, object 64 * k + i at digit i of word k, for a crate
-    /// that goes over them word by word.
+    /// The words of the set, with object 64 * k + i at digit i of word k, for a crate that goes over them word by word.
     pub fn words(&self) -> &[u64; 32]
         ensures value { joined result.now ≡ self.now }
         ensures whole { AreWords result.now }
@@ -162,8 +174,7 @@ impl ObjectSet {
         self.words[place] |= 1 << (object % 64);
     }
 
-    /// The objects from `first` on, up to but not with `end`, become members: whole words at a
-    /// time.
+    /// The objects from `first` on, up to but not including `end`, become members: whole words at a time.
     pub fn insert_range(&mut self, first: u32, end: u32)
         requires order { first ≤ end }
         requires small { end ≤ 2048 }
@@ -178,7 +189,7 @@ impl ObjectSet {
         }
     }
 
-    /// The objects of one word from its digit `low` on, up to but not with `high`, become members.
+    /// The objects of one word from its digit `low` on, up to but not including `high`, become members.
     fn insert_in(&mut self, place: u32, low: u32, high: u32)
         requires place { place < 32 }
         requires order { low ≤ high }
@@ -189,7 +200,7 @@ impl ObjectSet {
         self.words[place as usize] |= digits;
     }
 
-    /// The object is no member any more.
+    /// The object is no longer a member.
     pub fn remove(&mut self, object: u32)
         requires { object < 2048 }
         ensures { self.new ≡ without self.old object }
@@ -198,8 +209,7 @@ impl ObjectSet {
         self.words[place] &= !(1 << (object % 64));
     }
 
-    /// The objects from `first` on, up to but not with `end`, are no members any more: whole words
-    /// at a time.
+    /// The objects from `first` on, up to but not including `end`, are no longer members: whole words at a time.
     pub fn remove_range(&mut self, first: u32, end: u32)
         requires order { first ≤ end }
         requires small { end ≤ 2048 }
@@ -214,8 +224,7 @@ impl ObjectSet {
         }
     }
 
-    /// The objects of one word from its digit `low` on, up to but not with `high`, are no members
-    /// any more.
+    /// The objects of one word from its digit `low` on, up to but not including `high`, are no longer members.
     fn remove_in(&mut self, place: u32, low: u32, high: u32)
         requires place { place < 32 }
         requires order { low ≤ high }
@@ -227,7 +236,7 @@ impl ObjectSet {
     }
 }
 
-/// The word whose digits 1 stand from `low` on, up to but not with `high`.
+/// The word whose digits are 1 from `low` on, up to but not including `high`.
 fn ones_between(low: u32, high: u32) -> u64
     requires order { low ≤ high }
     requires small { high ≤ 64 }
@@ -236,7 +245,7 @@ fn ones_between(low: u32, high: u32) -> u64
     below(high) - below(low)
 }
 
-/// The word whose digits 1 stand below that place; all of them where it is 64.
+/// The word whose digits are 1 below that place; all of them where it is 64.
 fn below(place: u32) -> u64
     requires { place ≤ 64 }
     ensures { result ≡ 2 ^ place - 1 }

@@ -19,9 +19,8 @@ fn empty(rows: &mut Vec<ObjectSet>, slot: u8)
     }
 }
 
-/// The permissions of 256 roles: for each slot and operation a set of objects, PA of
-/// ANSI INCITS 359-2004, 6.1. Contracts see the list of the sets, at 7 times the slot plus the
-/// operation. Only `new` and `copy` take memory.
+/// The permissions of 256 roles: for each slot and operation a set of objects, PA of ANSI INCITS 359-2004, 6.1. Contracts see the list of
+/// the sets, with that of a slot and an operation at 7 times the slot plus the operation. Only `new` and `copy` take memory.
 #[derive(Drop)]
 pub struct Permissions {
     rows: Vec<ObjectSet>,
@@ -62,8 +61,8 @@ impl Permissions {
         self.row(slot, operation).contains(number)
     }
 
-    /// The role may do the operation to the objects of the numbers from `first` on, up to but not
-    /// with `end`, whether or not it might.
+    /// The role may do the operation to the objects of the numbers from `first` on, up to but not including `end`. What it
+    /// may do already it may still do.
     pub fn grant(&mut self, slot: u8, operation: Operation, first: u32, end: u32)
         requires order { first ≤ end }
         requires small { end ≤ 2048 }
@@ -73,8 +72,7 @@ impl Permissions {
         self.rows[place].insert_range(first, end);
     }
 
-    /// The role may do the operation to none of the objects of the numbers from `first` on, up to
-    /// but not with `end`.
+    /// The role may no longer do the operation to the objects of the numbers from `first` on, up to but not including `end`.
     pub fn revoke(&mut self, slot: u8, operation: Operation, first: u32, end: u32)
         requires order { first ≤ end }
         requires small { end ≤ 2048 }
@@ -84,14 +82,14 @@ impl Permissions {
         self.rows[place].remove_range(first, end);
     }
 
-    /// The role has no permission any more.
+    /// The role loses all its permissions.
     pub fn clear(&mut self, slot: u8)
         ensures { self.new ≡ rows_cleared self.old slot }
     {
         empty(&mut self.rows, slot);
     }
 
-    /// Equal permissions, which change apart from these.
+    /// An independent copy.
     pub fn copy(&self) -> Result<Permissions, AllocError>
         ensures { IfOk result (λ rows. rows ≡ self.now) }
     {

@@ -95,7 +95,7 @@ among-push changes sessions i rows within q so_far =
     ∙ ap (λ t. t || nat_eq q (get_or sessions i 0)) so_far
     ∙ sym (list_any_more (nat_eq q) sessions i 0 within)
 
--- tables with some sessions' rows made anew
+-- tables with some sessions' rows made again
 module _ (p : PolicyState) (t : TablesState) (changes : List (ℕ × Option (List ℕ))) (sessions : List ℕ)
     (each : AreChangesOf p changes) (among : (q : ℕ) → is_some (lookup (nat_eq q) changes) ≡ is_among sessions q) where
   abbrev after : ℕ → Option (List ℕ)
@@ -127,7 +127,7 @@ module _ (p : PolicyState) (t : TablesState) (changes : List (ℕ × Option (Lis
           ap (λ found. allowed_by t.customers t.vehicles found operation object) (others session h)
           ∙ were session operation object ∙ sym (same session h operation object)
 
--- rows that are put say what they were to say
+-- rows that are put in place say what they were made for
 pub put_compiled : (rows : RowsState) (t : TablesState) → rows.of.customers ≡ t.customers → rows.of.vehicles ≡ t.vehicles → ((q : ℕ) → rows_of t q ≡ rows_after rows q) →
     (p : PolicyState) → WillBeCompiled rows p → AreCompiled t p
 put_compiled rows t customers vehicles put p will session operation object =
@@ -136,7 +136,7 @@ put_compiled rows t customers vehicles put p will session operation object =
     ∙ ap (λ k. allowed_by k rows.of.vehicles (rows_after rows session) operation object) (sym customers)
     ∙ will session operation object
 
--- no rows say CheckAccess of a policy without sessions
+-- where there are no rows, they say CheckAccess of a policy without sessions
 pub none_compiled : (t : TablesState) → t.rows ≡ [] → (p : PolicyState) → p.sessions ≡ [] → AreCompiled t p
 unfolding has_access
 none_compiled t empty p none session operation object =

@@ -4,7 +4,7 @@ use Rattle.std.specs.Prelude.{nat_eq, unwrap_or}
 use Rattle.std.specs.Map.{lookup}
 use Rattle.std.specs.Option.{option_or}
 
--- a change at the end counts where none before it does
+-- a change at the end counts where none before it is for its session
 pub lookup-push : {V : Type 0} (changes : List (ℕ × V)) (session : ℕ) (found : V) (q : ℕ) →
     lookup (nat_eq q) (changes ++ (session, found) ∷ []) ≡ option_or (lookup (nat_eq q) changes) (cond (nat_eq q session) (Some found) None)
 lookup-push [] session found q = refl

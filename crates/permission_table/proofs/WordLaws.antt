@@ -20,7 +20,7 @@ module _ (ws vs xs us : List ℕ) (small : AllByRecursion IsWord ws) (small_one 
       let both = or_lt 64 (get_or ws k 0) (get_or vs k 0) (word_small ws k small) (word_small vs k small_one) in
       omega (arith, each k, or_lt 64 (bit_or (get_or ws k 0) (get_or vs k 0)) (get_or xs k 0) both (word_small xs k small_other)))
 
-  -- and make the union
+  -- and they make the union
   pub number_joined : joined us ≡ bit_or (bit_or (joined ws) (joined vs)) (joined xs)
   number_joined = same_from_bits (joined us) (bit_or (bit_or (joined ws) (joined vs)) (joined xs)) (λ q.
       at_word us small_joined q

@@ -10,6 +10,6 @@ abbrev pub bit_in : Option (List ℕ) → Operation → Object → Bool
 bit_in None operation object = false
 bit_in (Some rows) operation object = has (slice_index rows (index_of operation)) (number_of object)
 
--- what rows of a session say, over so many customers and vehicles: false for an object that is not there
+-- what rows of a session say, over this many customers and vehicles: false for an object that is not there
 abbrev pub allowed_by : ℕ → ℕ → Option (List ℕ) → Operation → Object → Bool
 allowed_by customers vehicles found operation object = is_object customers vehicles object && bit_in found operation object

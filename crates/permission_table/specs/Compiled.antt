@@ -16,7 +16,7 @@ AreBitsOf bit p = (session : ℕ) (operation : Operation) (object : Object) → 
 abbrev pub AreCompiled : TablesState → PolicyState → Type 0
 AreCompiled t p = AreBitsOf (allows t) p
 
--- the tables will say it once these rows are put
+-- the tables will say it once these rows are in place
 abbrev pub WillBeCompiled : RowsState → PolicyState → Type 0
 WillBeCompiled rows p = AreBitsOf (will_allow rows) p
 
@@ -31,7 +31,7 @@ pub record HasSizes (p : PolicyState) (t : TablesState) : Type 0 where
   pub customers : p.customers ≡ t.customers
   pub vehicles : p.vehicles ≡ t.vehicles
 
--- These are the rows of a session by the policy: none where there is no such session, and each bit is CheckAccess.
+-- These are the rows of a session by the policy: none where there is no such session, or else rows in which each bit is CheckAccess.
 pub record AreRowsOf (p : PolicyState) (session : ℕ) (found : Option (List ℕ)) : Type 0 where
   pub there : is_some found ≡ is_session p session
   pub bits : (operation : Operation) (object : Object) → allowed_by p.customers p.vehicles found operation object ≡ has_access p session operation object

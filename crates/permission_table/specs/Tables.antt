@@ -6,7 +6,7 @@ use Rattle.permission_core.specs.declared.objects.Operation.{Operation}
 use Rattle.permission_core.specs.declared.objects.Object.{Object}
 use Rattle.permission_table.specs.Bits.{allowed_by}
 
--- For each session that has rows its seven rows, one for each operation, as sets of objects; how many sessions more find room.
+-- For each session that has rows its seven rows, one for each operation, as sets of objects; and how many more sessions there is room for.
 pub record TablesState : Type 0 where
   pub customers : ℕ
   pub vehicles : ℕ
@@ -30,11 +30,11 @@ rows_of t session = lookup (nat_eq session) t.rows
 abbrev pub allows : TablesState → ℕ → Operation → Object → Bool
 allows t session operation object = allowed_by t.customers t.vehicles (rows_of t session) operation object
 
--- the seven rows of a session once these rows are put
+-- the seven rows of a session once these rows are in place
 abbrev pub rows_after : RowsState → ℕ → Option (List ℕ)
 rows_after rows session = unwrap_or (lookup (nat_eq session) rows.changes) (rows_of rows.of session)
 
--- what the tables will say once these rows are put
+-- what the tables will say once these rows are in place
 abbrev pub will_allow : RowsState → ℕ → Operation → Object → Bool
 will_allow rows session operation object = allowed_by rows.of.customers rows.of.vehicles (rows_after rows session) operation object
 

@@ -11,7 +11,7 @@ abbrev pub IsUnion : PolicyState → ℕ → Operation → ℕ → Type 0
 IsUnion p roles operation row =
     (number : ℕ) → (has row number ≡ true) ↔ ((b : ℕ) × (has roles b ≡ true) × (has (row_of p b operation) number ≡ true))
 
--- those of the roles that are below n
+-- the objects to which one of the roles below n may do it
 abbrev pub IsUnionBelow : PolicyState → ℕ → ℕ → Operation → ℕ → Type 0
 IsUnionBelow p roles n operation row =
     (number : ℕ) → (has row number ≡ true) ↔ ((b : ℕ) × (b < n) × (has roles b ≡ true) × (has (row_of p b operation) number ≡ true))

@@ -11,8 +11,7 @@ use role_hierarchy::RoleSet;
 use std::alloc::{AllocError, Global};
 use std::marker::Model;
 
-/// The objects to which a session may do one operation. Contracts see the number whose binary
-/// digits 1 stand at them.
+/// The objects to which a session may do one operation. Contracts see the number whose binary digits are 1 at them.
 #[derive(Drop)]
 pub struct Row {
     words: [u64; 32],
@@ -31,14 +30,14 @@ impl Model for Row {
 }
 
 impl Row {
-    /// The row without objects.
+    /// A row without objects.
     fn new() -> Row
         ensures { result ≡ 0 }
     {
         Row { words: [0; 32] }
     }
 
-    /// Whether the object is in the row: a test of one word.
+    /// Whether the object is in the row: a test of one bit of a word.
     fn contains(&self, number: u32) -> bool
         requires { number < 2048 }
         ensures { result ≡ has self.now number }
@@ -46,8 +45,8 @@ impl Row {
         (self.words[number as usize / 64] >> (number % 64)) & 1 == 1
     }
 
-    /// The objects to which the two roles may do the operation join the row. Two at a time, since
-    /// the row's own words are then read and written half as often.
+    /// The objects to which the two roles may do the operation join the row. Roles are joined two at a time, since the row's own words are
+    /// then read and written half as often.
     fn join(&mut self, policy: &Policy, roles: (u8, u8), operation: Operation)
         ensures { self.new ≡ bit_or (bit_or self.old (row_of policy.now roles.0 operation)) (row_of policy.now roles.1 operation) }
     {
@@ -67,7 +66,7 @@ fn join_words(words: &mut [u64; 32], one: &[u64; 32], other: &[u64; 32])
     }
 }
 
-/// The next two roles of the set that are not below `from`; one that is the last stands twice.
+/// The next two roles of the set that are not below `from`; where only one is left, it comes twice.
 fn two_from(roles: RoleSet, from: u32) -> Option<(u8, u8)>
     ensures members { IfSome result (λ r. (has roles r.0 ≡ true) × (has roles r.1 ≡ true)) }
     ensures order { IfSome result (λ r. (from ≤ r.0) × (r.0 ≤ r.1)) }

@@ -18,15 +18,15 @@ use std::alloc::{AllocError, Global};
 use std::marker::Model;
 use std::snapshot::Snapshot;
 
-/// For each session and operation a row of bits, one for each object, so that CheckAccess is a
-/// look-up of the session and a test of one word.
+/// For each session and operation a row of bits, one for each object, so that CheckAccess is a look-up of the session and a test of one
+/// word.
 pub struct Tables {
     customers: u32,
     vehicles: u32,
     rows: IndexMap<u32, SessionRows>,
 }
 
-// By hand, since a derived drop is written out, down to each list, at every place where a value is dropped.
+// Written by hand: a derived drop is expanded, down to each list, at every place where a value is dropped.
 impl Drop for Tables {
     fn drop(self) {
         let Tables {
@@ -50,7 +50,7 @@ impl Model for Tables {
     ghost invariant = { λ a. (a.customers ≤ 1000) × (a.vehicles ≤ 1000) };
 }
 
-/// What becomes of a session's rows: these, or none.
+/// What becomes of a session's rows: these rows, or none.
 type Change = (u32, Option<SessionRows>);
 
 /// Rows that were made for tables and are to be put into them.
@@ -72,7 +72,7 @@ impl Model for Rows {
 }
 
 impl Tables {
-    /// Tables over these customers and vehicles, with rows for no session and room for the first.
+    /// Tables over these customers and vehicles, at most 1,000 of each, with rows for no session and room for the first.
     pub fn new(alloc: Global, customers: u32, vehicles: u32) -> Result<Tables, AllocError>
         requires customers { customers ≤ 1000 }
         requires vehicles { vehicles ≤ 1000 }
@@ -86,10 +86,9 @@ impl Tables {
         })
     }
 
-    /// The rows of these sessions by the policy, which is of the sizes of these tables, for `put`.
+    /// The rows of these sessions by the policy, for `put`. The policy must be over the customers and vehicles of these tables.
     ///
-    /// A session that is not in the policy gets no rows. All growth is made here, and no bit
-    /// changes.
+    /// A session that is not in the policy gets no rows. Every growth is made here, and no bit changes.
     pub fn rebuild(&mut self, policy: &Policy, sessions: &[u32]) -> Result<Rows, AllocError>
         requires sizes { HasSizes policy.now self.old }
         ensures kept { self.new ≡ record self.old { room = self.new.room } }
@@ -109,8 +108,9 @@ impl Tables {
         })
     }
 
-    /// Puts the rows in place; nothing was put since they were made. It takes no memory, and what
-    /// the sessions had before is given back, that of closed sessions for good.
+    /// Puts the rows in place. The contract requires that the tables still are, as contracts see them, those for which the rows were made:
+    /// so pass what the last `rebuild` answered, with nothing put in place since. It takes no memory, and gives back the memory of the rows
+    /// that the sessions had before; a session without new rows has none afterwards.
     pub fn put(&mut self, rows: Rows)
         requires { rows.of ≡ self.old }
         ensures rows { (session : ℕ) → rows_of self.new session ≡ rows_after rows session }
@@ -121,14 +121,14 @@ impl Tables {
         put_all(&mut self.rows, changes);
     }
 
-    /// The rows of the session, for a caller who asks for many objects.
+    /// The rows of the session, for a caller that asks about many objects.
     pub fn session_rows(&self, session: u32) -> Option<&SessionRows>
         ensures { option_map (λ rows. rows.now) result ≡ rows_of self.now session }
     {
         self.rows.get(&session)
     }
 
-    /// What `check` answers for a session that has these rows, which are not looked for again.
+    /// What `check` answers for a session with these rows, without looking them up again.
     #[inline(always)]
     pub fn allows(&self, found: Option<&SessionRows>, operation: Operation, object: Object) -> bool
         ensures { result ≡ allowed_by self.now.customers self.now.vehicles (option_map (λ rows. rows.now) found.entry) operation object }
@@ -185,7 +185,7 @@ fn changes_for(alloc: Global, policy: &Policy, sessions: &[u32]) -> Result<Vec<C
     Ok(changes)
 }
 
-/// Puts the changes in place, of which none needs more room.
+/// Puts the changes in place; there is room for all of them.
 fn put_all(rows: &mut IndexMap<u32, SessionRows>, mut changes: Vec<Change>)
     requires { length changes.items ≤ spare rows.old }
     ensures { (session : ℕ) → lookup (nat_eq session) rows.new.entries

@@ -16,7 +16,7 @@ freezes_from_named others s changes routes apart named v low high = split (named
     split (inl (k, e)) = named k v e
     split (inr out) = ap (λ (r : List ℕ). take (front_of s v) r) (others changes routes v apart low out)
 
--- a frozen length that fits a route fits each one with the same front
+-- a frozen length that is within a route is within each route with the same frozen front
 pub fits_again : (s : PinState) (routes others : List (List ℕ)) → length others ≡ length routes → AreFreezesKept s routes others → DoFrontsFit s routes → DoFrontsFit s others
 fits_again s routes others long kept fits v low high =
     let top : v ≤ length routes = omega arith in

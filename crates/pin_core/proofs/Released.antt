@@ -130,8 +130,8 @@ held_or_touched s routes others touched holding all c low = split (pin_of s c) r
     split None e = inl (λ w f. let both : None ≡ Some w = sym e ∙ f in absurd cc)
     split (Some v) e = let old = holding c low v e in stays v e (all c v old.0 old.1)
 
--- While touched customers lose their pins one after the other, each pin is as it was and its customer is still to come, or it is what is
--- left of it.
+-- While touched customers lose their pins one after the other, each pin either is as it was, and its customer is still to come, or it is
+-- what is left of it.
 pub record AreLeft (s t : PinState) (routes : List (List ℕ)) (touched : List Touch) (i : ℕ) : Type 0 where
   pub fronts : t.fronts ≡ s.fronts
   pub counted : length t.pins ≡ length s.pins
@@ -140,7 +140,7 @@ pub record AreLeft (s t : PinState) (routes : List (List ℕ)) (touched : List T
 pub left_begins : (s : PinState) (routes : List (List ℕ)) (touched : List Touch) → AreLeft s s routes touched 0
 left_begins s routes touched = record { fronts = refl; counted = refl; each = λ c low. inr (refl, λ j u h. absurd (omega arith)) }
 
--- the pins that are left from those that were left
+-- what is left of a pin stays when it is computed again
 left_again : (routes : List (List ℕ)) (c : ℕ) (pin : Option ℕ) → pin_left routes c (pin_left routes c pin) ≡ pin_left routes c pin
 left_again routes c None = refl
 left_again routes c (Some v) = split (nat_le 1 v && is_among c (route_at routes v)) refl
@@ -196,7 +196,7 @@ left_one s t routes touched i x inside is low high left =
     (get_or-set_same t.pins (x.customer - 1) pin None (omega arith))
     (λ c here o. let away : c - 1 ≢ x.customer - 1 = λ e. o (omega arith) in get_or-set_other t.pins (x.customer - 1) (c - 1) pin None away) left
 
--- a pin that stays is written over by itself
+-- writing a pin again over itself changes nothing
 pub pin_again : (s : PinState) (c : ℕ) (pin : Option ℕ) → pin ≡ pin_of s c → s ≡ with_pin c pin s
 pin_again s c pin e =
     let same : slice_set s.pins (c - 1) pin ≡ s.pins = ap (slice_set s.pins (c - 1)) e ∙ set-get_or s.pins (c - 1) None in

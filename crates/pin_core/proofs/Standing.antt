@@ -10,7 +10,7 @@ use Rattle.plan_core.specs.Plan.{Changes, changes_of, IsNamed, AreApart, route_a
 use Rattle.plan_core.specs.Commits.{named_vehicles}
 use Rattle.pin_core.specs.Pins.{StandsOn}
 
--- the laws of new routes, as a plan states them
+-- the laws of new routes, as plans state them
 abbrev pub CountLaw : Type 0
 CountLaw = (changes : Changes) (routes : List (List ℕ)) → length (with_routes changes routes) ≡ length routes
 
@@ -67,7 +67,7 @@ stands_same routes others c v long same (p, s) =
     let high : v ≤ length routes = s.high in
     (p, record { low = s.low; high = omega arith; place = s.place; found = ap (λ (r : List ℕ). slice_get r (p - 1)) same ∙ s.found })
 
--- the test of a route says whether it holds a customer
+-- the test of a route says whether the route has a customer
 pub contains_from_test : (c : ℕ) (xs : List ℕ) → list_any (λ w. nat_eq w c) xs ≡ true → Contains xs c
 contains_from_test c xs h =
     let some = Any-from_list_any (λ w. nat_eq w c) xs h in
@@ -77,7 +77,7 @@ contains_from_test c xs h =
 pub test_from_contains : (c : ℕ) (xs : List ℕ) → Contains xs c → list_any (λ w. nat_eq w c) xs ≡ true
 test_from_contains c xs (k, h, e) = list_any_at (λ w. nat_eq w c) xs k c h (eq-eqb (get_or xs k c) c e)
 
--- on a named vehicle a customer stands exactly where the new route holds it
+-- on a named vehicle a customer stands exactly where the new route has it
 pub stands_on_new : CountLaw → NamedLaw → (changes : Changes) (routes : List (List ℕ)) (k c v : ℕ) (r : List ℕ) → AreApart (length routes) changes
     → slice_get changes k ≡ Some (v, r) → Contains r c ↔ StandsOn (with_routes changes routes) c v
 stands_on_new count named changes routes k c v r apart e =

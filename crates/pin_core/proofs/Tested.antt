@@ -7,7 +7,7 @@ use Rattle.pin_core.specs.Pins.{PinState, StandsOn, DoPinsHold, DoFrontsFit}
 use Rattle.pin_core.specs.Allowed.{IsTouched, AreAllTouched}
 use Rattle.pin_core.proofs.Standing.{contains_from_test, stands_from_contains}
 
--- Tests that pins, fronts and touches written out pass.
+-- Tests for pins, fronts and touches that are written out.
 abbrev pub are_held : ℕ → List (Option ℕ) → List (List ℕ) → Bool
 are_held c [] routes = true
 are_held c (None ∷ ps) routes = are_held (c + 1) ps routes

@@ -27,7 +27,7 @@ IsTouched touched c = (k : ℕ) × ((t : Touch) × (slice_get touched k ≡ Some
 abbrev pub AreAllTouched : List (List ℕ) → List (List ℕ) → List Touch → Type 0
 AreAllTouched routes others touched = (c v p : ℕ) → StandsAt routes c v p → StandsOn others c v ⊎ IsTouched touched c
 
--- the fault belongs to the new routes: the first named vehicle whose front differs, else the first touch that breaks a pin
+-- the fault of the new routes: the first named vehicle whose front differs, or else the first touch that breaks a pin
 abbrev pub IsPinFault : PinState → List (List ℕ) → List (List ℕ) → List ℕ → List Touch → PinFault → Type 0
 IsPinFault s routes others vehicles touched (Frozen v) = IsFirstThawed s routes others vehicles v
 IsPinFault s routes others vehicles touched (Pinned v p) =

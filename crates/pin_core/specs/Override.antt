@@ -24,13 +24,13 @@ pub record IsFirstForbidden (s : PinState) (others : List (List ℕ)) (touched :
   pub bound : slice_get free k ≡ Some false
   pub before : (j : ℕ) → j < k → IsPassed s others touched free j
 
--- the fault belongs to the new routes, where some pins may be overridden
+-- the fault of the new routes, where some pins may be overridden
 abbrev pub IsFaultWith : PinState → List (List ℕ) → List (List ℕ) → List ℕ → List Touch → List Bool → PinFault → Type 0
 IsFaultWith s routes others vehicles touched free (Frozen v) = IsFirstThawed s routes others vehicles v
 IsFaultWith s routes others vehicles touched free (Pinned v p) =
     AreFreezesKept s routes others × ((t : Touch) × IsFirstForbidden s others touched free t × (t.vehicle ≡ v) × (t.place ≡ p))
 
--- what is left of a customer's pin: the pin itself where the customer stands on that vehicle, else none
+-- what is left of a customer's pin: the pin itself where the customer stands on that vehicle, or else none
 abbrev pub pin_left : List (List ℕ) → ℕ → Option ℕ → Option ℕ
 pin_left routes c None = None
 pin_left routes c (Some v) = if nat_le 1 v && is_among c (route_at routes v) then Some v else None
@@ -40,7 +40,7 @@ abbrev pub pins_left : List (List ℕ) → ℕ → List (Option ℕ) → List (O
 pins_left routes c [] = []
 pins_left routes c (pin ∷ pins) = pin_left routes c pin ∷ pins_left routes (c + 1) pins
 
--- the pins after a commit that made these routes: those before it, without those of customers that no longer stand on their vehicle;
--- the frozen lengths are those before it
+-- the pins after a commit that made these routes: the pins before it, without those of customers that no longer stand on their vehicle; the
+-- frozen lengths stay
 abbrev pub after_commit : List (List ℕ) → PinState → PinState
 after_commit routes s = record { pins = pins_left routes 1 s.pins; fronts = s.fronts }

@@ -1,8 +1,8 @@
 use Rattle.std.specs.Prelude.{◌≡◌, ℕ, ◌-◌, ◌≤◌, List, length, take, slice_set, slice_index, slice_index_or, Option, Some, None}
 use Rattle.plan_core.specs.Plan.{StandsAt, route_at}
 
--- Pins and freezes as contracts see them: for each customer (the first is customer 1) the vehicle to which it is pinned, if any, and
--- for each vehicle (the first is vehicle 1) how many stops at the front of its route are frozen.
+-- Pins and freezes as contracts see them: for each customer (the first is customer 1) the vehicle to which it is pinned, if any, and for
+-- each vehicle (the first is vehicle 1) how many of the first stops of its route are frozen.
 pub record PinState : Type 0 where
   pub pins : List (Option ℕ)
   pub fronts : List ℕ

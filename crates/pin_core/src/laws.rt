@@ -38,14 +38,14 @@ pub fn front_still_fits()
     ensures { (s : PinState) (routes others : List (List ℕ)) → length others ≡ length routes → AreFreezesKept s routes others → DoFrontsFit s routes → DoFrontsFit s others }
 {}
 
-/// The freezes are kept exactly where the front of each named vehicle is.
+/// The freezes are kept exactly where each named vehicle keeps its front.
 pub fn freezes_by_named()
     ensures { FreezesAreByNamed }
 {
     routes_replaced();
 }
 
-/// New routes have one fault at most, and none where they are allowed, with all pins judged and with some of them overridden.
+/// New routes have at most one fault, and none where they are allowed, whether all pins are judged or some of them are overridden.
 pub fn faults_are_determined()
     ensures only { (s : PinState) (routes others : List (List ℕ)) (changes : Changes) (touched : List Touch) (f g : PinFault) → AreApart (length routes) changes
         → IsPinFault s routes others (named_vehicles changes) touched f → IsPinFault s routes others (named_vehicles changes) touched g → f ≡ g }
@@ -57,8 +57,8 @@ pub fn faults_are_determined()
         → IsFaultWith s routes others (named_vehicles changes) touched free f → ¬ (AreFreezesKept s routes others × DoPinsPass s others touched free) }
 {}
 
-/// After a commit, the pin of a customer that stands on its vehicle is as before and that of every other one is gone; so the pins hold,
-/// and where they held all along nothing changes. Who was pinned stands on its vehicle or was touched.
+/// After a commit, the pin of a customer that stands on its vehicle is as before, and every other pin is gone. So the pins hold, and where
+/// they held all along nothing changes. A customer that was pinned stands on its vehicle or was touched.
 pub fn pins_after_commits()
     ensures kept { (s : PinState) (routes : List (List ℕ)) (c v : ℕ) → 1 ≤ c → StandsOn routes c v → pin_of s c ≡ Some v → pin_of (after_commit routes s) c ≡ Some v }
     ensures gone { (s : PinState) (routes : List (List ℕ)) (c : ℕ) → 1 ≤ c → ¬ IsHeld s routes c → pin_of (after_commit routes s) c ≡ None }

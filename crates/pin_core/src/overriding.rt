@@ -12,9 +12,9 @@ use plan_core::{Plan, Route, Touch};
 use std::sync::Arc;
 
 impl Pins {
-    /// Whether the freezes are kept from the plan to the one with these new routes, and no pin of a touched customer forbids them: it
-    /// stands on its vehicle then, or `free` has `true` for it, of which there is one value for each touch in order. The caller owes what
-    /// the caller of `allows` does, and the order of faults is the same.
+    /// Whether the freezes are kept from the plan to the one with these new routes, and no pin of a touched customer forbids them: such a
+    /// customer stands on its vehicle then, or `free` has `true` for it. `free` has one value for each touch, in their order. The caller
+    /// must ensure what the caller of `allows` does, and the order of faults is the same.
     pub fn allows_with(
         &self,
         plan: &Plan,
@@ -70,8 +70,8 @@ impl Pins {
         None
     }
 
-    /// Takes away the pins of touched customers that do not stand on their vehicle in the new plan: what the pins are after its commit.
-    /// The caller owes that every pinned customer stands on its vehicle there or is touched. No memory is taken.
+    /// Takes away the pins of touched customers that do not stand on their vehicle in the new plan: what the pins are after its commit. The
+    /// caller must ensure that every pinned customer stands on its vehicle there or is touched. It takes no memory.
     pub fn release(&mut self, plan: &Plan, touched: &[Touch])
         requires known { All (λ t. (1 ≤ t.customer) × (t.customer ≤ length self.old.pins)) touched.now }
         requires touched { (c : ℕ) → 1 ≤ c → IsHeld self.old plan.now.routes c ⊎ IsTouched touched.now c }
@@ -83,7 +83,7 @@ impl Pins {
         }
     }
 
-    /// Takes away the pin of a customer that does not stand on its vehicle, looked for from an index of its route outwards.
+    /// Takes away the pin of a customer that does not stand on its vehicle. The customer is searched on its route from an index outwards.
     fn release_one(&mut self, plan: &Plan, customer: u32, near: &mut usize)
         requires low { 1 ≤ customer }
         requires high { customer ≤ length self.old.pins }

@@ -10,7 +10,7 @@ use std::alloc::{AllocError, Global};
 use std::marker::Model;
 use std::sync::Arc;
 
-/// Which customers are pinned to which vehicles, and how many stops at the front of each route are frozen.
+/// Which customers are pinned to which vehicles, and how many of the first stops of each route are frozen.
 ///
 /// Customers and vehicles count from 1. The depot at the start of a route is no stop here: the first stop is the first customer.
 #[derive(Drop)]
@@ -57,7 +57,7 @@ impl Pins {
         self.pins[customer as usize - 1] = None;
     }
 
-    /// The first so many stops of a vehicle are frozen from now on, whatever was frozen before.
+    /// The first `frozen` stops of a vehicle are frozen from now on, whatever was frozen before.
     pub fn freeze(&mut self, vehicle: u32, frozen: u32)
         requires low { 1 ≤ vehicle }
         requires high { vehicle ≤ length self.old.fronts }
@@ -66,7 +66,7 @@ impl Pins {
         self.fronts[vehicle as usize - 1] = frozen;
     }
 
-    /// Only the first so many stops of a vehicle are left frozen, whatever was frozen before.
+    /// Only the first `left` stops of a vehicle stay frozen, whatever was frozen before.
     pub fn thaw(&mut self, vehicle: u32, left: u32)
         requires low { 1 ≤ vehicle }
         requires high { vehicle ≤ length self.old.fronts }
@@ -95,9 +95,13 @@ impl Pins {
         self.fronts[index]
     }
 
-    /// Whether the freezes are kept from the plan to the one with these new routes, and the pins hold in that. Only the fronts of the
-    /// named vehicles and the pins of touched customers are looked at: the caller owes that every customer that leaves its vehicle is
-    /// touched. Frozen fronts are judged first, in the order of the new routes, then pins, in the order of the touches.
+    /// Whether the freezes are kept from the plan to the one with these new routes, and the pins hold in that. Frozen fronts are judged
+    /// first, in the order of the new routes, then pins, in the order of the touches. Only the fronts of the named vehicles and the pins of
+    /// touched customers are looked at.
+    ///
+    /// The caller must ensure that the plan has as many customers and vehicles as the pins, that the pins hold in it, and that no frozen
+    /// length is above its route's; that there are one or two new routes, for different vehicles of the plan; that each touched customer is
+    /// one of the plan's; and that each customer that stands on a vehicle stays on it in the new routes or is touched.
     pub fn allows(
         &self,
         plan: &Plan,
@@ -154,8 +158,9 @@ impl Pins {
         None
     }
 
-    /// Whether a customer is pinned to a vehicle on which it would not stand. It costs one walk of the new route of that vehicle, and
-    /// none where that keeps its route: a pinned customer stands where it is pinned.
+    /// Whether a customer is pinned to a vehicle on which it would not stand. The pins must hold in the plan, and the new routes be for
+    /// different vehicles of it. It walks the new route of the customer's vehicle once, and nothing where that vehicle keeps its route: a
+    /// pinned customer stands where it is pinned.
     pub fn leaves(&self, plan: &Plan, new_routes: &[(u32, Arc<Route>)], customer: u32) -> bool
         requires low { 1 ≤ customer }
         requires high { customer ≤ length self.now.pins }
@@ -166,8 +171,8 @@ impl Pins {
         self.leaves_near(plan, new_routes, customer, &mut 0)
     }
 
-    /// The same, where the customer is looked for from an index of the new route outwards. Where it is found is the index for the next
-    /// one: a move keeps or turns round the order of those that stay, so that all of them together cost one walk.
+    /// The same, where the customer is searched from an index of the new route outwards. The index where it is found is the start for the
+    /// next customer: a move keeps or reverses the order of those that stay, so that all of them together cost one walk.
     pub(crate) fn leaves_near(
         &self,
         plan: &Plan,
@@ -251,7 +256,8 @@ pub(crate) fn stands(plan: &Plan, customer: u32, vehicle: u32, near: &mut usize)
     is_on(plan.route(vehicle).customers(), customer, near)
 }
 
-/// Whether a customer is on a route. It is looked for from an index outwards, and where it is found is the index for the next one.
+/// Whether a customer is on a route. It is searched from an index outwards, and the index where it is found is the start for the next
+/// customer.
 fn is_on(route: &[u32], customer: u32, near: &mut usize) -> bool
     ensures { IsTrue result ↔ Contains route.now customer }
 {

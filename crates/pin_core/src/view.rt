@@ -15,7 +15,7 @@ pub struct View {
     pub routes: Vec<Arc<Route>>,
     /// For each customer, the first customer 1, the vehicle to which it is pinned.
     pub pinned: Vec<Option<u32>>,
-    /// For each vehicle how many stops at the front of its route are frozen.
+    /// For each vehicle how many of the first stops of its route are frozen.
     pub frozen: Vec<u32>,
     /// How many commits there were.
     pub version: u32,
@@ -59,7 +59,7 @@ impl View {
         self.pinned(customer).is_some()
     }
 
-    /// How many stops at the front of a vehicle are frozen.
+    /// How many of a vehicle's first stops are frozen.
     pub fn front(&self, vehicle: u32) -> u32
         requires low { 1 ≤ vehicle }
         requires high { vehicle ≤ length self.now.frozen }

@@ -1,4 +1,4 @@
--- What ways and plans cost, by parts.
+-- What ways and plans cost, in parts.
 use Rattle.std.proofs.Common.{◌≡◌, ◌≢◌, ℕ, ◌+◌, ◌-◌, ◌≤◌, inl, inr, refl, sym, ap, subst, arith, List, [], ◌∷◌, ◌++◌, length, slice_set}
 use Rattle.std.proofs.lemmas.List.{get_or-set_other, length-set}
 use Rattle.std.proofs.lemmas.List.Sums.{sum_by-set, sum_by-cons}
@@ -13,7 +13,7 @@ pub way_append : (f : ℕ → ℕ → ℕ) (i : ℕ) (xs ys : List ℕ) → way 
 way_append f i [] ys = omega arith
 way_append f i (x ∷ xs) ys = let e = way_append f x xs ys in omega arith
 
--- what the named routes cost does not hang on a route of another vehicle
+-- what the named routes cost does not depend on the route of another vehicle
 before_set : (t : Table) (changes : Changes) (routes : List (List ℕ)) (v n : ℕ) (r : List ℕ) → AreApart n changes → 1 ≤ v → ¬ IsNamed changes v
     → cost_before t changes (slice_set routes (v - 1) r) ≡ cost_before t changes routes
 before_set t [] routes v n r apart low out = refl
@@ -25,7 +25,7 @@ before_set t (c ∷ cs) routes v n r (one, high, once, apart) low out =
     let new = sum_by-cons (λ (x : ℕ × List ℕ). route_cost t (route_at (slice_set routes (v - 1) r) x.0)) c cs in
     omega arith
 
--- the cost after new routes differs by those of the named vehicles alone
+-- the cost after new routes differs only by those of the named vehicles
 pub cost-with_routes : (t : Table) (changes : Changes) (routes : List (List ℕ)) → AreApart (length routes) changes
     → cost_of t (with_routes changes routes) + cost_before t changes routes ≡ cost_of t routes + cost_after t changes
 cost-with_routes t [] routes apart = refl

@@ -48,7 +48,7 @@ route_at-second v route c routes (one, high, once, apart) =
     route_at-first v route [] (slice_set routes (c.0 - 1) c.1)
     (subst (λ (n : ℕ). AreApart n ((v, route) ∷ [])) (sym (length-set routes (c.0 - 1) c.1)) apart)
 
--- the customers of the vehicles that are done, or were never named, are written down at their vehicles
+-- the customers of the vehicles that are done, or were never named, are recorded at their vehicles
 abbrev pub AreDone : List (List ℕ) → Changes → List ℕ → Type 0
 AreDone final rest homes = (c v p : ℕ) → StandsAt final c v p → ¬ IsNamed rest v → slice_index homes (c - 1) ≡ v
 
@@ -83,7 +83,7 @@ pub done_step : (n : ℕ) (final routes : List (List ℕ)) (v : ℕ) (route : Li
 done_step n final routes v route rest homes after plan apart made done settled others c w p s out =
     done_more n final routes v route rest homes after plan apart made done settled others c w p s out (cases_eq w v)
 
--- before the first change all is written down that stays
+-- before the first change all customers that stay are recorded
 pub done_none : (changes : Changes) (routes : List (List ℕ)) (homes : List ℕ) → AreApart (length routes) changes → AreHomes routes homes
     → AreDone (with_routes changes routes) changes homes
 done_none changes routes homes apart kept c v p s out =
@@ -93,7 +93,7 @@ done_none changes routes homes apart kept c v p s out =
     (subst (λ (r : List ℕ). Contains r c) same (contains_from_stands (with_routes changes routes) c v p s)) in
     kept.at c v there.0 there.1
 
--- between two exchanges: with the changes that are left, the routes and stamps become those that are promised
+-- between two exchanges: with the changes that are left, the routes and stamps become the promised ones
 pub record IsExchanging (final : List (List ℕ)) (target : List ℕ) (version : ℕ) (rest : Changes) (routes : List (List ℕ)) (stamps row : List ℕ) : Type 0 where
   pub apart : AreApart (length routes) rest
   pub made : with_routes rest routes ≡ final

@@ -1,4 +1,4 @@
--- The longest common front of two lists, as a number.
+-- The longest common prefix of two lists, as a number.
 use Rattle.std.proofs.Common.{◌≡◌, ℕ, zero, suc, ◌+◌, ◌<◌, ◌≤◌, ◌⊎◌, ap, refl, arith, inl, inr, List, [], ◌∷◌, length, take, slice_index}
 use Rattle.std.proofs.lemmas.Bool.{cases_eq, eq-eqb, ne_eqb, cases_order}
 use Rattle.plan_core.specs.Front.{IsCommonFront, common_front}
@@ -55,7 +55,7 @@ front_only xs ys n f =
     let down = f.greatest (common_front xs ys) g.left g.right g.same in
     omega arith
 
--- a number is the greatest where the lists differ behind it, or one of them ends there
+-- a number is the greatest where the lists differ after it, or one of them ends there
 pub front_at : (xs ys : List ℕ) (n : ℕ) → n ≤ length xs → n ≤ length ys → take n xs ≡ take n ys
     → (n < length xs → n < length ys → slice_index xs n ≡ slice_index ys n → ⊥) → IsCommonFront xs ys n
 front_at xs ys n left right same differ = record { left = left; right = right; same = same; greatest = λ k h l e. low k h l e (cases_order n k) }

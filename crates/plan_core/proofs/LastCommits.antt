@@ -71,7 +71,7 @@ last_cons : (v : ℕ) (s : List ℕ) (ss : List (List ℕ)) (m : ℕ) (b : Bool)
 last_cons v s ss zero b h l = last_none v s ss b h l
 last_cons v s ss (suc m) b h l = rw (lt-ltb 0 (suc m) (omega arith)) (last_some v s ss (suc m) (omega arith) l)
 
--- the number is what its name says
+-- the number is that of the last commit
 pub last_is : (commits : List (List ℕ)) (v : ℕ) → IsLastCommit commits v (last_commit v commits)
 last_is [] v = record { made = inl refl; latest = λ k above c. omega (arith, c.low, c.high) }
 last_is (s ∷ ss) v = last_cons v s ss (last_commit v ss) (is_among v s) refl (last_is ss v)

@@ -36,7 +36,7 @@ pub rest_known : (s : Setting) (all rest next : Changes) (c : ℕ × List ℕ) �
     → (1 ≤ c.0) × (c.0 ≤ s.vehicles) × All (λ customer. customer ≤ s.customers) c.1
 rest_known s all rest next c r e = (subst (λ (cs : Changes). AllKnown s cs) e r.known).0
 
--- what may still be asked for the rest of some new routes leads to no more than what may be asked for all
+-- what may still be asked for the rest of some new routes leads to no more than what may be asked for all of them
 abbrev pub MayAsk : ℕ → Changes → Changes → Meter → Meter → Type 0
 MayAsk n all rest from to = (m : Meter) → AsksAtMost to m (bound_asks n rest) → AsksAtMost from m (bound_asks n all)
 

@@ -3,7 +3,7 @@ use Rattle.std.proofs.lemmas.Bool.{cases_eq}
 use Rattle.std.proofs.lemmas.List.{get_or-set_same, get_or-set_other}
 use Rattle.std.proofs.lemmas.List.Elements.{Contains-push_cases, Contains-append_left, Contains-push}
 
--- these customers are written down at a vehicle
+-- these customers are recorded at a vehicle
 abbrev pub AreSettled : List ℕ → ℕ → List ℕ → Type 0
 AreSettled customers v homes = (c : ℕ) → Contains customers c → slice_index homes (c - 1) ≡ v
 

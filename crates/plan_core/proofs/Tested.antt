@@ -67,7 +67,7 @@ plan_known n [] k i c t e = absurd cc
 plan_known n (r ∷ rs) zero i c t e = route_known n r rs i c (and_parts (is_route n r rs) _ t).0 e
 plan_known n (r ∷ rs) (suc k) i c t e = plan_known n rs k i c (and_parts (is_route n r rs) _ t).1 e
 
--- who stands on some route is found by the test
+-- a customer that stands on some route is found by the test
 found_on : (routes : List (List ℕ)) (k i c : ℕ) → slice_get (get_or routes k []) i ≡ Some c → list_any (λ r. is_among c r) routes ≡ true
 found_on [] k i c e = absurd cc
 found_on (r ∷ rs) zero i c e = list_any_at (λ s. is_among c s) (r ∷ rs) zero [] (omega arith) (among_from_contains c r (contains_from_place r i c e))

@@ -8,7 +8,7 @@ pub route_cost-some : (t : Table) (route : List ℕ) → 0 < length route → ro
 route_cost-some t [] h = absurd (omega arith)
 route_cost-some t (c ∷ cs) h = refl
 
--- one stop more
+-- one more stop
 pub way_more : (t : Table) (route : List ℕ) (i from sum all : ℕ) → i < length route
     → sum + way_cost t from (drop i route ++ 0 ∷ []) ≡ all
     → sum + entry t from (get_or route i 0) + way_cost t (get_or route i 0) (drop (i + 1) route ++ 0 ∷ []) ≡ all

@@ -19,11 +19,11 @@ route_cost table (c ∷ cs) = way_cost table 0 ((c ∷ cs) ++ 0 ∷ [])
 abbrev pub cost_of : Table → List (List ℕ) → ℕ
 cost_of table routes = sum_by (route_cost table) routes
 
--- how many answers the cost of a route takes: one for each customer and one for the way home, and none where it is empty
+-- how many answers the cost of a route takes: one for each customer and one for the return, and none where the route is empty
 abbrev pub route_asks : List ℕ → ℕ
 route_asks [] = 0
 route_asks (c ∷ cs) = length (c ∷ cs) + 1
 
--- and the cost of all routes
+-- and those that the cost of all routes takes
 abbrev pub asks_of : List (List ℕ) → ℕ
 asks_of routes = sum_by route_asks routes

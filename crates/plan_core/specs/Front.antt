@@ -1,4 +1,4 @@
--- The longest common front of two lists.
+-- The longest common prefix of two lists.
 use Rattle.std.specs.Prelude.{◌≡◌, ℕ, ◌≤◌, nat_eq, List, length, take}
 use Rattle.std.specs.List.{common_prefix_len}
 
@@ -9,6 +9,6 @@ pub record IsCommonFront (xs ys : List ℕ) (n : ℕ) : Type 0 where
   pub same : take n xs ≡ take n ys
   pub greatest : (k : ℕ) → k ≤ length xs → k ≤ length ys → take k xs ≡ take k ys → k ≤ n
 
--- the length of the longest common front, as a number
+-- the length of the longest common prefix, as a number
 abbrev pub common_front : List ℕ → List ℕ → ℕ
 common_front xs ys = common_prefix_len nat_eq xs ys

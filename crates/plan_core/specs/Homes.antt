@@ -1,8 +1,8 @@
 use Rattle.std.specs.Prelude.{◌≡◌, ℕ, ◌-◌, ◌≤◌, List, length, slice_index}
 use Rattle.plan_core.specs.Plan.{PlanState, StandsAt, IsPlan, AreSizes}
 
--- For each customer (the first is customer 1) the vehicle on which it last stood, 0 if it never did: where a customer stands, it stands
--- on that vehicle.
+-- For each customer (the first is customer 1) the vehicle on which it last stood, 0 if it never did. A customer that stands on the plan
+-- stands on that vehicle.
 pub record AreHomes (routes : List (List ℕ)) (homes : List ℕ) : Type 0 where
   pub at : (c v p : ℕ) → StandsAt routes c v p → slice_index homes (c - 1) ≡ v
   pub known : (k : ℕ) → slice_index homes k ≤ length routes

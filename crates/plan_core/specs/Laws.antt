@@ -20,7 +20,7 @@ pub record RoutesAreReplaced : Type 0 where
   pub second : (v : ℕ) (route : List ℕ) (c : ℕ × List ℕ) (routes : List (List ℕ)) → AreApart (length routes) (c ∷ (v, route) ∷ [])
       → route_at (with_routes (c ∷ (v, route) ∷ []) routes) v ≡ route
 
--- no route of a plan is longer than there are customers, and each holds customers 1 to that number; so do new routes that make a plan
+-- no route of a plan is longer than there are customers, and each holds customers 1 to that number; and so do new routes that make a plan
 pub record RoutesAreKnown : Type 0 where
   pub short : (customers : ℕ) (routes : List (List ℕ)) (v : ℕ) → IsPlan customers routes → length (route_at routes v) ≤ customers
   pub known : (customers : ℕ) (routes : List (List ℕ)) (v : ℕ) → IsPlan customers routes → All (λ c. (1 ≤ c) × (c ≤ customers)) (route_at routes v)
@@ -43,7 +43,7 @@ AmongIsTested = (n : ℕ) (numbers : List ℕ) → (is_among n numbers ≡ true)
 abbrev pub PlansAreTested : Type 0
 PlansAreTested = (customers : ℕ) (routes : List (List ℕ)) → is_plan customers routes ≡ true → IsPlan customers routes
 
--- a way costs what its two parts cost, for any cost of a step; and a route that is not empty costs its way out and home
+-- a way costs what its two parts cost, for any cost of a step; a route that is not empty costs its way out and the way back
 pub record WaysJoin : Type 0 where
   pub parts : (f : ℕ → ℕ → ℕ) (i : ℕ) (xs ys : List ℕ) → way f i (xs ++ ys) ≡ way f i xs + way f (last_of i xs) ys
   pub route : (t : Table) (route : List ℕ) → 1 ≤ length route → route_cost t route ≡ way_cost t 0 (route ++ 0 ∷ [])
@@ -55,7 +55,7 @@ cost_before t changes routes = sum_by (λ c. route_cost t (route_at routes c.0))
 abbrev pub cost_after : Table → Changes → ℕ
 cost_after t changes = sum_by (λ c. route_cost t c.1) changes
 
--- the cost after new routes differs by those of the named vehicles alone; so for one, and for two
+-- the cost after new routes differs only by those of the named vehicles; stated in general, for one new route, and for two
 pub record CostsDifferByNamed : Type 0 where
   pub all : (t : Table) (changes : Changes) (routes : List (List ℕ)) → AreApart (length routes) changes
       → cost_of t (with_routes changes routes) + cost_before t changes routes ≡ cost_of t routes + cost_after t changes
@@ -65,7 +65,7 @@ pub record CostsDifferByNamed : Type 0 where
       → cost_of t (with_routes ((v, r) ∷ (w, q) ∷ []) routes) + (route_cost t (route_at routes v) + route_cost t (route_at routes w))
       ≡ cost_of t routes + (route_cost t r + route_cost t q)
 
--- the number is what the longest common front is, and no other number is
+-- the number is the length of the longest common prefix, and no other number is
 pub record FrontsAreCommon : Type 0 where
   pub is : (xs ys : List ℕ) → IsCommonFront xs ys (common_front xs ys)
   pub only : (xs ys : List ℕ) (n : ℕ) → IsCommonFront xs ys n → n ≡ common_front xs ys

@@ -25,7 +25,7 @@ pub record StandsAt (routes : List (List ℕ)) (c v p : ℕ) : Type 0 where
 abbrev pub IsPlaced : List (List ℕ) → ℕ → Type 0
 IsPlaced routes c = (v : ℕ) × ((p : ℕ) × StandsAt routes c v p)
 
--- the routes hold customers out of 1 to `customers`, and none of them twice
+-- the routes hold customers from 1 to `customers`, and none of them twice
 pub record IsPlan (customers : ℕ) (routes : List (List ℕ)) : Type 0 where
   pub known : (c v p : ℕ) → StandsAt routes c v p → (1 ≤ c) × (c ≤ customers)
   pub alone : (c v p w q : ℕ) → StandsAt routes c v p → StandsAt routes c w q → (v ≡ w) × (p ≡ q)
@@ -37,7 +37,7 @@ routes_of routes = map (λ r. r.value) routes
 abbrev pub changes_of : {Z : Type 0} → List (ℕ × Arc (List ℕ) Z) → Changes
 changes_of changes = map (λ c. (c.0, c.1.value)) changes
 
--- a vehicle has a new route among some changes
+-- some changes give a vehicle a new route
 abbrev pub IsNamed : Changes → ℕ → Type 0
 IsNamed [] v = ⊥
 IsNamed (c ∷ cs) v = (v ≡ c.0) ⊎ IsNamed cs v

@@ -14,8 +14,8 @@ use std::sync::Arc;
 /// The vehicle of the first of some new routes that is out of bounds, and the first dimension in which it is; none where each new route
 /// is in bounds in each dimension.
 ///
-/// Vehicles and dimensions count from 1. It asks the callback of each dimension at most once for each customer of a new route and once for
-/// its return.
+/// The new routes must be of vehicles and customers of the setup. Vehicles and dimensions count from 1. It asks the callback of each
+/// dimension at most once for each customer of a new route and once for its return.
 pub fn first_bound(
     setup: &Setup,
     changes: &[(u32, Arc<Route>)],

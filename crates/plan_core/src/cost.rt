@@ -14,9 +14,9 @@ use dimension_core::Setup;
 use std::sync::Arc;
 
 /// The sum of the setup's cost callback over neighbouring stops of a route: the depot, its customers, the depot; 0 where the route is
-/// empty. The route's customers are nodes from 0 on, and at most 1,000.
+/// empty. The route's customers are nodes, counted from 0, and there are at most 1,000 of them.
 ///
-/// It asks the callback at most once for each customer and once for the way home, and not at all where the route is empty.
+/// It asks the callback at most once for each customer and once for the return, and not at all where the route is empty.
 pub fn route_cost(setup: &Setup, route: &[u32], meter: &mut Meter) -> u64
     requires known { All (λ c. c ≤ (setting setup.now).customers) route.now }
     requires short { length route.now ≤ 1000 }

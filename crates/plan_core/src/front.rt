@@ -1,10 +1,10 @@
-//! The longest common front of two routes.
+//! The longest common prefix of two routes.
 ghost use Rattle.std.specs.Prelude.{◌≡◌};
 ghost use Rattle.plan_core.specs.Front.{IsCommonFront, common_front};
 
-/// The length of the longest common front of two routes: how many customers are the same from the first one on.
+/// The length of the longest common prefix of two routes: how many customers are the same from the first one on.
 ///
-/// It walks the common front alone.
+/// It walks the common prefix alone.
 pub fn common_front(route: &[u32], other: &[u32]) -> usize
     ensures value { result ≡ common_front route.now other.now }
     ensures front { IsCommonFront route.now other.now result }

@@ -14,10 +14,10 @@ use std::alloc::{AllocError, Global};
 use std::marker::Model;
 use std::sync::Arc;
 
-/// The routes of all vehicles, and how often and when last they were changed.
+/// The routes of all vehicles, how many commits there were, and which of them changed each route last.
 ///
-/// Vehicles count from 1, places within a route from 1, customers are 1 to `customers()`. A customer stands on one vehicle at most, and
-/// at one place of it.
+/// Vehicles count from 1, places within a route from 1, customers are 1 to `customers()`. A customer stands on at most one vehicle, and at
+/// one place of it.
 #[derive(Drop)]
 pub struct Plan {
     customers: u32,
@@ -88,8 +88,8 @@ impl Plan {
         &self.routes[vehicle as usize - 1]
     }
 
-    /// Where a customer stands, as its vehicle and its place, or none. It may be any number. Only the route of the vehicle on which it
-    /// last stood is searched.
+    /// Where a customer stands, as its vehicle and its place, or none. The customer may be any number. Only the route of the vehicle on
+    /// which it last stood is searched.
     pub fn place_of(&self, customer: u32) -> Option<(u32, u32)>
         ensures stands { IfSome result (λ at. StandsAt self.now.routes customer at.0 at.1) }
         ensures found { (v p : ℕ) → StandsAt self.now.routes customer v p → result ≡ Some (v, p) }
@@ -127,7 +127,8 @@ impl Plan {
         base < self.stamps[vehicle as usize - 1]
     }
 
-    /// The sum of the setup's cost callback over the neighbouring stops of all routes that are not empty.
+    /// The sum of the setup's cost callback over the neighbouring stops of all routes that are not empty. The plan must have the setup's
+    /// number of customers.
     ///
     /// It asks the callback at most once for each placed customer and once for each route that is not empty.
     pub fn cost(&self, setup: &Setup, meter: &mut Meter) -> u64
@@ -138,8 +139,11 @@ impl Plan {
         cost_of_routes(setup.registry(), setup.cost(), &self.routes, meter)
     }
 
-    /// Gives one or two vehicles their new routes, as one more commit, and gives back the list, empty, for the next commit's. No other
+    /// Gives one or two vehicles their new routes, as one more commit, and gives back the list, emptied, for the next commit's. No other
     /// route is walked, and no memory is taken.
+    ///
+    /// The caller must pass one or two new routes, for different vehicles of the plan, with which the routes are still a plan: they hold
+    /// customers from 1 to `customers()`, and none of them twice. The version must be below 16,777,216.
     pub fn replace(&mut self, changes: Vec<(u32, Arc<Route>)>) -> Vec<(u32, Arc<Route>)>
         requires changes { AreChanges (length self.old.routes) (changes_of changes.items) }
         requires plan { IsPlan self.old.customers (with_routes (changes_of changes.items) self.old.routes) }
@@ -162,7 +166,7 @@ impl Plan {
     }
 }
 
-/// So many empty routes.
+/// This many empty routes.
 fn empty_routes(alloc: Global, vehicles: u32) -> Result<Vec<Arc<Route>>, AllocError>
     ensures { IfOk result (λ routes. routes_of routes.items ≡ replicate vehicles []) }
 {

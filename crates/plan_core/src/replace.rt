@@ -6,7 +6,7 @@ use crate::route::Route;
 use std::mem::swap;
 use std::sync::Arc;
 
-/// Writes down a vehicle as the one on which some customers stand.
+/// Records a vehicle as the one on which some customers stand.
 fn settle(homes: &mut [u32], vehicle: u32, customers: &[u32])
     requires { All (λ c. (1 ≤ c) × (c ≤ length homes.old)) customers.now }
     ensures settled { (c : ℕ) → Contains customers.now c → slice_index homes.new (c - 1) ≡ vehicle }
@@ -18,8 +18,8 @@ fn settle(homes: &mut [u32], vehicle: u32, customers: &[u32])
     }
 }
 
-/// Gives each named vehicle its new route, the number of this commit and its customers. The old routes stand then in the place of the new
-/// ones.
+/// Gives each named vehicle its new route, the number of this commit and its customers. Afterwards `changes` has
+/// the old routes in place of the new ones.
 pub(crate) fn exchange_all(
     routes: &mut [Arc<Route>],
     stamps: &mut [u32],

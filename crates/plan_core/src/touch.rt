@@ -1,4 +1,4 @@
-/// A customer that a change of the plan touches, and where it stands: the vehicle counts from 1, the place within its route too.
+/// A customer that a change of the plan touches, and where it stands. Vehicles count from 1, and so do places within a route.
 #[derive(Clone, Copy, Debug, PartialEq, Eq)]
 pub struct Touch {
     pub vehicle: u32,

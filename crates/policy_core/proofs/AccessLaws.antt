@@ -44,7 +44,7 @@ some_below-found test (suc n) h =
       | false ↦ λ e w. (n, omega arith, w)
     ] refl h
 
--- numbers that do not pass are passed over
+-- numbers that do not pass are skipped
 pub some_below-past : (test : ℕ → Bool) (from n : ℕ) → ((q : ℕ) → from ≤ q → q < n → test q ≡ false) → some_below test from ≡ false → some_below test n ≡ false
 some_below-past test from n none before = by (some_below test n) refl
   where

@@ -67,7 +67,7 @@ module _ {K X : Type 0} (g : X → ℕ) where
         | false ↦ ap₂ (λ s t. s || t) (or_parts _ _ none).0 (any_removed test key es (or_parts _ _ none).1)
       ]
 
-  -- an entry less breaks no set
+  -- removing an entry breaks no set
   pub breaking_removed : (key : K → Bool) (es : List (K × X)) (groups : Groups) → first_breaking (givens es) groups ≡ None → first_breaking (givens (remove_entry key es)) groups ≡ None
   unfolding first_breaking
   breaking_removed key es [] none = refl
@@ -109,7 +109,7 @@ unfolding gathered
 gathered_none order zero = refl
 gathered_none order (suc n) = cond-false (has 0 n) (bit_or (gathered order 0 n) (juniors_of order n)) (gathered order 0 n) (has-empty n) ∙ gathered_none order n
 
--- nothing stands below no role
+-- an empty set of roles has nothing below it
 pub closed_none : (order : Order) → closed order 0 ≡ 0
 unfolding closed
 closed_none order = gathered_none order 256
@@ -127,7 +127,7 @@ none_broken limit sound =
     let low : 2 ≤ limit.number = leb-true _ _ (and_parts _ _ sound).0 in
     ap (λ n. nat_le limit.number (count_ones n)) (none_common limit.roles) ∙ lt-leb limit.number 0 (omega arith)
 
--- no role breaks no set
+-- an empty set of roles breaks no set
 pub none_breaks : (groups : Groups) → AreSets groups → first_broken 0 groups ≡ None
 unfolding first_broken
 none_breaks groups are = each groups are.sound
@@ -144,7 +144,7 @@ any_filtered test g keep (e ∷ es) none =
       | false ↦ any_filtered test g keep es (or_parts _ _ none).1
     ]
 
--- entries less break no set
+-- removing entries breaks no set
 pub breaking_filtered : {E : Type 0} (g : E → ℕ) (keep : E → Bool) (es : List E) (groups : Groups) → first_breaking (map g es) groups ≡ None → first_breaking (map g (filter keep es)) groups ≡ None
 unfolding first_breaking
 breaking_filtered g keep es [] none = refl

@@ -1,4 +1,4 @@
--- A role that comes beside others brings those below it, and no other.
+-- A role that joins others brings those below it, and no other.
 use Rattle.std.proofs.Common.{◌≡◌, ℕ, ◌<◌, Bool, true, false, ◌||◌, List, Option, None, Some, eqb, sym, refl, ap, ◌∙◌, subst}
 use Rattle.std.specs.Prelude.{bytes_eq, nat_eq}
 use Rattle.std.specs.Map.{lookup}
@@ -18,7 +18,7 @@ use Rattle.policy_core.specs.State.{PolicyState, IsPolicy, counted, with_roles, 
 use Rattle.policy_core.proofs.BreakLaws.{broken_at}
 use Rattle.policy_core.proofs.CommandLaws.{counted_of, roles_judged, session_judged}
 
--- a member beside the others is the one that came
+-- a member that the others did not have is the one that came
 the_one : (roles slot a : ℕ) → has (with_role roles slot) a ≡ true → has roles a ≡ false → eqb a slot ≡ true
 the_one roles slot a h absent = sym (ap (λ t. t || eqb a slot) absent) ∙ sym (has-with_role roles slot a) ∙ h
 
@@ -54,7 +54,7 @@ counted_coming Inherited order is active slot small b h absent =
     same : (n : ℕ) → eqb n n ≡ true
     same n = eq-eqb n n refl
 
--- the first broken set, where it is found for roles that broke none but for the coming ones
+-- the first broken set, where it is found for roles that broke none except through the coming ones
 abbrev pub IsFirst : ℕ → ℕ → Groups → Option (List ℕ) → Type 0
 IsFirst given coming groups found =
     (before : ℕ) → first_broken before groups ≡ None → ((q : ℕ) → has given q ≡ true → has coming q ≡ false → has before q ≡ true) → found ≡ first_broken given groups

@@ -64,7 +64,7 @@ module _ (p now : PolicyState) (same : p ≡ now) (is : IsPolicy p) where
       sym (session_judged number next None (sym (first_broken-fewer (counted_of p next) (counted_of p session) p.dsd (counted_fewer p.counting p.order order next.active session.active within)
       (broken_at (counted_of p) (nat_eq number) session p.sessions p.dsd is.dsd there))))
 
-  -- a session less
+  -- a session fewer
   pub shut_whole : (number : ℕ) (sessions : List (ℕ × Session)) → sessions ≡ remove_entry (nat_eq number) p.sessions → IsPolicy (record p { sessions = sessions })
   shut_whole number sessions is_removed =
       let P : List (ℕ × Session) → Type 0 = λ xs. IsPolicy (record p { sessions = xs }) in
@@ -136,14 +136,14 @@ both_none : {X : Type 0} (a b : Option X) → option_or a b ≡ None → (a ≡ 
 both_none None b h = (refl, h)
 both_none (Some x) b h = cc
 
--- a pair more: users and sessions are judged anew
+-- one more pair: users and sessions are judged again
 pub pair_whole : (p now : PolicyState) → p ≡ now → IsPolicy p → (above below : ℕ) → broken (record now { order = with_pair now.order above below }) ≡ None → (order : Order) → order ≡ with_pair p.order above below → IsPolicy (record p { order = order })
 pair_whole p now same is above below whole order is_order =
     let P : Order → Type 0 = λ o. IsPolicy (record p { order = o }) in
     let none = both_none _ _ (ap (λ (q : PolicyState). broken (record q { order = with_pair q.order above below })) same ∙ whole) in
     subst P (sym is_order) (record { ssd = none_mapped Ssd _ none.0; dsd = none_mapped Dsd _ none.1; slots = is.slots; numbers = is.numbers; few_customers = is.few_customers; few_vehicles = is.few_vehicles })
 
--- a user less, and its sessions
+-- a user fewer, and its sessions
 pub gone_whole : (p : PolicyState) → IsPolicy p → (user : List ℕ) (users : List (List ℕ × ℕ)) (sessions : List (ℕ × Session)) → users ≡ remove_entry (bytes_eq user) p.users → sessions ≡ filter (λ e. not (bytes_eq e.1.user user)) p.sessions →
     IsPolicy (record p { users = users; sessions = sessions })
 gone_whole p is user users sessions is_removed is_filtered =

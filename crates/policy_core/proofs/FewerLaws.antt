@@ -79,7 +79,7 @@ pub fewer_pairs : (few many : Order) → IsOrder few → IsOrder many → ((a b 
 fewer_pairs few many is_few is_many within [] = tt
 fewer_pairs few many is_few is_many within (u ∷ users) = ((λ q h. closed_fewer_pairs few many is_few is_many within u.1 q h), fewer_pairs few many is_few is_many within users)
 
--- fewer pairs, and a role less of each user
+-- fewer pairs, and one role fewer for each user
 pub fewer_roles : (few many : Order) → IsOrder few → IsOrder many → ((a b : ℕ) → stands few a b ≡ true → stands many a b ≡ true) → (f : ℕ → ℕ) → ((r q : ℕ) → has (f r) q ≡ true → has r q ≡ true) → (users : List (List ℕ × ℕ)) →
     AreFewer (closed_all few (changed_all f users)) (closed_all many users)
 fewer_roles few many is_few is_many within f drops [] = tt

@@ -1,4 +1,4 @@
--- Where no set is broken by several sets of roles, each of these leaves every set whole.
+-- Where several sets of roles break no set, none of them breaks one by itself.
 use Rattle.std.proofs.Common.{◌≡◌, ℕ, zero, suc, ◌<◌, Bool, false, cond, List, [], ◌∷◌, Some, None, map, length, get_or, sym, refl, ap, ap₂, ◌∙◌, arith}
 use Rattle.std.specs.Prelude.{Contains}
 use Rattle.std.specs.List.{list_any}

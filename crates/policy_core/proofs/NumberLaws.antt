@@ -15,7 +15,7 @@ rise_low low high last (n ∷ ns) h r =
     let parts = and_parts _ _ r in
     and_from _ _ (lt-ltb low n (omega (arith, h, ltb-true high n parts.0))) parts.1
 
--- an entry less
+-- one entry fewer
 pub rise-removed : (low last : ℕ) (key : ℕ → Bool) (es : List (ℕ × Session)) → rise low last (numbers_of es) ≡ true → rise low last (numbers_of (remove_entry key es)) ≡ true
 rise-removed low last key [] r = refl
 rise-removed low last key (e ∷ es) r =

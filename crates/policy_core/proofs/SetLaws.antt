@@ -29,7 +29,7 @@ module _ (p now : PolicyState) (same : p ≡ now) (is : IsPolicy p) (name : List
       subst P same (ap (λ t. option_map Ssd (cond t (Some name) None)) (h ∙ any_closed p.order limit p.users)
       ∙ ap (option_map Ssd) (sym (breaking-with_set (authorized p) p.ssd name limit is.ssd)))
 
-  -- so is one with other roles or another number
+  -- and so is one with other roles or another number
   pub ssd_changed : found ≡ list_any (λ roles. is_broken (closed p.order roles) limit) (map (λ u. u.1) p.users) →
       (f : Limit → Limit) (old : Limit) → limit_of now.ssd name ≡ Some old → f old ≡ limit → option_map Ssd (cond found (Some name) None) ≡ broken_ssd (record now { ssd = changed now.ssd name f })
   ssd_changed h f old there becomes =
@@ -52,7 +52,7 @@ module _ (p now : PolicyState) (same : p ≡ now) (is : IsPolicy p) (name : List
       subst P same (λ here. ap (λ t. option_map Dsd (cond t (Some name) None)) (h ∙ any_counted p.counting p.order limit p.sessions ∙ ap (λ l. list_any (λ given. is_broken given l) (counted_all p)) (sym becomes))
       ∙ ap (option_map Dsd) (sym (breaking-changed (counted_all p) p.dsd name f old here is.dsd))) there
 
--- other sets, that are not broken either
+-- other sets, which are not broken either
 pub ssd_whole : (p : PolicyState) → IsPolicy p → (groups : Groups) → first_breaking (authorized p) groups ≡ None → IsPolicy (record p { ssd = groups })
 ssd_whole p is groups none = record { ssd = none; dsd = is.dsd; slots = is.slots; numbers = is.numbers; few_customers = is.few_customers; few_vehicles = is.few_vehicles }
 

@@ -19,7 +19,7 @@ module _ (old new : List (List ℕ × ℕ)) (used : ℕ) (slots : HasSlots old u
   same_name : (q : List ℕ) → bytes_eq role q ≡ true → role ≡ q
   same_name q h = (bytes_eq-Decides role q).0 h
 
-  -- a name's slot is the new one, and the name that of the new role, or it is as before
+  -- either a name's slot is the new one and the name that of the new role, or the slot is as before
   abbrev IsNew : List ℕ → ℕ → Type 0
   IsNew q s = (role ≡ q) × (slot ≡ s)
 

@@ -1,4 +1,4 @@
--- One more pair: who was authorized for no role senior to its senior is authorized for no more than before.
+-- One more pair: a user that was authorized for no role senior to the pair's senior is authorized for no more roles than before.
 use Rattle.std.proofs.Common.{◌≡◌, ℕ, ◌+◌, ◌<◌, Bool, true, false, cond, not, eqb, ◌||◌, List, [], ◌∷◌, ◌++◌, Option, Some, None, map, take, sym, refl, ap, ap₂, ◌∙◌, subst}
 use Rattle.std.specs.Prelude.{bit_or, bit_and, slice_get}
 use Rattle.std.specs.List.{list_any}
@@ -49,7 +49,7 @@ module _ {E : Type 0} (order : Order) (is : IsOrder order) (s j : ℕ) (in_s : s
       ap₂ (λ t u. t || u) (one_wider test (g e) parts.0) (any_wider test es parts.1)
       ∙ sym (any_append test (wider order s j (g e)) (all_wider order s j g es))
 
-  -- the first set that is broken with the pair is the first that the wider ones break
+  -- the first set that is broken with the pair is the first that the wider sets of roles break
   pub breaking_wider : (es : List E) (groups : Groups) → first_breaking (map (λ e. closed order (g e)) es) groups ≡ None →
       first_breaking (map (λ e. closed (with_pair order s j) (g e)) es) groups ≡ first_breaking (all_wider order s j g es) groups
   unfolding first_breaking
@@ -58,7 +58,7 @@ module _ {E : Type 0} (order : Order) (is : IsOrder order) (s j : ℕ) (in_s : s
       let parts = not_broken (list_any (λ given. is_broken given l.1) (map (λ e. closed order (g e)) es)) l.0 (first_breaking (map (λ e. closed order (g e)) es) groups) none in
       ap₂ (λ t rest. cond t (Some l.0) rest) (any_wider (λ given. is_broken given l.1) es parts.0) (breaking_wider es groups parts.1)
 
--- a role of the set is senior to the senior exactly where the senior stands below the set
+-- a role of the set is senior to the senior exactly where the senior is below the set
 pub meets_below : (order : Order) → IsOrder order → (s seniors roles : ℕ) → AreSeniors order s seniors → not (eqb (bit_and roles seniors) 0) ≡ has (closed order roles) s
 meets_below order is s seniors roles are = by (has (closed order roles) s) refl
   where
@@ -95,13 +95,13 @@ module _ (order : Order) (is : IsOrder order) (s j : ℕ) (small : j < 256) (sen
   no_refusal Cycle h = false≢true (sym apart ∙ (has-juniors_of order is j s small).1 h.2)
 
 module _ (p now : PolicyState) (same : p ≡ now) (is : IsPolicy p) (order : IsOrder p.order) (s j : ℕ) (in_s : s < 256) (in_j : j < 256) (found : Option (List ℕ)) where
-  -- the SSD sets, judged by those users alone who get more roles
+  -- the SSD sets, judged only by the users who get more roles
   pub ssd_of_pair : found ≡ first_breaking (all_wider p.order s j held_in p.users) p.ssd → option_map Ssd found ≡ broken_ssd (record now { order = with_pair now.order s j })
   ssd_of_pair h =
       let P : PolicyState → Type 0 = λ q. option_map Ssd found ≡ broken_ssd (record q { order = with_pair q.order s j }) in
       subst P same (ap (option_map Ssd) (h ∙ sym (breaking_wider p.order order s j in_s in_j held_in p.users p.ssd is.ssd)))
 
-  -- and the DSD sets by those sessions
+  -- and the DSD sets by such sessions
   pub dsd_of_pair : (p.counting ≡ Active → ⊥) → found ≡ first_breaking (all_wider p.order s j active_in p.sessions) p.dsd → option_map Dsd found ≡ broken_dsd (record now { order = with_pair now.order s j })
   dsd_of_pair inherits h =
       let P : PolicyState → Type 0 = λ q. option_map Dsd found ≡ broken_dsd (record q { order = with_pair q.order s j }) in
@@ -112,7 +112,7 @@ module _ (p now : PolicyState) (same : p ≡ now) (is : IsPolicy p) (order : IsO
       by Active e none = absurd (inherits e)
       by Inherited e none = breaking_wider p.order order s j in_s in_j active_in p.sessions p.dsd none
 
--- what is pushed where the roles meet the seniors, and that nothing is where they do not
+-- what is appended where the roles meet the seniors, and that nothing is where they do not
 module _ (order : Order) (is : IsOrder order) (s j seniors juniors roles : ℕ) (are : AreSeniors order s seniors) (below : juniors ≡ juniors_of order j) where
   pub wider_met : not (eqb (bit_and roles seniors) 0) ≡ true → bit_or (closed order roles) juniors ∷ [] ≡ wider order s j roles
   wider_met met =

@@ -22,7 +22,7 @@ use Rattle.policy_core.specs.declared.session.Counting.TheVariants.{Active, Inhe
 use Rattle.policy_core.specs.Access.{row_of, with_row}
 use Rattle.policy_core.specs.State.{PolicyState, is_session, session_of, is_user, is_role, held_by, slot_of, with_roles, with_session, broken_ssd, broken_dsd, broken}
 
--- A refusal is the one that is due, or want of memory.
+-- A refusal is the one that is due, or running out of memory.
 abbrev pub Says : Refusal → Option Refusal → Type 0
 Says NoMemory refusal = ⊤
 Says e refusal = refusal ≡ Some e
@@ -157,7 +157,8 @@ uninherit_refusal p senior junior =
 abbrev pub slots_of : PolicyState → List (List ℕ) → ℕ
 slots_of p roles = fold (λ set role. with_role set (slot_of p role)) 0 roles
 
--- what a refusal of a change of the sets is here; a member that is there or not is the given one
+-- a refusal of a change of the sets, as one of the policy; the first argument is the refusal where a member is there already, or is not
+-- there
 abbrev pub as_refusal : Refusal → Option SetFault → Option Refusal
 as_refusal due None = None
 as_refusal due (Some fault.NoSet) = Some NoSet

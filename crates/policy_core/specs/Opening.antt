@@ -8,7 +8,7 @@ use Rattle.policy_core.specs.declared.session.Counting.TheVariants.{Active}
 use Rattle.policy_core.specs.State.{PolicyState}
 use Rattle.policy_core.specs.Commands.{user_added, role_added, assigned, granted, opened}
 
--- a user and a role of that name, the one assigned to the other, which may `admin` the board, and a session of it
+-- a user and a role of that name, the user assigned to the role, which may `admin` the board, and a session of the user with it
 abbrev pub set_up : PolicyState → List ℕ → PolicyState
 set_up p root = opened (granted (assigned (role_added (user_added p root) root) root root) root Admin Board) root (root ∷ [])
 

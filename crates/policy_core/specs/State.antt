@@ -1,5 +1,5 @@
--- The policy as data: USERS, ROLES, UA, PA, RH and SESSIONS of ANSI INCITS 359-2004, 6.1 and 6.2, and its SSD and DSD
--- sets, 6.3 and 6.4. A role is its slot; its name stands in the list of roles.
+-- The policy as data: USERS, ROLES, UA, PA, RH and SESSIONS of ANSI INCITS 359-2004, 6.1 and 6.2, and its SSD and DSD sets, 6.3 and 6.4. A
+-- role is its slot; its name is in the list of roles.
 use Rattle.std.specs.Prelude.{◌≡◌, ◌≤◌, ℕ, Bool, true, ◌&&◌, nat_le, nat_lt, List, [], ◌∷◌, map, Option, Some, None, bytes_eq, nat_eq, is_some, unwrap_or}
 use Rattle.std.specs.Map.{lookup}
 use Rattle.std.specs.Option.{option_map, option_or}
@@ -66,7 +66,7 @@ pub record IsPolicy (p : PolicyState) : Type 0 where
   pub few_customers : p.customers ≤ 1000
   pub few_vehicles : p.vehicles ≤ 1000
 
--- why a state may not be: the first set that it breaks
+-- why a state is not allowed: the first set that it breaks
 abbrev pub broken_ssd : PolicyState → Option Refusal
 broken_ssd p = option_map Ssd (first_breaking (authorized p) p.ssd)
 

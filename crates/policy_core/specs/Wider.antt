@@ -1,4 +1,4 @@
--- What one more pair in the order gives to users and sessions.
+-- What one more pair in the order adds for users and sessions.
 use Rattle.std.specs.Prelude.{◌≡◌, ◌<◌, ◌↔◌, true, ℕ, if◌then◌else◌, List, [], ◌∷◌, ◌++◌, bit_or}
 use Rattle.role_hierarchy.specs.Roles.{has}
 use Rattle.role_hierarchy.specs.Order.{Order, IsSenior, stands}
@@ -9,7 +9,7 @@ use Rattle.policy_core.specs.declared.session.Session.{Session}
 abbrev pub AreSeniors : Order → ℕ → ℕ → Type 0
 AreSeniors order s seniors = (a : ℕ) → (has seniors a ≡ true) ↔ ((a < 256) × IsSenior (stands order) a s)
 
--- what stands below the roles with one more pair, where the senior stands below them; else nothing new does
+-- what is below the roles with one more pair, where the pair's senior is below them; otherwise nothing is added
 abbrev pub wider : Order → ℕ → ℕ → ℕ → List ℕ
 wider order s j roles = if has (closed order roles) s then bit_or (closed order roles) (juniors_of order j) ∷ [] else []
 

@@ -71,15 +71,15 @@ impl Policy {
         Ok((slot, first, end))
     }
 
-    /// The objects to which the role of the slot may do the operation, itself and not by those
-    /// that it inherits: the place of an object is its number.
+    /// The objects to which the role of the slot may do the operation by itself, without the roles that it inherits: each object as its
+    /// number.
     pub fn permissions(&self, slot: u8, operation: Operation) -> &ObjectSet
         ensures { result.now ≡ row_of self.now slot operation }
     {
         self.grants.row(slot, operation)
     }
 
-    /// Whether there is such a session. One look-up.
+    /// Whether there is such a session. It costs one look-up.
     pub fn is_session(&self, session: u32) -> bool
         ensures { result ≡ is_session self.now session }
     {
@@ -142,9 +142,8 @@ impl Policy {
         self.reaches(found.active, operation, number)
     }
 
-    /// CheckAccess (6.2): whether an active role of the session, or one that it inherits, may do
-    /// the operation to the object; `false` where there is no such session or object. It walks
-    /// over the roles, and counts that.
+    /// CheckAccess (6.2): whether an active role of the session, or one that it inherits, may do the operation to the object; `false` where
+    /// there is no such session or object. It walks over the roles, and counts one walk.
     pub fn check_plain(
         &self,
         session: u32,

@@ -19,8 +19,8 @@ use role_hierarchy::{Hierarchy, RoleSet};
 use separation_core::{Limit, Name};
 
 impl Policy {
-    /// CreateDsdSet. In this order `NoRole`, `Already`, `Number`, `Dsd`, `Full`; `NoMemory` may come in
-    /// place of any answer. A role that is named twice counts once.
+    /// CreateDsdSet. In this order `NoRole`, `Already`, `Number`, `Dsd`, `Full`; `NoMemory` may come in place of any answer. A role that is
+    /// named twice counts once.
     pub fn create_dsd_set(&mut self, name: Name, number: u32, roles: &[Name]) -> Result<(), Refusal>
         ensures ok { OnOk result (self.new ≡ dsd_created self.old name number roles.now) }
         ensures allowed { OnOk result (dsd_create_refusal self.old name number roles.now ≡ None) }
@@ -56,7 +56,7 @@ impl Policy {
         Ok(set)
     }
 
-    /// Why there may not be such a new DSD set, whatever the sessions: `Already` or `Number`.
+    /// Why there may not be such a new DSD set, whatever the sessions are: `Already` or `Number`.
     fn refusal_of_dsd_set(&self, name: Name, set: RoleSet, number: u32) -> Option<Refusal>
         ensures { result ≡ as_refusal Refusal.NotThere (new_refusal self.now.dsd name set number) }
     {
@@ -139,7 +139,7 @@ impl Policy {
         Ok(())
     }
 
-    /// DeleteDsdSet: the set goes. `NoSet` where no set has the name.
+    /// DeleteDsdSet: the set is deleted. `NoSet` where no set has the name.
     pub fn delete_dsd_set(&mut self, name: Name) -> Result<(), Refusal>
         ensures ok { OnOk result (self.new ≡ dsd_deleted self.old name) }
         ensures err { OnErr result (self.new ≡ self.old) }

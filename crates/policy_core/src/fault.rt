@@ -1,11 +1,11 @@
-//! What a fault of a change of the sets is as a refusal.
+//! Faults of a change of the sets, as refusals of the policy.
 ghost use Rattle.std.specs.Prelude.{◌≡◌, Some};
 ghost use Rattle.policy_core.specs.Commands.{as_refusal};
 
 use crate::refusal::Refusal;
 use separation_core::SetFault;
 
-/// What the fault is as a refusal; the given one where a member is there, or is not there.
+/// The fault as a refusal; `member` where the role is in the set already, or is not in it.
 pub(crate) fn refusal_of_fault(fault: SetFault, member: Refusal) -> Refusal
     ensures { Some result ≡ as_refusal member (Some fault) }
 {

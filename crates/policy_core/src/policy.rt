@@ -19,8 +19,8 @@ use separation_core::{Name, Sets};
 use std::alloc::{AllocError, Global};
 use std::marker::Model;
 
-/// Users, roles, permissions, sessions, and the sets of roles that exclude one another, over a
-/// fleet of vehicles and its customers. Contracts see the lists and numbers that they are.
+/// Users, roles, permissions, sessions, and the sets of roles that exclude one another, over a fleet of vehicles and its customers.
+/// Contracts see them as plain lists and numbers.
 pub struct Policy {
     pub(crate) customers: u32,
     pub(crate) vehicles: u32,
@@ -35,7 +35,7 @@ pub struct Policy {
     pub(crate) last: u32,
 }
 
-// By hand, since a derived drop is written out, down to each list, at every place where a value is dropped.
+// Written by hand: a derived drop is expanded, down to each list, at every place where a value is dropped.
 impl Drop for Policy {
     fn drop(self) {
         let Policy {
@@ -67,7 +67,7 @@ impl Model for Policy {
 }
 
 impl Policy {
-    /// The policy over these customers and vehicles, with no user, role or session.
+    /// The policy over these customers and vehicles, at most 1,000 of each, with no user, role or session.
     pub fn new(alloc: Global, customers: u32, vehicles: u32) -> Result<Policy, AllocError>
         requires customers { customers ≤ 1000 }
         requires vehicles { vehicles ≤ 1000 }
@@ -95,8 +95,8 @@ impl Policy {
         })
     }
 
-    /// The policy that a board begins with: the user `root`, assigned to the role `root`, which may
-    /// `admin` the board and nothing else, and session 1 of that user with that role active.
+    /// The policy that a board begins with, over these customers and vehicles, at most 1,000 of each: the user `root`, assigned to the role
+    /// `root`, which may `admin` the board and nothing else, and session 1 of that user with that role active.
     pub fn opening(alloc: Global, customers: u32, vehicles: u32) -> Result<Policy, AllocError>
         requires customers { customers ≤ 1000 }
         requires vehicles { vehicles ≤ 1000 }
@@ -124,7 +124,7 @@ impl Policy {
         Ok(())
     }
 
-    /// An equal policy, which changes apart from this one.
+    /// An independent copy.
     pub fn copy(&self) -> Result<Policy, AllocError>
         ensures { IfOk result (λ policy. policy ≡ self.now) }
     {
@@ -150,7 +150,7 @@ impl Policy {
         })
     }
 
-    /// A law, for callers' proofs: separation holds.
+    /// A law, for callers' proofs: no set is broken, and what else every policy keeps.
     pub fn is_policy(&self)
         ensures whole { IsPolicy self.now }
         ensures order { IsOrder self.now.order }

@@ -39,7 +39,7 @@ pub enum Refusal {
     /// The junior is senior to the senior, or the two are one role.
     #[error("the junior is senior to the senior")]
     Cycle,
-    /// The role stands in an SSD or DSD set.
+    /// The role is a member of an SSD or DSD set.
     #[error("the role stands in a set")]
     InSet,
     /// The set would have a number below 2 or above the number of its roles.
@@ -55,7 +55,7 @@ pub enum Refusal {
     /// left.
     #[error("there is no room")]
     Full,
-    /// A growth was refused.
+    /// Memory ran out.
     #[error("out of memory")]
     NoMemory,
 }

@@ -138,8 +138,8 @@ impl Policy {
         }
     }
 
-    /// The first SSD set that some user would break with the pair. A user that is authorized for
-    /// no more roles than before is not looked at further, and where there is no set nobody is.
+    /// The first SSD set that some user would break with the pair. A user that is authorized for no more roles than before is skipped, and
+    /// so is everybody where there is no set.
     fn ssd_refusal_of_pair(&self, above: u8, below: u8) -> Result<Option<Refusal>, AllocError>
         ensures { IfOk result (λ refusal. refusal ≡ broken_ssd (record self.now { order = with_pair self.now.order above below })) }
     {
@@ -245,8 +245,8 @@ fn drop_from_all(users: &mut IndexMap<Name, RoleSet>, slot: u8)
     });
 }
 
-/// Adds to the list the roles, what stands below them, and these juniors. It is kept out of line, so that those who are passed over,
-/// nearly all, pay nothing for it.
+/// Appends the roles with what is below them and these juniors. Out of line, so that the users and sessions that are skipped, nearly all of
+/// them, pay nothing for it.
 #[inline(never)]
 fn push_closed(
     all: &mut Vec<RoleSet>,
@@ -260,8 +260,8 @@ fn push_closed(
     Ok(())
 }
 
-/// Adds to the list what stands below the roles once their seniors and juniors stand in a pair,
-/// where that is more than before: where a role is among those that are senior to the new senior.
+/// Appends what is below the roles once their seniors and juniors stand in a pair, where that is more than before: where a role is among
+/// those that are senior to the new senior.
 #[inline(always)]
 fn push_wider(
     all: &mut Vec<RoleSet>,

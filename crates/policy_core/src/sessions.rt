@@ -145,8 +145,8 @@ impl Policy {
         Ok(Session::of(user, active))
     }
 
-    /// From now on DSD counts the roles that a session inherits, and each session that then
-    /// breaks a DSD set loses all its active roles. `Already` where it counts them by now.
+    /// From now on DSD counts the roles that a session inherits, and each session that then breaks a DSD set loses all its active roles.
+    /// `Already` where they are counted by now.
     pub fn migrate(&mut self) -> Result<(), Refusal>
         ensures ok { OnOk result (self.new ≡ migrated self.old) }
         ensures err { OnErr result (self.new ≡ self.old) }
@@ -231,8 +231,8 @@ impl Policy {
         }
     }
 
-    /// Why the role may not be active besides in the session: the first set that it would break. A
-    /// set that has none of the roles that are counted for it stays whole.
+    /// Why the role may not become active in the session too: the first set that it would break. A set that has none of the roles that are
+    /// counted for this role is not broken.
     fn refusal_of_activated(
         &self,
         number: u32,

@@ -54,7 +54,7 @@ impl Policy {
         Ok(set)
     }
 
-    /// Why there may not be such a new SSD set, whatever the users: `Already` or `Number`.
+    /// Why there may not be such a new SSD set, whatever the users are: `Already` or `Number`.
     fn refusal_of_ssd_set(&self, name: Name, set: RoleSet, number: u32) -> Option<Refusal>
         ensures { result ≡ as_refusal Refusal.NotThere (new_refusal self.now.ssd name set number) }
     {
@@ -132,7 +132,7 @@ impl Policy {
         Ok(())
     }
 
-    /// DeleteSsdSet: the set goes. `NoSet` where no set has the name.
+    /// DeleteSsdSet: the set is deleted. `NoSet` where no set has the name.
     pub fn delete_ssd_set(&mut self, name: Name) -> Result<(), Refusal>
         ensures ok { OnOk result (self.new ≡ ssd_deleted self.old name) }
         ensures err { OnErr result (self.new ≡ self.old) }

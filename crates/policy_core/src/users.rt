@@ -143,8 +143,8 @@ impl Policy {
         });
     }
 
-    /// Why the user, assigned to those that it holds, may not be assigned to the role besides: the
-    /// first set that it would break. A set that has none of the roles below that one stays whole.
+    /// Why the user, with the roles that it has, may not be assigned to this role too: the first set that it would break. A set that has
+    /// none of the roles below this one is not broken.
     fn refusal_of_role(&self, user: Name, held: RoleSet, slot: u8) -> Option<Refusal>
         requires { Some held ≡ lookup (bytes_eq user) self.now.users }
         ensures { result ≡ broken_ssd (with_roles self.now user (with_role held slot)) }

@@ -120,7 +120,7 @@ early_at law s routes cache d v place y has e =
 pub not_out : (s : Setting) (v : ℕ) (r : List ℕ) (d : ℕ) → FitsAll s v r → IsFirstOut s v r d → ⊥
 not_out s v r d fits out = let low = out.low in let high = out.high in out.out (fits (d - 1) (omega arith))
 
--- between two exchanges: with the rows that are left, the rows become those that are promised
+-- between two exchanges: with the rows that are left, the rows become the promised ones
 pub record AreTaking (target now : List RowState) (rest : NewRows) : Type 0 where
   pub made : with_rows rest now ≡ target
   pub within : All (λ r. (1 ≤ r.0) × (r.0 ≤ length now)) rest

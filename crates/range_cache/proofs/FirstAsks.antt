@@ -14,7 +14,7 @@ pub walk_first : (r : List ℕ) → walk_asks [] r ≡ route_asks r
 walk_first [] = refl
 walk_first (c ∷ cs) = omega arith
 
--- one vehicle more
+-- one more vehicle
 asks_push : (routes : List (List ℕ)) (k : ℕ) → k < length routes → asks_of (take (k + 1) routes) ≡ asks_of (take k routes) + route_asks (route_at routes (k + 1))
 asks_push routes k h =
     let back : k ≡ k + 1 - 1 = omega arith in
@@ -29,7 +29,7 @@ asks_next n routes k a b c h p q =
     let e : n * asks_of (take (k + 1) routes) ≡ n * (asks_of (take k routes) + route_asks (route_at routes (k + 1))) = ap (λ (m : ℕ). n * m) (asks_push routes k h) in
     asks_after a b c _ _ _ p q (omega arith)
 
--- those of the first vehicles are at most those of all
+-- the asks for the first vehicles are at most those for all
 pub asks_part : (n : ℕ) (routes : List (List ℕ)) (k : ℕ) (a b : Meter) → AsksAtMost a b (n * asks_of (take k routes)) → AsksAtMost a b (n * asks_of routes)
 asks_part n routes k a b p =
     let less : n * asks_of (take k routes) ≤ n * asks_of routes = mul-le-mul_left n (sum_by-take-le route_asks routes k) in

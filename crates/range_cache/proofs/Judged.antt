@@ -72,7 +72,7 @@ rows_within s (c ∷ cs) (r ∷ rs) cache sized new =
 rows_within s [] (r ∷ rs) cache sized new = absurd new
 rows_within s (c ∷ cs) [] cache sized new = absurd new
 
--- what may still be asked for the rest of some new routes leads to no more than what may be asked for all
+-- what may still be asked for the rest of some new routes leads to no more than what may be asked for all of them
 abbrev pub MayAsk : ℕ → List (List ℕ) → Changes → Changes → Meter → Meter → Type 0
 MayAsk n routes all rest from to = (m : Meter) → AsksAtMost to m (judge_asks n routes rest) → AsksAtMost from m (judge_asks n routes all)
 

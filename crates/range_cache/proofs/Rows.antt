@@ -24,7 +24,7 @@ pub record AreFilled (s : Setting) (vehicle : ℕ) (route : List ℕ) (n : ℕ) 
 pub filled_none : (s : Setting) (v : ℕ) (route : List ℕ) → AreFilled s v route 0 []
 filled_none s v route = record { sized = omega arith; each = λ d k h l. absurd (omega arith) }
 
--- those of one dimension more
+-- those of one more dimension
 pub filled_more : (s : Setting) (v : ℕ) (route : List ℕ) (n : ℕ) (ranges more : List Range) → AreFilled s v route n ranges → length more ≡ length route
     → IsTrack s n v route more → AreFilled s v route (n + 1) (ranges ++ more)
 filled_more s v route n ranges more filled sized track =
@@ -95,20 +95,20 @@ walk_asks-some : (old new : List ℕ) → 0 < length new → walk_asks old new �
 walk_asks-some old [] h = absurd (omega arith)
 walk_asks-some old (c ∷ cs) h = refl
 
--- asks for one dimension more
+-- asks for one more dimension
 pub asks_more : (a b c : Meter) (d front kept : ℕ) (old new : List ℕ) → AsksAtMost a b (d * walk_asks old new) → AsksAtMost b c (length new + 1 - kept)
     → kept ≡ front → front ≡ common_front old new → 0 < length new → AsksAtMost a c ((d + 1) * walk_asks old new)
 asks_more a b c d front kept old new p q e f some =
     let each : length new + 1 - kept ≡ walk_asks old new = ap (λ (n : ℕ). length new + 1 - n) (e ∙ f) ∙ sym (walk_asks-some old new some) in
     asks_after a b c _ _ _ p (subst (λ (n : ℕ). AsksAtMost b c n) each q) (omega arith)
 
--- and the ranges of one dimension more, where they were found
+-- and the ranges of one more dimension, where they were found
 pub ranges_more : (s : Setting) (v : ℕ) (route : List ℕ) (n : ℕ) (old new : List Range) → AreFilled s v route n old
     → (more : List Range) × (new ≡ old ++ more) × (length more ≡ length route) × IsTrack s n v route more → AreFilled s v route (n + 1) new
 ranges_more s v route n old new filled m =
     subst (λ (xs : List Range). AreFilled s v route (n + 1) xs) (sym m.1) (filled_more s v route n old m.0 filled m.2 m.3)
 
--- there is room for the ranges of one dimension more
+-- there is room for the ranges of one more dimension
 pub room_for : (count n room : ℕ) (route : List ℕ) → n < count → (used : ℕ) → used ≡ n * length route → count * length route ≤ room → used + length route ≤ room
 room_for count n room route h used e enough =
     let below : (n + 1) * length route ≤ count * length route = mul-le-mul_right (length route) (omega arith) in

@@ -38,7 +38,7 @@ module _ (law : SpansGoOn) (s : Setting) (k v : ℕ) (route : List ℕ) (place f
     (et : ts ≡ s.tables) (ed : ds ≡ s.dimensions) (h : k < length s.dimensions) (e : d ≡ slice_index_or ds k d)
     (span : IsSpanOf s k v (take place route) r) (last : from ≡ last_of 0 (take place route))
     (n : IsSpan o (λ y. (x : ℕ) × IsWithin (Some r) x × IsStep (table_of ts d) d v from x to y)) where
-  -- the span at one customer more
+  -- the span at one more customer
   pub next_at : place < length route → to ≡ slice_index route place → IsSpanAt s k v (take (place + 1) route) o
   next_at within here =
       law.next (table_of s.tables (dimension_at s k)) (dimension_at s k) v route place from to r o within span last here (step_at s k v from to ts ds d r o et ed h e n)
@@ -71,7 +71,7 @@ never law s k v route n some none fits =
 pub no_answer : (P : Type 0) → (P → ⊥) → IsTrue false ↔ P
 no_answer P out = (λ p. absurd cc, λ p. absurd (out p))
 
--- one range more
+-- one more range
 pub track_push : (s : Setting) (d v : ℕ) (route : List ℕ) (more : List Range) (r : Range) → length more < length route → IsTrack s d v route more
     → IsSpanOf s d v (take (length more + 1) route) r → IsTrack s d v route (more ++ r ∷ [])
 track_push s d v route more r within track new =
@@ -92,7 +92,7 @@ track_push s d v route more r within track new =
         let below : k < length more = omega arith in
         subst (λ (x : Range). IsSpanOf s d v (take (k + 1) route) x) (sym (get_or_append_left more (r ∷ []) no_range k below)) (track.each k below)
 
--- the ranges so far and one more, behind others
+-- the ranges so far and one more, after others
 pub more_push : (s : Setting) (d v : ℕ) (route : List ℕ) (place : ℕ) (old now after : List Range) (r : Range) → place < length route
     → (more : List Range) × (now ≡ old ++ more) × (length more ≡ place) × IsTrack s d v route more
     → after ≡ now ++ r ∷ [] → IsSpanOf s d v (take (place + 1) route) r

@@ -1,4 +1,4 @@
--- That a cache is that of some routes has one proof at most, so that a ghost field can say it.
+-- That a cache is that of some routes has at most one proof, so that a ghost field can state it.
 use Rattle.std.proofs.Props.{props}
 use Rattle.std.specs.Prelude.{ℕ, List}
 use Rattle.dimension_core.specs.Setting.{Setting}

@@ -1,4 +1,4 @@
--- What a cache of ranges keeps, and of which routes it is that.
+-- What a cache of ranges keeps, and to which routes it belongs.
 use Rattle.std.specs.Prelude.{◌≡◌, ℕ, ◌+◌, ◌-◌, ◌*◌, ◌<◌, ◌≤◌, List, [], length, take, slice_index_or}
 use Rattle.dimension_core.specs.declared.range.Range.{Range}
 use Rattle.dimension_core.specs.Setting.{Setting}

@@ -31,8 +31,8 @@ abbrev pub with_rows : NewRows → List RowState → List RowState
 with_rows [] rows = rows
 with_rows (r ∷ rs) rows = with_rows rs (slice_set rows (r.0 - 1) r.1)
 
--- A fault of judging new routes: the first of them that is out of bounds, and the first dimension in which it is. Want of memory may come
--- at any time.
+-- A fault of judging new routes: the first of them that is out of bounds, and the first dimension in which it is. Running out of memory may
+-- happen at any time.
 abbrev pub IsJudgeFault : Setting → Changes → JudgeFault → Type 0
 IsJudgeFault s changes (Bound vehicle d) = IsOut s changes vehicle d
 IsJudgeFault s changes NoMemory = Unit {0}

@@ -5,7 +5,7 @@ use Rattle.dimension_core.specs.Setting.{Setting}
 use Rattle.range_cache.specs.declared.fault.JudgeFault.{JudgeFault}
 use Rattle.range_cache.specs.declared.fault.JudgeFault.TheVariants.{Bound, NoMemory}
 
--- the first dimension in which the route is out of bounds, or want of memory
+-- the first dimension in which the route is out of bounds, or running out of memory
 abbrev pub IsRowFault : Setting → ℕ → List ℕ → JudgeFault → Type 0
 IsRowFault s vehicle route (Bound v d) = (v ≡ vehicle) × IsFirstOut s vehicle route d
 IsRowFault s vehicle route NoMemory = Unit {0}

@@ -5,7 +5,7 @@ use Rattle.dimension_core.specs.Cumuls.{IsSpan, Reaches, table_of}
 use Rattle.dimension_core.specs.Setting.{Setting, dimension_at}
 use Rattle.dimension_core.specs.Spans.{IsSpanOf, no_range}
 
--- as IsSpanOf, where there may be no cumul: the interval of the cumuls at the last of some nodes, in the dimension at place d, from 0 on
+-- as `IsSpanOf`, where there may be no cumul: the interval of the cumuls at the last of some nodes, in the dimension at place d, from 0 on
 abbrev pub IsSpanAt : Setting → ℕ → ℕ → List ℕ → Option Range → Type 0
 IsSpanAt s d vehicle nodes span = IsSpan span (Reaches (table_of s.tables (dimension_at s d)) (dimension_at s d) vehicle nodes)
 

@@ -25,8 +25,8 @@ use std::sync::Arc;
 
 /// For each vehicle, in each dimension, the range of the cumuls that it may have at each customer of its route.
 ///
-/// A cache belongs to a setup and to the routes of a plan, and its callers owe that it is lent these. It keeps 16 bytes for each placed
-/// customer and dimension, and for each vehicle room for some more: for three times as many, and 35, at most.
+/// A cache belongs to a setup and to the routes of a plan, and its callers must pass it these. It keeps 16 bytes for each placed customer
+/// and dimension. Each vehicle's row has room for at most four times its ranges, and 35 more.
 #[derive(Drop)]
 pub struct Cache {
     rows: Vec<Row>,
@@ -52,7 +52,7 @@ impl Cache {
         Ok(Cache { rows })
     }
 
-    /// The cache of a plan that is in bounds.
+    /// The cache of a plan that is in bounds, and has the setup's numbers of customers and vehicles.
     ///
     /// It asks the callback of a dimension at most once for each placed customer and once for each route that is not empty.
     pub fn of(
@@ -75,10 +75,11 @@ impl Cache {
     }
 
     /// Judges new routes of some vehicles of the plan whose cache this is, in their order: `Bound` names the first vehicle whose new route
-    /// is out of bounds, and the first dimension in which it is. What it answers is ready to be taken.
+    /// is out of bounds, and the first dimension in which it is. The answer is ready to be taken. The new routes must be of vehicles and
+    /// customers of the setup, with at most 1,000 customers each.
     ///
-    /// Each dimension of a new route is walked from the end of the longest common front of the old and the new route on, and no other
-    /// vehicle's route is looked at: it asks the callback of a dimension at most once for each customer behind the common front and once
+    /// Each dimension of a new route is walked from the end of the longest common prefix of the old and the new route on, and no other
+    /// vehicle's route is looked at. It asks the callback of a dimension at most once for each customer after the common prefix and once
     /// for the return.
     pub fn judge(
         &self,
@@ -100,7 +101,7 @@ impl Cache {
         self.judge_in(Room::new(alloc), setup, plan, changes, meter)
     }
 
-    /// What `judge` answers, with the new ranges in the memory of earlier ones: more is taken only where that is too small.
+    /// What `judge` answers, with the new ranges in the memory of earlier ones: more memory is taken only where that is too small.
     pub fn judge_in(
         &self,
         room: Room,
@@ -128,7 +129,7 @@ impl Cache {
         Ok(Pending::new(self, rows))
     }
 
-    /// Makes a row that of a vehicle's new route, by that of its route in the plan.
+    /// Makes a row that of a vehicle's new route, from the row of its route in the plan.
     fn change_row(
         &self,
         row: &mut Row,
@@ -154,7 +155,8 @@ impl Cache {
     }
 
     /// Takes what was judged: this is then the cache of the plan with the new routes. It takes no memory, and gives back that of the rows
-    /// that were replaced. Nothing was taken since the judgement.
+    /// that were replaced. The contract requires that the cache still is, as contracts see it, the one that judged: nothing was taken
+    /// since.
     pub fn take(&mut self, pending: Pending) -> Room
         requires { pending.of ≡ self.old }
         ensures rows { self.new ≡ record { rows = with_rows pending.rows self.old.rows } }
@@ -169,7 +171,7 @@ impl Cache {
     }
 
     /// The early value of the customer at a place of a vehicle's route in a dimension: the least cumul that it can have there. All three
-    /// count from 1.
+    /// count from 1, and the cache must be that of routes in which that place is taken.
     pub fn early(&self, dimension: u32, vehicle: u32, place: u32) -> u64
         requires { (s : Setting) × ((routes : List (List ℕ)) × HasEarly s routes self.now dimension vehicle place) }
         ensures { (s : Setting) (routes : List (List ℕ)) → HasEarly s routes self.now dimension vehicle place → IsEarly (table_of s.tables (dimension_at s (dimension - 1))) (dimension_at s (dimension - 1)) vehicle (take place (route_at routes vehicle)) result }

@@ -7,7 +7,7 @@ pub enum JudgeFault {
     /// The new route of the vehicle is out of bounds in the dimension; both count from 1.
     #[error("the route of vehicle {0} is out of bounds in dimension {1}")]
     Bound(u32, u32),
-    /// There is no memory for the new ranges.
+    /// Memory ran out.
     #[error("out of memory")]
     NoMemory,
 }

@@ -7,21 +7,21 @@ use std::alloc::{AllocError, Global};
 use std::marker::Model;
 use std::snapshot::Snapshot;
 
-/// The memory of rows that were taken and replaced, for those of the next judgement.
+/// The memory of rows that were replaced, kept for the rows of the next judgement.
 #[derive(Drop)]
 pub struct Room {
     pub(crate) rows: Vec<(u32, Row)>,
 }
 
 impl Room {
-    /// No memory.
+    /// A room without memory.
     pub fn new(alloc: Global) -> Room {
         Room {
             rows: Vec::new(alloc),
         }
     }
 
-    /// The memory of so many rows, whatever stands in them.
+    /// The memory of this many rows, whatever they contain.
     pub(crate) fn into_rows(self, count: usize) -> Result<Vec<(u32, Row)>, AllocError>
         ensures { IfOk result (λ rows. length rows.items ≡ count) }
     {

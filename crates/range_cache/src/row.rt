@@ -43,7 +43,7 @@ impl Row {
         }
     }
 
-    /// The first ranges of a dimension, which counts from 0.
+    /// The first `front` ranges of a dimension, which counts from 0.
     fn front(&self, dimension: usize, front: usize) -> &[Range]
         requires { dimension * self.now.stops + front ≤ length self.now.ranges }
         ensures { result.now ≡ take front (drop (dimension * self.now.stops) self.now.ranges) }
@@ -60,11 +60,11 @@ impl Row {
         self.ranges[dimension * self.stops as usize + place].lo
     }
 
-    /// Makes a row that of the vehicle's new route, by this one of its old route: each dimension is walked from the end of the longest
-    /// common front on. It stops at the first dimension in which the new route is out of bounds.
+    /// Makes a row that of the vehicle's new route, from this row of its old route. Each dimension is walked from the end of the longest
+    /// common prefix on. It stops at the first dimension in which the new route is out of bounds.
     ///
-    /// It asks the callback of a dimension at most once for each customer behind the common front and once for the return, and not at all
-    /// where the new route is empty. It is kept out of line, so that its loops have the registers to themselves.
+    /// It asks the callback of a dimension at most once for each customer after the common prefix and once for the return, and not at all
+    /// where the new route is empty. Out of line, so that its loops have the registers to themselves.
     #[inline(never)]
     pub(crate) fn change(
         &self,
@@ -102,10 +102,10 @@ impl Row {
     }
 }
 
-/// Ranges are made room for by so many at a time, so that a row has room for the next few changes of its route.
+/// Room for ranges is made in steps of this many, so that a row has room for the next few changes of its route.
 const STEP: usize = 8;
 
-/// Empties a list and makes room in it for so many ranges. Memory that is too small, or more than four times too large, is given up.
+/// Empties a list and makes room in it for `count` ranges. Memory that is too small, or more than four times too large, is given up.
 #[inline(always)]
 fn make_room(ranges: &mut Vec<Range>, count: usize) -> Result<(), AllocError>
     requires { count ≤ 1000000 }

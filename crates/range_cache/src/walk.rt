@@ -42,7 +42,7 @@ fn begin(
     Some((kept[last], route[last]))
 }
 
-/// Puts the kept ranges behind what is there. Often there is none, and then nothing is called.
+/// Appends the kept ranges. Often there is none, and then nothing is called.
 #[inline(always)]
 fn push_kept(ranges: &mut Vec<Range>, kept: &[Range]) -> Result<(), AllocError>
     ensures items { OnOk result (ranges.new.items ≡ ranges.old.items ++ kept.now) }
@@ -55,10 +55,10 @@ fn push_kept(ranges: &mut Vec<Range>, kept: &[Range]) -> Result<(), AllocError>
     ranges.extend_from_slice(kept)
 }
 
-/// Walks along a route that is not empty in one dimension, from the customer behind the kept ranges to the return. True where the route is
-/// in bounds; the range of each of its customers then stands behind the others, and there is room for them. Dimensions count from 0.
+/// Walks along a route that is not empty in one dimension, from the customer after the kept ranges to the return. True where the route is
+/// in bounds; the range of each of its customers then follows the others, and there is room for them. Dimensions count from 0.
 ///
-/// It stops at the first stop at which there is no cumul, and asks the callback at most once for each customer behind the kept ranges and
+/// It stops at the first stop at which there is no cumul, and asks the callback at most once for each customer after the kept ranges and
 /// once for the return.
 pub(crate) fn walk(
     setup: &Setup,

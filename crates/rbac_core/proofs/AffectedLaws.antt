@@ -20,7 +20,7 @@ use Rattle.policy_core.specs.Access.{has_access, is_here, reaches, some_below}
 use Rattle.policy_core.specs.Commands.{kept_session}
 use Rattle.rbac_core.specs.Affected.{has_lost}
 
--- access by the session that is found, and by what stands below its active roles
+-- access by the session that is found, and by what is below its active roles
 abbrev pub access_by : PolicyState → Operation → Object → Option Session → Bool
 access_by p operation object found =
     is_some found && (is_here p object && reaches p (unwrap_or found (record { user = []; active = 0 })).active operation (number_of object))
@@ -39,7 +39,7 @@ pub same_sessions : (p q : PolicyState) (session : ℕ) (operation : Operation) 
 same_sessions p q session operation object same found =
     access_is q session operation object ∙ ap (access_by q operation object) found ∙ same (lookup (nat_eq session) p.sessions) ∙ sym (access_is p session operation object)
 
--- the order with a role that stands in no pair
+-- the order with a role that is in no pair
 pub with_slot_access : (p : PolicyState) (roles : List (List ℕ × ℕ)) (slot : ℕ) (operation : Operation) (object : Object) (found : Option Session) →
     access_by (record p { roles = roles; order = with_slot p.order slot }) operation object found ≡ access_by p operation object found
 unfolding reaches
@@ -87,7 +87,7 @@ fails test session (e ∷ es) s none there = by (nat_eq session e.0) refl there 
     by true is found rest = (let same : e.1 ≡ s = cc in ap test (sym same) ∙ failed (test e.1) refl is none)
     by false is found rest = rest found
 
--- a session that is kept where it is found
+-- a session that the filter keeps is found as before
 pub lookup-filter : (test : Session → Bool) (session : ℕ) (es : List (ℕ × Session)) → ((s : Session) → lookup (nat_eq session) es ≡ Some s → test s ≡ true) → lookup (nat_eq session) (filter (λ e. test e.1) es) ≡ lookup (nat_eq session) es
 lookup-filter test session [] kept = refl
 lookup-filter test session (e ∷ es) kept = by (nat_eq session e.0) refl (λ other. lookup-filter test session es (λ s found. kept s (ap (λ b. cond b (Some e.1) (lookup (nat_eq session) es)) other ∙ found)))
@@ -204,7 +204,7 @@ filter-append keep (x ∷ xs) ys = elim (keep x) as (λ t. cond t (x ∷ filter 
   | false ↦ filter-append keep xs ys
 ]
 
--- the numbers that pass, one more
+-- the numbers that pass, with one more
 pub filter_next : (keep : ℕ → Bool) (ns : List ℕ) (i n : ℕ) (t : Bool) → slice_get ns i ≡ Some n → keep n ≡ t → filter keep (take i ns) ++ cond t (n ∷ []) [] ≡ filter keep (take (i + 1) ns)
 filter_next keep ns i n t here h =
     ap (λ b. filter keep (take i ns) ++ cond b (n ∷ []) []) (sym h)

@@ -1,4 +1,4 @@
--- A step is its guard, and then its command.
+-- A step is its guard and then its command.
 use Rattle.std.proofs.Common.{◌≡◌, ℕ, Option, Some, None, sym, subst, ap, ap₂, ◌∙◌}
 use Rattle.std.specs.Prelude.{Result, Ok, Err, OnOk, IfOk, IfErr}
 use Rattle.std.specs.Option.{option_or}

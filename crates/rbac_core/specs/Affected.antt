@@ -5,7 +5,7 @@ use Rattle.policy_core.specs.Reviews.{all_sessions, sessions_of}
 use Rattle.rbac_core.specs.declared.command.Command.{Command}
 use Rattle.rbac_core.specs.declared.command.Command.TheVariants.{DeleteUser, DeleteRole, DeassignUser, GrantPermission, RevokePermission, AddInheritance, DeleteInheritance, CreateSession, DeleteSession, AddActiveRole, DropActiveRole, Migrate}
 
--- the session's active roles are others than before
+-- the session's active roles differ from those before
 abbrev pub has_lost : PolicyState → PolicyState → ℕ → Bool
 has_lost old new session = not ((session_of old session).active == (session_of new session).active)
 

@@ -29,7 +29,7 @@ is_same_user _ _ = false
 abbrev pub is_own : PolicyState → ℕ → Command → Bool
 is_own p session command = is_same_user (user_of p session) (concerned p command)
 
--- why the session may not give the command, where that is known of its access to `admin` on the board
+-- why the session may not give the command, where it is known whether it may `admin` the board
 unfoldable pub guard_by : Bool → PolicyState → ℕ → Command → Option Refusal
 guard_by admin p session command =
     if not (is_session p session) then Some NoSession
@@ -40,7 +40,7 @@ guard_by admin p session command =
 abbrev pub guard : PolicyState → ℕ → Command → Option Refusal
 guard p session command = guard_by (has_access p session Admin Board) p session command
 
--- why the command is refused to whoever may give it
+-- why the command is refused, whoever gives it
 abbrev pub refusal_of : PolicyState → Command → Option Refusal
 refusal_of p (AddUser user) = add_user_refusal p user
 refusal_of p (DeleteUser user) = delete_user_refusal p user
@@ -109,7 +109,7 @@ answered p (Some e) next outcome = (p, Err e)
 unfoldable pub step : PolicyState → ℕ → Command → PolicyState × Result Outcome Refusal
 step p session command = answered p (option_or (guard p session command) (refusal_of p command)) (after p command) (outcome_of p command)
 
--- the step is refused for that reason, unless the reason is want of memory
+-- the step is refused for that reason, unless the reason is running out of memory
 abbrev pub IsRefused : Refusal → PolicyState × Result Outcome Refusal → PolicyState → Type 0
 IsRefused NoMemory answer p = ⊤
 IsRefused e answer p = answer ≡ (p, Err e)

@@ -1,4 +1,4 @@
--- A policy, and the state that a tried command would bring.
+-- A policy, and the state that a tried command would make.
 use Rattle.policy_core.specs.State.{PolicyState}
 
 pub record Tried : Type 0 where

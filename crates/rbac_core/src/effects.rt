@@ -14,10 +14,9 @@ use crate::command::Command;
 use policy_core::Policy;
 use std::alloc::{AllocError, Global};
 
-/// The numbers of the sessions whose access the command may have changed, by the policy before
-/// and after it, ascending: all after a grant, a revocation, a change of the hierarchy, and
-/// DeleteRole; those of the user after DeassignUser and DeleteUser; the session itself after a
-/// session command; those that lost their roles after the change of the counting; none else.
+/// The numbers of the sessions whose access the command may have changed, by the policy before and after it, ascending: all after a grant,
+/// a revocation, a change of the hierarchy, and DeleteRole; those of the user after DeassignUser and DeleteUser; the session itself after a
+/// session command; those that lost their roles after the change of the counting; none otherwise.
 pub fn affected(
     alloc: Global,
     old: &Policy,
@@ -52,7 +51,7 @@ fn one(alloc: Global, session: u32) -> Result<Vec<u32>, AllocError>
     Ok(sessions)
 }
 
-/// The sessions whose active roles are others than before.
+/// The sessions whose active roles differ from those before.
 fn lost(alloc: Global, old: &Policy, new: &Policy) -> Result<Vec<u32>, AllocError>
     ensures { IfOk result (λ sessions. sessions.items ≡ affected_sessions old.now Command.Migrate new.now) }
 {
@@ -60,7 +59,7 @@ fn lost(alloc: Global, old: &Policy, new: &Policy) -> Result<Vec<u32>, AllocErro
     lost_among(alloc, &all, old, new)
 }
 
-/// Those of the sessions whose active roles are others than before.
+/// Those of the sessions whose active roles differ from those before.
 fn lost_among(
     alloc: Global,
     all: &[u32],
@@ -78,7 +77,7 @@ fn lost_among(
     Ok(sessions)
 }
 
-/// Whether the active roles of the session are others than before.
+/// Whether the active roles of the session differ from those before.
 fn has_lost(old: &Policy, new: &Policy, session: u32) -> bool
     ensures { result ≡ has_lost old.now new.now session }
 {

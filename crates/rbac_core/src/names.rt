@@ -34,14 +34,14 @@ impl Names {
         &self.names
     }
 
-    /// The names, given back. It takes no memory.
+    /// The names, by value. It takes no memory.
     pub fn into_vec(self) -> Vec<Name>
         ensures { result.items ≡ self }
     {
         self.names
     }
 
-    /// The same names once more.
+    /// A copy of the names.
     pub fn copy(&self) -> Result<Names, AllocError>
         ensures { IfOk result (λ names. names ≡ self.now) }
     {

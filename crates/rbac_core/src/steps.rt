@@ -52,8 +52,8 @@ pub fn guard(policy: &Policy, session: u32, command: &Command) -> Option<Refusal
     guard_by(policy, session, command, policy.is_administrator(session))
 }
 
-/// Changes the policy as the command says, whoever gives it. Each kind's answer is that of the whole, so that none needs a place of its own
-/// for what it may be refused for.
+/// Changes the policy as the command says, whoever gives it. The result of each kind of command is that of the whole match, so that none
+/// needs a place of its own for its refusals.
 pub(crate) fn change(policy: &mut Policy, command: &Command) -> Result<(), Refusal>
     ensures ok { OnOk result (policy.new ≡ after policy.old command.now) }
     ensures allowed { OnOk result (refusal_of policy.old command.now ≡ None) }

@@ -11,23 +11,22 @@ use std::alloc::{AllocError, Global};
 use std::marker::Model;
 use std::mem;
 
-/// How the spare policy lies to the other.
+/// How the spare policy compares with the other.
 #[derive(Drop)]
 enum Lag {
     /// They are equal.
     Even,
     /// The spare one lacks this command.
     Behind(Command),
-    /// A command was tried on the spare one, and did not stand.
+    /// A command was tried on the spare one, and not kept.
     Ahead,
 }
 
-/// A policy with a spare one. A command is tried on the spare policy, and the two are exchanged
-/// where it is to stand; the one that is spare then lacks that command, and is brought up by it
-/// before the next is tried. So no command copies a policy, but for the one after a command that
-/// was tried and given up.
+/// A policy with a spare one. A command is tried on the spare policy, and the two are exchanged where it is to be kept. The spare one then
+/// lacks that command, and is brought up to date with it before the next command is tried. So a command copies no policy, except the one
+/// that follows a command that was tried and given up.
 ///
-/// Contracts see the policy, and the state that `settle` would bring.
+/// Contracts see the policy, and the state that `settle` would make.
 pub struct Twin {
     // Boxed, so that the two are exchanged by exchanging two words.
     policy: Box<Policy>,
@@ -35,7 +34,7 @@ pub struct Twin {
     lag: Lag,
 }
 
-// By hand, since a derived drop is written out, down to each list, at every place where a value is dropped.
+// Written by hand: a derived drop is expanded, down to each list, at every place where a value is dropped.
 impl Drop for Twin {
     fn drop(self) {
         let Twin {
@@ -79,8 +78,7 @@ impl Twin {
         &self.policy
     }
 
-    /// The policy as `settle` would make it: after the command that was tried last, and the
-    /// policy itself where none was.
+    /// The policy as `settle` would make it: after the command that was tried last, or the policy itself where none was.
     pub fn tried(&self) -> &Policy
         ensures { result.now ≡ self.now.tried }
     {
@@ -90,8 +88,8 @@ impl Twin {
         }
     }
 
-    /// Tries the command on the spare policy, which is brought up to the other first, whoever
-    /// gives it. The policy stays as it is; after a refusal nothing is tried.
+    /// Tries the command on the spare policy, which is first made equal to the other, whoever gives the command. The policy stays as it is.
+    /// What `tried` answers after a refusal is not promised.
     pub fn prepare(&mut self, command: &Command) -> Result<Outcome, Refusal>
         ensures now { self.new.now ≡ self.old.now }
         ensures ok { OnOk result (self.new.tried ≡ after self.old.now command.now) }
@@ -107,8 +105,8 @@ impl Twin {
         Ok(outcome)
     }
 
-    /// Exchanges the two policies: what was tried stands. The caller owes that this command was
-    /// tried last, and was not refused. It takes no memory.
+    /// Exchanges the two policies: what was tried is kept. It takes no memory. The contract requires that the policy does not refuse this
+    /// command, and that `tried` is the policy after it, as the last `prepare` promises where it answers `Ok`.
     pub fn settle(&mut self, command: Command)
         requires allowed { refusal_of self.old.now command ≡ None }
         requires tried { self.old.tried ≡ after self.old.now command }
@@ -121,8 +119,8 @@ impl Twin {
     }
 }
 
-/// Makes the spare policy a copy of the other; `false` where a growth was refused.
-// Apart, since a policy is large, and room for one is cleared wherever one may stand.
+/// Makes the spare policy a copy of the other; `false` where memory ran out.
+// Out of line, since a policy is large, and the stack space for one is cleared wherever one may be built.
 #[inline(never)]
 fn copy_over(policy: &Policy, spare: &mut Policy) -> bool
     ensures copied { (result ≡ true) → spare.new ≡ policy.now }
@@ -137,8 +135,7 @@ fn copy_over(policy: &Policy, spare: &mut Policy) -> bool
     }
 }
 
-/// Makes the spare policy equal to the other, by the command that it lacks, or by a copy; `false`
-/// where a growth was refused.
+/// Makes the spare policy equal to the other, by the command that it lacks, or by a copy; `false` where memory ran out.
 fn even_out(policy: &Policy, spare: &mut Policy, lag: &mut Lag) -> bool
     requires { Follows lag.old spare.old policy.now }
     ensures follows { Follows lag.new spare.new policy.now }

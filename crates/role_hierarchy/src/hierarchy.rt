@@ -25,7 +25,7 @@ pub enum HierarchyFault {
     Cycle,
 }
 
-/// Adds the pair to rows that hold all that stands below each role.
+/// Adds the pair to rows that have all that is below each role.
 fn link(reach: &mut [RoleSet], senior: u8, junior: u8)
     requires { length reach.old ≡ 256 }
     ensures { reach.new ≡ linked reach.old senior junior }
@@ -52,7 +52,7 @@ fn link_row(reach: &mut [RoleSet], senior: u8, juniors: RoleSet)
     }
 }
 
-/// Takes away each pair in which the role stands.
+/// Takes away each pair of which the role is part.
 fn clear(pairs: &mut [RoleSet], role: u8)
     requires { length pairs.old ≡ 256 }
     ensures { pairs.new ≡ cleared pairs.old role }
@@ -63,7 +63,7 @@ fn clear(pairs: &mut [RoleSet], role: u8)
     pairs[role as usize] = RoleSet::new();
 }
 
-/// Makes each row that of a role by itself.
+/// Makes each row contain its own role alone.
 fn separate(reach: &mut [RoleSet])
     requires { length reach.old ≡ 256 }
     ensures { (k : ℕ) → k < 256 → slice_index reach.new k ≡ with_role 0 k }
@@ -75,7 +75,7 @@ fn separate(reach: &mut [RoleSet])
     }
 }
 
-/// The rows of these pairs, made anew.
+/// The rows of these pairs, computed from the pairs alone.
 fn rebuild(pairs: &[RoleSet], reach: &mut [RoleSet])
     requires pairs { length pairs.now ≡ 256 }
     requires reach { length reach.old ≡ 256 }
@@ -87,14 +87,11 @@ fn rebuild(pairs: &[RoleSet], reach: &mut [RoleSet])
     }
 }
 
-/// The roles that are there and the immediate inheritance pairs among them: the sets ROLES and
-/// RH of ANSI INCITS 359-2004, 6.2.
+/// The roles that are there and the immediate inheritance pairs among them: the sets ROLES and RH of ANSI INCITS 359-2004, 6.2.
 ///
-/// A role is senior to another where a chain of immediate pairs leads from it down to the other,
-/// and to itself. Each `Hierarchy` is a partial order: no two roles are senior to each other.
-/// Beside the pairs it keeps for each role the set of all its juniors, so that seniority is one
-/// test of a bit. A call that is refused leaves the hierarchy as it was; only `new` and `copy`
-/// take memory.
+/// A role is senior to another where a chain of immediate pairs leads from it down to the other, and to itself. Each `Hierarchy` is a
+/// partial order: no two roles are senior to each other. Beside the pairs it keeps for each role the set of all its juniors, so that
+/// seniority is one test of a bit. A call that is refused leaves the hierarchy as it was; only `new` and `copy` take memory.
 #[derive(Drop)]
 pub struct Hierarchy {
     used: RoleSet,
@@ -154,8 +151,8 @@ impl Hierarchy {
         self.used.is_small();
     }
 
-    /// A law, for callers' proofs: both roles of each pair are there, and seniority is a partial
-    /// order, as ANSI INCITS 359-2004, 6.2 wants it.
+    /// A law, for callers' proofs: both roles of each pair are there, and seniority is a partial order, as ANSI INCITS 359-2004, 6.2
+    /// requires.
     pub fn is_partial_order(&self)
         ensures among { PairsAreThere self.now }
         ensures order { IsPartialOrder (IsSenior (stands self.now)) }
@@ -163,8 +160,7 @@ impl Hierarchy {
         let _pairs = &self.pairs;
     }
 
-    /// AddRole: takes the least slot that is free, and answers it. The new role stands in no
-    /// pair. `Full` exactly where 256 roles are there.
+    /// AddRole: takes the least slot that is free, and answers it. The new role is in no pair. `Full` exactly where 256 roles are there.
     pub fn add_role(&mut self) -> Result<u8, HierarchyFault>
         ensures ok { IfOk result (λ r. self.new ≡ with_slot self.old r) }
         ensures least { IfOk result (λ r. first_free self.old.roles ≡ Some r) }
@@ -186,8 +182,8 @@ impl Hierarchy {
         }
     }
 
-    /// DeleteRole: the role goes, and each immediate pair in which it stands. Its slot is free
-    /// again. `NotThere` exactly where the role is not there.
+    /// DeleteRole: the role goes, and each immediate pair of which it is part. Its slot is free again. `NotThere` exactly where the role is
+    /// not there.
     pub fn delete_role(&mut self, role: u8) -> Result<(), HierarchyFault>
         ensures ok { OnOk result (self.new ≡ without_slot self.old role) }
         ensures pairs { OnOk result ((a b : ℕ) →
@@ -260,7 +256,7 @@ impl Hierarchy {
         self.reach[a as usize].contains(b)
     }
 
-    /// Whether the two stand in an immediate pair, the first the senior.
+    /// Whether the two form an immediate pair, the first the senior.
     pub fn has_pair(&self, senior: u8, junior: u8) -> bool
         ensures { result ≡ stands self.now senior junior }
     {
@@ -306,7 +302,7 @@ impl Hierarchy {
         below
     }
 
-    /// An equal hierarchy, which changes apart from this one.
+    /// An independent copy.
     pub fn copy(&self) -> Result<Hierarchy, AllocError>
         ensures { IfOk result (λ h. h ≡ self.now) }
     {

@@ -1,4 +1,4 @@
--- The sets that have one of the coming roles stand at the places that the index gives.
+-- The sets that have one of the coming roles are at the places that the index gives.
 use Rattle.std.proofs.Common.{◌≡◌, ℕ, zero, suc, ◌<◌, Bool, true, false, ◌&&◌, ◌||◌, List, [], ◌∷◌, length, sym, refl, ap, ap₂, ◌∙◌, Some}
 use Rattle.std.specs.Prelude.{◌==◌, ◌↔◌, not, bit_and, slice_get, slice_index}
 use Rattle.std.specs.List.{list_any}
@@ -9,7 +9,7 @@ use Rattle.separation_core.specs.declared.sets.Limit.{Limit}
 use Rattle.separation_core.specs.Groups.{Groups, is_broken, breaks_coming, limits_of}
 use Rattle.separation_core.specs.Index.{set_has, IsIndex, IsPlaces, BreaksAt}
 
--- one set settles the answer
+-- one set decides the answer
 any_at : (test : Limit → Bool) (groups : Groups) (q : ℕ) (g : List ℕ × Limit) → slice_get groups q ≡ Some g → test g.1 ≡ true → list_any test (limits_of groups) ≡ true
 any_at test [] q g there pass = absurd (cc)
 any_at test (e ∷ groups) zero g there pass = let same : e ≡ g = cc in or_left _ _ (ap (λ x. test x.1) same ∙ pass)
@@ -23,7 +23,7 @@ module _ (groups : Groups) (rows : List ℕ) (coming places : ℕ) (within : (q 
   abbrev met : Limit → Bool
   met limit = not (bit_and limit.roles coming == 0)
 
-  -- a set stands at one of the places where it has one of the coming roles
+  -- a set is at one of the places exactly where it has one of the coming roles
   met_at : (q : ℕ) (g : List ℕ × Limit) → slice_get groups q ≡ Some g → has places q ≡ met g.1
   met_at q g there = by (has places q) refl
     where

@@ -43,7 +43,7 @@ upto_all roles from none role = elim (cases_lt role from) [
   | inr h ↦ and_right _ _ (none role h) ∙ sym (none role h)
 ]
 
--- a word with one digit more
+-- a word with one more digit
 pub has_marked : (word place : ℕ) → place < 64 → (q : ℕ) → has (bit_or word (1 * 2 ^ place % 2 ^ 64)) q ≡ (has word q || (q == place))
 unfolding has
 has_marked word place small q = elim (cases_eq q place) [
@@ -57,7 +57,7 @@ has_marked word place small q = elim (cases_eq q place) [
     plain true b e = refl
     plain false b e = sym e
 
--- one role more of a set that is marked
+-- one more role of a set that is marked
 module _ (roles from n place : ℕ) (low : from ≤ n) (least : (q : ℕ) → from ≤ q → q < n → has roles q ≡ false) (member : has roles n ≡ true) (small : place < 64) where
   abbrev Marked : List ℕ → ℕ → List ℕ → Type 0
   Marked old bound new = (role q : ℕ) → role < 256 → has (get_or new role 0) q ≡ (has (get_or old role 0) q || ((q == place) && upto roles bound role))
@@ -85,7 +85,7 @@ module _ (roles from n place : ℕ) (low : from ≤ n) (least : (q : ℕ) → fr
       joins false true false false e f = absurd (false≢true f)
       joins false false c d e f = refl
 
--- one role more whose row is joined
+-- one more role whose row is joined
 module _ (roles from n : ℕ) (low : from ≤ n) (least : (q : ℕ) → from ≤ q → q < n → has roles q ≡ false) (member : has roles n ≡ true) where
   pub join_more : (rows : List ℕ) (places : ℕ) →
       ((q : ℕ) → ((has places q ≡ true) → ((role : ℕ) × (role < from) × (has roles role ≡ true) × (has (get_or rows role 0) q ≡ true)))
@@ -173,7 +173,7 @@ kept_grown old rows whole same fresh groups kept = record {
     none zero q empty = omega arith
     none (suc n) q empty = absurd (empty (omega arith))
 
--- one set more, the last, whose roles are marked
+-- one more set, the last, whose roles are marked
 pub index_with : (groups : Groups) (old rows : List ℕ) (g : List ℕ × Limit) → length rows ≡ 256 → length old ≡ 256 → IsIndex old groups →
     ((role q : ℕ) → role < 256 → has (get_or rows role 0) q ≡ (has (get_or old role 0) q || ((q == length groups) && has g.1.roles role))) → IsIndex rows (groups ++ g ∷ [])
 index_with groups old rows g whole before_it index marked role q h =
@@ -207,6 +207,6 @@ pub some_named : (groups : Groups) (name : List ℕ) → is_some (limit_of group
 some_named [] name there = absurd (false≢true there)
 some_named (g ∷ groups) name there = omega arith
 
--- rows that were written anew are the index
+-- rows that were all written again are the index
 pub kept_renewed : (groups : Groups) (kept_len : ℕ) (rows rest : List ℕ) → AreSets groups → length rows ≡ 256 → length rows ≡ kept_len → IsIndex rows groups → IsKept groups (take kept_len (rows ++ rest))
 kept_renewed groups n rows rest sets whole e index = subst (IsKept groups) (sym (written n rows rest e)) (record { sets = sets; whole = λ some. whole; index = index })

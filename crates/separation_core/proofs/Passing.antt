@@ -1,4 +1,4 @@
--- Sets that are passed over: those of which too few roles are among the given ones.
+-- Sets that are skipped: those of which too few roles are among the given ones.
 use Rattle.std.proofs.Common.{◌≡◌, ℕ, suc, ◌+◌, ◌*◌, ◌^◌, ◌<◌, ◌≤◌, Bool, true, false, cond, ◌&&◌, ◌||◌, List, [], ◌∷◌, length, sym, refl, ap, ap₂, ◌∙◌, arith, Option, Some, None, eqb}
 use Rattle.std.specs.Prelude.{◌==◌, not, count_ones, bit_and, position, nat_lt}
 use Rattle.std.specs.List.{list_any, list_all, position_or_len}
@@ -24,7 +24,7 @@ none_of test (limit ∷ limits) whole sound =
     let parts = and_parts _ _ sound in
     ap₂ (λ s t. s || t) (whole limit parts.0) (none_of test limits whole parts.1)
 
--- a test before the test, which each set passes that passes the test
+-- a first test that each set passes which passes the second one
 kept_of : (kept test : Limit → Bool) (limits : List Limit) → ((limit : Limit) → is_sound limit ≡ true → kept limit ≡ false → test limit ≡ false) → list_all is_sound limits ≡ true →
     list_any (λ limit. kept limit && test limit) limits ≡ list_any test limits
 kept_of kept test [] whole sound = refl
@@ -61,7 +61,7 @@ module _ (role : ℕ) where
       few : (n a b : ℕ) → n ≡ a + b → a ≤ 1 → b ≤ 0 → n < 2
       few n a b e h k = omega (arith, e, h, k)
 
--- a set that has none of the given roles but for one is whole
+-- a set that has none of the given roles except one is not broken
 pub rest_of_all : (given role : ℕ) (groups : Groups) → list_all is_sound (limits_of groups) ≡ true → breaks_coming given (without given role) groups ≡ list_any (is_broken given) (limits_of groups)
 rest_of_all given role groups sound = kept_of (λ limit. not (bit_and limit.roles (without given role) == 0)) (is_broken given) (limits_of groups) (λ limit s unmet. whole limit s unmet) sound
   where
@@ -78,7 +78,7 @@ rest_of_all given role groups sound = kept_of (λ limit. not (bit_and limit.role
         let none : bit_and limit.roles (without given role) ≡ 0 = eqb-true _ _ (not-false _ unmet) in
         unbroken given (2 ^ role) limit s (λ q h. same limit none q h (eqb q role) refl) (alone_few role)
 
--- where the roles but for the coming ones broke no set, a set that has none of the coming ones is whole
+-- where the roles without the coming ones broke no set, a set that has none of the coming ones is not broken
 module _ (before given coming : ℕ) (within : (q : ℕ) → has given q ≡ true → has coming q ≡ false → has before q ≡ true) where
   unmet : (limit : Limit) → is_broken before limit ≡ false → not (bit_and limit.roles coming == 0) ≡ false → is_broken given limit ≡ false
   unmet limit whole apart_from =

@@ -1,4 +1,4 @@
--- Where the first broken set stands.
+-- The place of the first broken set.
 use Rattle.std.proofs.Common.{◌≡◌, ℕ, suc, ◌+◌, ◌≤◌, Bool, true, false, cond, List, [], ◌∷◌, length, sym, refl, ap, ◌∙◌, arith, Option, Some, None}
 use Rattle.std.specs.Prelude.{not, is_some, slice_get, position, nat_lt}
 use Rattle.std.specs.List.{position_or_len}
@@ -14,7 +14,7 @@ use Rattle.separation_core.specs.GroupLaws.{first_broken-holds, holds-first_brok
 abbrev place_in : ℕ → Groups → ℕ
 place_in given groups = position_or_len (is_broken given) (limits_of groups)
 
--- the first broken set stands there
+-- the first broken set is at that place
 at_place : (given : ℕ) (groups : Groups) → first_broken given groups ≡ option_map (λ g. g.0) (slice_get groups (place_in given groups))
 unfolding first_broken
 at_place given [] = refl

@@ -52,7 +52,7 @@ module _ (word : ℕ) (some : 0 < word) (small : word < 2 ^ 64) where
     ]
   ]
 
-  -- where all but the lowest is settled, and the lowest is, all is
+  -- where all but the lowest are settled, and the lowest is, all are
   pub past_low : (Is : ℕ → Type 0) → Is low → ((q : ℕ) → has word q ≡ false → Is q) → (q : ℕ) → has rest_of q ≡ false → Is q
   past_low Is here past q gone = by (has word q) refl
     where

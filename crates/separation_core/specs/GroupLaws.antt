@@ -128,7 +128,7 @@ first_broken-changed_fewer given (g ∷ groups) name f fewer none = elim (bytes_
     front : (is_broken given g.1 ≡ false) × (first_broken given groups ≡ None)
     front = first_broken-front given g groups none
 
--- one set less
+-- one set fewer
 pub first_broken-without_set : (given : ℕ) (groups : Groups) (name : List ℕ) → first_broken given groups ≡ None → first_broken given (without_set groups name) ≡ None
 first_broken-without_set given [] name none = none
 first_broken-without_set given (g ∷ groups) name none = elim (bytes_eq name g.0) as (λ b. first_broken given (cond b groups (g ∷ without_set groups name)) ≡ None) [
@@ -167,7 +167,7 @@ holds-first_broken given (g ∷ groups) holds =
     first_broken-skip given g groups (lt-leb _ _ (holds g.0 g.1 (0, omega arith, refl)))
     ∙ holds-first_broken given groups (λ name limit there. holds name limit (suc there.0, omega (arith, there.1), there.2))
 
--- the map's own word for a set that is there
+-- the map's own insertion, for a set that is there
 pub insert_entry-changed : (groups : Groups) (name : List ℕ) (limit : Limit) → is_some (limit_of groups name) ≡ true → insert_entry bytes_eq groups name limit ≡ changed groups name (λ _. limit)
 insert_entry-changed [] name limit there = absurd (false≢true there)
 insert_entry-changed (g ∷ groups) name limit there =
@@ -177,7 +177,7 @@ insert_entry-changed (g ∷ groups) name limit there =
       | false ↦ λ h. ap (λ gs. g ∷ gs) (insert_entry-changed groups name limit h)
     ] there
 
--- a change of what a set was into what it is to be
+-- changing a set into what it is to be
 pub changed-known : (groups : Groups) (name : List ℕ) (f : Limit → Limit) (limit next : Limit) → limit_of groups name ≡ Some limit → next ≡ f limit → changed groups name (λ _. next) ≡ changed groups name f
 changed-known [] name f limit next there e = refl
 changed-known (g ∷ groups) name f limit next there e =
@@ -396,7 +396,7 @@ breaking-without_member all groups name role none = breaking-changed_fewer all g
     each limit [] whole = refl
     each limit (x ∷ xs) whole = (let parts = or_parts _ _ whole in ap₂ (λ s t. s || t) (is_broken-limit_without x role limit parts.0) (each limit xs parts.1))
 
--- one set less
+-- one set fewer
 pub breaking-without_set : (all : List ℕ) (groups : Groups) (name : List ℕ) → first_breaking all groups ≡ None → first_breaking all (without_set groups name) ≡ None
 breaking-without_set all [] name none = none
 breaking-without_set all (g ∷ groups) name none = elim (bytes_eq name g.0) as (λ b. first_breaking all (cond b groups (g ∷ without_set groups name)) ≡ None) [

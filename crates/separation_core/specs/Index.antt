@@ -17,7 +17,7 @@ has_at groups place role = set_has (slice_get groups place) role
 abbrev pub IsIndex : List ℕ → Groups → Type 0
 IsIndex rows groups = (role place : ℕ) → role < length rows → has (slice_index rows role) place ≡ has_at groups place role
 
--- the places that stand in the row of one of the roles
+-- the places that are in the row of one of the roles
 abbrev pub IsPlaces : ℕ → List ℕ → ℕ → Type 0
 IsPlaces places rows roles = (place : ℕ) → (has places place ≡ true) ↔ ((role : ℕ) × (has roles role ≡ true) × (has (slice_index rows role) place ≡ true))
 

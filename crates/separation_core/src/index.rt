@@ -1,5 +1,5 @@
-//! The sets by role: a row of 64 digits for each of the 256 roles, whose digit 1 at a place says
-//! that the set at that place, from 0, has the role.
+//! The sets by role: a row of 64 digits for each of the 256 roles, whose digit at a place is 1 where the set at that place, from 0, has the
+//! role.
 ghost use Rattle.std.specs.Prelude.{◌≡◌, ℕ, ◌<◌, ◌≤◌, ◌==◌, ◌&&◌, ◌||◌, length, slice_index, OnOk};
 ghost use Rattle.role_hierarchy.specs.Roles.{has};
 ghost use Rattle.separation_core.specs.Index.{IsIndex, IsKept, IsPlaces};
@@ -37,7 +37,7 @@ pub(crate) fn mark(rows: &mut [u64], place: u32, roles: RoleSet)
     }
 }
 
-/// Writes each row anew.
+/// Writes each row again.
 pub(crate) fn renew(rows: &mut [u64], groups: &IndexMap<Name, Limit>)
     requires rows { length rows.old ≡ 256 }
     requires few { length groups.now.entries ≤ 64 }

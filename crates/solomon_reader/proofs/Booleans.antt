@@ -36,7 +36,7 @@ lt_from n m e = grind (arith, nat_tests)
 pub lt_test : (n m : ℕ) → n < m → nat_lt n m ≡ true
 lt_test n m h = grind (arith, nat_tests)
 
--- where no row stands before it, the demand is 0
+-- where no row comes before it, the demand is 0
 pub depot_from : (count demand : ℕ) → (nat_lt 0 count || eqb demand 0) ≡ true → count ≡ 0 → demand ≡ 0
 depot_from count demand e z = grind (arith, nat_tests)
 

@@ -25,7 +25,7 @@ pub fail_step : {A B : Type 0} (b : Bool) (r : Result A Fault) (s : Result B Fau
 fail_step true r s d f e h = h e
 fail_step false r s d f e h = err_again d f e
 
--- checks that hold say nothing more
+-- checks that hold add nothing
 pub checked_more : {A B : Type 0} (cs more : List Check) (x y : A) (v : B) → checked cs x ≡ done y → checked (cs ++ more) v ≡ checked more v
 checked_more [] more x y v e = refl
 checked_more (c ∷ cs) more x y v e =
@@ -36,7 +36,7 @@ pub checked_value : {A : Type 0} (cs : List Check) (x y : A) → checked cs x �
 checked_value [] x y e = ok_is x y e
 checked_value (c ∷ cs) x y e = checked_value cs x y (held c.holds (checked cs x) (record { kind = c.kind; line = c.line }) y e).1
 
--- the first fault is that of the whole
+-- the first fault is that of the whole list
 pub checked_fails : {A B : Type 0} (cs more : List Check) (x : A) (v : B) (f : Fault) → checked cs x ≡ failed f → checked (cs ++ more) v ≡ failed f
 checked_fails [] more x v f e = absurd cc
 checked_fails (c ∷ cs) more x v f e = fail_step c.holds (checked cs x) (checked (cs ++ more) v) (record { kind = c.kind; line = c.line }) f e (λ h. checked_fails cs more x v f h)

@@ -1,4 +1,4 @@
--- A field is a number just where it has the form of one.
+-- A field is a number exactly where it has the form of one.
 use Rattle.std.proofs.Common.{◌≡◌, ℕ, zero, suc, ◌+◌, ◌^◌, ◌<◌, ◌≤◌, Bool, true, false, eqb, cond, List, [], ◌∷◌, ◌++◌, length, replicate, Option, Some, None, inl, inr, refl, sym, ap, ◌∙◌, arith}
 use Rattle.std.specs.Prelude.{nat_le, nat_lt, is_some, unwrap_or}
 use Rattle.std.specs.List.{slice_split, onto_first, list_all, join_with_byte}

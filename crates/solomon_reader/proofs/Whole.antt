@@ -36,7 +36,7 @@ pub start : (m : ℕ) (lines : List Numbered) → checked (from_name m lines) (i
 unfolding checks
 start m lines = refl
 
--- a part that holds is passed over
+-- a part that holds is skipped
 pub passed : {A : Type 0} (part rest : ℕ → List Numbered → List Check) (m m' : ℕ) (lines lines' : List Numbered) (x y : A) (v : Plain) (whole : Result Plain Fault) → checked (part m lines ++ rest m (tail lines)) v ≡ whole → checked (part m lines) x ≡ Ok y → lines' ≡ tail lines → m' ≡ m → checked (rest m' lines') v ≡ whole
 passed part rest m m' lines lines' x y v whole h e l k = rw (k, l) (sym (checked_more (part m lines) (rest m (tail lines)) x y v e) ∙ h)
 

@@ -7,7 +7,7 @@ use Rattle.solomon_reader.specs.Fields.{is_field, field_value, is_keyword, trimm
 use Rattle.solomon_reader.specs.declared.fault.Kind.{Kind}
 use Rattle.solomon_reader.specs.declared.fault.Kind.TheVariants.{Name, Vehicle, Fleet, Customer, Heading, Fields, Number, Order, Window, Depot, Count, End}
 
--- a fault and its line
+-- a fault: its kind and its line
 pub record Fault : Type 0 where
   pub kind : Kind
   pub line : ℕ
@@ -15,7 +15,7 @@ pub record Fault : Type 0 where
 abbrev pub fault : {A : Type 0} → Kind → ℕ → Result A Fault
 fault k n = Err (record { kind = k; line = n })
 
--- a check: the fault that it answers, its line, and whether it holds
+-- a check: the fault that it gives, its line, and whether it holds
 pub record Check : Type 0 where
   pub kind : Kind
   pub line : ℕ
@@ -98,7 +98,7 @@ abbrev pub fleet_checks : ℕ → List Numbered → List Check
 fleet_checks missing [] = check Fleet missing false ∷ []
 fleet_checks missing (line ∷ more) = fleet_line_checks line.number (words line.text)
 
--- the checks of a node row on line n, where so many rows stand before it
+-- the checks of a node row on line n, with this many rows before it
 abbrev pub row_checks : ℕ → ℕ → List (List ℕ) → List Check
 row_checks count n fields =
     check Count n (nat_lt count 1001)

@@ -4,7 +4,7 @@ use Rattle.std.specs.List.{slice_split}
 use Rattle.std.specs.Io.BufRead.{strip_last}
 use Rattle.text_words.specs.Words.{words}
 
--- Each line without one carriage return at its end. What stands behind the last line end is a line unless it is empty.
+-- Each line without one carriage return at its end. What follows the last line end is a line unless it is empty.
 abbrev pub lines_of_parts : List (List ℕ) → List (List ℕ)
 lines_of_parts [] = []
 lines_of_parts (part ∷ []) = if length part == 0 then [] else (strip_last 13 part ∷ [])
@@ -22,12 +22,12 @@ pub record Numbered : Type 0 where
 abbrev pub numbered : ℕ → List ℕ → Numbered
 numbered n text = record { number = n; text = text }
 
--- the line and what follows, or what follows alone where the line has no word
+-- the line and what follows, or only what follows where the line has no word
 abbrev pub unless_blank : Numbered → List (List ℕ) → List Numbered → List Numbered
 unless_blank line [] more = more
 unless_blank line (w ∷ ws) more = line ∷ more
 
--- the lines that are not blank, where the first of all has number n
+-- the lines that are not blank, where the first line has number n
 abbrev pub full_lines : ℕ → List (List ℕ) → List Numbered
 full_lines n [] = []
 full_lines n (line ∷ more) = unless_blank (numbered n line) (words line) (full_lines (n + 1) more)

@@ -1,4 +1,4 @@
--- An instance, and the lines that say it.
+-- An instance, and the lines that describe it.
 use Rattle.std.specs.Prelude.{◌≡◌, ℕ, ◌+◌, ◌≤◌, List, [], ◌∷◌, length, get_or, All, codes, string_bytes}
 use Rattle.std.specs.List.{AllZip}
 use Rattle.text_words.specs.Words.{words}
@@ -7,7 +7,7 @@ use Rattle.solomon_reader.specs.Fields.{IsNumber, IsKeyword, IsTrimmed, IsName}
 use Rattle.solomon_reader.specs.declared.instance.Instance.{Instance}
 use Rattle.solomon_reader.specs.declared.instance.Node.{Node}
 
--- an instance without where it lies in memory
+-- an instance, without saying where it lies in memory
 pub record Plain : Type 0 where
   pub name : List ℕ
   pub vehicles : ℕ
@@ -23,7 +23,7 @@ view i = record { name = string_bytes i.name; vehicles = i.vehicles; capacity = 
 abbrev pub IsRow : ℕ → Node → List (List ℕ) → Type 0
 IsRow place node fields = AllZip IsNumber fields (place ∷ node.x ∷ node.y ∷ node.demand ∷ node.ready ∷ node.due ∷ node.service ∷ [])
 
--- the rows are the nodes in order, where so many stand before them
+-- the rows are the nodes in order, after this many others
 abbrev pub AreRows : ℕ → List Numbered → List Node → Type 0
 AreRows count [] [] = Unit {0}
 AreRows count (line ∷ lines) (node ∷ nodes) = IsRow count node (words line.text) × (node.ready ≤ node.due) × (count ≡ 0 → node.demand ≡ 0) × AreRows (count + 1) lines nodes

@@ -16,15 +16,15 @@ pub enum Kind {
     Name,
     /// The line is not the one field `VEHICLE`.
     Vehicle,
-    /// The line is not `NUMBER CAPACITY`, or the next not two fields.
+    /// The line is not `NUMBER CAPACITY`, or the next line has not two fields.
     Fleet,
     /// The line is not the one field `CUSTOMER`.
     Customer,
     /// The first field of the line is not `CUST`.
     Heading,
-    /// A node row has not seven fields.
+    /// A node row does not have seven fields.
     Fields,
-    /// A field is no number.
+    /// A field is not a number.
     Number,
     /// The number of a node row is not the count of node rows before it.
     Order,

@@ -10,7 +10,7 @@ pub struct Node {
     pub x: u32,
     /// The second coordinate.
     pub y: u32,
-    /// What the node takes of a vehicle's capacity; 0 at the depot.
+    /// How much of a vehicle's capacity the node takes; 0 at the depot.
     pub demand: u32,
     /// The earliest time at which service may begin, at most `due`.
     pub ready: u32,
@@ -30,7 +30,7 @@ pub struct Instance {
     pub name: String,
     /// How many vehicles there are.
     pub vehicles: u32,
-    /// What each vehicle carries.
+    /// How much each vehicle can carry.
     pub capacity: u32,
     /// The nodes in the order of their numbers.
     pub nodes: Vec<Node>,

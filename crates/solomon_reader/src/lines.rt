@@ -37,7 +37,7 @@ fn first_line(text: &[u8]) -> (&[u8], &[u8])
 }
 
 impl<'a> Lines<'a> {
-    /// The next line that is not blank. Its first words, at most `most` of them, are then in `kept`.
+    /// The next line that is not blank. Its first words, at most `most` of them, which is at least 1, are then in `kept`.
     pub fn next_full(
         &mut self,
         kept: &mut Vec<&'a [u8]>,

@@ -14,13 +14,13 @@ use crate::instance::{Instance, Node};
 use crate::lines::Lines;
 use std::alloc::Global;
 
-/// The greatest number of nodes, the depot with them.
+/// The greatest number of nodes, including the depot.
 const MAX_NODES: usize = 1001;
 
 /// The greatest number of vehicles.
 const MAX_VEHICLES: u32 = 1000;
 
-/// The greatest number of words that decide over a heading.
+/// How many words of a heading line matter at most.
 const HEADING_WORDS: usize = 2;
 
 /// How many fields the line of the fleet has.
@@ -35,7 +35,7 @@ fn number_at(word: &[u8], line: usize) -> Result<u32, ReadFault>
     number_in(word).ok_or(ReadFault::At(Kind::Number, line))
 }
 
-/// The words of the line in work, in a buffer that is kept from line to line.
+/// The words of the current line, in a buffer that is kept from line to line.
 type Words<'a> = Vec<&'a [u8]>;
 
 fn name<'a>(
@@ -120,7 +120,7 @@ fn row_fields(number: usize, words: &[&[u8]]) -> Result<(u32, Node), ReadFault>
     Ok((place, node))
 }
 
-/// The node of a row, where so many rows stand before it.
+/// The node of a row, with this many rows before it.
 #[tactic(auto, unfolding(crate::specs::Parts::row_of))]
 fn row(count: usize, number: usize, words: &[&[u8]]) -> Result<Node, ReadFault>
     ensures { Gives (λ node. node) result (row_of count number (map (λ w. w.now) words.now)) }
@@ -182,13 +182,12 @@ fn all(alloc: Global, text: &[u8]) -> Result<Instance, ReadFault>
     })
 }
 
-/// The instance that a text gives in Solomon's format for vehicle routing with time windows, as the
-/// set of Gehring and Homberger uses it too, or its first fault in the order of the file.
+/// The instance that a text gives in Solomon's format for vehicle routing with time windows, which the sets of Gehring and Homberger use
+/// too; or its first fault in the order of the file.
 ///
-/// Lines end at a line feed, with or without a carriage return before it; the last needs no end.
-/// Blank lines are skipped anywhere. In order stand the name, `VEHICLE`, `NUMBER CAPACITY`, their
-/// values, `CUSTOMER`, a heading that begins with `CUST`, and the node rows: number, x, y, demand,
-/// ready time, due date, service time.
+/// Lines end at a line feed, with or without a carriage return before it; the last line needs no end. Blank lines are skipped anywhere. The
+/// parts come in this order: the name, `VEHICLE`, `NUMBER CAPACITY`, their values, `CUSTOMER`, a heading that begins with `CUST`, and the
+/// node rows: number, x, y, demand, ready time, due date, service time.
 pub fn read(alloc: Global, text: &[u8]) -> Result<Instance, ReadFault>
     // What is read is what the lines say, in order.
     ensures found { IfOk result (λ i. IsInstance (full_left 1 text.now) (view i)) }

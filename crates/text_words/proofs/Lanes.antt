@@ -131,7 +131,7 @@ none_to_know text from = record {
   only = λ k set. absurd (omega (arith, no_bit k));
 }
 
--- the ends behind the first of them
+-- the ends after the first of them
 pub ends_behind : (text : List ℕ) (from base bits bit left : ℕ) → AreWordEnds text from base bits → bit_at bits bit ≡ 1 → ((k : ℕ) → k < bit → bit_at bits k ≡ 0)
     → ((k : ℕ) → k < 64 → k ≢ bit → bit_at left k ≡ bit_at bits k) → ((k : ℕ) → bit_at left k ≡ 1 → (bit_at bits k ≡ 1) × (k ≢ bit))
     → AreWordEnds text (base + bit + 1) base left

@@ -13,7 +13,7 @@ pub record IsWordEnd (text : List ℕ) (from i : ℕ) : Type 0 where
   pub high : i < length text
   pub end : ends_word (slice_index text i) ≡ true
 
--- the bits are those of places of a text, counted from a base, where a word ends; the first of them is the first from a place on
+-- the bits are those of places of a text, counted from a base, where a word ends; the first of them is the first end from a place on
 pub record AreWordEnds (text : List ℕ) (from base bits : ℕ) : Type 0 where
   pub none : EndsNoWord text from base
   pub each : (k j : ℕ) → k < j → bit_at bits j ≡ 1 → from ≤ base + k → ends_word (slice_index text (base + k)) ≡ true → bit_at bits k ≡ 1

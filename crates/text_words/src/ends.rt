@@ -82,7 +82,7 @@ fn near_end(text: &[u8], from: usize) -> usize
     text.len()
 }
 
-/// Where the next words end from a place on: a place and a bit for each end behind it. None where no word ends there.
+/// Where the next words end from a place on: a place, and a bit for each end after it. None where no word ends there.
 #[inline(always)]
 fn more_ends(text: &[u8], from: usize) -> Option<(usize, u64)>
     requires { from ≤ length text.now }

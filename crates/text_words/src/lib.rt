@@ -10,14 +10,14 @@ mod ends;
 use crate::ends::{first_end, known_ends};
 use std::alloc::{AllocError, Global};
 
-/// Whether the byte parts words: a space or a tab.
+/// Whether the byte separates words: a space or a tab.
 pub fn is_gap(byte: u8) -> bool
     ensures { result ≡ is_gap byte }
 {
     byte == b' ' || byte == b'\t'
 }
 
-/// What stands before the first separator, and what stands after it, if there is one.
+/// What comes before the first separator, and what comes after it, if there is one.
 pub fn cut_at(text: &[u8], separator: u8) -> (&[u8], Option<&[u8]>)
     ensures parts { MatchOption result.1 (slice_split (λ b. b == separator) text.now ≡ result.0.now ∷ [])
         (λ rest. slice_split (λ b. b == separator) text.now ≡ result.0.now ∷ slice_split (λ b. b == separator) rest.now) }
@@ -48,9 +48,9 @@ fn part_end(line: &[u8], from: usize) -> usize
     line.len()
 }
 
-/// Makes `kept` the words of a line, from the left, and no more than the first `most` of them: what stands between the
-/// line's spaces and tabs. Any other byte, a carriage return too, belongs to its word. The line is gone through once, and
-/// no further than to the end of the last word that is kept.
+/// Makes `kept` the words of a line, from the left, and no more than the first `most` of them: what is between the line's spaces and tabs.
+/// Any other byte, a carriage return too, belongs to its word. The line is read once, and no further than the end of the last word that is
+/// kept.
 pub fn keep_words<'a>(
     kept: &mut Vec<&'a [u8]>,
     line: &'a [u8],
@@ -86,7 +86,7 @@ pub fn words_of(alloc: Global, line: &[u8]) -> Result<Vec<&[u8]>, AllocError>
     Ok(kept)
 }
 
-/// Keeps what stands from one place up to another, unless that is nothing.
+/// Keeps what is between two places, unless that is nothing.
 #[inline(always)]
 fn keep_part<'a>(
     kept: &mut Vec<&'a [u8]>,
@@ -104,8 +104,8 @@ fn keep_part<'a>(
     Ok(())
 }
 
-/// Makes `kept` the words of a text's first line, and gives the place of the line feed that ends it. Line and words are cut
-/// in one pass. Where the text has no line feed, there is no such place, and no more is said of `kept`.
+/// Makes `kept` the words of a text's first line, and gives the place of the line feed that ends it. Line and words are cut in one pass.
+/// Where the text has no line feed, there is no such place, and `kept` may contain anything.
 #[inline(always)]
 pub fn keep_line<'a>(kept: &mut Vec<&'a [u8]>, text: &'a [u8]) -> Result<Option<usize>, AllocError>
     ensures end { IfOk result (λ end. MatchOption end (HasNoLineFeed text.now) (IsLineEnd text.now)) }
@@ -130,8 +130,8 @@ pub fn keep_line<'a>(kept: &mut Vec<&'a [u8]>, text: &'a [u8]) -> Result<Option<
     }
 }
 
-// Short numbers, without a loop. The byte of a digit is 48 more than its value, so what the bytes of one to four digits come to is
-// 48, 528, 5,328 or 53,328 too much.
+// Short numbers, without a loop. The byte of a digit is 48 more than its value, so the sum for one to four digits is 48, 528, 5,328 or
+// 53,328 too much.
 
 /// The number that one digit is, and whether it is a digit.
 #[inline(always)]
@@ -176,7 +176,7 @@ fn four_digits(a: u8, b: u8, c: u8, d: u8) -> (u32, bool)
     (sum.saturating_sub(53328), are_digits)
 }
 
-/// What `number_of` answers, read digit by digit: in less room, and faster where words have more than four digits.
+/// What `number_of` answers, read digit by digit: in less code, and faster where words have more than four digits.
 pub fn number_by_digits(word: &[u8]) -> Option<u32>
     ensures { result ≡ number word.now }
 {
@@ -193,7 +193,7 @@ pub fn number_by_digits(word: &[u8]) -> Option<u32>
     u32::try_from(value).ok()
 }
 
-// Apart, since most words are short.
+// Out of line, since most words are short.
 #[inline(never)]
 fn long_number(word: &[u8]) -> Option<u32>
     ensures { result ≡ number word.now }
@@ -218,7 +218,7 @@ fn read_number(word: &[u8]) -> (u32, bool)
     }
 }
 
-/// The number that a word is: 1 to 10 digits, with a value of at most 4,294,967,295. It is made for short words.
+/// The number that a word is: 1 to 10 digits, with a value of at most 4,294,967,295. It is fastest for short words.
 #[inline(always)]
 pub fn number_of(word: &[u8]) -> Option<u32>
     ensures { result ≡ number word.now }

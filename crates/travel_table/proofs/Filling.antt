@@ -26,7 +26,7 @@ set_small entries p t small f = λ k below.
 apart : (a b c d n : ℕ) → b < n → d < n → ((a ≡ c) → (b ≡ d) → ⊥) → a * n + b ≢ c * n + d
 apart a b c d n h k f = λ e. let s = same_from_place a b c d n h k e in f s.0 s.1
 
--- what stands at a place that neither of two writes goes to
+-- what is at a place to which neither of two writes goes
 kept : (entries : List ℕ) (p q k t : ℕ) → k ≢ p → k ≢ q → slice_index (set (set entries p t) q t) k ≡ slice_index entries k
 kept entries p q k t f g = get_or-set_other (set entries p t) q k t 0 g ∙ get_or-set_other entries p k t 0 f
 
@@ -39,7 +39,7 @@ written_last entries p q t h = get_or-set_same (set entries p t) q t 0 (subst (�
 turned : (nodes : List Node) (i j t : ℕ) → IsTravel nodes i j t → IsTravel nodes j i t
 turned nodes i j t r = subst (λ (n : ℕ). IsRoot n t) (square_between-comm (node_at nodes i) (node_at nodes j)) r
 
--- one pair more
+-- one more pair
 pub known_more : (nodes : List Node) (entries : List ℕ) (i j t : ℕ) → i < j → j < length nodes → AreKnown nodes entries (i * length nodes + j)
     → IsTravel nodes i j t → t ≤ 141421342
     → AreKnown nodes (set (set entries (i * length nodes + j) t) (j * length nodes + i) t) (i * length nodes + (j + 1))
@@ -80,7 +80,7 @@ known_more nodes entries i j t lt h f r small =
       ];
     }
 
--- the way of a node to itself, the first of its pairs
+-- the travel of a node to itself, the first of its pairs
 pub known_own : (nodes : List Node) (entries : List ℕ) (i : ℕ) → i < length nodes → AreKnown nodes entries (i * length nodes)
     → AreKnown nodes (set entries (i * length nodes + i) 0) (i * length nodes + (i + 1))
 known_own nodes entries i h f =

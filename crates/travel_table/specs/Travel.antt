@@ -40,7 +40,7 @@ pub record IsNear (node : Node) : Type 0 where
   pub x : node.x ≤ 9999999
   pub y : node.y ≤ 9999999
 
--- Each pair of a node and itself or a later one, in the order of the rows, up to so many entries, has its travel both ways.
+-- Each pair of a node and itself or a later one, in the order of the rows, up to this many entries, has its travel both ways.
 pub record AreKnown (nodes : List Node) (entries : List ℕ) (count : ℕ) : Type 0 where
   pub counted : length entries ≡ length nodes * length nodes
   pub small : (k : ℕ) → k < length entries → slice_index entries k ≤ 141421342

@@ -3,14 +3,14 @@ ghost use Rattle.travel_table.specs.Root.{IsRoot};
 
 use std::num::nearest_u64_to_f64;
 
-/// From 2 to its 51st on, two neighbours among the doubles differ by one half, so that the sum of a small number and this
-/// one, which is one half below 2 to the 52nd, has the number without its fraction in its low bits, or one less.
+/// From 2 to its 51st on, two neighbours among the doubles differ by one half. So the sum of a small number and this one, which is one half
+/// below 2 to the 52nd, has the number without its fraction in its low bits, or one less.
 const SHIFT: f64 = 4503599627370495.5;
 
-/// A little more than 1, so that the root of a square, times this, is not one half below it after the shift.
+/// A little more than 1. The root of a square, multiplied by this, is not one half below it after the shift.
 pub const UP: f64 = 1.0000000000001;
 
-/// The whole part of a number below 2 to the 32nd, or one less. Nothing is proved of it, and nothing rests on it.
+/// The whole part of a number below 2 to the 32nd, or one less. Nothing is proved of it, and nothing depends on it.
 #[inline(always)]
 pub fn whole_part(x: f64) -> u32 {
     let sum = x + SHIFT;
@@ -53,7 +53,7 @@ fn halved(n: u64) -> u32
     low as u32
 }
 
-/// The greatest whole number whose square is at most `n`, which is found at once where the guess is right.
+/// The greatest whole number whose square is at most `n`. It is found at once where the guess is right.
 #[inline(always)]
 pub fn root_near(n: u64, guess: u32) -> u32
     ensures { IsRoot n result }

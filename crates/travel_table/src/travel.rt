@@ -81,11 +81,12 @@ fn fill_node(entries: &mut [u32], nodes: &[Node], i: usize)
     }
 }
 
-/// What stands in an entry that is not filled yet. Its bytes differ, so that a table is made by wide stores and not byte by byte.
+/// The value of an entry that is not filled yet. Its bytes differ, so that a table is made by wide stores and not byte by byte.
 const UNFILLED: u32 = 1;
 
 impl Travel {
-    /// The travel between the nodes of an instance. Running out of memory is its only refusal.
+    /// The travel between the nodes of an instance, in which no coordinate may be above 9,999,999. Running out of memory is its only
+    /// refusal.
     pub fn of(alloc: Global, instance: &Instance) -> Result<Travel, AllocError>
         requires { All IsNear instance.now.nodes.items }
         ensures { IfOk result (IsTravelOf instance.now.nodes.items) }
@@ -111,7 +112,7 @@ impl Travel {
         self.size
     }
 
-    /// The travel from node `i` to node `j`, in tenths of a distance unit. It takes no memory.
+    /// The travel from node `i` to node `j`, both below `nodes()`, in tenths of a distance unit. It takes no memory.
     pub fn get(&self, i: u32, j: u32) -> u32
         requires from { i < self.now.size }
         requires to { j < self.now.size }

@@ -2,7 +2,7 @@ use Rattle.std.proofs.Common.{◌≡◌, ◌++◌, ◌+◌, ◌-◌, ◌≤◌, 
 use Rattle.text_words.specs.Words.{words}
 use Rattle.text_words.proofs.keep_words.Given as goal
 
--- the words so far, and the words from the place in work on
+-- the words so far, and the words from the current place on
 abbrev pub invariant-loop-start : goal.invariant-loop-start
 invariant-loop-start l = record {
   found : map (λ w. w.now) l.kept.items ++ words (drop l.start l.line) ≡ words l.line;

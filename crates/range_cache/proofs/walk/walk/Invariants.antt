@@ -8,7 +8,7 @@ use Rattle.dimension_core.specs.declared.range.Range.{Range}
 use Rattle.range_cache.specs.Track.{IsTrack}
 use Rattle.range_cache.proofs.walk.walk.Given as goal
 
--- the ranges of the customers so far stand behind the others, and the range is that of the last of them
+-- the ranges of the customers so far follow the others, and the range is that of the last of them
 abbrev pub invariant-loop-place : goal.invariant-loop-place
 invariant-loop-place g l = record {
   more : (more : List Range) × (l.ranges.items ≡ l.fn.ranges.items ++ more) × (length more ≡ l.place) × IsTrack (setting l.setup) l.dimension l.vehicle l.route more;

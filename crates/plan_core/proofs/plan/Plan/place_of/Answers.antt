@@ -7,7 +7,7 @@ use Rattle.plan_core.proofs.Short.{short_read}
 use Rattle.plan_core.proofs.plan.Plan.place_of.Goals as goal
 use Rattle.plan_core.proofs.plan.Plan.place_of.Goals.{After-customers, In-None, In-Some}
 
--- the vehicle is the one that is written down
+-- the vehicle is the recorded one
 home_is : (c : After-customers) → c.index-home.result.now ≡ slice_index c.self.inside.homes.items (c.args.customer - 1)
 home_is c =
     let counted : length c.self.inside.homes.items ≡ c.self.inside.customers = c.self.invariant.counted in

@@ -1,7 +1,7 @@
 use Rattle.std.proofs.Common.{◌≤◌, ◌-◌, length}
 use Rattle.range_cache.proofs.pending.Room.into_rows.Given as goal
 
--- there are no rows too many
+-- there are not too many rows
 abbrev pub invariant-rows : goal.invariant-rows
 invariant-rows l = record { few : length l.rows.items ≤ l.count }
 
