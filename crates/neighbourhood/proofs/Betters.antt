@@ -3,7 +3,10 @@ use Rattle.dimension_core.specs.Setting.{Setting}
 use Rattle.move_core.specs.declared.moves.Move.{Move}
 use Rattle.move_core.specs.Moves.{is_possible}
 use Rattle.pin_core.specs.View.{ViewState}
-use Rattle.neighbourhood.specs.Best.{IsNear, IsAllowed, Counts, cost_after, cost_before, numbers_of}
+use Rattle.move_judge.specs.Near.{IsNear}
+use Rattle.move_judge.specs.Allowed.{IsAllowed}
+use Rattle.neighbourhood.specs.Best.{Counts, numbers_of}
+use Rattle.way_costs.specs.Costs.{cost_after, cost_before}
 use Rattle.neighbourhood.specs.Search.{gain_of, IsBestBelow, IsNext}
 use Rattle.neighbourhood.proofs.Firsts.{best_kept, best_taken}
 

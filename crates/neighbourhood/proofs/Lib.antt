@@ -4,17 +4,6 @@ pub mod Scoping
 pub mod Pairs
 pub mod Shifts
 pub mod Orders
-pub mod Ways
-pub mod Reversals
-pub mod Costs
-pub mod Carried
-pub mod Keeping
-pub mod Meeting
-pub mod Allowing
-pub mod Between
-pub mod Inside
-pub mod Joined
-pub mod Cells
 pub mod Possible
 pub mod Tabled
 pub mod Rows

@@ -6,7 +6,8 @@ use Rattle.pin_core.specs.View.{ViewState}
 use Rattle.move_core.specs.declared.moves.Move.{Move}
 use Rattle.move_core.specs.declared.moves.Move.TheVariants.{Insert, Remove, Shift, Swap, Reverse, Cross}
 use Rattle.move_core.specs.Moves.{is_possible}
-use Rattle.neighbourhood.specs.Best.{Counts, IsBest, IsIdle, cost_after, cost_before, numbers_of, IsLower}
+use Rattle.neighbourhood.specs.Best.{Counts, IsBest, IsIdle, numbers_of, IsLower}
+use Rattle.way_costs.specs.Costs.{cost_after, cost_before}
 use Rattle.neighbourhood.specs.Search.{IsBestSoFar}
 use Rattle.neighbourhood.specs.Laws.{Laws}
 use Rattle.neighbourhood.proofs.Firsts.{best_on, best_kept}

@@ -3,7 +3,7 @@ use Rattle.std.proofs.Common.{◌≡◌, ◌≢◌, ℕ, ◌+◌, ◌<◌, ◌�
 use Rattle.plan_core.specs.Plan.{route_at}
 use Rattle.move_core.specs.declared.moves.Move.TheVariants.{Shift, Swap, Reverse, Cross}
 use Rattle.move_core.specs.Moves.{is_possible}
-use Rattle.neighbourhood.specs.Ways.{AreStops}
+use Rattle.way_costs.specs.Ways.{AreStops}
 use Rattle.neighbourhood.specs.Laws.{Laws}
 
 module _ (law : Laws) (n : ℕ) (routes : List (List ℕ)) where

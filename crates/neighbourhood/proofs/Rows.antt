@@ -5,7 +5,8 @@ use Rattle.plan_core.specs.Plan.{route_at}
 use Rattle.pin_core.specs.View.{ViewState}
 use Rattle.move_core.specs.declared.moves.Move.{Move}
 use Rattle.move_core.specs.declared.moves.Move.TheVariants.{Swap, Reverse, Cross}
-use Rattle.neighbourhood.specs.Best.{Counts, cost_after, cost_before}
+use Rattle.neighbourhood.specs.Best.{Counts}
+use Rattle.way_costs.specs.Costs.{cost_after, cost_before}
 use Rattle.neighbourhood.specs.Search.{gain_of, IsBestSoFar, IsNext}
 use Rattle.neighbourhood.specs.Laws.{Laws}
 use Rattle.neighbourhood.proofs.Firsts.{best_up_to}

@@ -1,6 +1,5 @@
 -- What a move that counts leaves where it is: the frozen fronts, and pinned customers, who stay on their vehicle.
-use Rattle.std.proofs.Common.{◌≡◌, ◌≢◌, ℕ, ◌+◌, ◌<◌, ◌⊎◌, inl, inr, refl, arith, List, drop}
-use Rattle.std.proofs.lemmas.Bool.{cases_order}
+use Rattle.std.proofs.Common.{◌≢◌, ℕ, ◌+◌, ◌<◌, ◌⊎◌, inl, inr, arith, List, drop}
 use Rattle.dimension_core.specs.Setting.{Setting}
 use Rattle.plan_core.specs.Plan.{route_at}
 use Rattle.pin_core.specs.Pins.{front_of}
@@ -8,31 +7,23 @@ use Rattle.pin_core.specs.View.{ViewState, pins_of}
 use Rattle.move_core.specs.declared.moves.Move.{Move}
 use Rattle.move_core.specs.declared.moves.Move.TheVariants.{Shift, Swap, Reverse, Cross}
 use Rattle.move_core.specs.Moves.{stretch}
-use Rattle.neighbourhood.specs.View.{IsViewOf}
+use Rattle.move_judge.specs.View.{IsViewOf}
+use Rattle.move_judge.specs.Allowed.{AreLoose}
 use Rattle.neighbourhood.specs.Best.{Counts}
-use Rattle.neighbourhood.specs.Search.{AreLoose}
 use Rattle.neighbourhood.specs.Laws.{Laws}
-use Rattle.neighbourhood.proofs.Between.{between_allowed, shift_between, swap_between, cross_between}
-use Rattle.neighbourhood.proofs.Inside.{inside_allowed, shift_forwards, shift_backwards, swap_inside, reverse_inside}
 
 module _ (law : Laws) (s : Setting) (view : ViewState) (skip : List Move) (sound : IsViewOf s view) where
   pub shift_free : (v p m w at : ℕ) → v ≢ w → Counts s view skip v w (Shift v p m w at)
       → (front_of (pins_of view) v < p) × (front_of (pins_of view) w < at) × AreLoose (pins_of view) (stretch (route_at view.routes v) p m)
-  shift_free v p m w at o q =
-      let a = (between_allowed law s view skip (Shift v p m w at) v w p at _ _ _ _ sound q.possible (shift_between law s.customers view.routes v p m w at q.possible o)).0 q.allowed in
-      (a.front, a.other, a.loose)
+  shift_free v p m w at o q = law.free.shift s view skip v p m w at sound o q.possible q.allowed
 
   pub swap_free : (v p w at : ℕ) → v ≢ w → Counts s view skip v w (Swap v p w at)
       → (front_of (pins_of view) v < p) × (front_of (pins_of view) w < at) × AreLoose (pins_of view) (stretch (route_at view.routes v) p 1)
-  swap_free v p w at o q =
-      let a = (between_allowed law s view skip (Swap v p w at) v w p at _ _ _ _ sound q.possible (swap_between law s.customers view.routes v p w at q.possible o)).0 q.allowed in
-      (a.front, a.other, a.loose)
+  swap_free v p w at o q = law.free.swap s view skip v p w at sound o q.possible q.allowed
 
-  pub cross_free : (v k w l : ℕ) → Counts s view skip v w (Cross v k w l)
+  cross_free : (v k w l : ℕ) → Counts s view skip v w (Cross v k w l)
       → (front_of (pins_of view) v < k + 1) × (front_of (pins_of view) w < l + 1) × AreLoose (pins_of view) (drop k (route_at view.routes v)) × AreLoose (pins_of view) (drop l (route_at view.routes w))
-  cross_free v k w l q =
-      let a = (between_allowed law s view skip (Cross v k w l) v w (k + 1) (l + 1) _ _ _ _ sound q.possible (cross_between law s.customers view.routes v k w l q.possible)).0 q.allowed in
-      (a.front, a.other, a.loose, a.loose_back)
+  cross_free v k w l q = law.free.cross s view skip v k w l sound q.possible q.allowed
 
   -- a cross keeps of both vehicles all that have to be kept
   pub cross_kept : (v k w l : ℕ) → Counts s view skip v w (Cross v k w l)
@@ -46,23 +37,10 @@ module _ (law : Laws) (s : Setting) (view : ViewState) (skip : List Move) (sound
       split (inr (inr a)) = a (cross_free v k w l q).3
 
   pub shift_inside_free : (v p m at : ℕ) → Counts s view skip v v (Shift v p m v at) → (front_of (pins_of view) v < p) × (front_of (pins_of view) v < at)
-  shift_inside_free v p m at q = split (cases_order at p)
-    where
-      split : (at ≡ p) ⊎ ((at < p) ⊎ (p < at)) → (front_of (pins_of view) v < p) × (front_of (pins_of view) v < at)
-      split (inl e) = absurd ((((law.possible.shift s.customers view.routes v p m v at).0 q.possible).onto.inside refl).1 e)
-      split (inr (inl h)) =
-          let a = (inside_allowed law s view skip (Shift v p m v at) v at _ sound q.possible (shift_forwards law s.customers view.routes v p m at q.possible h)).0 q.allowed in
-          let front = a.front in
-          (omega arith, front)
-      split (inr (inr h)) =
-          let a = (inside_allowed law s view skip (Shift v p m v at) v p _ sound q.possible (shift_backwards law s.customers view.routes v p m at q.possible h)).0 q.allowed in
-          let front = a.front in
-          (front, omega arith)
+  shift_inside_free v p m at q = law.free.shift_inside s view skip v p m at sound q.possible q.allowed
 
   pub swap_inside_free : (v p at : ℕ) → p < at → Counts s view skip v v (Swap v p v at) → front_of (pins_of view) v < p
-  swap_inside_free v p at order q =
-      ((inside_allowed law s view skip (Swap v p v at) v p _ sound q.possible (swap_inside law s.customers view.routes v p at q.possible order)).0 q.allowed).front
+  swap_inside_free v p at order q = law.free.swap_inside s view skip v p at sound order q.possible q.allowed
 
   pub reverse_free : (v i j : ℕ) → Counts s view skip v v (Reverse v i j) → front_of (pins_of view) v < i
-  reverse_free v i j q =
-      ((inside_allowed law s view skip (Reverse v i j) v i _ sound q.possible (reverse_inside law s.customers view.routes v i j q.possible)).0 q.allowed).front
+  reverse_free v i j q = law.free.reverse s view skip v i j sound q.possible q.allowed

@@ -1,17 +1,18 @@
-use Rattle.std.proofs.Common.{◌≡◌, ◌≢◌, ◌∙◌, ℕ, ◌+◌, ◌-◌, ◌*◌, ◌<◌, ◌≤◌, ap, arith, List, length, slice_index, true, false, Bool}
-use Rattle.callback_store.specs.Tables.{Table, table_at}
+use Rattle.std.proofs.Common.{◌≡◌, ◌∙◌, ℕ, ◌+◌, ◌-◌, ◌*◌, ◌<◌, ◌≤◌, ap, arith, List, length, slice_index, true, false, Bool}
+use Rattle.callback_store.specs.Tables.{Table}
 use Rattle.dimension_core.specs.Setting.{Setting}
-use Rattle.plan_core.specs.Plan.{IsPlan, route_at}
 use Rattle.pin_core.specs.View.{ViewState}
 use Rattle.move_core.specs.declared.moves.Move.{Move}
-use Rattle.move_core.specs.declared.moves.Move.TheVariants.{Shift, Swap, Reverse, Cross}
-use Rattle.move_core.specs.Moves.{is_possible}
-use Rattle.neighbourhood.specs.Ways.{hop, hop_by, turned, stops, AreStops, AreHopsFrom, AreEdges, AreSums}
-use Rattle.neighbourhood.specs.Savings.{shift_lost, shift_gained, swap_lost, swap_gained, next_lost, next_gained, cross_lost, cross_gained, reverse_lost, reverse_gained}
-use Rattle.neighbourhood.specs.Search.{IsSaving}
-use Rattle.neighbourhood.specs.Laws.{Laws}
-use Rattle.neighbourhood.proofs.Cells.{row_fits}
-use Rattle.neighbourhood.proofs.Costs.{AreAround, shift_saves, shift_inside_saves, swap_saves, swap_inside_saves, swap_next_saves, cross_saves, reverse_saves}
+use Rattle.way_costs.specs.Ways.{hop, hop_by, turned, stops, AreHopsFrom, AreEdges, AreSums}
+use Rattle.way_costs.specs.Savings.{shift_lost, shift_gained, swap_lost, swap_gained, next_lost, next_gained, cross_lost, cross_gained, reverse_lost, reverse_gained}
+use Rattle.way_costs.specs.Costs.{IsSaving}
+
+-- a row lies inside its table
+row_fits : (a n w : ℕ) → a < n → a * w + w ≤ n * w
+row_fits a n w h =
+    let parts : n ≡ a + 1 + (n - a - 1) = omega arith in
+    let all : n * w ≡ (a + 1 + (n - a - 1)) * w = ap (λ (k : ℕ). k * w) parts in
+    omega arith
 
 -- the way to a stop from the one before it
 edge_at : (t : Table) (stops edges : List ℕ) (k : ℕ) → AreEdges t stops edges → 1 ≤ k → k < length stops
@@ -124,40 +125,3 @@ reverse_tabled s view mv t from edges sums back_sums before here i j saving li o
     let x7 = b j (omega arith) (omega arith) in
     let x8 = h (j + 1) (omega arith) (omega arith) in
     omega arith
-
-module _ (law : Laws) (s : Setting) (view : ViewState) where
-  -- what each kind of move saves, by lists of stops
-  pub shift_by : (v p m w at : ℕ) (from to : List ℕ) → IsPlan s.customers view.routes → v ≢ w → AreStops s.customers view.routes v from → AreStops s.customers view.routes w to
-      → is_possible s.customers view.routes (Shift v p m w at) ≡ true
-      → IsSaving s view (Shift v p m w at) (shift_lost (table_at s.tables s.cost) from to p m 0 at) (shift_gained (table_at s.tables s.cost) from to p m 0 at)
-  shift_by v p m w at from to plan o a b can = rw (a.is, b.is) (shift_saves law s view v p m w at plan can o)
-
-  pub shift_inside_by : (v p m o at : ℕ) (from : List ℕ) → IsPlan s.customers view.routes → AreStops s.customers view.routes v from
-      → is_possible s.customers view.routes (Shift v p m v at) ≡ true → AreAround (route_at view.routes v) p m o at
-      → IsSaving s view (Shift v p m v at) (shift_lost (table_at s.tables s.cost) from from p m o at) (shift_gained (table_at s.tables s.cost) from from p m o at)
-  shift_inside_by v p m o at from plan a can around = rw a.is (shift_inside_saves law s view v p m o at plan can around)
-
-  pub swap_by : (v p w q : ℕ) (from to : List ℕ) → IsPlan s.customers view.routes → v ≢ w → AreStops s.customers view.routes v from → AreStops s.customers view.routes w to
-      → is_possible s.customers view.routes (Swap v p w q) ≡ true
-      → IsSaving s view (Swap v p w q) (swap_lost (table_at s.tables s.cost) from to p q) (swap_gained (table_at s.tables s.cost) from to p q)
-  swap_by v p w q from to plan o a b can = rw (a.is, b.is) (swap_saves law s view v p w q plan can o)
-
-  pub swap_inside_by : (v p q : ℕ) (from : List ℕ) → IsPlan s.customers view.routes → AreStops s.customers view.routes v from
-      → is_possible s.customers view.routes (Swap v p v q) ≡ true → p + 1 < q
-      → IsSaving s view (Swap v p v q) (swap_lost (table_at s.tables s.cost) from from p q) (swap_gained (table_at s.tables s.cost) from from p q)
-  swap_inside_by v p q from plan a can order = rw a.is (swap_inside_saves law s view v p q plan can order)
-
-  pub swap_next_by : (v p : ℕ) (from : List ℕ) → IsPlan s.customers view.routes → AreStops s.customers view.routes v from
-      → is_possible s.customers view.routes (Swap v p v (p + 1)) ≡ true
-      → IsSaving s view (Swap v p v (p + 1)) (next_lost (table_at s.tables s.cost) from p) (next_gained (table_at s.tables s.cost) from p)
-  swap_next_by v p from plan a can = rw a.is (swap_next_saves law s view v p plan can)
-
-  pub cross_by : (v k w l : ℕ) (from to : List ℕ) → IsPlan s.customers view.routes → AreStops s.customers view.routes v from → AreStops s.customers view.routes w to
-      → is_possible s.customers view.routes (Cross v k w l) ≡ true
-      → IsSaving s view (Cross v k w l) (cross_lost (table_at s.tables s.cost) from to k l) (cross_gained (table_at s.tables s.cost) from to k l)
-  cross_by v k w l from to plan a b can = rw (a.is, b.is) (cross_saves law s view v k w l plan can)
-
-  pub reverse_by : (v i j : ℕ) (from : List ℕ) → IsPlan s.customers view.routes → AreStops s.customers view.routes v from
-      → is_possible s.customers view.routes (Reverse v i j) ≡ true
-      → IsSaving s view (Reverse v i j) (reverse_lost (table_at s.tables s.cost) from i j) (reverse_gained (table_at s.tables s.cost) from i j)
-  reverse_by v i j from plan a can = rw a.is (reverse_saves law s view v i j plan can)

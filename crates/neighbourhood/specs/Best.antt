@@ -1,24 +1,12 @@
-use Rattle.std.specs.Prelude.{◌≡◌, ◌≢◌, ℕ, ◌+◌, ◌<◌, ◌≤◌, ◌⊎◌, true, List, [], ◌∷◌, Contains}
-use Rattle.callback_store.specs.Tables.{table_at}
+use Rattle.std.specs.Prelude.{◌≡◌, ℕ, ◌+◌, ◌<◌, ◌≤◌, ◌⊎◌, true, List, [], ◌∷◌}
 use Rattle.dimension_core.specs.Setting.{Setting}
-use Rattle.dimension_core.specs.NewRoutes.{AllFit}
-use Rattle.plan_core.specs.Plan.{with_routes}
-use Rattle.plan_core.specs.Cost.{cost_of}
-use Rattle.pin_core.specs.Pins.{DoPinsHold, AreFreezesKept}
+use Rattle.pin_core.specs.View.{ViewState}
 use Rattle.move_core.specs.declared.moves.Move.{Move}
 use Rattle.move_core.specs.declared.moves.Move.TheVariants.{Insert, Remove, Shift, Swap, Reverse, Cross}
-use Rattle.move_core.specs.Moves.{is_possible, changes_by}
-use Rattle.pin_core.specs.View.{ViewState, pins_of}
-
--- A move is near (v, w): where they differ a shift of 1 to 3 customers from v to w, a swap of one of v with one of w, or a cross of
--- both; where they are one a shift of 1 to 3 inside, a swap inside named from its first place, or a reverse.
-abbrev pub IsNear : ℕ → ℕ → Move → Type 0
-IsNear v w (Insert customer vehicle place) = ⊥
-IsNear v w (Remove vehicle place) = ⊥
-IsNear v w (Shift vehicle place n to at) = (vehicle ≡ v) × (to ≡ w) × (n ≤ 3)
-IsNear v w (Swap vehicle place other at) = (vehicle ≡ v) × (other ≡ w) × (v ≡ w → place < at)
-IsNear v w (Reverse vehicle first last) = (vehicle ≡ v) × (v ≡ w)
-IsNear v w (Cross vehicle keep other keep_other) = (vehicle ≡ v) × (other ≡ w) × (v ≢ w)
+use Rattle.move_core.specs.Moves.{is_possible}
+use Rattle.way_costs.specs.Costs.{cost_before, cost_after}
+use Rattle.move_judge.specs.Near.{IsNear}
+use Rattle.move_judge.specs.Allowed.{IsAllowed}
 
 -- The number of a move's kind in the order of ties, then the move's numbers in the order of its fields.
 abbrev pub numbers_of : Move → List ℕ
@@ -35,24 +23,6 @@ IsLower [] [] = ⊥
 IsLower [] (y ∷ ys) = Unit {0}
 IsLower (x ∷ xs) [] = ⊥
 IsLower (x ∷ xs) (y ∷ ys) = (x < y) ⊎ ((x ≡ y) × IsLower xs ys)
-
--- the routes after a move
-abbrev pub routes_after : ViewState → Move → List (List ℕ)
-routes_after view mv = with_routes (changes_by view.routes mv) view.routes
-
--- the cost before and after it
-abbrev pub cost_before : Setting → ViewState → ℕ
-cost_before s view = cost_of (table_at s.tables s.cost) view.routes
-
-abbrev pub cost_after : Setting → ViewState → Move → ℕ
-cost_after s view mv = cost_of (table_at s.tables s.cost) (routes_after view mv)
-
--- the new routes are in bounds, the freezes are kept and the pins hold, and the move is not to be skipped
-pub record IsAllowed (s : Setting) (view : ViewState) (skip : List Move) (mv : Move) : Type 0 where
-  pub fits : AllFit s (changes_by view.routes mv)
-  pub freezes : AreFreezesKept (pins_of view) view.routes (routes_after view mv)
-  pub pins : DoPinsHold (pins_of view) (routes_after view mv)
-  pub fresh : ¬ Contains skip mv
 
 -- the move counts: it is near, has an effect, is allowed, and lowers the cost
 pub record Counts (s : Setting) (view : ViewState) (skip : List Move) (v w : ℕ) (mv : Move) : Type 0 where

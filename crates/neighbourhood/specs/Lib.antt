@@ -1,10 +1,7 @@
-pub mod View
+pub use Rattle.way_costs.specs.Costs
+pub use Rattle.move_judge.specs.View
+pub use Rattle.move_judge.specs.Near
+pub use Rattle.move_judge.specs.Allowed
 pub mod Best
 pub mod Search
-pub mod Ways
-pub mod Between
-pub mod Kept
-pub mod Savings
 pub mod Laws
-pub mod Scope
-pub mod Sides

@@ -1,9 +1,9 @@
-use Rattle.std.specs.Prelude.{◌≡◌, ℕ, ◌+◌, ◌⊎◌, List, Option, Some, None, Contains}
-use Rattle.pin_core.specs.Pins.{PinState, pin_of}
+use Rattle.std.specs.Prelude.{◌≡◌, ℕ, ◌⊎◌, List, Option, Some, None}
 use Rattle.move_core.specs.declared.moves.Move.{Move}
 use Rattle.dimension_core.specs.Setting.{Setting}
 use Rattle.pin_core.specs.View.{ViewState}
-use Rattle.neighbourhood.specs.Best.{Counts, cost_after, cost_before, numbers_of, IsLower, IsFirstLeast}
+use Rattle.neighbourhood.specs.Best.{Counts, numbers_of, IsLower, IsFirstLeast}
+use Rattle.way_costs.specs.Costs.{cost_after, cost_before}
 
 -- what the best so far gains
 abbrev pub gain_of : Option (Move × ℕ) → ℕ
@@ -24,14 +24,6 @@ pub record IsNext (P : Move → Type 0) (x : Move) (bound : List ℕ) : Type 0 w
   pub up : IsLower (numbers_of x) bound
   pub all : (mv : Move) → P mv → IsLower (numbers_of mv) bound → IsLower (numbers_of mv) (numbers_of x) ⊎ (mv ≡ x)
 
--- none of some customers is pinned
-abbrev pub AreLoose : PinState → List ℕ → Type 0
-AreLoose s customers = (c : ℕ) → Contains customers c → pin_of s c ≡ None
-
 -- the best of the moves near (v, w) that count and whose numbers come before a bound
 abbrev pub IsBestSoFar : Setting → ViewState → List Move → ℕ → ℕ → List ℕ → Option (Move × ℕ) → Type 0
 IsBestSoFar s view skip v w bound best = IsBestBelow (Counts s view skip v w) (cost_after s view) (cost_before s view) bound best
-
--- a move loses hops of one cost and gains hops of another
-abbrev pub IsSaving : Setting → ViewState → Move → ℕ → ℕ → Type 0
-IsSaving s view mv lost gained = cost_after s view mv + lost ≡ cost_before s view + gained

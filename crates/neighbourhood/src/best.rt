@@ -1,19 +1,19 @@
 //! The best move so far.
-ghost use Rattle.std.specs.Prelude.{◌≡◌, ◌-◌, true, ℕ, List, Option};
+ghost use Rattle.std.specs.Prelude.{◌≡◌, ◌+◌, ◌-◌, ◌<◌, ◌≤◌, ◌^◌, true, ℕ, List, Option};
 ghost use Rattle.dimension_core.specs.Setup.{setting};
 ghost use Rattle.move_core.specs.Moves.{is_possible};
-ghost use Rattle.neighbourhood.specs.Scope.{scope};
-ghost use Rattle.neighbourhood.specs.View.{IsViewOf};
-ghost use Rattle.neighbourhood.specs.Best.{IsNear, Counts, numbers_of};
-ghost use Rattle.neighbourhood.specs.Kept.{AreKept};
-ghost use Rattle.neighbourhood.specs.Laws.{Laws};
-ghost use Rattle.neighbourhood.specs.Search.{gain_of, IsBestSoFar, IsNext, IsSaving};
+ghost use Rattle.move_judge.specs.Scope.{scope};
+ghost use Rattle.move_judge.specs.View.{IsViewOf};
+ghost use Rattle.move_judge.specs.Near.{IsNear};
+ghost use Rattle.neighbourhood.specs.Best.{Counts, numbers_of};
+ghost use Rattle.move_judge.specs.Kept.{AreKept};
+ghost use Rattle.neighbourhood.specs.Search.{gain_of, IsBestSoFar, IsNext};
+ghost use Rattle.way_costs.specs.Costs.{IsSaving};
 
-use crate::allowed::allows;
-use crate::kept::Kept;
 use callback_store::Meter;
 use dimension_core::Setup;
 use move_core::Move;
+use move_judge::{Kept, allows};
 use pin_core::View;
 
 /// What the best move so far gains.
@@ -24,6 +24,20 @@ pub(crate) fn gain_of(best: Option<(Move, u64)>) -> u64
     match best {
         None => 0,
         Some((_, gain)) => gain,
+    }
+}
+
+/// What a candidate has to gain over what it gains already, to be better than the best so far. No candidate gains 2 to the power of 60, so
+/// the remainder by it is the gain.
+#[inline(always)]
+pub(crate) fn wanted(gained: u64, best: Option<(Move, u64)>) -> u64
+    requires { gained < 2 ^ 50 }
+    ensures low { result ≤ gained + gain_of best }
+    ensures small { result < 2 ^ 61 }
+{
+    match best {
+        None => gained,
+        Some((_, gain)) => gained + gain % 1_152_921_504_606_846_976,
     }
 }
 
@@ -45,7 +59,6 @@ pub(crate) fn better(
     best: Option<(Move, u64)>,
     meter: &mut Meter,
 ) -> Option<(Move, u64)>
-    requires laws { Laws }
     requires view { IsViewOf (setting setup.now) view.now }
     requires v_kept { AreKept (setting setup.now) view.now.routes v w v_kept.now }
     requires w_kept { AreKept (setting setup.now) view.now.routes w v w_kept.now }

@@ -4,23 +4,22 @@ ghost use Rattle.callback_store.specs.Tables.{table_at};
 ghost use Rattle.dimension_core.specs.Setup.{setting};
 ghost use Rattle.move_core.specs.declared.moves.Move.TheVariants.{Cross};
 ghost use Rattle.move_core.specs.Moves.{is_possible};
-ghost use Rattle.neighbourhood.specs.Scope.{scope};
-ghost use Rattle.neighbourhood.specs.View.{IsViewOf};
+ghost use Rattle.move_judge.specs.Scope.{scope};
+ghost use Rattle.move_judge.specs.View.{IsViewOf};
 ghost use Rattle.neighbourhood.specs.Best.{Counts};
-ghost use Rattle.neighbourhood.specs.Kept.{AreKept};
+ghost use Rattle.move_judge.specs.Kept.{AreKept};
 ghost use Rattle.neighbourhood.specs.Laws.{Laws};
-ghost use Rattle.neighbourhood.specs.Search.{IsBestSoFar, IsSaving};
-ghost use Rattle.neighbourhood.specs.Ways.{AreStops, AreEdges, AreHopsFrom};
+ghost use Rattle.neighbourhood.specs.Search.{IsBestSoFar};
+ghost use Rattle.way_costs.specs.Costs.{IsSaving};
+ghost use Rattle.way_costs.specs.Ways.{AreStops, AreEdges, AreHopsFrom};
 
-use crate::allowed::must_keep;
-use crate::best::better;
-use crate::gains::{first_gain, may_gain, wanted};
-use crate::kept::Kept;
-use crate::table::row;
+use crate::best::{better, wanted};
 use callback_store::Meter;
 use dimension_core::Setup;
 use move_core::Move;
+use move_judge::{Kept, must_keep};
 use pin_core::View;
+use way_costs::{first_gain, may_gain, row};
 
 /// The better of the best so far and the crosses that keep so many customers of one vehicle, and `first` or more of the other but fewer
 /// than `end`. `here` is the ways from the last one kept, `next` those to the one after it.

@@ -4,22 +4,21 @@ ghost use Rattle.callback_store.specs.Tables.{table_at};
 ghost use Rattle.dimension_core.specs.Setup.{setting};
 ghost use Rattle.move_core.specs.declared.moves.Move.TheVariants.{Reverse};
 ghost use Rattle.move_core.specs.Moves.{is_possible};
-ghost use Rattle.neighbourhood.specs.Scope.{scope};
-ghost use Rattle.neighbourhood.specs.View.{IsViewOf};
-ghost use Rattle.neighbourhood.specs.Kept.{AreKept};
+ghost use Rattle.move_judge.specs.Scope.{scope};
+ghost use Rattle.move_judge.specs.View.{IsViewOf};
+ghost use Rattle.move_judge.specs.Kept.{AreKept};
 ghost use Rattle.neighbourhood.specs.Laws.{Laws};
-ghost use Rattle.neighbourhood.specs.Search.{IsBestSoFar, IsSaving};
-ghost use Rattle.neighbourhood.specs.Ways.{AreStops, AreEdges, AreHopsFrom, AreSums};
+ghost use Rattle.neighbourhood.specs.Search.{IsBestSoFar};
+ghost use Rattle.way_costs.specs.Costs.{IsSaving};
+ghost use Rattle.way_costs.specs.Ways.{AreStops, AreEdges, AreHopsFrom, AreSums};
 
-use crate::allowed::first_free;
-use crate::best::better;
-use crate::gains::{first_reverse_gain, may_reverse_gain, wanted};
-use crate::kept::Kept;
-use crate::table::row;
+use crate::best::{better, wanted};
 use callback_store::Meter;
 use dimension_core::Setup;
 use move_core::Move;
+use move_judge::{Kept, first_free};
 use pin_core::View;
+use way_costs::{first_reverse_gain, may_reverse_gain, row};
 
 /// The better of the best so far and the reverses from one place to those before `end`. `before` and `here` are the ways from the stop
 /// before the place and from it.

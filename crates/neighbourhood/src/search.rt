@@ -2,29 +2,28 @@
 ghost use Rattle.std.specs.Prelude.{◌≡◌, ◌≢◌, ◌≤◌, false, All, IfOk, IsTrue, MatchOption};
 ghost use Rattle.callback_store.specs.Tables.{table_at};
 ghost use Rattle.dimension_core.specs.Setup.{setting};
-ghost use Rattle.neighbourhood.specs.View.{IsViewOf};
+ghost use Rattle.move_judge.specs.View.{IsViewOf};
 ghost use Rattle.neighbourhood.specs.Best.{IsBest, IsIdle};
-ghost use Rattle.neighbourhood.specs.Kept.{AreKept};
+ghost use Rattle.move_judge.specs.Kept.{AreKept};
 ghost use Rattle.neighbourhood.specs.Laws.{Laws};
-ghost use Rattle.neighbourhood.specs.Scope.{scope};
-ghost use Rattle.neighbourhood.specs.Sides.{AreWaysBetween, IsAlong};
-ghost use Rattle.neighbourhood.specs.Ways.{AreStops, AreEdges};
+ghost use Rattle.move_judge.specs.Scope.{scope};
+ghost use Rattle.way_costs.specs.Sides.{AreWaysBetween, IsAlong};
+ghost use Rattle.way_costs.specs.Ways.{AreStops, AreEdges};
 
-use crate::allowed::allows;
 use crate::cross::best_cross;
-use crate::hops::stops_of;
-use crate::kept::{Kept, kept_alone, kept_between, nothing_kept};
 use crate::laws::laws_below;
 use crate::reverse::best_reverse;
 use crate::shift::{best_shift, best_shift_inside};
-use crate::sides::{Along, Ways, along_of, parts_of, sides_of, ways_among, ways_between};
 use crate::swap::{best_swap, best_swap_inside};
-use crate::table::most_of;
 use callback_store::Meter;
 use dimension_core::Setup;
 use move_core::Move;
+use move_judge::{Kept, allows, kept_alone, kept_between, nothing_kept};
 use pin_core::View;
 use std::alloc::{AllocError, Global};
+use way_costs::{
+    Along, Ways, along_of, most_of, parts_of, sides_of, stops_of, ways_among, ways_between,
+};
 
 /// The best move inside a vehicle, by what is gathered of it.
 fn best_of_one(

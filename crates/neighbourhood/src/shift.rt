@@ -7,23 +7,22 @@ ghost use Rattle.move_core.specs.declared.moves.Move.TheVariants.{Shift};
 ghost use Rattle.move_core.specs.Moves.{is_possible, stretch};
 ghost use Rattle.pin_core.specs.Pins.{front_of};
 ghost use Rattle.pin_core.specs.View.{pins_of};
-ghost use Rattle.neighbourhood.specs.Scope.{scope};
-ghost use Rattle.neighbourhood.specs.View.{IsViewOf};
-ghost use Rattle.neighbourhood.specs.Kept.{AreKept};
+ghost use Rattle.move_judge.specs.Scope.{scope};
+ghost use Rattle.move_judge.specs.View.{IsViewOf};
+ghost use Rattle.move_judge.specs.Kept.{AreKept};
 ghost use Rattle.neighbourhood.specs.Laws.{Laws};
-ghost use Rattle.neighbourhood.specs.Search.{AreLoose, IsBestSoFar, IsSaving};
-ghost use Rattle.neighbourhood.specs.Ways.{AreStops, AreEdges, AreHopsFrom};
+ghost use Rattle.move_judge.specs.Allowed.{AreLoose};
+ghost use Rattle.neighbourhood.specs.Search.{IsBestSoFar};
+ghost use Rattle.way_costs.specs.Costs.{IsSaving};
+ghost use Rattle.way_costs.specs.Ways.{AreStops, AreEdges, AreHopsFrom};
 
-use crate::allowed::{first_free, loose_from};
-use crate::best::{better, gain_of};
-use crate::gains::{first_gain, may_gain, wanted};
-use crate::hops::hop;
-use crate::kept::Kept;
-use crate::table::row;
+use crate::best::{better, gain_of, wanted};
 use callback_store::Meter;
 use dimension_core::Setup;
 use move_core::Move;
+use move_judge::{Kept, first_free, loose_from};
 use pin_core::View;
+use way_costs::{first_gain, hop, may_gain, row};
 
 /// The better of the best so far and the shifts of some customers to the places from one to before another. What comes before and after
 /// them there stands `offset` places further among the stops. `into` and `out` are the ways from those stops to the first customer, and

@@ -1,7 +1,7 @@
 use Rattle.std.proofs.Common.{◌≡◌, ◌-◌, ◌≤◌, ◌<◌, arith}
 use Rattle.dimension_core.specs.Setup.{setting}
-use Rattle.neighbourhood.specs.Scope.{scope}
-use Rattle.neighbourhood.specs.Best.{cost_before, cost_after}
+use Rattle.move_judge.specs.Scope.{scope}
+use Rattle.way_costs.specs.Costs.{cost_before, cost_after}
 use Rattle.neighbourhood.specs.Search.{gain_of}
 use Rattle.neighbourhood.proofs.Betters.{kept_by_gain, kept_by_rule, taken_by_gain}
 use Rattle.neighbourhood.proofs.best.better.Goals as goal

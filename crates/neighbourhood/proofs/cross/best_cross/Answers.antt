@@ -1,7 +1,6 @@
 use Rattle.std.proofs.Common.{inl, inr, ◌-◌, arith, refl, length}
 use Rattle.dimension_core.specs.Setup.{setting}
-use Rattle.neighbourhood.specs.Scope.{scope}
-use Rattle.neighbourhood.proofs.Scoping.{view_within}
+use Rattle.move_judge.specs.Scope.{scope}
 use Rattle.neighbourhood.proofs.Rows.{crosses_begin, crosses_end, cross_row, cross_row_done}
 use Rattle.neighbourhood.proofs.Still.{cross_kept}
 use Rattle.neighbourhood.proofs.cross.best_cross.Goals as goal
@@ -25,8 +24,8 @@ returns g c =
 
 pub cross_over-best-requires-clause-least : goal.cross_over-best-requires-clause-least
 cross_over-best-requires-clause-least g c = λ k l h q.
-    cross_kept c.requires.laws (scope c.args.bounded (setting c.args.setup.now)) c.args.view.now c.args.skip.now (view_within c.args.bounded _ _ c.requires.view) c.args.v k c.args.w l q (inl (c.must_keep-least.ensures.held k h))
+    cross_kept c.requires.laws (scope c.args.bounded (setting c.args.setup.now)) c.args.view.now c.args.skip.now (c.requires.laws.bounds.views c.args.bounded _ _ c.requires.view) c.args.v k c.args.w l q (inl (c.must_keep-least.ensures.held k h))
 
 pub cross_over-best-requires-clause-onto : goal.cross_over-best-requires-clause-onto
 cross_over-best-requires-clause-onto g c = λ k l h q.
-    cross_kept c.requires.laws (scope c.args.bounded (setting c.args.setup.now)) c.args.view.now c.args.skip.now (view_within c.args.bounded _ _ c.requires.view) c.args.v k c.args.w l q (inr (c.must_keep-begin.ensures.held l h))
+    cross_kept c.requires.laws (scope c.args.bounded (setting c.args.setup.now)) c.args.view.now c.args.skip.now (c.requires.laws.bounds.views c.args.bounded _ _ c.requires.view) c.args.v k c.args.w l q (inr (c.must_keep-begin.ensures.held l h))

@@ -3,10 +3,10 @@ use Rattle.callback_store.specs.Tables.{table_at}
 use Rattle.dimension_core.specs.Setup.{setting}
 use Rattle.plan_core.specs.Plan.{route_at}
 use Rattle.move_core.specs.declared.moves.Move.TheVariants.{Cross}
-use Rattle.neighbourhood.specs.Scope.{scope}
+use Rattle.move_judge.specs.Scope.{scope}
 use Rattle.neighbourhood.specs.Search.{IsBestSoFar}
 use Rattle.neighbourhood.proofs.Possible.{cross_can}
-use Rattle.neighbourhood.proofs.Tabled.{row_from, room_from, cross_by, cross_tabled}
+use Rattle.neighbourhood.proofs.Tabled.{row_from, room_from, cross_tabled}
 use Rattle.neighbourhood.proofs.Orders.{cross_none}
 use Rattle.neighbourhood.proofs.Rows.{crosses_past}
 use Rattle.neighbourhood.proofs.cross.cross_over.Goals.{then-last, else-last}
@@ -51,7 +51,7 @@ cross_row-requires-clause-saving g c =
       | else-last w ↦ let o = w.if-last.false in inl (omega arith)
     ] in
     let can = cross_can r.laws s.customers c.args.view.now.routes c.args.v c.args.keep c.args.w l c.args.from.now c.args.to.now r.from r.to r.apart fit few some in
-    let saving = cross_by r.laws s c.args.view.now c.args.v c.args.keep c.args.w l c.args.from.now c.args.to.now r.view.plan r.from r.to can in
+    let saving = r.laws.saves.cross s c.args.view.now c.args.v c.args.keep c.args.w l c.args.from.now c.args.to.now r.view.plan r.from r.to can in
     rw (f) (cross_tabled s c.args.view.now (Cross c.args.v c.args.keep c.args.w l) t c.args.from.now c.args.to.now c.args.from_edges.now c.args.to_edges.now
     c.row-here.result.now c.row-next.result.now c.args.keep l saving fit few r.from_edges r.to_edges
     (row_from false t c.args.from.now c.args.to.now c.args.out.now c.row-here.result.now 0 1 c.args.keep (omega arith) r.out (omega arith) (omega arith) c.row-here.ensures.cells)

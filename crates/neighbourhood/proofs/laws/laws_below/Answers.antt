@@ -2,19 +2,8 @@ use Rattle.neighbourhood.proofs.laws.laws_below.Goals as goal
 
 pub returns : goal.returns
 returns c = record {
-  replaced = c.routes_replaced.ensures;
-  known = c.routes_are_known.ensures;
-  places = c.customers_stand_by_route.ensures;
-  costs = c.costs_differ_by_named.ensures;
-  freezes = c.freezes_by_named.ensures;
   possible = c.moves_are_possible.ensures.moves;
-  names = c.moves_name_vehicles.ensures;
-  plans = c.moves_keep_plans.ensures;
-  untouched = c.moves_keep_the_untouched.ensures;
-  fronts = c.fronts_by_first_change.ensures;
-  inside = c.moves_inside_rearrange.ensures;
-  between = c.moves_between_carry_over.ensures;
-  parts = c.shifts_in_parts.ensures;
-  spans = c.spans_go_on.ensures;
-  meet = c.spans_meet.ensures;
+  saves = c.moves_save.ensures;
+  free = c.allowed_moves_are_free.ensures;
+  bounds = c.bounds_only_forbid.ensures;
 }

@@ -1,6 +1,6 @@
 use Rattle.std.proofs.Common.{◌+◌, ◌-◌, arith, refl, length}
 use Rattle.dimension_core.specs.Setup.{setting}
-use Rattle.neighbourhood.specs.Scope.{scope}
+use Rattle.move_judge.specs.Scope.{scope}
 use Rattle.neighbourhood.proofs.Rows.{reverses_begin, reverses_end, reverse_row, reverse_row_done}
 use Rattle.neighbourhood.proofs.reverse.best_reverse.Goals as goal
 

@@ -1,6 +1,6 @@
 use Rattle.std.proofs.Common.{◌≤◌, ◌+◌, ◌-◌, [], ◌∷◌}
 use Rattle.dimension_core.specs.Setup.{setting}
-use Rattle.neighbourhood.specs.Scope.{scope}
+use Rattle.move_judge.specs.Scope.{scope}
 use Rattle.neighbourhood.specs.Search.{IsBestSoFar}
 use Rattle.neighbourhood.proofs.reverse.reverse_row.Given as goal
 

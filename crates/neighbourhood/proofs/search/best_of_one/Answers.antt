@@ -1,6 +1,6 @@
 use Rattle.std.proofs.Common.{refl}
 use Rattle.dimension_core.specs.Setup.{setting}
-use Rattle.neighbourhood.specs.Scope.{scope}
+use Rattle.move_judge.specs.Scope.{scope}
 use Rattle.neighbourhood.proofs.Orders.{best_of_all, none_yet, no_crosses}
 use Rattle.neighbourhood.proofs.search.best_of_one.Goals as goal
 

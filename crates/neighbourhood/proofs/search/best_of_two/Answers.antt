@@ -1,5 +1,5 @@
 use Rattle.dimension_core.specs.Setup.{setting}
-use Rattle.neighbourhood.specs.Scope.{scope}
+use Rattle.move_judge.specs.Scope.{scope}
 use Rattle.neighbourhood.proofs.Orders.{best_of_all, none_yet, no_reverses}
 use Rattle.neighbourhood.proofs.search.best_of_two.Goals as goal
 

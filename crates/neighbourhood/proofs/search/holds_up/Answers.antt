@@ -4,8 +4,8 @@ use Rattle.neighbourhood.proofs.search.holds_up.Goals as goal
 
 pub returns-in-None : goal.returns-in-None
 returns-in-None g c = λ _.
-    rw c.in-None.is (idle_with (setting c.args.setup.now) c.args.view.now c.args.skip.now c.args.v c.args.w (rw c.in-None.is at c.requires.found))
+    rw c.in-None.is (idle_with c.requires.laws (setting c.args.setup.now) c.args.view.now c.args.skip.now c.args.v c.args.w (rw c.in-None.is at c.requires.found))
 
 pub returns-in-Some : goal.returns-in-Some
 returns-in-Some g c = λ is.
-    rw c.in-Some.is (best_with (setting c.args.setup.now) c.args.view.now c.args.skip.now c.args.v c.args.w _ _ (rw c.in-Some.is at c.requires.found) (c.allows.ensures.0 is))
+    rw c.in-Some.is (best_with c.requires.laws (setting c.args.setup.now) c.args.view.now c.args.skip.now c.args.v c.args.w _ _ (rw c.in-Some.is at c.requires.found) (c.allows.ensures.0 is))

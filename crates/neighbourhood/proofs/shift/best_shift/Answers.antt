@@ -1,7 +1,7 @@
 use Rattle.std.proofs.Common.{◌≡◌, ℕ, ◌+◌, arith, subst, refl, inl, inr, [], ◌∷◌, length}
 use Rattle.dimension_core.specs.Setup.{setting}
 use Rattle.plan_core.specs.Plan.{route_at}
-use Rattle.neighbourhood.specs.Scope.{scope}
+use Rattle.move_judge.specs.Scope.{scope}
 use Rattle.neighbourhood.specs.Search.{IsBestSoFar}
 use Rattle.neighbourhood.proofs.Shifts.{shift_on, to_row, row_done, row_skipped, to_place, place_done, shifts_begin, shifts_end}
 use Rattle.neighbourhood.proofs.shift.best_shift.Goals.{then-place-count, else-place-count}
@@ -25,7 +25,7 @@ shift_over-best-requires-clause-free g c =
     let sized = c.requires.from.sized in
     let fit = c.if-place-count.true in
     let few = c.loop-count-test.true in
-    λ both. c.loose_from-free.ensures c.loop-count.count (omega arith) (omega arith) both
+    λ both. c.loose_from-free.ensures.most c.loop-count.count (omega arith) (omega arith) both
 
 pub loop-count-preserved : goal.loop-count-preserved
 loop-count-preserved g c =

@@ -1,7 +1,7 @@
 use Rattle.std.proofs.Common.{◌≡◌, ℕ, ◌+◌, ◌-◌, arith, subst, refl, inl, inr, [], ◌∷◌, length}
 use Rattle.dimension_core.specs.Setup.{setting}
 use Rattle.plan_core.specs.Plan.{route_at}
-use Rattle.neighbourhood.specs.Scope.{scope}
+use Rattle.move_judge.specs.Scope.{scope}
 use Rattle.neighbourhood.specs.Search.{IsBestSoFar}
 use Rattle.neighbourhood.proofs.Shifts.{shift_on, to_row, row_done, row_skipped, to_place, place_done, shifts_end}
 use Rattle.neighbourhood.proofs.shift.best_shift_inside.Goals.{then-place-count, else-place-count}

@@ -2,13 +2,12 @@ use Rattle.std.proofs.Common.{◌+◌, ◌-◌, arith, true, false, length, refl
 use Rattle.callback_store.specs.Tables.{table_at}
 use Rattle.dimension_core.specs.Setup.{setting}
 use Rattle.move_core.specs.declared.moves.Move.TheVariants.{Shift}
-use Rattle.neighbourhood.specs.Scope.{scope}
-use Rattle.neighbourhood.specs.Ways.{hop}
-use Rattle.neighbourhood.proofs.Scoping.{view_within}
+use Rattle.move_judge.specs.Scope.{scope}
+use Rattle.way_costs.specs.Ways.{hop}
 use Rattle.neighbourhood.proofs.Possible.{shift_can}
 use Rattle.neighbourhood.proofs.Shifts.{shifts_past}
 use Rattle.neighbourhood.proofs.Still.{shift_free}
-use Rattle.neighbourhood.proofs.Tabled.{row_from, shift_by, shift_tabled}
+use Rattle.neighbourhood.proofs.Tabled.{row_from, shift_tabled}
 use Rattle.neighbourhood.proofs.shift.shift_over.Goals as goal
 
 pub shift_row-requires-clause-possible : goal.shift_row-requires-clause-possible
@@ -35,7 +34,7 @@ shift_row-requires-clause-saving g c =
     let begin = c.first_free-begin.ensures.value in
     λ at l h.
     let can = shift_can r.laws s.customers c.args.view.now.routes c.args.v c.args.place c.args.count c.args.w at c.args.from.now c.args.to.now r.from r.to r.apart low some fit (omega arith) (omega arith) in
-    let saving = shift_by r.laws s c.args.view.now c.args.v c.args.place c.args.count c.args.w at c.args.from.now c.args.to.now r.view.plan r.apart r.from r.to can in
+    let saving = r.laws.saves.shift s c.args.view.now c.args.v c.args.place c.args.count c.args.w at c.args.from.now c.args.to.now r.view.plan r.apart r.from r.to can in
     rw (f, f2) (shift_tabled s c.args.view.now (Shift c.args.v c.args.place c.args.count c.args.w at) t c.args.from.now c.args.to.now c.args.from_edges.now c.args.to_edges.now c.row-comes.result.now c.row-goes.result.now
     c.args.place c.args.count 0 at c.hop-gained.result saving low some fit (omega arith) (omega arith) r.from_edges r.to_edges
     (row_from true t c.args.from.now c.args.to.now c.args.into.now c.row-comes.result.now 1 0 c.args.place (omega arith) r.into (omega arith) (omega arith) c.row-comes.ensures.cells)
@@ -47,7 +46,7 @@ returns-then-free-count g c =
     let wide = c.requires.to.sized in
     shifts_past c.requires.laws (scope c.args.bounded (setting c.args.setup.now)) c.args.view.now c.args.skip.now c.args.v c.args.w c.args.place c.args.count 1 (length c.args.to.now) c.args.best (omega arith)
     (λ k l h q.
-    let free = shift_free c.requires.laws (scope c.args.bounded (setting c.args.setup.now)) c.args.view.now c.args.skip.now (view_within c.args.bounded _ _ c.requires.view) c.args.v c.args.place c.args.count c.args.w k c.requires.apart q in
+    let free = shift_free c.requires.laws (scope c.args.bounded (setting c.args.setup.now)) c.args.view.now c.args.skip.now (c.requires.laws.bounds.views c.args.bounded _ _ c.requires.view) c.args.v c.args.place c.args.count c.args.w k c.requires.apart q in
     let fit = c.requires.free (free.0, free.2) in
     let few = c.if-free-count.true in
     absurd (omega arith))
@@ -58,7 +57,7 @@ shift_row-requires-clause-best g c =
     let begin = c.first_free-begin.ensures.value in
     shifts_past c.requires.laws (scope c.args.bounded (setting c.args.setup.now)) c.args.view.now c.args.skip.now c.args.v c.args.w c.args.place c.args.count 1 c.first_free-begin.result c.args.best (omega arith)
     (λ k l h q.
-    let free = shift_free c.requires.laws (scope c.args.bounded (setting c.args.setup.now)) c.args.view.now c.args.skip.now (view_within c.args.bounded _ _ c.requires.view) c.args.v c.args.place c.args.count c.args.w k c.requires.apart q in
+    let free = shift_free c.requires.laws (scope c.args.bounded (setting c.args.setup.now)) c.args.view.now c.args.skip.now (c.requires.laws.bounds.views c.args.bounded _ _ c.requires.view) c.args.v c.args.place c.args.count c.args.w k c.requires.apart q in
     let front = free.1 in
     absurd (omega arith))
     c.requires.best
@@ -82,7 +81,7 @@ returns-then-lost-from g c =
     shifts_past c.requires.laws (scope c.args.bounded (setting c.args.setup.now)) c.args.view.now c.args.skip.now c.args.v c.args.w c.args.place c.args.count 1 (length c.args.to.now) c.args.best (omega arith)
     (λ at l h q.
     let can = shift_can r.laws s.customers c.args.view.now.routes c.args.v c.args.place c.args.count c.args.w at c.args.from.now c.args.to.now r.from r.to r.apart low some fit (omega arith) (omega arith) in
-    let saving = shift_by r.laws s c.args.view.now c.args.v c.args.place c.args.count c.args.w at c.args.from.now c.args.to.now r.view.plan r.apart r.from r.to can in
+    let saving = r.laws.saves.shift s c.args.view.now c.args.v c.args.place c.args.count c.args.w at c.args.from.now c.args.to.now r.view.plan r.apart r.from r.to can in
     let tabled = shift_tabled s c.args.view.now (Shift c.args.v c.args.place c.args.count c.args.w at) t c.args.from.now c.args.to.now c.args.from_edges.now c.args.to_edges.now c.row-comes.result.now c.row-goes.result.now
     c.args.place c.args.count 0 at (hop t (slice_index c.args.from.now (c.args.place - 1)) (slice_index c.args.from.now (c.args.place + c.args.count))) saving low some fit (omega arith) (omega arith) r.from_edges r.to_edges
     (row_from true t c.args.from.now c.args.to.now c.args.into.now c.row-comes.result.now 1 0 c.args.place (omega arith) r.into (omega arith) (omega arith) c.row-comes.ensures.cells)

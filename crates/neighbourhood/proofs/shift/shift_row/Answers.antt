@@ -1,6 +1,6 @@
 use Rattle.std.proofs.Common.{◌≡◌, ℕ, ◌+◌, ◌-◌, arith, ap, subst, [], ◌∷◌, slice_index, refl}
 use Rattle.dimension_core.specs.Setup.{setting}
-use Rattle.neighbourhood.specs.Scope.{scope}
+use Rattle.move_judge.specs.Scope.{scope}
 use Rattle.neighbourhood.specs.Search.{IsBestSoFar}
 use Rattle.neighbourhood.proofs.Shifts.{shift_next, shifts_past}
 use Rattle.neighbourhood.proofs.shift.shift_row.Goals as goal

@@ -1,17 +1,15 @@
 use Rattle.std.proofs.Common.{slice_index, ◌+◌, ◌-◌, refl, arith, true, false, [], ◌∷◌, length}
 use Rattle.callback_store.specs.Tables.{table_at}
 use Rattle.dimension_core.specs.Setup.{setting}
-use Rattle.plan_core.specs.Plan.{route_at}
 use Rattle.move_core.specs.declared.moves.Move.TheVariants.{Shift}
-use Rattle.neighbourhood.specs.Scope.{scope}
-use Rattle.neighbourhood.specs.Best.{Counts, cost_after, cost_before}
-use Rattle.neighbourhood.proofs.Scoping.{view_within}
-use Rattle.neighbourhood.proofs.Costs.{around_before, around_after}
+use Rattle.move_judge.specs.Scope.{scope}
+use Rattle.neighbourhood.specs.Best.{Counts}
+use Rattle.way_costs.specs.Costs.{cost_after, cost_before}
 use Rattle.neighbourhood.proofs.Firsts.{best_kept}
 use Rattle.neighbourhood.proofs.Shifts.{shift_next, shifts_past}
 use Rattle.neighbourhood.proofs.Still.{shift_inside_free}
 use Rattle.neighbourhood.proofs.Possible.{shift_inside_can}
-use Rattle.neighbourhood.proofs.Tabled.{row_from, room_from, shift_inside_by, shift_tabled}
+use Rattle.neighbourhood.proofs.Tabled.{row_from, room_from, shift_tabled}
 use Rattle.neighbourhood.proofs.shift.shift_within.Goals as goal
 
 pub shift_row-forwards-requires-clause-possible : goal.shift_row-forwards-requires-clause-possible
@@ -46,8 +44,7 @@ shift_row-forwards-requires-clause-saving g c =
     let begin = c.first_free-begin.ensures.value in
     λ at l h.
     let can = shift_inside_can r.laws s.customers c.args.view.now.routes c.args.v c.args.place c.args.count at c.args.from.now r.from low some fit (omega arith) (omega arith) (λ e. omega arith) in
-    let saving = shift_inside_by r.laws s c.args.view.now c.args.v c.args.place c.args.count 0 at c.args.from.now r.view.plan r.from can
-    (around_before (route_at c.args.view.now.routes c.args.v) c.args.place c.args.count at low (omega arith) h) in
+    let saving = r.laws.saves.forwards s c.args.view.now c.args.v c.args.place c.args.count at c.args.from.now r.view.plan r.from can h in
     rw (f, f2, f3) (shift_tabled s c.args.view.now (Shift c.args.v c.args.place c.args.count c.args.v at) t c.args.from.now c.args.from.now c.args.edges.now c.args.edges.now c.row-comes.result.now c.row-goes.result.now
     c.args.place c.args.count 0 at (slice_index c.row-closes.result.now (c.args.place + c.args.count)) saving low some fit (omega arith) (omega arith) r.edges r.edges
     (row_from true t c.args.from.now c.args.from.now c.args.into.now c.row-comes.result.now 1 0 c.args.place (omega arith) r.into (omega arith) (omega arith) c.row-comes.ensures.cells)
@@ -68,8 +65,7 @@ shift_row-requires-clause-saving g c =
     let f3 = c.from-gained.ensures in
     λ at l h.
     let can = shift_inside_can r.laws s.customers c.args.view.now.routes c.args.v c.args.place c.args.count at c.args.from.now r.from low some fit (omega arith) (omega arith) (λ e. omega arith) in
-    let saving = shift_inside_by r.laws s c.args.view.now c.args.v c.args.place c.args.count c.args.count at c.args.from.now r.view.plan r.from can
-    (around_after (route_at c.args.view.now.routes c.args.v) c.args.place c.args.count at low (omega arith) (omega arith)) in
+    let saving = r.laws.saves.backwards s c.args.view.now c.args.v c.args.place c.args.count at c.args.from.now r.view.plan r.from can (omega arith) in
     rw (f, f2, f3) (shift_tabled s c.args.view.now (Shift c.args.v c.args.place c.args.count c.args.v at) t c.args.from.now c.args.from.now c.args.edges.now c.args.edges.now c.row-comes.result.now c.row-goes.result.now
     c.args.place c.args.count c.args.count at (slice_index c.row-closes.result.now (c.args.place + c.args.count)) saving low some fit (omega arith) (omega arith) r.edges r.edges
     (row_from true t c.args.from.now c.args.from.now c.args.into.now c.row-comes.result.now 1 0 c.args.place (omega arith) r.into (omega arith) (omega arith) c.row-comes.ensures.cells)
@@ -93,7 +89,7 @@ returns-then-place-begin g c =
     let test = c.if-place-begin.true in
     shifts_past c.requires.laws (scope c.args.bounded (setting c.args.setup.now)) c.args.view.now c.args.skip.now c.args.v c.args.v c.args.place c.args.count 1 (length c.args.from.now - c.args.count) c.args.best (omega arith)
     (λ k l h q.
-    let free = shift_inside_free c.requires.laws (scope c.args.bounded (setting c.args.setup.now)) c.args.view.now c.args.skip.now (view_within c.args.bounded _ _ c.requires.view) c.args.v c.args.place c.args.count k q in
+    let free = shift_inside_free c.requires.laws (scope c.args.bounded (setting c.args.setup.now)) c.args.view.now c.args.skip.now (c.requires.laws.bounds.views c.args.bounded _ _ c.requires.view) c.args.v c.args.place c.args.count k q in
     let front = free.0 in
     absurd (omega arith))
     c.requires.best
@@ -103,7 +99,7 @@ shift_row-forwards-requires-clause-best g c =
     let begin = c.first_free-begin.ensures.value in
     shifts_past c.requires.laws (scope c.args.bounded (setting c.args.setup.now)) c.args.view.now c.args.skip.now c.args.v c.args.v c.args.place c.args.count 1 c.first_free-begin.result c.args.best (omega arith)
     (λ k l h q.
-    let free = shift_inside_free c.requires.laws (scope c.args.bounded (setting c.args.setup.now)) c.args.view.now c.args.skip.now (view_within c.args.bounded _ _ c.requires.view) c.args.v c.args.place c.args.count k q in
+    let free = shift_inside_free c.requires.laws (scope c.args.bounded (setting c.args.setup.now)) c.args.view.now c.args.skip.now (c.requires.laws.bounds.views c.args.bounded _ _ c.requires.view) c.args.v c.args.place c.args.count k q in
     let front = free.1 in
     absurd (omega arith))
     c.requires.best

@@ -1,6 +1,6 @@
 use Rattle.std.proofs.Common.{◌-◌, arith, length}
 use Rattle.dimension_core.specs.Setup.{setting}
-use Rattle.neighbourhood.specs.Scope.{scope}
+use Rattle.move_judge.specs.Scope.{scope}
 use Rattle.neighbourhood.proofs.Rows.{swap_apart, swaps_begin, swaps_end, swap_row, swap_row_done}
 use Rattle.neighbourhood.proofs.swap.best_swap.Goals as goal
 

@@ -2,9 +2,9 @@ use Rattle.std.proofs.Common.{◌≡◌, ℕ, ◌+◌, ◌-◌, arith, subst, []
 use Rattle.callback_store.specs.Tables.{table_at}
 use Rattle.dimension_core.specs.Setup.{setting}
 use Rattle.move_core.specs.declared.moves.Move.TheVariants.{Swap}
-use Rattle.neighbourhood.specs.Scope.{scope}
+use Rattle.move_judge.specs.Scope.{scope}
 use Rattle.neighbourhood.proofs.Possible.{swap_can}
-use Rattle.neighbourhood.proofs.Tabled.{row_from, swap_next_by, next_tabled}
+use Rattle.neighbourhood.proofs.Tabled.{row_from, next_tabled}
 use Rattle.neighbourhood.proofs.Rows.{swap_next}
 use Rattle.neighbourhood.specs.Search.{IsNext}
 use Rattle.neighbourhood.specs.Best.{Counts}
@@ -25,7 +25,7 @@ better-requires-clause-saving g c =
     let f5 = c.from-5.ensures in
     let f6 = c.from-6.ensures in
     let can = swap_can r.laws s.customers c.args.view.now.routes c.args.v c.args.place c.args.v (c.args.place + 1) c.args.from.now c.args.from.now r.from r.from (λ e k. omega arith) low (omega arith) (omega arith) (omega arith) in
-    let saving = swap_next_by r.laws s c.args.view.now c.args.v c.args.place c.args.from.now r.view.plan r.from can in
+    let saving = r.laws.saves.swap_next s c.args.view.now c.args.v c.args.place c.args.from.now r.view.plan r.from can in
     rw (f, f2, f3, f4, f5, f6) (next_tabled s c.args.view.now (Swap c.args.v c.args.place c.args.v (c.args.place + 1)) t c.args.from.now c.args.edges.now
     c.row-before.result.now c.row-here.result.now c.row-back.result.now
     c.args.place saving low fit r.edges

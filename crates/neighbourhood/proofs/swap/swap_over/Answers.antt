@@ -2,12 +2,11 @@ use Rattle.std.proofs.Common.{◌+◌, ◌-◌, arith, true, false, length}
 use Rattle.callback_store.specs.Tables.{table_at}
 use Rattle.dimension_core.specs.Setup.{setting}
 use Rattle.move_core.specs.declared.moves.Move.TheVariants.{Swap}
-use Rattle.neighbourhood.specs.Scope.{scope}
-use Rattle.neighbourhood.proofs.Scoping.{view_within}
+use Rattle.move_judge.specs.Scope.{scope}
 use Rattle.neighbourhood.proofs.Possible.{swap_can}
 use Rattle.neighbourhood.proofs.Rows.{swaps_past}
 use Rattle.neighbourhood.proofs.Still.{swap_free}
-use Rattle.neighbourhood.proofs.Tabled.{row_from, room_from, swap_by, swap_tabled}
+use Rattle.neighbourhood.proofs.Tabled.{row_from, room_from, swap_tabled}
 use Rattle.neighbourhood.proofs.swap.swap_over.Goals as goal
 
 pub row-next-requires : goal.row-next-requires
@@ -39,7 +38,7 @@ swap_row-requires-clause-saving g c =
     let begin = c.first_free-begin.ensures.value in
     λ at l h.
     let can = swap_can r.laws s.customers c.args.view.now.routes c.args.v c.args.place c.args.w at c.args.from.now c.args.to.now r.from r.to (λ e. absurd (r.apart e)) low fit (omega arith) (omega arith) in
-    let saving = swap_by r.laws s c.args.view.now c.args.v c.args.place c.args.w at c.args.from.now c.args.to.now r.view.plan r.apart r.from r.to can in
+    let saving = r.laws.saves.swap s c.args.view.now c.args.v c.args.place c.args.w at c.args.from.now c.args.to.now r.view.plan r.apart r.from r.to can in
     rw (f, f2) (swap_tabled s c.args.view.now (Swap c.args.v c.args.place c.args.w at) t c.args.from.now c.args.to.now c.args.from_edges.now c.args.to_edges.now
     c.row-before.result.now c.row-here.result.now c.row-next.result.now c.row-back.result.now
     c.args.place at saving low fit (omega arith) (omega arith) r.from_edges r.to_edges
@@ -53,7 +52,7 @@ returns-then-not-may_leave g c =
     let wide = c.requires.to.sized in
     swaps_past c.requires.laws (scope c.args.bounded (setting c.args.setup.now)) c.args.view.now c.args.skip.now c.args.v c.args.w c.args.place 1 (length c.args.to.now - 1) c.args.best (omega arith)
     (λ k l h q.
-    let free = swap_free c.requires.laws (scope c.args.bounded (setting c.args.setup.now)) c.args.view.now c.args.skip.now (view_within c.args.bounded _ _ c.requires.view) c.args.v c.args.place c.args.w k c.requires.apart q in
+    let free = swap_free c.requires.laws (scope c.args.bounded (setting c.args.setup.now)) c.args.view.now c.args.skip.now (c.requires.laws.bounds.views c.args.bounded _ _ c.requires.view) c.args.v c.args.place c.args.w k c.requires.apart q in
     let is = c.may_leave.ensures.1 (free.0, free.2) in
     absurd cc)
     c.requires.best
@@ -63,7 +62,7 @@ swap_row-requires-clause-best g c =
     let begin = c.first_free-begin.ensures.value in
     swaps_past c.requires.laws (scope c.args.bounded (setting c.args.setup.now)) c.args.view.now c.args.skip.now c.args.v c.args.w c.args.place 1 c.first_free-begin.result c.args.best (omega arith)
     (λ k l h q.
-    let free = swap_free c.requires.laws (scope c.args.bounded (setting c.args.setup.now)) c.args.view.now c.args.skip.now (view_within c.args.bounded _ _ c.requires.view) c.args.v c.args.place c.args.w k c.requires.apart q in
+    let free = swap_free c.requires.laws (scope c.args.bounded (setting c.args.setup.now)) c.args.view.now c.args.skip.now (c.requires.laws.bounds.views c.args.bounded _ _ c.requires.view) c.args.v c.args.place c.args.w k c.requires.apart q in
     let front = free.1 in
     absurd (omega arith))
     c.requires.best

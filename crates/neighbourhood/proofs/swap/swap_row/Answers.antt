@@ -1,6 +1,6 @@
 use Rattle.std.proofs.Common.{◌≡◌, ℕ, ◌+◌, arith, subst, [], ◌∷◌, refl}
 use Rattle.dimension_core.specs.Setup.{setting}
-use Rattle.neighbourhood.specs.Scope.{scope}
+use Rattle.move_judge.specs.Scope.{scope}
 use Rattle.neighbourhood.specs.Search.{IsBestSoFar}
 use Rattle.neighbourhood.proofs.Rows.{swap_next, swaps_past}
 use Rattle.neighbourhood.proofs.swap.swap_row.Goals as goal

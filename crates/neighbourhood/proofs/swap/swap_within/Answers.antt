@@ -2,13 +2,12 @@ use Rattle.std.proofs.Common.{◌≡◌, ℕ, ◌+◌, ◌-◌, arith, subst, []
 use Rattle.callback_store.specs.Tables.{table_at}
 use Rattle.dimension_core.specs.Setup.{setting}
 use Rattle.move_core.specs.declared.moves.Move.TheVariants.{Swap}
-use Rattle.neighbourhood.specs.Scope.{scope}
+use Rattle.move_judge.specs.Scope.{scope}
 use Rattle.neighbourhood.specs.Search.{IsBestSoFar}
-use Rattle.neighbourhood.proofs.Scoping.{view_within}
 use Rattle.neighbourhood.proofs.Possible.{swap_can}
 use Rattle.neighbourhood.proofs.Rows.{swaps_past}
 use Rattle.neighbourhood.proofs.Still.{swap_inside_free}
-use Rattle.neighbourhood.proofs.Tabled.{row_from, room_from, swap_inside_by, swap_tabled}
+use Rattle.neighbourhood.proofs.Tabled.{row_from, room_from, swap_tabled}
 use Rattle.neighbourhood.proofs.swap.swap_within.Goals as goal
 
 pub row-next-requires : goal.row-next-requires
@@ -47,7 +46,7 @@ swap_row-requires-clause-saving g c =
     let f2 = c.from-2.ensures in
     λ at l h.
     let can = swap_can r.laws s.customers c.args.view.now.routes c.args.v c.args.place c.args.v at c.args.from.now c.args.from.now r.from r.from (λ e k. omega arith) low fit (omega arith) (omega arith) in
-    let saving = swap_inside_by r.laws s c.args.view.now c.args.v c.args.place at c.args.from.now r.view.plan r.from can (omega arith) in
+    let saving = r.laws.saves.swap_inside s c.args.view.now c.args.v c.args.place at c.args.from.now r.view.plan r.from can (omega arith) in
     rw (f, f2) (swap_tabled s c.args.view.now (Swap c.args.v c.args.place c.args.v at) t c.args.from.now c.args.from.now c.args.edges.now c.args.edges.now
     c.row-before.result.now c.row-here.result.now c.row-next.result.now c.row-back.result.now
     c.args.place at saving low fit (omega arith) (omega arith) r.edges r.edges
@@ -63,7 +62,7 @@ returns-then-place-first_free g c =
     let room = c.if-index-from.false in
     swaps_past c.requires.laws (scope c.args.bounded (setting c.args.setup.now)) c.args.view.now c.args.skip.now c.args.v c.args.v c.args.place (c.args.place + 1) (length c.args.from.now - 1) c.args.best (omega arith)
     (λ k l h q.
-    let front = swap_inside_free c.requires.laws (scope c.args.bounded (setting c.args.setup.now)) c.args.view.now c.args.skip.now (view_within c.args.bounded _ _ c.requires.view) c.args.v c.args.place k (omega arith) q in
+    let front = swap_inside_free c.requires.laws (scope c.args.bounded (setting c.args.setup.now)) c.args.view.now c.args.skip.now (c.requires.laws.bounds.views c.args.bounded _ _ c.requires.view) c.args.v c.args.place k (omega arith) q in
     absurd (omega arith))
     c.requires.best
 

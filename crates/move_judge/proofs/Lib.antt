@@ -1,0 +1,9 @@
+pub mod Scoping
+pub mod Carried
+pub mod Keeping
+pub mod Meeting
+pub mod Allowing
+pub mod Stretches
+pub mod Between
+pub mod Inside
+pub mod Still

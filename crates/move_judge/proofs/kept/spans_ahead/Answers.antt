@@ -1,0 +1,91 @@
+use Rattle.std.proofs.Common.{◌≡◌, ℕ, ◌+◌, ◌*◌, ◌++◌, [], ◌∷◌, refl, sym, subst, arith, length, List, Option, ap, take}
+use Rattle.std.proofs.lemmas.Grind.{common_steps}
+use Rattle.dimension_core.specs.declared.range.Range.{Range}
+use Rattle.dimension_core.specs.Cumuls.{table_of}
+use Rattle.dimension_core.specs.Setup.{setting}
+use Rattle.move_judge.specs.Kept.{IsAhead}
+use Rattle.move_judge.proofs.Keeping.{cells_at, cells_row, at_place, node_known, vehicle_known, served_here, AheadCells, ahead_first, ahead_more, span_on}
+use Rattle.move_judge.proofs.kept.spans_ahead.Goals as goal
+
+pub loop-customer-init : goal.loop-customer-init
+loop-customer-init g c =
+    let s = setting c.args.setup.now in
+    let dims = c.dimensions-dimension-items.ensures in
+    let same = at_place s c.loop-dimension.dimension-index _ _ dims.value c.loop-dimension-test.true c.dimension-item.is in
+    let few = ap length dims.value in
+    let test = c.loop-dimension-test.true in
+    let pushed : c.push.new.self.items ≡ c.loop-dimension.cells.items ++ c.start-span.result ∷ [] = grind (arith, common_steps) in
+    let begun = c.requires.laws.spans.start (table_of s.tables c.dimension-item.result) c.dimension-item.result c.args.vehicle c.start-span.result c.start-span.ensures.span in
+    record {
+      cells = subst (λ (xs : List (Option Range)). AheadCells s c.args.vehicle c.args.route.now (c.loop-dimension.dimension-index * (length c.args.route.now + 1) + (0 + 1)) xs) (sym pushed)
+          (ahead_first s c.args.vehicle c.args.route.now c.loop-dimension.dimension-index c.loop-dimension.cells.items c.dimension-item.result c.start-span.result c.loop-dimension.invariant same begun);
+      span = begun;
+      from = refl;
+      known = node_known s c.loop-dimension.dimension-index 0 c.dimension-item.result dims.sound (omega arith) same (omega arith);
+    }
+
+pub span_after-span-requires-clause-served : goal.span_after-span-requires-clause-served
+span_after-span-requires-clause-served g c =
+    let s = setting c.args.setup.now in
+    let dims = c.dimensions-dimension-items.ensures in
+    let same = at_place s c.loop-dimension.dimension-index _ _ dims.value c.loop-dimension-test.true c.dimension-item.is in
+    let few = ap length dims.value in
+    let test = c.loop-dimension-test.true in
+    served_here s c.loop-dimension.dimension-index _ _ (dims.served c.loop-dimension.dimension-index (omega arith)) c.registry.ensures.value same
+
+pub span_after-span-requires-clause-node : goal.span_after-span-requires-clause-node
+span_after-span-requires-clause-node g c =
+    let s = setting c.args.setup.now in
+    let dims = c.dimensions-dimension-items.ensures in
+    let same = at_place s c.loop-dimension.dimension-index _ _ dims.value c.loop-dimension-test.true c.dimension-item.is in
+    let few = ap length dims.value in
+    let test = c.loop-dimension-test.true in
+    node_known s c.loop-dimension.dimension-index _ c.dimension-item.result dims.sound (omega arith) same (c.requires.known c.loop-customer.customer-index 0 c.loop-customer-test.true)
+
+pub span_after-span-requires-clause-high : goal.span_after-span-requires-clause-high
+span_after-span-requires-clause-high g c =
+    let s = setting c.args.setup.now in
+    let dims = c.dimensions-dimension-items.ensures in
+    let same = at_place s c.loop-dimension.dimension-index _ _ dims.value c.loop-dimension-test.true c.dimension-item.is in
+    let few = ap length dims.value in
+    let test = c.loop-dimension-test.true in
+    vehicle_known s c.loop-dimension.dimension-index _ c.dimension-item.result dims.sound (omega arith) same c.requires.high
+
+pub loop-customer-preserved : goal.loop-customer-preserved
+loop-customer-preserved g c =
+    let s = setting c.args.setup.now in
+    let dims = c.dimensions-dimension-items.ensures in
+    let same = at_place s c.loop-dimension.dimension-index _ _ dims.value c.loop-dimension-test.true c.dimension-item.is in
+    let few = ap length dims.value in
+    let test = c.loop-dimension-test.true in
+    let h = c.loop-customer-test.true in
+    let pushed : c.push-in-loop-customer.new.self.items ≡ c.loop-customer.cells.items ++ c.span_after-span.result ∷ [] = grind (arith, common_steps) in
+    let next = span_on _ _ c.dimension-item.result c.args.vehicle c.args.route.now c.loop-customer.customer-index c.loop-customer.from c.loop-customer.span c.span_after-span.result
+    c.registry.ensures.value h c.loop-customer.invariant.span c.loop-customer.invariant.from c.span_after-span.ensures in
+    record {
+      cells = subst (λ (xs : List (Option Range)). AheadCells s c.args.vehicle c.args.route.now (c.loop-dimension.dimension-index * (length c.args.route.now + 1) + (c.loop-customer.customer-index + 1 + 1)) xs) (sym pushed)
+          (ahead_more s c.args.vehicle c.args.route.now c.loop-dimension.dimension-index c.loop-customer.customer-index c.loop-customer.cells.items c.dimension-item.result c.span_after-span.result h c.loop-customer.invariant.cells same next);
+      span = next;
+      from = c.requires.laws.spans.last c.args.route.now c.loop-customer.customer-index h;
+      known = node_known s c.loop-dimension.dimension-index _ c.dimension-item.result dims.sound (omega arith) same (c.requires.known c.loop-customer.customer-index 0 h);
+    }
+
+pub loop-dimension-preserved : goal.loop-dimension-preserved
+loop-dimension-preserved g c =
+    let last = c.loop-customer-test.false in
+    let end = c.loop-customer.auto.customer-index-end in
+    cells_row (λ k place span. IsAhead (setting c.args.setup.now) c.args.vehicle (take place c.args.route.now) k span) (length c.args.route.now + 1) c.loop-dimension.dimension-index c.loop-customer.customer-index
+    c.loop-customer.cells.items (omega arith) c.loop-customer.invariant.cells
+
+pub returns : goal.returns
+returns g c =
+    let few = ap length c.dimensions-dimension-items.ensures.value in
+    let last = c.loop-dimension-test.false in
+    let end = c.loop-dimension.auto.dimension-index-end in
+    let all : c.loop-dimension.dimension-index ≡ length (setting c.args.setup.now).dimensions = omega arith in
+    record {
+      width = refl;
+      cells = cells_at (λ k place span. IsAhead (setting c.args.setup.now) c.args.vehicle (take place c.args.route.now) k span) (length c.args.route.now + 1)
+          (c.loop-dimension.dimension-index * (length c.args.route.now + 1)) (length (setting c.args.setup.now).dimensions * (length c.args.route.now + 1)) c.loop-dimension.cells.items
+          (ap (λ (n : ℕ). n * (length c.args.route.now + 1)) all) c.loop-dimension.invariant;
+    }

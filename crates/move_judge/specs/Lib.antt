@@ -1,0 +1,9 @@
+pub mod View
+pub mod Near
+pub mod Allowed
+pub mod Scope
+pub mod Parts
+pub mod Kept
+pub mod Between
+pub mod Given
+pub mod Laws

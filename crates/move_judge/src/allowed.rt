@@ -1,0 +1,700 @@
+//! What a view allows: a move by the parts of its new routes, and where a move may begin at all.
+ghost use Rattle.std.specs.Prelude.{ℕ, ◌⊎◌, ◌≡◌, ◌≢◌, ◌≤◌, ◌<◌, ◌+◌, ◌-◌, ◌++◌, ◌↔◌, true, false, length, take, drop, IsTrue, All, Contains};
+ghost use Rattle.dimension_core.specs.Setup.{setting};
+ghost use Rattle.move_core.specs.declared.moves.Move.TheVariants.{Shift, Swap, Reverse, Cross};
+ghost use Rattle.move_core.specs.Moves.{is_possible, stretch};
+ghost use Rattle.plan_core.specs.Plan.{route_at};
+ghost use Rattle.pin_core.specs.Pins.{front_of};
+ghost use Rattle.pin_core.specs.View.{pins_of};
+ghost use Rattle.move_judge.specs.Scope.{scope};
+ghost use Rattle.move_judge.specs.View.{IsViewOf};
+ghost use Rattle.move_judge.specs.Near.{IsNear};
+ghost use Rattle.move_judge.specs.Allowed.{IsAllowed, AreLoose};
+ghost use Rattle.move_judge.specs.Between.{IsBetween, IsInside};
+ghost use Rattle.move_judge.specs.Kept.{AreKept, HasAhead, HasBehind};
+ghost use Rattle.move_judge.specs.Given.{Laws};
+ghost use Rattle.move_judge.specs.Parts.{way_of};
+
+use crate::fits::fits;
+use crate::kept::{Kept, Spans};
+use crate::laws::laws_below;
+use callback_store::Meter;
+use dimension_core::Setup;
+use move_core::Move;
+use pin_core::View;
+
+/// The customers of a route from one place on, before another.
+fn part(route: &[u32], from: u32, to: u32) -> &[u32]
+    requires low { 1 ≤ from }
+    requires order { from ≤ to }
+    requires high { to ≤ length route.now + 1 }
+    ensures { result.now ≡ take (to - from) (drop (from - 1) route.now) }
+{
+    &route[from as usize - 1..to as usize - 1]
+}
+
+/// The customers of a route before a place.
+fn front_of(route: &[u32], to: u32) -> &[u32]
+    requires low { 1 ≤ to }
+    requires high { to ≤ length route.now + 1 }
+    ensures { result.now ≡ take (to - 1) route.now }
+{
+    &route[..to as usize - 1]
+}
+
+/// The customers of a route after so many.
+fn back_of(route: &[u32], count: usize) -> &[u32]
+    requires { count ≤ length route.now }
+    ensures { result.now ≡ drop count route.now }
+{
+    &route[count..]
+}
+
+/// Whether none of some customers is pinned.
+fn are_loose(view: &View, customers: &[u32]) -> bool
+    requires laws { Laws }
+    requires known { All (λ c. (1 ≤ c) × (c ≤ length view.now.pinned)) customers.now }
+    ensures { IsTrue result ↔ AreLoose (pins_of view.now) customers.now }
+{
+    for customer in customers {
+        if view.is_pinned(*customer) {
+            return false;
+        }
+    }
+    true
+}
+
+/// The first place at which a vehicle's route may change: the one after its frozen front. Vehicles and places count from 1.
+pub fn first_free(view: &View, setup: &Setup, v: u32) -> u32
+    requires view { IsViewOf (setting setup.now) view.now }
+    requires v { (1 ≤ v) × (v ≤ length view.now.routes) }
+    ensures value { result ≡ front_of (pins_of view.now) v + 1 }
+    ensures high { result ≤ length (route_at view.now.routes v) + 1 }
+{
+    laws_below();
+    let _customers = setup.customers();
+    view.front(v) + 1
+}
+
+/// Whether so many customers from a place on may leave their vehicle: they stand behind its frozen front, and none is pinned.
+pub fn may_leave(view: &View, setup: &Setup, v: u32, place: u32, count: u32) -> bool
+    requires view { IsViewOf (setting setup.now) view.now }
+    requires v { (1 ≤ v) × (v ≤ length view.now.routes) }
+    requires low { 1 ≤ place }
+    requires high { place + count ≤ length (route_at view.now.routes v) + 1 }
+    ensures { IsTrue result ↔ (front_of (pins_of view.now) v < place) × AreLoose (pins_of view.now) (stretch (route_at view.now.routes v) place count) }
+{
+    laws_below();
+    if place < first_free(view, setup, v) {
+        return false;
+    }
+    are_loose(view, part(view.customers(v), place, place + count))
+}
+
+/// How many customers from a place on may leave their vehicle together, up to three: none where they stand in its frozen front, and none
+/// from the first one on that is pinned.
+pub fn loose_from(view: &View, setup: &Setup, v: u32, place: u32) -> u32
+    requires view { IsViewOf (setting setup.now) view.now }
+    requires v { (1 ≤ v) × (v ≤ length view.now.routes) }
+    requires low { 1 ≤ place }
+    ensures few { result ≤ 3 }
+    ensures loose { 1 ≤ result → (place + result ≤ length (route_at view.now.routes v) + 1)
+        × ((front_of (pins_of view.now) v < place) × AreLoose (pins_of view.now) (stretch (route_at view.now.routes v) place result)) }
+    ensures most { (count : ℕ) → count ≤ 3 → place + count ≤ length (route_at view.now.routes v) + 1
+        → (front_of (pins_of view.now) v < place) × AreLoose (pins_of view.now) (stretch (route_at view.now.routes v) place count) → count ≤ result }
+{
+    laws_below();
+    if place < first_free(view, setup, v) {
+        return 0;
+    }
+    let _customers = setup.customers();
+    let route = view.customers(v);
+    for k in 0..3usize {
+        let index = place as usize - 1 + k;
+        if index >= route.len() {
+            return k as u32;
+        }
+        if view.is_pinned(route[index]) {
+            return k as u32;
+        }
+    }
+    3
+}
+
+/// How many of its first customers a vehicle has to keep in a cross: those of its frozen front, and all up to the last one that is pinned.
+pub fn must_keep(view: &View, setup: &Setup, v: u32) -> u32
+    requires view { IsViewOf (setting setup.now) view.now }
+    requires v { (1 ≤ v) × (v ≤ length view.now.routes) }
+    ensures high { result ≤ length (route_at view.now.routes v) }
+    ensures enough { (front_of (pins_of view.now) v ≤ result) × AreLoose (pins_of view.now) (drop result (route_at view.now.routes v)) }
+    ensures held { (k : ℕ) → k < result → (k < front_of (pins_of view.now) v) ⊎ ¬ AreLoose (pins_of view.now) (drop k (route_at view.now.routes v)) }
+{
+    laws_below();
+    let _customers = setup.customers();
+    let route = view.customers(v);
+    let mut keep = view.front(v);
+    for place in 0..route.len() as u32 {
+        if view.is_pinned(route[place as usize]) {
+            keep = keep.max(place + 1);
+        }
+    }
+    keep
+}
+
+/// Whether a move is to be skipped.
+fn is_skipped(skip: &[Move], mv: &Move) -> bool
+    ensures { IsTrue result ↔ Contains skip.now mv.now }
+{
+    skip.contains(mv)
+}
+
+/// Whether a move between two vehicles is allowed, by its new routes in parts.
+#[inline(always)]
+fn allows_between(
+    view: &View,
+    setup: &Setup,
+    bounded: bool,
+    skip: &[Move],
+    mv: Move,
+    v: u32,
+    w: u32,
+    x: u32,
+    y: u32,
+    over: &[u32],
+    back: &[u32],
+    v_ahead: &Spans,
+    v_front: &[u32],
+    v_middle: &[u32],
+    v_back: &[u32],
+    v_behind: &Spans,
+    w_ahead: &Spans,
+    w_front: &[u32],
+    w_middle: &[u32],
+    w_back: &[u32],
+    w_behind: &Spans,
+    meter: &mut Meter,
+) -> bool
+    requires laws { Laws }
+    requires view { IsViewOf (setting setup.now) view.now }
+    requires possible { is_possible (setting setup.now).customers view.now.routes mv ≡ true }
+    requires between { IsBetween view.now.routes mv v w x y over.now back.now (v_front.now ++ (v_middle.now ++ v_back.now)) (w_front.now ++ (w_middle.now ++ w_back.now)) }
+    requires v_ahead { 0 < v_ahead.now.width → HasAhead (setting setup.now) v v_front.now v_ahead.now }
+    requires v_behind { 0 < v_behind.now.width → HasBehind (setting setup.now) v v_back.now v_behind.now }
+    requires w_ahead { 0 < w_ahead.now.width → HasAhead (setting setup.now) w w_front.now w_ahead.now }
+    requires w_behind { 0 < w_behind.now.width → HasBehind (setting setup.now) w w_back.now w_behind.now }
+    ensures { IsTrue result ↔ IsAllowed (scope bounded (setting setup.now)) view.now skip.now mv }
+{
+    if x <= view.front(v) {
+        return false;
+    }
+    if y <= view.front(w) {
+        return false;
+    }
+    if !are_loose(view, over) {
+        return false;
+    }
+    if !are_loose(view, back) {
+        return false;
+    }
+    if is_skipped(skip, &mv) {
+        return false;
+    }
+    if !fits(
+        setup,
+        bounded,
+        v,
+        v_ahead,
+        v_front,
+        false,
+        v_middle,
+        &[],
+        &[],
+        v_back,
+        v_behind,
+        meter,
+    ) {
+        return false;
+    }
+    fits(
+        setup,
+        bounded,
+        w,
+        w_ahead,
+        w_front,
+        false,
+        w_middle,
+        &[],
+        &[],
+        w_back,
+        w_behind,
+        meter,
+    )
+}
+
+/// Whether a move inside a vehicle is allowed, by its new route in parts.
+#[inline(always)]
+fn allows_inside(
+    view: &View,
+    setup: &Setup,
+    bounded: bool,
+    skip: &[Move],
+    mv: Move,
+    v: u32,
+    x: u32,
+    ahead: &Spans,
+    front: &[u32],
+    turned: bool,
+    first: &[u32],
+    second: &[u32],
+    third: &[u32],
+    back: &[u32],
+    behind: &Spans,
+    meter: &mut Meter,
+) -> bool
+    requires laws { Laws }
+    requires view { IsViewOf (setting setup.now) view.now }
+    requires possible { is_possible (setting setup.now).customers view.now.routes mv ≡ true }
+    requires ahead { 0 < ahead.now.width → HasAhead (setting setup.now) v front.now ahead.now }
+    requires behind { 0 < behind.now.width → HasBehind (setting setup.now) v back.now behind.now }
+    requires inside { IsInside view.now.routes mv v x (front.now ++ (way_of turned first.now ++ (second.now ++ (third.now ++ back.now)))) }
+    ensures { IsTrue result ↔ IsAllowed (scope bounded (setting setup.now)) view.now skip.now mv }
+{
+    if x <= view.front(v) {
+        return false;
+    }
+    if is_skipped(skip, &mv) {
+        return false;
+    }
+    fits(
+        setup, bounded, v, ahead, front, turned, first, second, third, back, behind, meter,
+    )
+}
+
+/// Whether a shift inside a vehicle is allowed.
+fn allows_shift_inside(
+    view: &View,
+    setup: &Setup,
+    bounded: bool,
+    skip: &[Move],
+    v: u32,
+    place: u32,
+    length: u32,
+    at: u32,
+    kept: &Kept,
+    meter: &mut Meter,
+) -> bool
+    requires laws { Laws }
+    requires kept { AreKept (setting setup.now) view.now.routes v v kept.now }
+    requires view { IsViewOf (setting setup.now) view.now }
+    requires possible { is_possible (setting setup.now).customers view.now.routes (Shift v place length v at) ≡ true }
+    ensures { IsTrue result ↔ IsAllowed (scope bounded (setting setup.now)) view.now skip.now (Shift v place length v at) }
+{
+    let mv = Move::Shift {
+        vehicle: v,
+        place,
+        length,
+        to: v,
+        at,
+    };
+    let route = view.customers(v);
+    let stretch = part(route, place, place + length);
+    if at < place {
+        let front = front_of(route, at);
+        let between = part(route, at, place);
+        let back = back_of(route, place as usize - 1 + length as usize);
+        return allows_inside(
+            view,
+            setup,
+            bounded,
+            skip,
+            mv,
+            v,
+            at,
+            &kept.ahead,
+            front,
+            false,
+            stretch,
+            between,
+            &[],
+            back,
+            &kept.behind,
+            meter,
+        );
+    }
+    let front = front_of(route, place);
+    let between = part(route, place + length, at + length);
+    let back = back_of(route, at as usize - 1 + length as usize);
+    allows_inside(
+        view,
+        setup,
+        bounded,
+        skip,
+        mv,
+        v,
+        place,
+        &kept.ahead,
+        front,
+        false,
+        between,
+        stretch,
+        &[],
+        back,
+        &kept.behind,
+        meter,
+    )
+}
+
+/// Whether a swap inside a vehicle, named from its first place, is allowed.
+fn allows_swap_inside(
+    view: &View,
+    setup: &Setup,
+    bounded: bool,
+    skip: &[Move],
+    v: u32,
+    place: u32,
+    at: u32,
+    kept: &Kept,
+    meter: &mut Meter,
+) -> bool
+    requires laws { Laws }
+    requires kept { AreKept (setting setup.now) view.now.routes v v kept.now }
+    requires view { IsViewOf (setting setup.now) view.now }
+    requires possible { is_possible (setting setup.now).customers view.now.routes (Swap v place v at) ≡ true }
+    requires order { place < at }
+    ensures { IsTrue result ↔ IsAllowed (scope bounded (setting setup.now)) view.now skip.now (Swap v place v at) }
+{
+    let mv = Move::Swap {
+        vehicle: v,
+        place,
+        other: v,
+        at,
+    };
+    let route = view.customers(v);
+    let front = front_of(route, place);
+    let here = part(route, place, place + 1);
+    let between = part(route, place + 1, at);
+    let there = part(route, at, at + 1);
+    let back = back_of(route, at as usize);
+    allows_inside(
+        view,
+        setup,
+        bounded,
+        skip,
+        mv,
+        v,
+        place,
+        &kept.ahead,
+        front,
+        false,
+        there,
+        between,
+        here,
+        back,
+        &kept.behind,
+        meter,
+    )
+}
+
+/// Whether a reverse is allowed.
+fn allows_reverse(
+    view: &View,
+    setup: &Setup,
+    bounded: bool,
+    skip: &[Move],
+    v: u32,
+    first: u32,
+    last: u32,
+    kept: &Kept,
+    meter: &mut Meter,
+) -> bool
+    requires laws { Laws }
+    requires kept { AreKept (setting setup.now) view.now.routes v v kept.now }
+    requires view { IsViewOf (setting setup.now) view.now }
+    requires possible { is_possible (setting setup.now).customers view.now.routes (Reverse v first last) ≡ true }
+    ensures { IsTrue result ↔ IsAllowed (scope bounded (setting setup.now)) view.now skip.now (Reverse v first last) }
+{
+    let mv = Move::Reverse {
+        vehicle: v,
+        first,
+        last,
+    };
+    let route = view.customers(v);
+    let front = front_of(route, first);
+    let stretch = part(route, first, last + 1);
+    let back = back_of(route, last as usize);
+    allows_inside(
+        view,
+        setup,
+        bounded,
+        skip,
+        mv,
+        v,
+        first,
+        &kept.ahead,
+        front,
+        true,
+        stretch,
+        &[],
+        &[],
+        back,
+        &kept.behind,
+        meter,
+    )
+}
+
+/// Whether a shift between two vehicles is allowed.
+fn allows_shift(
+    view: &View,
+    setup: &Setup,
+    bounded: bool,
+    skip: &[Move],
+    v: u32,
+    place: u32,
+    length: u32,
+    w: u32,
+    at: u32,
+    v_kept: &Kept,
+    w_kept: &Kept,
+    meter: &mut Meter,
+) -> bool
+    requires laws { Laws }
+    requires v_kept { AreKept (setting setup.now) view.now.routes v w v_kept.now }
+    requires w_kept { AreKept (setting setup.now) view.now.routes w v w_kept.now }
+    requires view { IsViewOf (setting setup.now) view.now }
+    requires possible { is_possible (setting setup.now).customers view.now.routes (Shift v place length w at) ≡ true }
+    requires apart { v ≢ w }
+    ensures { IsTrue result ↔ IsAllowed (scope bounded (setting setup.now)) view.now skip.now (Shift v place length w at) }
+{
+    let mv = Move::Shift {
+        vehicle: v,
+        place,
+        length,
+        to: w,
+        at,
+    };
+    let route = view.customers(v);
+    let front = front_of(route, place);
+    let stretch = part(route, place, place + length);
+    let rest = back_of(route, place as usize - 1 + length as usize);
+    let other = view.customers(w);
+    let before = front_of(other, at);
+    let after = back_of(other, at as usize - 1);
+    allows_between(
+        view,
+        setup,
+        bounded,
+        skip,
+        mv,
+        v,
+        w,
+        place,
+        at,
+        stretch,
+        &[],
+        &v_kept.ahead,
+        front,
+        &[],
+        rest,
+        &v_kept.behind,
+        &w_kept.ahead,
+        before,
+        stretch,
+        after,
+        &w_kept.behind,
+        meter,
+    )
+}
+
+/// Whether a swap between two vehicles is allowed.
+fn allows_swap(
+    view: &View,
+    setup: &Setup,
+    bounded: bool,
+    skip: &[Move],
+    v: u32,
+    place: u32,
+    w: u32,
+    at: u32,
+    v_kept: &Kept,
+    w_kept: &Kept,
+    meter: &mut Meter,
+) -> bool
+    requires laws { Laws }
+    requires v_kept { AreKept (setting setup.now) view.now.routes v w v_kept.now }
+    requires w_kept { AreKept (setting setup.now) view.now.routes w v w_kept.now }
+    requires view { IsViewOf (setting setup.now) view.now }
+    requires possible { is_possible (setting setup.now).customers view.now.routes (Swap v place w at) ≡ true }
+    requires apart { v ≢ w }
+    ensures { IsTrue result ↔ IsAllowed (scope bounded (setting setup.now)) view.now skip.now (Swap v place w at) }
+{
+    let mv = Move::Swap {
+        vehicle: v,
+        place,
+        other: w,
+        at,
+    };
+    let route = view.customers(v);
+    let front = front_of(route, place);
+    let here = part(route, place, place + 1);
+    let rest = back_of(route, place as usize);
+    let other = view.customers(w);
+    let before = front_of(other, at);
+    let there = part(other, at, at + 1);
+    let after = back_of(other, at as usize);
+    allows_between(
+        view,
+        setup,
+        bounded,
+        skip,
+        mv,
+        v,
+        w,
+        place,
+        at,
+        here,
+        there,
+        &v_kept.ahead,
+        front,
+        there,
+        rest,
+        &v_kept.behind,
+        &w_kept.ahead,
+        before,
+        here,
+        after,
+        &w_kept.behind,
+        meter,
+    )
+}
+
+/// Whether a cross is allowed.
+fn allows_cross(
+    view: &View,
+    setup: &Setup,
+    bounded: bool,
+    skip: &[Move],
+    v: u32,
+    keep: u32,
+    w: u32,
+    keep_other: u32,
+    v_kept: &Kept,
+    w_kept: &Kept,
+    meter: &mut Meter,
+) -> bool
+    requires laws { Laws }
+    requires v_kept { AreKept (setting setup.now) view.now.routes v w v_kept.now }
+    requires w_kept { AreKept (setting setup.now) view.now.routes w v w_kept.now }
+    requires view { IsViewOf (setting setup.now) view.now }
+    requires possible { is_possible (setting setup.now).customers view.now.routes (Cross v keep w keep_other) ≡ true }
+    ensures { IsTrue result ↔ IsAllowed (scope bounded (setting setup.now)) view.now skip.now (Cross v keep w keep_other) }
+{
+    let mv = Move::Cross {
+        vehicle: v,
+        keep,
+        other: w,
+        keep_other,
+    };
+    let _customers = setup.customers();
+    let (front, tail) = view.customers(v).split_at(keep as usize);
+    let (before, end) = view.customers(w).split_at(keep_other as usize);
+    allows_between(
+        view,
+        setup,
+        bounded,
+        skip,
+        mv,
+        v,
+        w,
+        keep + 1,
+        keep_other + 1,
+        tail,
+        end,
+        &v_kept.ahead,
+        front,
+        &[],
+        end,
+        &v_kept.over,
+        &w_kept.ahead,
+        before,
+        &[],
+        tail,
+        &w_kept.over,
+        meter,
+    )
+}
+
+/// Whether a move near two vehicles, or near one, that has an effect is allowed; where `bounded` is false, with the dimensions left out.
+/// What is kept for each vehicle is what `kept_between`, `kept_alone` or `nothing_kept` gives.
+pub fn allows(
+    view: &View,
+    setup: &Setup,
+    bounded: bool,
+    skip: &[Move],
+    v: u32,
+    w: u32,
+    v_kept: &Kept,
+    w_kept: &Kept,
+    mv: Move,
+    meter: &mut Meter,
+) -> bool
+    requires v_kept { AreKept (setting setup.now) view.now.routes v w v_kept.now }
+    requires w_kept { AreKept (setting setup.now) view.now.routes w v w_kept.now }
+    requires view { IsViewOf (setting setup.now) view.now }
+    requires possible { is_possible (setting setup.now).customers view.now.routes mv ≡ true }
+    requires near { IsNear v w mv }
+    ensures { IsTrue result ↔ IsAllowed (scope bounded (setting setup.now)) view.now skip.now mv }
+{
+    laws_below();
+    match mv {
+        Move::Shift {
+            vehicle,
+            place,
+            length,
+            to,
+            at,
+        } => {
+            if vehicle == to {
+                allows_shift_inside(
+                    view, setup, bounded, skip, vehicle, place, length, at, v_kept, meter,
+                )
+            } else {
+                allows_shift(
+                    view, setup, bounded, skip, vehicle, place, length, to, at, v_kept, w_kept,
+                    meter,
+                )
+            }
+        }
+        Move::Swap {
+            vehicle,
+            place,
+            other,
+            at,
+        } => {
+            if vehicle == other {
+                allows_swap_inside(
+                    view, setup, bounded, skip, vehicle, place, at, v_kept, meter,
+                )
+            } else {
+                allows_swap(
+                    view, setup, bounded, skip, vehicle, place, other, at, v_kept, w_kept, meter,
+                )
+            }
+        }
+        Move::Reverse {
+            vehicle,
+            first,
+            last,
+        } => allows_reverse(
+            view, setup, bounded, skip, vehicle, first, last, v_kept, meter,
+        ),
+        Move::Cross {
+            vehicle,
+            keep,
+            other,
+            keep_other,
+        } => allows_cross(
+            view, setup, bounded, skip, vehicle, keep, other, keep_other, v_kept, w_kept, meter,
+        ),
+        Move::Insert { .. } | Move::Remove { .. } => false,
+    }
+}

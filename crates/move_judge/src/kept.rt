@@ -1,0 +1,277 @@
+//! The cumuls along the routes of a view, kept from both ends, so that a move is judged by its middle.
+ghost use Rattle.std.specs.Prelude.{◌≡◌, ◌≢◌, ℕ, ◌+◌, ◌*◌, ◌<◌, ◌≤◌, List, [], ◌∷◌, ◌++◌, length, Option, IfOk, IfSome, IsTrue, ◌↔◌, All};
+ghost use Rattle.callback_store.specs.Registry.{tables};
+ghost use Rattle.dimension_core.specs.Cumuls.{IsCumul, IsServed, IsSpan, Reaches, table_of, last_of};
+ghost use Rattle.dimension_core.specs.Onward.{IsOnward};
+ghost use Rattle.dimension_core.specs.Setting.{Setting};
+ghost use Rattle.dimension_core.specs.Setup.{setting};
+ghost use Rattle.move_judge.specs.Kept.{span_at, AreAhead, AreBehind, AreKept};
+ghost use Rattle.move_judge.specs.Given.{Laws};
+ghost use Rattle.move_judge.specs.View.{IsViewOf};
+
+use crate::laws::laws_below;
+use callback_store::{Meter, Registry};
+use dimension_core::{Dimension, Range, Setup};
+use pin_core::View;
+use std::alloc::{AllocError, Global};
+use std::marker::Model;
+
+/// Spans of cumuls, as many for each dimension as the width says; none where there are no cumuls.
+#[derive(Drop)]
+pub struct Spans {
+    width: usize,
+    cells: Vec<Option<Range>>,
+}
+
+impl Model for Spans {
+    ghost use Rattle.move_judge.specs.Kept.{SpanTable};
+
+    ghost Value = { SpanTable };
+
+    ghost view = { λ a. record { width = a.width; cells = a.cells.items } };
+}
+
+impl Spans {
+    /// No spans.
+    pub(crate) fn none(alloc: Global) -> Spans
+        ensures { result.width ≡ 0 }
+    {
+        Spans {
+            width: 0,
+            cells: Vec::new(alloc),
+        }
+    }
+
+    /// Whether there are spans.
+    pub(crate) fn are_kept(&self) -> bool
+        ensures { IsTrue result ↔ (0 < self.now.width) }
+    {
+        self.width > 0
+    }
+
+    /// The span at a place in a dimension, both counted from 0.
+    pub(crate) fn at(&self, dimension: usize, place: usize) -> Option<Range>
+        requires { dimension * self.now.width + place < length self.now.cells }
+        ensures { result ≡ span_at self.now dimension place }
+    {
+        self.cells[dimension * self.width + place]
+    }
+}
+
+/// What is kept for a vehicle: the spans after each number of the first customers of its route, those before each number of its last ones,
+/// and before each number of the last ones of the other vehicle.
+#[derive(Drop)]
+pub struct Kept {
+    pub(crate) ahead: Spans,
+    pub(crate) behind: Spans,
+    pub(crate) over: Spans,
+}
+
+impl Model for Kept {
+    ghost use Rattle.move_judge.specs.Kept.{KeptSpans};
+
+    ghost Value = { KeptSpans };
+
+    ghost view = { λ a. record { ahead = a.ahead; behind = a.behind; over = a.over } };
+}
+
+/// The cumuls at a node after those at the node before it.
+fn span_after(
+    dimension: &Dimension,
+    registry: &Registry,
+    span: Option<Range>,
+    from: u32,
+    node: u32,
+    vehicle: u32,
+    meter: &mut Meter,
+) -> Option<Range>
+    requires laws { Laws }
+    requires served { IsServed (tables registry.now) dimension.now }
+    requires from { from < length dimension.now.ranges }
+    requires node { node < length dimension.now.ranges }
+    requires low { 1 ≤ vehicle }
+    requires high { vehicle ≤ length dimension.now.caps }
+    ensures { (done : List ℕ) → IsSpan span (Reaches (table_of (tables registry.now) dimension.now) dimension.now vehicle done) → from ≡ last_of 0 done
+        → IsSpan result (Reaches (table_of (tables registry.now) dimension.now) dimension.now vehicle (done ++ node ∷ [])) }
+{
+    match span {
+        None => None,
+        Some(range) => dimension.extend(registry, range, from, node, vehicle, meter),
+    }
+}
+
+/// The cumuls at the depot with which a vehicle may return.
+fn span_home(dimension: &Dimension, vehicle: u32) -> Option<Range>
+    requires low { 1 ≤ vehicle }
+    requires high { vehicle ≤ length dimension.now.caps }
+    ensures { IsSpan result (IsCumul dimension.now vehicle 0) }
+{
+    let _nodes = dimension.nodes();
+    let depot = dimension.range(0);
+    let hi = depot.hi.min(dimension.cap(vehicle));
+    if depot.lo <= hi {
+        Some(Range { lo: depot.lo, hi })
+    } else {
+        None
+    }
+}
+
+/// The cumuls at a node from which the rest can be gone, by those at the next one.
+fn span_before(
+    dimension: &Dimension,
+    registry: &Registry,
+    span: Option<Range>,
+    node: u32,
+    next: u32,
+    vehicle: u32,
+    meter: &mut Meter,
+) -> Option<Range>
+    requires laws { Laws }
+    requires served { IsServed (tables registry.now) dimension.now }
+    requires filled { IfSome span (λ r. r.lo ≤ r.hi) }
+    requires node { node < length dimension.now.ranges }
+    requires next { next < length dimension.now.ranges }
+    requires low { 1 ≤ vehicle }
+    requires high { vehicle ≤ length dimension.now.caps }
+    ensures { (rest : List ℕ) → IsSpan span (IsOnward (table_of (tables registry.now) dimension.now) dimension.now vehicle next rest)
+        → IsSpan result (IsOnward (table_of (tables registry.now) dimension.now) dimension.now vehicle node (next ∷ rest)) }
+{
+    match span {
+        None => None,
+        Some(range) => dimension.precede(registry, range, node, next, vehicle, meter),
+    }
+}
+
+/// The spans after each number of the first customers of a route, as the vehicle drives it.
+fn spans_ahead(
+    alloc: Global,
+    setup: &Setup,
+    vehicle: u32,
+    route: &[u32],
+    meter: &mut Meter,
+) -> Result<Spans, AllocError>
+    requires laws { Laws }
+    requires known { All (λ c. c ≤ (setting setup.now).customers) route.now }
+    requires short { length route.now ≤ 1000 }
+    requires low { 1 ≤ vehicle }
+    requires high { vehicle ≤ (setting setup.now).vehicles }
+    ensures { IfOk result (λ spans. AreAhead (setting setup.now) vehicle route.now spans) }
+{
+    let width = route.len() + 1;
+    let mut cells = Vec::with_capacity(alloc, setup.dimensions().len() * width)?;
+    for dimension in setup.dimensions() {
+        let mut span = dimension.start(vehicle);
+        let mut from = 0;
+        cells.push(span)?;
+        for customer in route {
+            span = span_after(
+                dimension,
+                setup.registry(),
+                span,
+                from,
+                *customer,
+                vehicle,
+                meter,
+            );
+            from = *customer;
+            cells.push(span)?;
+        }
+    }
+    Ok(Spans { width, cells })
+}
+
+/// The spans before each number of the last customers of a route, as the vehicle drives it.
+fn spans_behind(
+    alloc: Global,
+    setup: &Setup,
+    vehicle: u32,
+    route: &[u32],
+    meter: &mut Meter,
+) -> Result<Spans, AllocError>
+    requires laws { Laws }
+    requires known { All (λ c. c ≤ (setting setup.now).customers) route.now }
+    requires short { length route.now ≤ 1000 }
+    requires low { 1 ≤ vehicle }
+    requires high { vehicle ≤ (setting setup.now).vehicles }
+    ensures { IfOk result (λ spans. AreBehind (setting setup.now) vehicle route.now spans) }
+{
+    let width = route.len() + 1;
+    let mut cells = Vec::with_capacity(alloc, setup.dimensions().len() * width)?;
+    for dimension in setup.dimensions() {
+        let mut span = span_home(dimension, vehicle);
+        let mut next = 0;
+        cells.push(span)?;
+        for k in 0..route.len() {
+            let node = route[route.len() - 1 - k];
+            span = span_before(
+                dimension,
+                setup.registry(),
+                span,
+                node,
+                next,
+                vehicle,
+                meter,
+            );
+            next = node;
+            cells.push(span)?;
+        }
+    }
+    Ok(Spans { width, cells })
+}
+
+/// Nothing kept: a new route is then judged by its whole way.
+pub fn nothing_kept(alloc: Global) -> Kept
+    ensures { (s : Setting) (routes : List (List ℕ)) (v w : ℕ) → AreKept s routes v w result }
+{
+    Kept {
+        ahead: Spans::none(alloc),
+        behind: Spans::none(alloc),
+        over: Spans::none(alloc),
+    }
+}
+
+/// What is kept for a vehicle beside another one, by which moves between both are judged. Vehicles count from 1.
+pub fn kept_between(
+    alloc: Global,
+    view: &View,
+    setup: &Setup,
+    v: u32,
+    w: u32,
+    meter: &mut Meter,
+) -> Result<Kept, AllocError>
+    requires view { IsViewOf (setting setup.now) view.now }
+    requires v { (1 ≤ v) × (v ≤ (setting setup.now).vehicles) }
+    requires w { (1 ≤ w) × (w ≤ (setting setup.now).vehicles) }
+    ensures kept { IfOk result (λ kept. AreKept (setting setup.now) view.now.routes v w kept) }
+    ensures some { IfOk result (λ kept. (0 < kept.ahead.width) × (0 < kept.behind.width) × (0 < kept.over.width)) }
+{
+    laws_below();
+    let _customers = setup.customers();
+    Ok(Kept {
+        ahead: spans_ahead(alloc, setup, v, view.customers(v), meter)?,
+        behind: spans_behind(alloc, setup, v, view.customers(v), meter)?,
+        over: spans_behind(alloc, setup, v, view.customers(w), meter)?,
+    })
+}
+
+/// What is kept for a vehicle alone, by which moves inside it are judged. Vehicles count from 1.
+pub fn kept_alone(
+    alloc: Global,
+    view: &View,
+    setup: &Setup,
+    v: u32,
+    meter: &mut Meter,
+) -> Result<Kept, AllocError>
+    requires view { IsViewOf (setting setup.now) view.now }
+    requires v { (1 ≤ v) × (v ≤ (setting setup.now).vehicles) }
+    ensures kept { IfOk result (λ kept. AreKept (setting setup.now) view.now.routes v v kept) }
+    ensures some { IfOk result (λ kept. (0 < kept.ahead.width) × (0 < kept.behind.width)) }
+{
+    laws_below();
+    let _customers = setup.customers();
+    Ok(Kept {
+        ahead: spans_ahead(alloc, setup, v, view.customers(v), meter)?,
+        behind: spans_behind(alloc, setup, v, view.customers(v), meter)?,
+        over: Spans::none(alloc),
+    })
+}

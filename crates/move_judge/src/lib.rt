@@ -1,0 +1,12 @@
+//! What forbids a move near two vehicles, or near one: the bounds, by the cumuls that are kept at both ends of the routes, pins, frozen
+//! fronts, and the moves that are to be skipped.
+#![tactic(auto)]
+
+mod allowed;
+mod fits;
+mod kept;
+mod laws;
+
+pub use allowed::{allows, first_free, loose_from, may_leave, must_keep};
+pub use kept::{Kept, kept_alone, kept_between, nothing_kept};
+pub use laws::{allowed_moves_are_free, bounds_only_forbid};

@@ -1,7 +1,0 @@
-use Rattle.neighbourhood.proofs.kept.span_before.Goals as goal
-
-pub returns-in-None : goal.returns-in-None
-returns-in-None g c = λ rest s. c.requires.laws.meet.none _ _ _ _ _ rest (rw c.in-None.is at s)
-
-pub returns-in-Some : goal.returns-in-Some
-returns-in-Some g c = λ rest s. c.requires.laws.meet.push _ _ _ _ _ rest _ _ (rw c.in-Some.is at s) c.precede.ensures.span

@@ -1,6 +1,0 @@
-use Rattle.neighbourhood.proofs.Cells.{AreCleared}
-use Rattle.neighbourhood.proofs.table.clear_stays.Given as goal
-
--- the stops so far
-abbrev pub invariant-loop-k : goal.invariant-loop-k
-invariant-loop-k l = AreCleared l.to l.initial.row l.k l.row

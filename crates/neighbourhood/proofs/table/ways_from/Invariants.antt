@@ -1,8 +1,0 @@
-use Rattle.callback_store.specs.Tables.{table_at}
-use Rattle.dimension_core.specs.Setup.{setting}
-use Rattle.neighbourhood.proofs.Cells.{AreFilledFrom}
-use Rattle.neighbourhood.proofs.table.ways_from.Given as goal
-
--- the rows so far
-abbrev pub invariant-loop-i : goal.invariant-loop-i
-invariant-loop-i g l = AreFilledFrom l.turned (table_at (setting l.setup).tables (setting l.setup).cost) l.from l.to l.first l.column l.i l.cells.items

@@ -1,0 +1,74 @@
+//! What the ways between stops cost.
+ghost use Rattle.std.specs.Prelude.{◌≡◌, ◌+◌, ◌≤◌, ◌<◌, [], ◌∷◌, ◌++◌, length, All, IfOk};
+ghost use Rattle.callback_store.specs.Tables.{table_at};
+ghost use Rattle.dimension_core.specs.Setup.{setting};
+ghost use Rattle.plan_core.specs.Plan.{IsPlan, route_at};
+ghost use Rattle.way_costs.specs.Sides.{stops_of_both};
+ghost use Rattle.way_costs.specs.Ways.{hop, AreStops};
+
+use callback_store::Meter;
+use dimension_core::Setup;
+use pin_core::View;
+use plan_core::routes_are_known;
+use std::alloc::{AllocError, Global};
+
+/// What the way from a stop to the next one costs, in the unit of the cost callback. Stop 0 is the depot; a vehicle that stays there drives
+/// no way.
+#[inline(always)]
+pub fn hop(setup: &Setup, i: u32, j: u32, meter: &mut Meter) -> u64
+    requires from { i ≤ (setting setup.now).customers }
+    requires to { j ≤ (setting setup.now).customers }
+    ensures value { result ≡ hop (table_at (setting setup.now).tables (setting setup.now).cost) i j }
+    ensures small { result ≤ 1000000000 }
+{
+    if j == 0 && i == 0 {
+        return 0;
+    }
+    let _customers = setup.customers();
+    setup.registry().ask(setup.cost(), meter, i, j)
+}
+
+/// The stops of a vehicle, which count from 1: the depot, its customers, the depot. The caller owes a view of a plan of the setup.
+pub fn stops_of(alloc: Global, view: &View, setup: &Setup, v: u32) -> Result<Vec<u32>, AllocError>
+    requires plan { IsPlan (setting setup.now).customers view.now.routes }
+    requires vehicles { length view.now.routes ≡ (setting setup.now).vehicles }
+    requires low { 1 ≤ v }
+    requires high { v ≤ (setting setup.now).vehicles }
+    ensures { IfOk result (λ all. AreStops (setting setup.now).customers view.now.routes v all.items) }
+{
+    routes_are_known();
+    let _customers = setup.customers();
+    let customers = view.customers(v);
+    let mut all = Vec::with_capacity(alloc, customers.len() + 2)?;
+    all.push(0)?;
+    all.extend_from_slice(customers)?;
+    all.push(0)?;
+    Ok(all)
+}
+
+/// The stops of two vehicles, one after the other: the depot, the customers of one, the depot, those of the other, the depot.
+pub(crate) fn stops_of_both(
+    alloc: Global,
+    view: &View,
+    setup: &Setup,
+    v: u32,
+    w: u32,
+) -> Result<Vec<u32>, AllocError>
+    requires plan { IsPlan (setting setup.now).customers view.now.routes }
+    requires vehicles { length view.now.routes ≡ (setting setup.now).vehicles }
+    requires v { (1 ≤ v) × (v ≤ (setting setup.now).vehicles) }
+    requires w { (1 ≤ w) × (w ≤ (setting setup.now).vehicles) }
+    ensures stops { IfOk result (λ all. all.items ≡ stops_of_both (route_at view.now.routes v) (route_at view.now.routes w)) }
+    ensures known { IfOk result (λ all. All (λ c. c ≤ (setting setup.now).customers) all.items) }
+{
+    routes_are_known();
+    let _customers = setup.customers();
+    let (first, second) = (view.customers(v), view.customers(w));
+    let mut all = Vec::with_capacity(alloc, first.len() + second.len() + 3)?;
+    all.push(0)?;
+    all.extend_from_slice(first)?;
+    all.push(0)?;
+    all.extend_from_slice(second)?;
+    all.push(0)?;
+    Ok(all)
+}

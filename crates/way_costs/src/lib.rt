@@ -1,0 +1,16 @@
+//! What the ways between stops cost: asked once, kept in tables and sums, and what each kind of move saves by them.
+#![tactic(auto)]
+
+mod gains;
+mod hops;
+mod laws;
+mod sides;
+mod table;
+
+pub use gains::{
+    first_gain, first_reverse_gain, first_swap_gain, may_gain, may_reverse_gain, may_swap_gain,
+};
+pub use hops::{hop, stops_of};
+pub use laws::moves_save;
+pub use sides::{Along, Sides, Ways, along_of, parts_of, sides_of, ways_among, ways_between};
+pub use table::{most_of, row};

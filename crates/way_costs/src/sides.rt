@@ -1,0 +1,169 @@
+//! What is gathered before a search: the stops of the vehicles, and the ways between them. Each group is made by one function, so that a
+//! search owns few values.
+ghost use Rattle.std.specs.Prelude.{◌≡◌, ◌≤◌, ◌*◌, ◌∷◌, ℕ, false, List, length, All, IfOk};
+ghost use Rattle.callback_store.specs.Tables.{table_at};
+ghost use Rattle.dimension_core.specs.Setup.{setting};
+ghost use Rattle.plan_core.specs.Plan.{IsPlan, route_at};
+ghost use Rattle.way_costs.specs.Sides.{AreSides, AreWaysBetween, IsAlong, stops_of_both};
+ghost use Rattle.way_costs.specs.Ways.{AreStops, AreEdges, AreHopsFrom};
+
+use crate::hops::stops_of_both;
+use crate::table::{edges_in, edges_of, most_of, sums_in, turned_of, ways_from};
+use callback_store::Meter;
+use dimension_core::Setup;
+use pin_core::View;
+use plan_core::routes_are_known;
+use std::alloc::{AllocError, Global};
+use std::marker::Model;
+
+/// Two vehicles: their stops, one after the other, and the ways from each to the next.
+#[derive(Drop)]
+pub struct Sides {
+    pub stops: Vec<u32>,
+    pub edges: Vec<u32>,
+}
+
+impl Model for Sides {
+    ghost use Rattle.way_costs.specs.Sides.{SidesState};
+
+    ghost Value = { SidesState };
+
+    ghost view = { λ a. record { stops = a.stops.items; edges = a.edges.items } };
+}
+
+/// The ways from some stops to others, and back.
+#[derive(Drop)]
+pub struct Ways {
+    pub out: Vec<u32>,
+    pub into: Vec<u32>,
+}
+
+impl Model for Ways {
+    ghost use Rattle.way_costs.specs.Sides.{TwoWays};
+
+    ghost Value = { TwoWays };
+
+    ghost view = { λ a. record { out = a.out.items; into = a.into.items } };
+}
+
+/// The ways along the stops of a vehicle: from each to the next, the dearest of these, and those over the first ones, as they are driven
+/// and behind them as they are driven back.
+#[derive(Drop)]
+pub struct Along {
+    pub edges: Vec<u32>,
+    pub most: u32,
+    pub sums: Vec<u64>,
+}
+
+impl Model for Along {
+    ghost use Rattle.way_costs.specs.Sides.{AlongState};
+
+    ghost Value = { AlongState };
+
+    ghost view = { λ a. record { edges = a.edges.items; most = a.most; sums = a.sums.items } };
+}
+
+/// The stops of two vehicles, which count from 1, and the ways from each stop to the next.
+pub fn sides_of(
+    alloc: Global,
+    view: &View,
+    setup: &Setup,
+    v: u32,
+    w: u32,
+    meter: &mut Meter,
+) -> Result<Sides, AllocError>
+    requires plan { IsPlan (setting setup.now).customers view.now.routes }
+    requires vehicles { length view.now.routes ≡ (setting setup.now).vehicles }
+    requires v { (1 ≤ v) × (v ≤ (setting setup.now).vehicles) }
+    requires w { (1 ≤ w) × (w ≤ (setting setup.now).vehicles) }
+    ensures { IfOk result (λ sides. AreSides (setting setup.now) view.now.routes v w sides) }
+{
+    let stops = stops_of_both(alloc, view, setup, v, w)?;
+    let edges = edges_of(alloc, setup, &stops, meter)?;
+    Ok(Sides { stops, edges })
+}
+
+/// The stops of each of two vehicles, and the ways along each, as parts of what is gathered of both.
+pub fn parts_of<'a>(
+    view: &View,
+    setup: &Setup,
+    v: u32,
+    w: u32,
+    stops: &'a [u32],
+    edges: &'a [u32],
+) -> (&'a [u32], &'a [u32], &'a [u32], &'a [u32])
+    requires plan { IsPlan (setting setup.now).customers view.now.routes }
+    requires vehicles { length view.now.routes ≡ (setting setup.now).vehicles }
+    requires v { (1 ≤ v) × (v ≤ (setting setup.now).vehicles) }
+    requires w { (1 ≤ w) × (w ≤ (setting setup.now).vehicles) }
+    requires stops { stops.now ≡ stops_of_both (route_at view.now.routes v) (route_at view.now.routes w) }
+    requires edges { AreEdges (table_at (setting setup.now).tables (setting setup.now).cost) stops.now edges.now }
+    ensures from { AreStops (setting setup.now).customers view.now.routes v result.0.now }
+    ensures to { AreStops (setting setup.now).customers view.now.routes w result.1.now }
+    ensures from_edges { AreEdges (table_at (setting setup.now).tables (setting setup.now).cost) result.0.now result.2.now }
+    ensures to_edges { AreEdges (table_at (setting setup.now).tables (setting setup.now).cost) result.1.now result.3.now }
+{
+    routes_are_known();
+    let _customers = setup.customers();
+    let middle = view.customers(v).len() + 1;
+    let from = &stops[..middle + 1];
+    let to = &stops[middle..];
+    let from_edges = &edges[..middle];
+    let to_edges = &edges[middle..];
+    (from, to, from_edges, to_edges)
+}
+
+/// The ways from some stops to others, and back, that moves between two vehicles go.
+pub fn ways_between(
+    alloc: Global,
+    setup: &Setup,
+    from: &[u32],
+    to: &[u32],
+    meter: &mut Meter,
+) -> Result<Ways, AllocError>
+    requires from { All (λ c. c ≤ (setting setup.now).customers) from.now }
+    requires to { All (λ c. c ≤ (setting setup.now).customers) to.now }
+    requires some { (1 ≤ length from.now) × (1 ≤ length to.now) }
+    requires short { (length from.now ≤ 1002) × (length to.now ≤ 1002) }
+    ensures { IfOk result (λ ways. AreWaysBetween (table_at (setting setup.now).tables (setting setup.now).cost) from.now to.now ways) }
+{
+    let out = ways_from(alloc, setup, false, from, to, 0, 1, meter)?;
+    let into = ways_from(alloc, setup, true, from, to, 1, 0, meter)?;
+    Ok(Ways { out, into })
+}
+
+/// The ways between some stops that a move inside their vehicle goes, each asked once.
+pub fn ways_among(
+    alloc: Global,
+    setup: &Setup,
+    stops: &[u32],
+    meter: &mut Meter,
+) -> Result<Ways, AllocError>
+    requires known { All (λ c. c ≤ (setting setup.now).customers) stops.now }
+    requires some { 1 ≤ length stops.now }
+    requires short { length stops.now ≤ 1002 }
+    ensures { IfOk result (λ ways. AreWaysBetween (table_at (setting setup.now).tables (setting setup.now).cost) stops.now stops.now ways) }
+{
+    let out = ways_from(alloc, setup, false, stops, stops, 0, 1, meter)?;
+    let into = turned_of(alloc, setup, stops, &out)?;
+    Ok(Ways { out, into })
+}
+
+/// The ways along some stops, by the ways between them all.
+pub fn along_of(
+    alloc: Global,
+    setup: &Setup,
+    stops: &[u32],
+    cells: &[u32],
+) -> Result<Along, AllocError>
+    requires cells { AreHopsFrom false (table_at (setting setup.now).tables (setting setup.now).cost) stops.now stops.now 0 1 cells.now }
+    requires depot { (rest : List ℕ) × (stops.now ≡ 0 ∷ rest) }
+    requires long { 2 ≤ length stops.now }
+    requires short { length stops.now ≤ 1002 }
+    ensures { IfOk result (λ along. IsAlong (table_at (setting setup.now).tables (setting setup.now).cost) stops.now along) }
+{
+    let edges = edges_in(alloc, setup, stops, cells)?;
+    let most = most_of(&edges);
+    let sums = sums_in(alloc, setup, stops, cells)?;
+    Ok(Along { edges, most, sums })
+}

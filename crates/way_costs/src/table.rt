@@ -1,0 +1,291 @@
+//! What the ways between stops cost, asked once and kept.
+ghost use Rattle.std.specs.Prelude.{◌≡◌, ◌≤◌, ◌<◌, ◌+◌, ◌-◌, ◌*◌, ◌^◌, ◌∷◌, ◌==◌, if◌then◌else◌, ℕ, true, false, List, length, slice_index, take, drop, All, IfOk};
+ghost use Rattle.callback_store.specs.Tables.{table_at};
+ghost use Rattle.dimension_core.specs.Setup.{setting};
+ghost use Rattle.way_costs.specs.Ways.{entry_by, hop_by, AreHopsFrom, AreEdges, AddsSums, AreBothSums};
+
+use crate::hops::hop;
+use callback_store::Meter;
+use dimension_core::Setup;
+use std::alloc::{AllocError, Global};
+
+/// What a way costs, as it is driven or driven back.
+#[inline(always)]
+fn hop_by(setup: &Setup, turned: bool, i: u32, j: u32, meter: &mut Meter) -> u32
+    requires from { i ≤ (setting setup.now).customers }
+    requires to { j ≤ (setting setup.now).customers }
+    ensures value { result ≡ hop_by turned (table_at (setting setup.now).tables (setting setup.now).cost) i j }
+    ensures small { result ≤ 1000000000 }
+{
+    if turned {
+        hop(setup, j, i, meter) as u32
+    } else {
+        hop(setup, i, j, meter) as u32
+    }
+}
+
+/// The answers for the ways from a stop to each of some others, as they are driven or driven back.
+fn ask_ways(setup: &Setup, turned: bool, stop: u32, to: &[u32], row: &mut [u32], meter: &mut Meter)
+    requires stop { stop ≤ (setting setup.now).customers }
+    requires to { All (λ c. c ≤ (setting setup.now).customers) to.now }
+    requires room { length row.old ≡ length to.now }
+    ensures sized { length row.new ≡ length to.now }
+    ensures answers { (k : ℕ) → k < length to.now → slice_index row.new k ≡ entry_by turned (table_at (setting setup.now).tables (setting setup.now).cost) stop (slice_index to.now k) }
+{
+    let _customers = setup.customers();
+    if turned {
+        setup
+            .registry()
+            .ask_column(setup.cost(), meter, stop, to, row);
+    } else {
+        setup.registry().ask_row(setup.cost(), meter, stop, to, row);
+    }
+}
+
+/// Puts 0 at the depots of a row from the depot: a vehicle that stays there drives no way.
+fn clear_stays(to: &[u32], row: &mut [u32])
+    requires room { length row.old ≡ length to.now }
+    ensures sized { length row.new ≡ length to.now }
+    ensures ways { (k : ℕ) → k < length to.now → slice_index row.new k ≡ (if slice_index to.now k == 0 then 0 else slice_index row.old k) }
+{
+    for k in 0..to.len() {
+        if to[k] == 0 {
+            row[k] = 0;
+        }
+    }
+}
+
+/// What the ways from a stop to each of some others cost, as they are driven or driven back.
+fn fill_row(setup: &Setup, turned: bool, stop: u32, to: &[u32], row: &mut [u32], meter: &mut Meter)
+    requires stop { stop ≤ (setting setup.now).customers }
+    requires to { All (λ c. c ≤ (setting setup.now).customers) to.now }
+    requires room { length row.old ≡ length to.now }
+    ensures sized { length row.new ≡ length to.now }
+    ensures ways { (k : ℕ) → k < length to.now → slice_index row.new k ≡ hop_by turned (table_at (setting setup.now).tables (setting setup.now).cost) stop (slice_index to.now k) }
+{
+    ask_ways(setup, turned, stop, to, row, meter);
+    if stop == 0 {
+        clear_stays(to, row);
+    }
+}
+
+/// Fills in a row of a table, from a place on.
+fn fill_at(
+    setup: &Setup,
+    turned: bool,
+    stop: u32,
+    to: &[u32],
+    cells: &mut [u32],
+    at: usize,
+    meter: &mut Meter,
+)
+    requires stop { stop ≤ (setting setup.now).customers }
+    requires to { All (λ c. c ≤ (setting setup.now).customers) to.now }
+    requires room { at + length to.now ≤ length cells.old }
+    ensures sized { length cells.new ≡ length cells.old }
+    ensures ways { (k : ℕ) → k < length to.now → slice_index cells.new (at + k) ≡ hop_by turned (table_at (setting setup.now).tables (setting setup.now).cost) stop (slice_index to.now k) }
+    ensures kept { (k : ℕ) → k < at → slice_index cells.new k ≡ slice_index cells.old k }
+{
+    let row = &mut cells[at..at + to.len()];
+    fill_row(setup, turned, stop, to, row, meter);
+}
+
+/// What stands in a table before it is filled. Its bytes differ, so that a table is made by wide stores and not byte by byte.
+const UNFILLED: u32 = 1;
+
+/// Some stops without the last one, or without the first one.
+#[inline(always)]
+fn all_but_one(stops: &[u32], begin: usize) -> &[u32]
+    requires begin { begin ≤ 1 }
+    requires some { 1 ≤ length stops.now }
+    ensures { result.now ≡ take (length stops.now - 1) (drop begin stops.now) }
+{
+    &stops[begin..begin + stops.len() - 1]
+}
+
+/// What the ways from each of some stops to each of others cost, row by row, as they are driven or driven back, without one row and one
+/// column: rows from `first` on and columns from `column` on are filled in, each of which is 0 or 1, one fewer than there are.
+#[inline(always)]
+pub(crate) fn ways_from(
+    alloc: Global,
+    setup: &Setup,
+    turned: bool,
+    from: &[u32],
+    to: &[u32],
+    first: usize,
+    column: usize,
+    meter: &mut Meter,
+) -> Result<Vec<u32>, AllocError>
+    requires from { All (λ c. c ≤ (setting setup.now).customers) from.now }
+    requires to { All (λ c. c ≤ (setting setup.now).customers) to.now }
+    requires some { (1 ≤ length from.now) × (1 ≤ length to.now) }
+    requires short { (length from.now ≤ 1002) × (length to.now ≤ 1002) }
+    requires begin { (first ≤ 1) × (column ≤ 1) }
+    ensures { IfOk result (λ cells. AreHopsFrom turned (table_at (setting setup.now).tables (setting setup.now).cost) from.now to.now first column cells.items) }
+{
+    let width = to.len();
+    let asked = all_but_one(to, column);
+    let mut cells = vec![in alloc; UNFILLED; from.len() * width]?;
+    for i in first..first + from.len() - 1 {
+        fill_at(
+            setup,
+            turned,
+            from[i],
+            asked,
+            cells.as_mut_slice(),
+            i * width + column,
+            meter,
+        );
+    }
+    Ok(cells)
+}
+
+/// What the way from each stop to the next one costs.
+pub(crate) fn edges_of(
+    alloc: Global,
+    setup: &Setup,
+    stops: &[u32],
+    meter: &mut Meter,
+) -> Result<Vec<u32>, AllocError>
+    requires known { All (λ c. c ≤ (setting setup.now).customers) stops.now }
+    requires some { 1 ≤ length stops.now }
+    ensures { IfOk result (λ edges. AreEdges (table_at (setting setup.now).tables (setting setup.now).cost) stops.now edges.items) }
+{
+    let last = stops.len() - 1;
+    let mut edges = Vec::with_capacity(alloc, last)?;
+    for k in 0..last {
+        edges.push(hop_by(setup, false, stops[k], stops[k + 1], meter))?;
+    }
+    Ok(edges)
+}
+
+/// The greatest of some numbers, and 0 where there are none.
+pub fn most_of(edges: &[u32]) -> u32
+    ensures above { All (λ x. x ≤ result) edges.now }
+    ensures least { (bound : ℕ) → All (λ x. x ≤ bound) edges.now → result ≤ bound }
+{
+    let mut most = 0;
+    for k in 0..edges.len() {
+        most = most.max(edges[k]);
+    }
+    most
+}
+
+/// A number of a square table.
+fn cell(cells: &[u32], width: usize, from: usize, to: usize) -> u32
+    requires sized { length cells.now ≡ width * width }
+    requires from { from < width }
+    requires to { to < width }
+    ensures value { result ≡ slice_index cells.now (from * width + to) }
+    ensures small { result < 2 ^ 32 }
+{
+    row(cells, width, from)[to]
+}
+
+/// What the ways between some stops cost, driven back, by those as they are driven.
+#[inline(never)]
+pub(crate) fn turned_of(
+    alloc: Global,
+    setup: &Setup,
+    stops: &[u32],
+    cells: &[u32],
+) -> Result<Vec<u32>, AllocError>
+    requires cells { AreHopsFrom false (table_at (setting setup.now).tables (setting setup.now).cost) stops.now stops.now 0 1 cells.now }
+    requires short { length stops.now ≤ 1002 }
+    ensures { IfOk result (λ back. AreHopsFrom true (table_at (setting setup.now).tables (setting setup.now).cost) stops.now stops.now 1 0 back.items) }
+{
+    let width = stops.len();
+    let mut back = vec![in alloc; UNFILLED; width * width]?;
+    for i in 1..width {
+        for j in 0..width - 1 {
+            back[i * width + j] = cell(cells, width, j, i);
+        }
+    }
+    Ok(back)
+}
+
+/// What the way from each stop to the next one costs, by the ways between them all.
+pub(crate) fn edges_in(
+    alloc: Global,
+    setup: &Setup,
+    stops: &[u32],
+    cells: &[u32],
+) -> Result<Vec<u32>, AllocError>
+    requires cells { AreHopsFrom false (table_at (setting setup.now).tables (setting setup.now).cost) stops.now stops.now 0 1 cells.now }
+    requires some { 1 ≤ length stops.now }
+    ensures { IfOk result (λ edges. AreEdges (table_at (setting setup.now).tables (setting setup.now).cost) stops.now edges.items) }
+{
+    let last = stops.len() - 1;
+    let mut edges = Vec::with_capacity(alloc, last)?;
+    for k in 0..last {
+        edges.push(cell(cells, stops.len(), k, k + 1))?;
+    }
+    Ok(edges)
+}
+
+/// What the way between two stops that follow one another costs, as it is driven or driven back, by the ways between all.
+fn step(cells: &[u32], width: usize, turned: bool, from: usize) -> u32
+    requires sized { length cells.now ≡ width * width }
+    requires from { from + 1 < width }
+    ensures value { result ≡ (if turned then slice_index cells.now ((from + 1) * width + from) else slice_index cells.now (from * width + (from + 1))) }
+    ensures small { result < 2 ^ 32 }
+{
+    if turned {
+        cell(cells, width, from + 1, from)
+    } else {
+        cell(cells, width, from, from + 1)
+    }
+}
+
+/// Adds what the ways over the first stops cost together, but the first of these ways, for each number of stops from 1 on, as they are
+/// driven or driven back, by the ways between all. The last way is in no sum.
+fn add_sums(
+    setup: &Setup,
+    turned: bool,
+    stops: &[u32],
+    cells: &[u32],
+    sums: &mut Vec<u64>,
+) -> Result<(), AllocError>
+    requires cells { AreHopsFrom false (table_at (setting setup.now).tables (setting setup.now).cost) stops.now stops.now 0 1 cells.now }
+    requires depot { (rest : List ℕ) × (stops.now ≡ 0 ∷ rest) }
+    requires long { 2 ≤ length stops.now }
+    requires short { length stops.now ≤ 1002 }
+    ensures { IfOk result (λ _. AddsSums turned (table_at (setting setup.now).tables (setting setup.now).cost) stops.now (length stops.now - 1) sums.old.items sums.new.items) }
+{
+    let last = stops.len() - 1;
+    let mut sum = 0u64;
+    sums.push(sum)?;
+    for k in 1..last {
+        sums.push(sum)?;
+        sum += u64::from(step(cells, stops.len(), turned, k));
+    }
+    Ok(())
+}
+
+/// These sums as the ways are driven, and behind them as they are driven back.
+pub(crate) fn sums_in(
+    alloc: Global,
+    setup: &Setup,
+    stops: &[u32],
+    cells: &[u32],
+) -> Result<Vec<u64>, AllocError>
+    requires cells { AreHopsFrom false (table_at (setting setup.now).tables (setting setup.now).cost) stops.now stops.now 0 1 cells.now }
+    requires depot { (rest : List ℕ) × (stops.now ≡ 0 ∷ rest) }
+    requires long { 2 ≤ length stops.now }
+    requires short { length stops.now ≤ 1002 }
+    ensures { IfOk result (λ sums. AreBothSums (table_at (setting setup.now).tables (setting setup.now).cost) stops.now sums.items) }
+{
+    let mut sums = Vec::with_capacity(alloc, 2 * stops.len())?;
+    add_sums(setup, false, stops, cells, &mut sums)?;
+    add_sums(setup, true, stops, cells, &mut sums)?;
+    Ok(sums)
+}
+
+/// One row of a table of `width` numbers a row; rows count from 0.
+pub fn row(cells: &[u32], width: usize, index: usize) -> &[u32]
+    requires high { index * width + width ≤ length cells.now }
+    ensures sized { length result.now ≡ width }
+    ensures cells { (k : ℕ) → k < width → slice_index result.now k ≡ slice_index cells.now (index * width + k) }
+{
+    &cells[index * width..index * width + width]
+}
