@@ -16,13 +16,14 @@ use Rattle.line_engine.specs.declared.run_fault.RunFault.TheVariants as runs
 use Rattle.solomon_reader.specs.Reading.{Fails}
 use Rattle.solomon_reader.specs.declared.fault.ReadFault.{ReadFault}
 use Rattle.solomon_reader.specs.declared.fault.ReadFault.TheVariants as reads
-use Rattle.board_program.specs.Head.{Halves, halves, AreRead}
-use Rattle.board_program.specs.Stops.{IsStopOf, end_status}
+use Rattle.program_parts.specs.Head.{Halves, halves, AreRead}
+use Rattle.program_parts.specs.Stops.{IsStopOf}
+use Rattle.board_program.specs.Status.{end_status}
 use Rattle.board_program.specs.Joined.{IsRun, IsCutOff, IsUnfinished, IsDone, IsBrokenOff, IsCause, IsShort, IsEnd, Says, IsJoined, IsScripted, IsOfFiles}
-use Rattle.board_program.specs.Streams.{Streams, streams_of, stop_line, AgreesWithStatus}
+use Rattle.program_parts.specs.Streams.{Streams, streams_of, stop_line, AgreesWithStatus}
 use Rattle.board_program.specs.Standard.{opened}
-use Rattle.board_program.specs.declared.stop.Stop.{Stop}
-use Rattle.board_program.specs.declared.stop.Stop.TheVariants as stops
+use Rattle.program_parts.specs.declared.stop.Stop.{Stop}
+use Rattle.program_parts.specs.declared.stop.Stop.TheVariants as stops
 
 -- ---- readers and writers
 

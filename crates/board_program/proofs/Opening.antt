@@ -5,8 +5,8 @@ use Rattle.dimension_core.specs.Cumuls.{Bounds}
 use Rattle.dimension_core.specs.Setting.{Setting}
 use Rattle.board_rules.specs.History.{History}
 use Rattle.travel_table.specs.Travel.{travel_at}
-use Rattle.board_program.specs.Network.{Sites, demand_at, time_between}
-use Rattle.board_program.specs.Pair.{load_bounds, time_bounds}
+use Rattle.program_parts.specs.Network.{Sites, demand_at, time_between}
+use Rattle.program_parts.specs.Pair.{load_bounds, time_bounds}
 use Rattle.board_program.specs.Standard.{standard_setting}
 
 abbrev table : ℕ → Bool → List ℕ → Table

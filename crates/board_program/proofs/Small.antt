@@ -2,7 +2,7 @@ use Rattle.std.proofs.Common.{ℕ, ◌<◌, ◌≤◌, arith, length}
 use Rattle.std.proofs.lemmas.List.Elements.{All-get_or}
 use Rattle.solomon_reader.specs.Instances.{IsNode}
 use Rattle.travel_table.specs.Travel.{node_at, travel_at}
-use Rattle.board_program.specs.Network.{Sites, IsNetwork, demand_at, time_between}
+use Rattle.program_parts.specs.Network.{Sites, IsNetwork, demand_at, time_between}
 
 -- each node of a network has numbers of seven digits
 pub node_there : (s : Sites) → IsNetwork s → (i : ℕ) → i < length s.nodes → IsNode (node_at s.nodes i)

@@ -13,13 +13,13 @@ use Rattle.line_engine.specs.Running.{Reaches, IsTooLong}
 use Rattle.line_engine.specs.declared.run_fault.Counts.{Counts}
 use Rattle.line_engine.specs.declared.run_fault.RunFault.{RunFault}
 use Rattle.line_engine.specs.declared.run_fault.RunFault.TheVariants as runs
-use Rattle.board_program.specs.Head.{Halves, halves}
-use Rattle.board_program.specs.Network.{Sites}
+use Rattle.program_parts.specs.Head.{Halves, halves}
+use Rattle.program_parts.specs.Network.{Sites}
 use Rattle.board_program.specs.Standard.{AreSitesOf, opened}
-use Rattle.board_program.specs.Stops.{IsUnread}
-use Rattle.board_program.specs.Streams.{Streams, IsTold, IsUnreadable}
-use Rattle.board_program.specs.declared.stop.Stop.{Stop}
-use Rattle.board_program.specs.declared.stop.Stop.TheVariants as stops
+use Rattle.program_parts.specs.Stops.{IsUnread}
+use Rattle.program_parts.specs.Streams.{Streams, IsTold, IsUnreadable}
+use Rattle.program_parts.specs.declared.stop.Stop.{Stop}
+use Rattle.program_parts.specs.declared.stop.Stop.TheVariants as stops
 
 -- ---- a board over a reader and a writer
 

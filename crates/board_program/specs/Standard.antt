@@ -5,8 +5,8 @@ use Rattle.dimension_core.specs.Setting.{Setting}
 use Rattle.solomon_reader.specs.Instances.{Plain}
 use Rattle.travel_table.specs.Travel.{travel_at}
 use Rattle.board_text.specs.BoardSteps.{DeskState}
-use Rattle.board_program.specs.Network.{Sites, IsNetwork, demand_at, time_between}
-use Rattle.board_program.specs.Pair.{load_bounds, time_bounds}
+use Rattle.program_parts.specs.Network.{Sites, IsNetwork, demand_at, time_between}
+use Rattle.program_parts.specs.Pair.{load_bounds, time_bounds}
 
 -- an instance's fleet and nodes, and the travel between them
 pub record AreSitesOf (i : Plain) (s : Sites) : Type 0 where

@@ -1,14 +1,14 @@
 //! The joined form: an instance, a line `%%` and a script in one input.
 
 ghost use Rattle.std.specs.Prelude.{◌≡◌, ◌⊎◌, IfSome};
-ghost use Rattle.board_program.specs.Head.{halves};
 ghost use Rattle.board_program.specs.Joined.{IsEnd, IsJoined};
-ghost use Rattle.board_program.specs.Streams.{streams_of, AgreesWithStatus};
+ghost use Rattle.program_parts.specs.Head.{halves};
+ghost use Rattle.program_parts.specs.Streams.{streams_of, AgreesWithStatus};
 
-use crate::head::{Parts, read_parts};
 use crate::standard::run_board;
-use crate::stop::{Stop, ended};
+use crate::status::ended;
 use board_text::Counts;
+use program_parts::{Parts, Stop, read_parts};
 use solomon_reader::read;
 use std::alloc::Global;
 use std::io::{Read, Write};

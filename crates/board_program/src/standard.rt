@@ -3,16 +3,14 @@
 ghost use Rattle.std.specs.Prelude.{◌≡◌, ◌<◌, length, IfOk, IfErr};
 ghost use Rattle.solomon_reader.specs.Instances.{view, IsSound};
 ghost use Rattle.travel_table.specs.Travel.{travel_at};
-ghost use Rattle.board_program.specs.Network.{demand_at, time_between};
+ghost use Rattle.program_parts.specs.Network.{demand_at, time_between};
 ghost use Rattle.board_program.specs.Joined.{IsRun, IsUnfinished};
 
-use crate::network::Network;
-use crate::pair::standard_pair;
-use crate::stop::Stop;
 use board_core::Board;
 use board_text::{BoardFront, Counts, run_board_lines};
 use callback_store::{Registry, Transit, Unary};
 use dimension_core::Setup;
+use program_parts::{Network, Stop, standard_pair};
 use solomon_reader::Instance;
 use std::alloc::Global;
 use std::io::{Read, Write};

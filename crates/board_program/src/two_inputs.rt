@@ -3,11 +3,11 @@
 ghost use Rattle.std.specs.Prelude.{◌≡◌, ◌⊎◌, ℕ, List, Ok, IfSome};
 ghost use Rattle.solomon_reader.specs.Instances.{view, IsSound};
 ghost use Rattle.board_program.specs.Joined.{IsOfFiles, IsScripted, Says};
-ghost use Rattle.board_program.specs.Streams.{streams_of};
+ghost use Rattle.program_parts.specs.Streams.{streams_of};
 
-use crate::files::{read_path, unread};
 use crate::standard::run_board;
-use crate::stop::{Stop, ended, stopped};
+use crate::status::ended;
+use program_parts::{Stop, read_path, stopped, unread};
 use solomon_reader::{Instance, read};
 use std::alloc::Global;
 use std::fs;

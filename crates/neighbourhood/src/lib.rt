@@ -5,10 +5,8 @@ mod best;
 mod cross;
 mod laws;
 mod reverse;
-mod round;
 mod search;
 mod shift;
 mod swap;
 
-pub use round::draw;
 pub use search::best_move;

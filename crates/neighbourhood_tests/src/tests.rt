@@ -6,27 +6,13 @@ use crate::plain::plain_best;
 use crate::views::{below, is_view, some_dimensions, some_plan, some_view};
 use callback_store::{Meter, Registry, Transit, Unary};
 use dimension_core::Setup;
-use neighbourhood::{best_move, draw};
+use neighbourhood::best_move;
 use pin_core::View;
 use plan_core::Plan;
-use rand_core::Rng;
 use rand_pcg::Lcg64Xsh32;
 use std::alloc::Global;
 use std::process::Abort;
 use std::test::Fail;
-
-#[test]
-fn draws_two_words(rt: HostRuntime) -> Result<(), Fail> {
-    let mut words = Lcg64Xsh32::new(42, 54);
-    let mut rng = Lcg64Xsh32::new(42, 54);
-    let first = words.next_u32();
-    let second = words.next_u32();
-    assert_eq!(&rt; (first, second), (0xa15c02b7, 0x7b47f409));
-    assert_eq!(&rt; draw(&mut rng, 250), (first % 250 + 1, second % 250 + 1));
-    assert_eq!(&rt; draw(&mut rng, 1), (1, 1));
-    assert_eq!(&rt; rng.next_u32(), 0xbfa4784b);
-    Ok(())
-}
 
 /// How many answers were compared, how many of them name a move, and how many differ.
 #[derive(Drop)]

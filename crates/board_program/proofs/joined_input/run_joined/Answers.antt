@@ -2,7 +2,7 @@ use Rattle.std.proofs.Common.{◌≡◌, ◌∙◌, ℕ, Bool, true, false, List
 use Rattle.std.specs.Fmt.{option_append}
 use Rattle.solomon_reader.specs.Instances.{view}
 use Rattle.solomon_reader.specs.Reading.{read_of}
-use Rattle.board_program.specs.Head.{halves, AreRead}
+use Rattle.program_parts.specs.Head.{halves, AreRead}
 use Rattle.board_program.specs.Joined.{IsEnd}
 use Rattle.board_program.proofs.Joining.{if_known, parts_on, parts_off, board_end}
 use Rattle.board_program.proofs.joined_input.run_joined.Goals as goal

@@ -16,7 +16,7 @@ use Rattle.solomon_reader.specs.Instances.{view}
 use Rattle.board_program.specs.Joined.{IsCutOff}
 use Rattle.board_program.specs.Standard.{AreSitesOf, standard_setting, opened}
 use Rattle.board_program.proofs.Opening.{table_by, demand_values, time_values, travel_values, standard_by, opening}
-use Rattle.board_program.specs.Network.{Sites, IsNetwork, demand_at, time_between}
+use Rattle.program_parts.specs.Network.{Sites, IsNetwork, demand_at, time_between}
 use Rattle.board_program.proofs.Called.{pre_of_closure}
 use Rattle.board_program.proofs.Small.{demand_small, time_small, travel_small}
 use Rattle.board_program.proofs.standard.run_board.OwnLists.{own-1, at-1-1, at-1-2, own-2, at-2-1}

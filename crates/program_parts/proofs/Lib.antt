@@ -1,0 +1,4 @@
+pub mod Checked
+pub mod Halves
+pub mod Told
+pub mod Whole

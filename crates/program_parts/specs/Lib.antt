@@ -1,0 +1,6 @@
+pub mod Head
+pub mod Network
+pub mod Pair
+pub mod Report
+pub mod Stops
+pub mod Streams
