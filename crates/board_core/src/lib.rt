@@ -16,6 +16,3 @@ pub use board_rules::{
 };
 pub use body::Core;
 pub use prepared::Prepared;
-
-#[cfg(test)]
-mod delta_tests;

@@ -24,6 +24,3 @@ pub use laws::{
 pub use reply::{AskFault, Denial, Fault, Refusal, Reply};
 pub use review::Review;
 pub use row::Row;
-
-#[cfg(test)]
-mod tests;

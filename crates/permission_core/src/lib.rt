@@ -7,6 +7,3 @@ mod permissions;
 
 pub use objects::{Object, ObjectRange, ObjectSet, Operation};
 pub use permissions::Permissions;
-
-#[cfg(test)]
-mod tests;

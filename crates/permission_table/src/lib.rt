@@ -8,6 +8,3 @@ mod tables;
 pub use laws::compiled_is_check_access;
 pub use row::SessionRows;
 pub use tables::{Rows, Tables};
-
-#[cfg(test)]
-mod tests;

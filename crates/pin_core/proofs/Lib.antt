@@ -4,4 +4,3 @@ pub mod Holding
 pub mod Opening
 pub mod Faults
 pub mod Released
-pub mod Tested

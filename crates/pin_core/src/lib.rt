@@ -14,6 +14,3 @@ pub use laws::{
 };
 pub use pins::Pins;
 pub use view::View;
-
-#[cfg(test)]
-mod tests;

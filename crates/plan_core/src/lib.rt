@@ -21,6 +21,3 @@ pub use laws::{
 pub use plan::Plan;
 pub use route::Route;
 pub use touch::Touch;
-
-#[cfg(test)]
-mod tests;

@@ -226,6 +226,3 @@ pub fn number_of(word: &[u8]) -> Option<u32>
     let (value, is_number) = read_number(word);
     if is_number { Some(value) } else { None }
 }
-
-#[cfg(test)]
-mod tests;

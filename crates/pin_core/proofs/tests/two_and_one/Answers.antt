@@ -1,6 +1,0 @@
-use Rattle.std.proofs.Common.{[], ◌∷◌, refl}
-use Rattle.pin_core.proofs.tests.two_and_one.Goals as goal
-
-pub replace-requires-clause-plan : goal.replace-requires-clause-plan
-replace-requires-clause-plan c =
-    rw (c.in_ok-changes.ensures, c.in_ok-plan.ensures) (c.plans_are_tested.ensures 4 ((1 ∷ 2 ∷ []) ∷ (4 ∷ []) ∷ []) refl)

@@ -1,0 +1,138 @@
+ghost use Rattle.std.specs.Prelude.{◌≡◌, ◌+◌, ◌*◌, length, IfOk};
+ghost use Rattle.dimension_core.specs.Setup.{setting};
+
+use crate::new_routes::{pair, plan_of};
+use callback_store::{Meter, Registry, Transit};
+use dimension_core::Setup;
+use plan_core::{
+    Plan, among_is_tested, commits_by_one_more, common_front, costs_differ_by_named,
+    currency_by_stamps, customers_stand_by_route, fronts_are_common, plans_are_tested, route_cost,
+    routes_are_known, routes_replaced, stamps_by_one_more, ways_join,
+};
+use std::alloc::{AllocError, Global};
+use std::process::Abort;
+
+/// Compares where customers stand, by vehicle and place.
+fn compare_places(rt: &impl Abort, plan: &Plan, wanted: &[(u32, Option<(u32, u32)>)]) {
+    for (customer, place) in wanted {
+        assert_eq!(rt; plan.place_of(*customer), *place, "{customer}");
+    }
+}
+
+/// Compares the version, and the routes of the two vehicles.
+fn compare_routes(rt: &impl Abort, plan: &Plan, version: u32, first: &[u32], second: &[u32])
+    requires { length plan.now.routes ≡ 2 }
+{
+    assert_eq!(rt; plan.version(), version);
+    assert_eq!(rt; plan.route(1).customers(), first);
+    assert_eq!(rt; plan.route(2).customers(), second);
+}
+
+/// Customers 1 and 2 on vehicle 1 and 4 on vehicle 2, until 2 and 4 change sides.
+fn exchanged(alloc: Global) -> Result<Plan, AllocError>
+    ensures { IfOk result (λ plan. length plan.routes ≡ 2) }
+{
+    let mut plan = plan_of(alloc, 4, &[1, 2], &[4])?;
+    let changes = pair(alloc, 2, &[2], 1, &[1, 4])?;
+    plans_are_tested();
+    plan.replace(changes);
+    Ok(plan)
+}
+
+const PLACES: &[(u32, Option<(u32, u32)>)] = &[
+    (1, Some((1, 1))),
+    (2, Some((1, 2))),
+    (4, Some((2, 1))),
+    (3, None),
+    (0, None),
+    (4294967295, None),
+];
+
+const PLACES_EXCHANGED: &[(u32, Option<(u32, u32)>)] = &[
+    (1, Some((1, 1))),
+    (4, Some((1, 2))),
+    (2, Some((2, 1))),
+    (3, None),
+];
+
+#[test]
+fn exchanges_two_routes(rt: HostRuntime) {
+    let plan = plan_of(rt.alloc(), 4, &[1, 2], &[4]).expect(&rt, "memory");
+    compare_routes(&rt, &plan, 1, &[1, 2], &[4]);
+    compare_places(&rt, &plan, PLACES);
+    let plan = exchanged(rt.alloc()).expect(&rt, "memory");
+    compare_routes(&rt, &plan, 2, &[1, 4], &[2]);
+    compare_places(&rt, &plan, PLACES_EXCHANGED);
+}
+
+#[test]
+fn laws_are_called() {
+    among_is_tested();
+    commits_by_one_more();
+    costs_differ_by_named();
+    currency_by_stamps();
+    customers_stand_by_route();
+    fronts_are_common();
+    plans_are_tested();
+    routes_are_known();
+    routes_replaced();
+    stamps_by_one_more();
+    ways_join();
+}
+
+const FRONTS: &[(&[u32], &[u32], usize)] = &[
+    (&[], &[], 0),
+    (&[4, 2], &[], 0),
+    (&[4, 2, 7], &[4, 2, 9], 2),
+    (&[4, 2, 7], &[4, 2], 2),
+    (&[4, 2], &[4, 2, 7], 2),
+    (&[4, 2, 7], &[4, 3, 7], 1),
+    (&[4, 2, 7], &[4, 2, 7], 3),
+];
+
+#[test]
+fn the_common_front_ends_where_routes_differ(rt: HostRuntime) {
+    for (route, other, front) in FRONTS {
+        assert_eq!(rt; common_front(route, other), *front);
+    }
+}
+
+/// Compares what a plan costs, and how often a callback is asked for that.
+fn compare_cost(rt: &impl Abort, setup: &Setup, plan: &Plan, cost: u64, asks: u64)
+    requires { plan.now.customers ≡ (setting setup.now).customers }
+{
+    let mut meter = Meter::new();
+    assert_eq!(rt; plan.cost(setup, &mut meter), cost);
+    assert_eq!(rt; meter.asks, asks);
+}
+
+fn compare_route_costs(rt: &impl Abort, setup: &Setup)
+    requires { (setting setup.now).customers ≡ 4 }
+{
+    let mut meter = Meter::new();
+    assert_eq!(rt; route_cost(setup, &[1, 2], &mut meter), 33);
+    assert_eq!(rt; route_cost(setup, &[4], &mut meter), 44);
+    assert_eq!(rt; route_cost(setup, &[], &mut meter), 0);
+    assert_eq!(rt; meter.asks, 5);
+}
+
+/// From node i to node j the cost is 10 i + j, so a route of 1 and 2 costs 1, 12 and 20, and one of 4 costs 4 and 40.
+#[test]
+fn costs_the_way_out_and_home(rt: HostRuntime) {
+    let call = Box::new(
+        rt.alloc(),
+        move |i: u32, j: u32| -> u64
+            ensures { result ≡ 10 * i + j }
+        { 10 * i as u64 + j as u64 },
+    )
+    .expect(&rt, "memory");
+    let ways = Transit::new(5, call);
+    let mut registry = Registry::new(rt.alloc());
+    let id = registry.register(ways).expect(&rt, "room");
+    let setup = Setup::new(4, 2, registry, Vec::new(rt.alloc()), id, 10).expect(&rt, "setup");
+    let empty = Plan::new(rt.alloc(), 4, 2).expect(&rt, "memory");
+    let plan = plan_of(rt.alloc(), 4, &[1, 2], &[4]).expect(&rt, "memory");
+    compare_cost(&rt, &setup, &empty, 0, 0);
+    compare_cost(&rt, &setup, &plan, 77, 5);
+    compare_route_costs(&rt, &setup);
+}

@@ -1,0 +1,315 @@
+ghost use Rattle.std.specs.Prelude.{◌≡◌, ◌+◌, ◌*◌, ◌<◌, ◌≤◌, [], ◌∷◌, length, slice_index, All, IfOk, IfSome, OnOk, OnErr};
+ghost use Rattle.dimension_core.specs.NewRoutes.{AllKnown};
+ghost use Rattle.dimension_core.specs.Setup.{setting};
+ghost use Rattle.plan_core.specs.Plan.{IsPlan, changes_of, replaced, with_routes};
+ghost use Rattle.range_cache.specs.Cache.{IsCacheOf};
+
+use crate::new_routes::one_change;
+use callback_store::{Meter, Registry, Transit, TransitId, Unary};
+use dimension_core::{Dimension, Range, Setup, first_out};
+use plan_core::{Plan, Route, plans_are_tested};
+use range_cache::{Cache, JudgeFault, Room};
+use std::alloc::{AllocError, Global};
+use std::process::Abort;
+use std::sync::Arc;
+use std::sync::atomic::{AtomicU64, Ordering};
+use std::test::Fail;
+
+/// Gives a vehicle a new route where it is in bounds, in the cache and in the plan, with the ranges in the memory of earlier ones. It gives
+/// back that of the ranges that were replaced.
+fn commit(
+    alloc: Global,
+    setup: &Setup,
+    cache: &mut Cache,
+    plan: &mut Plan,
+    room: Room,
+    vehicle: u32,
+    customers: &[u32],
+    meter: &mut Meter,
+) -> Result<Room, JudgeFault>
+    requires cache { IsCacheOf (setting setup.now) plan.old.routes cache.old }
+    requires low { 1 ≤ vehicle }
+    requires high { vehicle ≤ (setting setup.now).vehicles }
+    requires known { All (λ c. c ≤ (setting setup.now).customers) customers.now }
+    requires short { length customers.now ≤ 1000 }
+    requires plan { IsPlan plan.old.customers (with_routes ((vehicle, customers.now) ∷ []) plan.old.routes) }
+    requires room { plan.old.version < 16777216 }
+    ensures cache { IsCacheOf (setting setup.now) plan.new.routes cache.new }
+    ensures ok { OnOk result (plan.new ≡ replaced ((vehicle, customers.now) ∷ []) plan.old) }
+    ensures err { OnErr result (plan.new ≡ plan.old) }
+{
+    let changes = one_change(alloc, vehicle, customers)?;
+    let pending = cache.judge_in(room, setup, plan, &changes, meter)?;
+    let room = cache.take(pending);
+    plan.replace(changes);
+    Ok(room)
+}
+
+/// The early values of a vehicle's route, dimension by dimension.
+fn earlies(
+    alloc: Global,
+    setup: &Setup,
+    cache: &Cache,
+    plan: &Plan,
+    vehicle: u32,
+) -> Result<Vec<u64>, AllocError>
+    requires cache { IsCacheOf (setting setup.now) plan.now.routes cache.now }
+    requires low { 1 ≤ vehicle }
+    requires high { vehicle ≤ (setting setup.now).vehicles }
+{
+    let _sound = setup.vehicles();
+    let mut values = Vec::new(alloc);
+    let stops = plan.route(vehicle).len() as u32;
+    for dimension in 0..setup.dimensions().len() as u32 {
+        for before in 0..stops {
+            values.push(cache.early(dimension + 1, vehicle, before + 1))?;
+        }
+    }
+    Ok(values)
+}
+
+fn compare_earlies(
+    rt: &impl Abort,
+    alloc: Global,
+    setup: &Setup,
+    cache: &Cache,
+    plan: &Plan,
+    wanted: &[u64],
+)
+    requires cache { IsCacheOf (setting setup.now) plan.now.routes cache.now }
+    requires vehicles { (setting setup.now).vehicles ≡ 2 }
+{
+    let kept = earlies(alloc, setup, cache, plan, 1).expect(rt, "memory");
+    assert_eq!(rt; kept.as_slice(), wanted);
+}
+
+/// Compares how often a callback was asked.
+fn asked(rt: &impl Abort, found: u64, wanted: u64) {
+    assert_eq!(rt; found, wanted);
+}
+
+/// Why the new routes are not taken, if they are not.
+fn fault_of(
+    setup: &Setup,
+    cache: &Cache,
+    plan: &Plan,
+    changes: &[(u32, Arc<Route>)],
+    meter: &mut Meter,
+) -> Option<JudgeFault>
+    requires cache { IsCacheOf (setting setup.now) plan.now.routes cache.now }
+    requires known { AllKnown (setting setup.now) (changes_of changes.now) }
+    requires short { All (λ c. length c.1.value ≤ 1000) changes.now }
+{
+    cache.judge(setup, plan, changes, meter).err()
+}
+
+fn compare_fault(rt: &impl Abort, found: Option<JudgeFault>, wanted: Option<JudgeFault>) {
+    assert_eq!(rt; found, wanted);
+}
+
+/// For four customers and two vehicles: load of at most 10 with the start at 0, and time without bounds but the windows.
+fn load_and_time(
+    rt: &impl Abort,
+    alloc: Global,
+    registry: &Registry,
+    load: TransitId,
+    time: TransitId,
+) -> Vec<Dimension> {
+    let caps = vec![in alloc; 10u64, 10].expect(rt, "memory");
+    let ranges = vec![in alloc; Range { lo: 0, hi: 10 }; 5].expect(rt, "memory");
+    let loads = Dimension::new(registry, load, 0, caps, true, ranges).expect(rt, "bounds");
+    let caps = vec![in alloc; 1000u64, 1000].expect(rt, "memory");
+    let ranges = vec![in alloc;
+        Range { lo: 0, hi: 1000 },
+        Range { lo: 0, hi: 500 },
+        Range { lo: 0, hi: 500 },
+        Range { lo: 0, hi: 140 },
+        Range { lo: 0, hi: 500 },
+    ]
+    .expect(rt, "memory");
+    let times = Dimension::new(registry, time, 1000, caps, false, ranges).expect(rt, "bounds");
+    let mut dimensions = Vec::new(alloc);
+    dimensions.push(loads).expect(rt, "memory");
+    dimensions.push(times).expect(rt, "memory");
+    dimensions
+}
+
+/// The cache of a plan that was found in bounds, made anew.
+fn made_anew(
+    alloc: Global,
+    setup: &Setup,
+    plan: &Plan,
+    meter: &mut Meter,
+) -> Result<Option<Cache>, AllocError>
+    requires customers { plan.now.customers ≡ (setting setup.now).customers }
+    requires vehicles { length plan.now.routes ≡ (setting setup.now).vehicles }
+    ensures { IfOk result (λ made. IfSome made (IsCacheOf (setting setup.now) plan.now.routes)) }
+{
+    for before in 0..setup.vehicles() {
+        let route = plan.route(before + 1).customers();
+        if let Some(_) = first_out(setup, before + 1, route, meter) {
+            return Ok(None);
+        }
+    }
+    Ok(Some(Cache::of(alloc, setup, plan, meter)?))
+}
+
+/// One customer after the other, each with at most four asks.
+fn inserts(rt: &impl Abort, alloc: Global, setup: &Setup, meter: &mut Meter)
+    requires customers { (setting setup.now).customers ≡ 4 }
+    requires vehicles { (setting setup.now).vehicles ≡ 2 }
+{
+    plans_are_tested();
+    let mut plan = Plan::new(alloc, 4, 2).expect(rt, "memory");
+    let mut cache = Cache::new(alloc, setup).expect(rt, "memory");
+    let begun = meter.asks;
+    let room = Room::new(alloc);
+    let room = commit(alloc, setup, &mut cache, &mut plan, room, 1, &[1], meter).expect(rt, "one");
+    asked(rt, meter.asks.wrapping_sub(begun), 4);
+    let two = commit(alloc, setup, &mut cache, &mut plan, room, 1, &[1, 2], meter);
+    let room = two.expect(rt, "two");
+    asked(rt, meter.asks.wrapping_sub(begun), 8);
+    let three = commit(
+        alloc,
+        setup,
+        &mut cache,
+        &mut plan,
+        room,
+        1,
+        &[1, 2, 3],
+        meter,
+    );
+    three.expect(rt, "three");
+    asked(rt, meter.asks.wrapping_sub(begun), 12);
+    compare_earlies(rt, alloc, setup, &cache, &plan, &[0, 4, 7, 28, 84, 140]);
+}
+
+/// The cache of the whole plan, made at once.
+fn of_a_plan(rt: &impl Abort, alloc: Global, setup: &Setup, meter: &mut Meter)
+    requires customers { (setting setup.now).customers ≡ 4 }
+    requires vehicles { (setting setup.now).vehicles ≡ 2 }
+{
+    plans_are_tested();
+    let mut plan = Plan::new(alloc, 4, 2).expect(rt, "memory");
+    plan.replace(one_change(alloc, 1, &[1, 2, 3]).expect(rt, "memory"));
+    let begun = meter.asks;
+    let made = made_anew(alloc, setup, &plan, meter).expect(rt, "memory");
+    asked(rt, meter.asks.wrapping_sub(begun), 16);
+    let made = made.expect(rt, "in bounds");
+    compare_earlies(rt, alloc, setup, &made, &plan, &[0, 4, 7, 28, 84, 140]);
+}
+
+/// Customers that leave a route: the travel past the second is too long, the first and then all may go.
+fn removals(rt: &impl Abort, alloc: Global, setup: &Setup, meter: &mut Meter)
+    requires customers { (setting setup.now).customers ≡ 4 }
+    requires vehicles { (setting setup.now).vehicles ≡ 2 }
+{
+    plans_are_tested();
+    let mut plan = Plan::new(alloc, 4, 2).expect(rt, "memory");
+    let mut cache = Cache::new(alloc, setup).expect(rt, "memory");
+    let room = Room::new(alloc);
+    let all = commit(
+        alloc,
+        setup,
+        &mut cache,
+        &mut plan,
+        room,
+        1,
+        &[1, 2, 3],
+        meter,
+    );
+    let room = all.expect(rt, "all");
+    let begun = meter.asks;
+    let late = one_change(alloc, 1, &[1, 3]).expect(rt, "memory");
+    let answer = fault_of(setup, &cache, &plan, &late, meter);
+    compare_fault(rt, answer, Some(JudgeFault::Bound(1, 2)));
+    asked(rt, meter.asks.wrapping_sub(begun), 3);
+    let two = commit(alloc, setup, &mut cache, &mut plan, room, 1, &[2, 3], meter);
+    let room = two.expect(rt, "two");
+    asked(rt, meter.asks.wrapping_sub(begun), 9);
+    compare_earlies(rt, alloc, setup, &cache, &plan, &[0, 3, 84, 140]);
+    let none = commit(alloc, setup, &mut cache, &mut plan, room, 1, &[], meter);
+    none.expect(rt, "none");
+    asked(rt, meter.asks.wrapping_sub(begun), 9);
+    compare_earlies(rt, alloc, setup, &cache, &plan, &[]);
+}
+
+/// Two new routes, of which the first is in bounds and the second is too heavy.
+fn the_second_is_out(rt: &impl Abort, alloc: Global, setup: &Setup, meter: &mut Meter)
+    requires customers { (setting setup.now).customers ≡ 4 }
+    requires vehicles { (setting setup.now).vehicles ≡ 2 }
+{
+    let plan = Plan::new(alloc, 4, 2).expect(rt, "memory");
+    let cache = Cache::new(alloc, setup).expect(rt, "memory");
+    let mut changes = one_change(alloc, 2, &[4]).expect(rt, "memory");
+    let route = Route::new(Vec::from_slice(alloc, [1, 2, 3, 4].as_slice()).expect(rt, "memory"));
+    changes
+        .push((1, Arc::new(alloc, route).expect(rt, "memory")))
+        .expect(rt, "memory");
+    let answer = fault_of(setup, &cache, &plan, &changes, meter);
+    compare_fault(rt, answer, Some(JudgeFault::Bound(1, 1)));
+}
+
+fn in_turn(rt: &impl Abort, alloc: Global, setup: &Setup, meter: &mut Meter)
+    requires customers { (setting setup.now).customers ≡ 4 }
+    requires vehicles { (setting setup.now).vehicles ≡ 2 }
+{
+    inserts(rt, alloc, setup, meter);
+    of_a_plan(rt, alloc, setup, meter);
+    removals(rt, alloc, setup, meter);
+    the_second_is_out(rt, alloc, setup, meter);
+}
+
+/// Compares the meter with the calls that the closures counted.
+fn compare_counts(rt: &impl Abort, meter: Meter, calls: u64) {
+    assert_eq!(rt; meter.asks, calls);
+    assert_eq!(rt; (meter.probes, meter.walks), (0, 0));
+}
+
+/// Travel between the depot at (0, 0) and the customers at (2, 2), (6, 6), (10, 10), (3, 4), in tenths, and demands 4, 3, 3, 5. The
+/// closures count their calls beside the meter.
+#[test]
+fn four_customers(rt: HostRuntime) -> Result<(), Fail> {
+    let demands = vec![in rt.alloc(); 0u64, 4, 3, 3, 5]?;
+    let travels = vec![in rt.alloc();
+        0u64, 28, 84, 141, 50, 28, 0, 56, 113, 22, 84, 56, 0, 56, 36, 141, 113, 56, 0, 92, 50, 22,
+        36, 92, 0,
+    ]?;
+    let calls = Arc::new(rt.alloc(), AtomicU64::new(0)).expect(&rt, "memory");
+    let of_demands = Arc::try_clone(&calls).expect(&rt, "memory");
+    let of_travels = Arc::try_clone(&calls).expect(&rt, "memory");
+    let demand = Box::new(
+        rt.alloc(),
+        move |i: u32| -> u64
+            requires { i < length demands.items }
+            ensures { result ≡ slice_index demands.items i }
+        {
+            of_demands.fetch_add(1, Ordering::SeqCst);
+            demands[i as usize]
+        },
+    )
+    .expect(&rt, "memory");
+    let travel = Box::new(
+        rt.alloc(),
+        move |i: u32, j: u32| -> u64
+            requires { i * 5 + j < length travels.items }
+            ensures { result ≡ slice_index travels.items (i * 5 + j) }
+        {
+            of_travels.fetch_add(1, Ordering::SeqCst);
+            travels[i as usize * 5 + j as usize]
+        },
+    )
+    .expect(&rt, "memory");
+    let demand = Unary::new(5, demand);
+    let travel = Transit::new(5, travel);
+    let alloc = rt.alloc();
+    let mut registry = Registry::new(alloc);
+    let load = registry.register_unary(demand).expect(&rt, "room");
+    let time = registry.register(travel).expect(&rt, "room");
+    let dimensions = load_and_time(&rt, alloc, &registry, load, time);
+    let setup = Setup::new(4, 2, registry, dimensions, time, 10).expect(&rt, "setup");
+    let mut meter = Meter::new();
+    in_turn(&rt, alloc, &setup, &mut meter);
+    compare_counts(&rt, meter, calls.load(Ordering::SeqCst));
+    Ok(())
+}

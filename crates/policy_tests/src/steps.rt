@@ -1,0 +1,166 @@
+use crate::scripts::{answers, command, name};
+use rbac_core::{
+    Command, Names, Policy, Twin, access_stays, affected, carry_out, guard_by, sizes_stay,
+};
+use separation_core::Name;
+use std::alloc::Global;
+use std::process::Abort;
+
+/// The opening policy of a board of 4 customers and 2 vehicles, after a script.
+fn after(rt: &impl Abort, alloc: Global, script: &str) -> Policy {
+    let mut policy = Policy::opening(alloc, 4, 2).expect(rt, "memory");
+    answers(rt, alloc, &mut policy, script);
+    policy
+}
+
+/// Ann with the roles top, which inherits d, and e; d and e exclude each other in a session.
+const ANN: &str = "\
+1 add-user ann => done\n\
+1 add-user bea => done\n\
+1 add-role top => done\n\
+1 add-role d => done\n\
+1 add-role e => done\n\
+1 inherit top d => done\n\
+1 assign ann top => done\n\
+1 assign ann e => done\n\
+1 dsd-create x 2 d e => done";
+
+/// Who may give a session command: an administrator, and the user whom it concerns.
+const OWN: &str = "\
+1 open ann => session 2\n\
+1 open ann => session 3\n\
+1 open bea => session 4\n\
+2 activate 3 top => done\n\
+2 deactivate 3 top => done\n\
+4 activate 3 top => refused no-access\n\
+4 deactivate 2 top => refused no-access\n\
+4 close 2 => refused no-access\n\
+4 close 9 => refused no-access\n\
+1 close 9 => refused not-there\n\
+9 close 2 => refused no-session\n\
+4 open zoe => refused no-access\n\
+4 open bea => session 5\n\
+4 close 5 => done\n\
+4 open bea => session 6";
+
+/// Session 4 may give the command where it is an administrator, and not else.
+fn compare_guard(rt: &impl Abort, policy: &Policy, command: &Command) {
+    assert!(rt; guard_by(policy, 4, command, true).is_none());
+    assert!(rt; guard_by(policy, 4, command, false).is_some());
+}
+
+#[test]
+fn session_commands_of_ones_own(rt: HostRuntime) {
+    let mut policy = after(&rt, rt.alloc(), ANN);
+    answers(&rt, rt.alloc(), &mut policy, OWN);
+    let (_, command) = command(&rt, rt.alloc(), "1 add-user zoe");
+    compare_guard(&rt, &policy, &command);
+}
+
+// ---- sessions that a command affects
+
+/// Carries the command out on a copy, and gives the sessions that it affects.
+fn affected_by(rt: &impl Abort, alloc: Global, old: &Policy, line: &str) -> Vec<u32> {
+    let (_, command) = command(rt, alloc, line);
+    let mut new = old.copy().expect(rt, "memory");
+    carry_out(&mut new, &command).expect(rt, "a command that is done");
+    access_stays(old, &command, &new);
+    affected(alloc, old, &command, &new).expect(rt, "memory")
+}
+
+fn compare_sessions(rt: &impl Abort, found: &[u32], wanted: &[u32], line: &str) {
+    assert_eq!(rt; found, wanted, "{line}");
+}
+
+const OPENED: &str = "\
+1 open ann top e => session 2\n\
+1 open bea => session 3\n\
+1 open ann e => session 4";
+
+const AFFECTED: &[(&str, &[u32])] = &[
+    ("1 grant d view vehicle 1 2", &[1, 2, 3, 4]),
+    ("1 revoke d view vehicle 1 2", &[1, 2, 3, 4]),
+    ("1 inherit e root", &[1, 2, 3, 4]),
+    ("1 uninherit top d", &[1, 2, 3, 4]),
+    ("1 delete-role top", &[1, 2, 3, 4]),
+    ("1 deassign ann e", &[2, 4]),
+    ("1 delete-user ann", &[2, 4]),
+    ("1 open ann", &[5]),
+    ("1 close 3", &[3]),
+    ("1 activate 4 top", &[4]),
+    ("1 deactivate 2 e", &[2]),
+    ("1 migrate", &[2]),
+    ("1 add-user zoe", &[]),
+    ("1 assign bea e", &[]),
+];
+
+#[test]
+fn which_sessions_a_command_affects(rt: HostRuntime) {
+    let mut policy = after(&rt, rt.alloc(), ANN);
+    answers(&rt, rt.alloc(), &mut policy, OPENED);
+    for (line, wanted) in AFFECTED {
+        let found = affected_by(&rt, rt.alloc(), &policy, line);
+        compare_sessions(&rt, &found, wanted, line);
+    }
+    sizes_stay();
+}
+
+// ---- a spare policy
+
+/// Tries the command on the spare policy, and lets it stand.
+fn stand(rt: &impl Abort, alloc: Global, twin: &mut Twin, line: &str) {
+    let (_, command) = command(rt, alloc, line);
+    match twin.prepare(&command) {
+        Ok(_) => twin.settle(command),
+        Err(_) => assert!(rt; false, "{line}"),
+    }
+}
+
+/// Tries the command, and gives it up.
+fn give_up(rt: &impl Abort, alloc: Global, twin: &mut Twin, line: &str, wanted: bool) {
+    let (_, command) = command(rt, alloc, line);
+    let is_tried = twin.prepare(&command).is_ok();
+    compare_tried(rt, is_tried, wanted, line);
+}
+
+fn compare_tried(rt: &impl Abort, found: bool, wanted: bool, line: &str) {
+    assert_eq!(rt; found, wanted, "{line}");
+}
+
+/// Compares whether a role is there, and whether it would be after the command that was tried last.
+fn compare_role(rt: &impl Abort, twin: &Twin, role: Name, is_there: bool, is_tried: bool) {
+    assert_eq!(rt; twin.policy().slot_of(role).is_some(), is_there);
+    assert_eq!(rt; twin.tried().slot_of(role).is_some(), is_tried);
+}
+
+#[test]
+fn commands_by_a_spare_policy(rt: HostRuntime) {
+    let alloc = rt.alloc();
+    let opening = Policy::opening(alloc, 4, 2).expect(&rt, "memory");
+    let mut twin = Twin::new(alloc, opening).expect(&rt, "memory");
+    stand(&rt, alloc, &mut twin, "1 add-role d");
+    give_up(&rt, alloc, &mut twin, "1 add-role d", false);
+    give_up(&rt, alloc, &mut twin, "1 add-role e", true);
+    compare_role(&rt, &twin, name(&rt, b"d"), true, true);
+    compare_role(&rt, &twin, name(&rt, b"e"), false, true);
+    stand(&rt, alloc, &mut twin, "1 add-role f");
+    compare_role(&rt, &twin, name(&rt, b"e"), false, false);
+    compare_role(&rt, &twin, name(&rt, b"f"), true, true);
+}
+
+fn compare_names(rt: &impl Abort, found: &[Name], wanted: &[&str]) {
+    assert_eq!(rt; found.len(), wanted.len());
+    for (one, text) in found.iter().zip(wanted) {
+        assert_eq!(rt; one.as_bytes(), text.as_bytes());
+    }
+}
+
+#[test]
+fn names_of_a_command(rt: HostRuntime) {
+    let list = vec![in rt.alloc(); name(&rt, b"d"), name(&rt, b"e"), name(&rt, b"d")];
+    let names = Names::of(list.expect(&rt, "memory"));
+    compare_names(&rt, names.as_slice(), &["d", "e", "d"]);
+    let copy = names.copy().expect(&rt, "memory");
+    compare_names(&rt, copy.as_slice(), &["d", "e", "d"]);
+    compare_names(&rt, &names.into_vec(), &["d", "e", "d"]);
+}

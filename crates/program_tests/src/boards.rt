@@ -1,0 +1,229 @@
+//! Boards that are called directly. Their calls are read from lines.
+ghost use Rattle.std.specs.Prelude.{◌≡◌};
+
+mod counted;
+
+use crate::comparing::compare_text;
+use crate::rows::cut;
+use board_core::{Board, Call, Denial, Event, Fault, Reply};
+use board_lines::{Command, read_line};
+use callback_store::{Meter, Registry, Transit, TransitId};
+use dimension_core::{Dimension, Range, Setup};
+use std::alloc::Global;
+use std::process::Abort;
+use std::sync::Arc;
+
+/// The call of a line, if it is one.
+fn call_of(alloc: Global, line: &str) -> Option<Call> {
+    match read_line(alloc, line.as_bytes()) {
+        Ok(Command::Submit(call)) => Some(call),
+        _ => None,
+    }
+}
+
+/// A call as the next event of desk 1, which alone has turns.
+fn next_event(rt: &impl Abort, board: &Board, call: Call) -> Event {
+    let turn = u32::try_from(board.events())
+        .expect(rt, "few events")
+        .saturating_add(1);
+    Event {
+        desk: 1,
+        turn,
+        call,
+    }
+}
+
+fn event(rt: &impl Abort, alloc: Global, board: &Board, line: &str) -> Event {
+    next_event(rt, board, call_of(alloc, line).expect(rt, "a call"))
+}
+
+// ---- what calls make different
+
+/// The text of what a call makes different, which is then put in place.
+fn difference(rt: &impl Abort, alloc: Global, board: &mut Board, line: &str) -> String {
+    let event = event(rt, alloc, board, line);
+    let mut meter = Meter::new();
+    let prepared = board.prepare(event, &mut meter).expect(rt, "a judged call");
+    let delta = prepared.delta().expect(rt, "memory");
+    board.settle(prepared);
+    format!(in alloc;
+        "{:?} {:?} {:?} {}",
+        delta.places(),
+        delta.pins(),
+        delta.frozen(),
+        delta.version()
+    )
+    .expect(rt, "memory")
+}
+
+/// Makes the calls of a text one after another, and compares what they make different.
+fn differences(rt: &impl Abort, alloc: Global, board: &mut Board, text: &str) {
+    for row in text.split('\n') {
+        let (line, wanted, _) = cut(row);
+        let found = difference(rt, alloc, board, line);
+        compare_text(rt, &found, wanted, line);
+    }
+}
+
+/// An event is taken once: with the same tag it is out of turn, and is not journaled.
+fn twice(rt: &impl Abort, alloc: Global, board: &mut Board, line: &str) {
+    let call = call_of(alloc, line).expect(rt, "a call");
+    let first = Event {
+        desk: 1,
+        turn: 1,
+        call,
+    };
+    let reply = board.apply(first, &mut Meter::new());
+    compare_answer(rt, reply, Ok(Reply::Done), board);
+    let call = call_of(alloc, line).expect(rt, "a call");
+    let again = Event {
+        desk: 1,
+        turn: 1,
+        call,
+    };
+    let reply = board.apply(again, &mut Meter::new());
+    compare_answer(rt, reply, Err(Fault::OutOfTurn), board);
+}
+
+/// Compares what came of the first event, which alone is in the journal.
+fn compare_answer(
+    rt: &impl Abort,
+    found: Result<Reply, Fault>,
+    wanted: Result<Reply, Fault>,
+    board: &Board,
+) {
+    assert_eq!(rt; found, wanted);
+    assert_eq!(rt; board.events(), 1);
+}
+
+/// The places of customers, the pins and the frozen lengths that a call makes different, and the version after it.
+const DIFFERENCES: &str = "\
+1 grant root move customer 1 5 => [] [] [] 0\n\
+1 grant root pin customer 1 5 => [] [] [] 0\n\
+1 grant root override customer 1 5 => [] [] [] 0\n\
+1 grant root freeze vehicle 1 2 => [] [] [] 0\n\
+1 insert 1 1 1 0 => [(1, Some((1, 1)))] [] [] 1\n\
+1 insert 2 1 1 1 => [(2, Some((1, 1))), (1, Some((1, 2)))] [] [] 2\n\
+1 insert 3 1 3 2 => [(3, Some((1, 3)))] [] [] 3\n\
+1 insert 4 2 1 3 => [(4, Some((2, 1)))] [] [] 4\n\
+1 insert 5 2 2 4 => [(5, Some((2, 2)))] [] [] 5\n\
+1 insert 5 2 2 5 => [] [] [] 5\n\
+1 cross 1 1 2 0 5 => [(4, Some((1, 2))), (5, Some((1, 3))), (1, Some((2, 1))), (3, Some((2, 2)))] [] [] 6\n\
+1 swap 1 1 2 2 6 => [(3, Some((1, 1))), (2, Some((2, 2)))] [] [] 7\n\
+1 remove 1 1 7 => [(4, Some((1, 1))), (5, Some((1, 2))), (3, None)] [] [] 8\n\
+1 pin 4 => [] [(4, Some(1))] [] 8\n\
+1 pin 4 => [] [] [] 8\n\
+1 freeze 1 1 => [] [] [(1, 1)] 8\n\
+1 thaw 1 0 => [] [] [(1, 0)] 8\n\
+1 shift 1 1 1 2 1 8 => [(5, Some((1, 1))), (4, Some((2, 1))), (1, Some((2, 2))), (2, Some((2, 3)))] [(4, None)] [] 9\n\
+1 pin 5 => [] [(5, Some(1))] [] 9\n\
+1 unpin 5 => [] [(5, None)] [] 9\n\
+1 reverse 2 1 3 9 => [(2, Some((2, 1))), (4, Some((2, 3)))] [] [] 10\n\
+1 shift 2 1 1 2 3 10 => [(1, Some((2, 1))), (4, Some((2, 2))), (2, Some((2, 3)))] [] [] 11\n\
+1 pin 5 => [] [(5, Some(1))] [] 11\n\
+1 freeze 2 2 => [] [] [(2, 2)] 11";
+
+/// What the board says of itself after those.
+fn compare_board(rt: &impl Abort, board: &Board) {
+    assert_eq!(rt; board.setup().customers(), 5);
+    assert_eq!(rt; board.setup().vehicles(), 2);
+    assert_eq!(rt; board.desks(), 2);
+    assert_eq!(rt; board.turns(1), 25);
+    assert_eq!(rt; board.turns(2), 0);
+    assert_eq!(rt; board.events(), 25);
+    assert_eq!(rt; board.version(), 11);
+    assert_eq!(rt; board.route(1).customers(), [5].as_slice());
+    assert_eq!(rt; board.route(2).customers(), [1, 4, 2].as_slice());
+    assert_eq!(rt; board.pinned(4), None);
+    assert_eq!(rt; board.pinned(5), Some(1));
+    assert_eq!(rt; board.frozen(1), 0);
+    assert_eq!(rt; board.frozen(2), 2);
+}
+
+/// A board of five customers, two vehicles and two desks without bounds, with one travel as its cost.
+fn free_board(rt: &impl Abort, alloc: Global, transit: Transit) -> Board {
+    let mut registry = Registry::new(alloc);
+    let cost = registry.register(transit).expect(rt, "room");
+    let setup = Setup::new(5, 2, registry, Vec::new(alloc), cost, 100).expect(rt, "setup");
+    let setup = Arc::new(alloc, setup).expect(rt, "memory");
+    Board::new(alloc, setup, 2).expect(rt, "memory")
+}
+
+#[test]
+fn what_calls_make_different(rt: HostRuntime) {
+    let near = Box::new(
+        rt.alloc(),
+        move |_i: u32, _j: u32| -> u64
+            ensures { result ≡ 1 }
+        { 1 },
+    )
+    .expect(&rt, "memory");
+    let transit = Transit::new(6, near);
+    let mut board = free_board(&rt, rt.alloc(), transit);
+    twice(&rt, rt.alloc(), &mut board, "1 grant root move vehicle 1 2");
+    differences(&rt, rt.alloc(), &mut board, DIFFERENCES);
+    compare_board(&rt, &board);
+}
+
+// ---- a start that is not fixed
+
+/// Applies a line as the next event of desk 1.
+fn apply(rt: &impl Abort, alloc: Global, board: &mut Board, line: &str) -> Reply {
+    let event = event(rt, alloc, board, line);
+    let mut meter = Meter::new();
+    board.apply(event, &mut meter).expect(rt, "a reply")
+}
+
+/// A board of one customer and one vehicle, with no slack, capacity 1,000 and the depot's range 0 to 100. The customer has a range of its
+/// own.
+fn one_customer_board(
+    rt: &impl Abort,
+    alloc: Global,
+    registry: Registry,
+    id: TransitId,
+    fixed: bool,
+    range: Range,
+) -> Board {
+    let caps = vec![in alloc; 1000u64].expect(rt, "memory");
+    let ranges = vec![in alloc; Range { lo: 0, hi: 100 }, range].expect(rt, "memory");
+    let time = Dimension::new(&registry, id, 0, caps, fixed, ranges).expect(rt, "bounds");
+    let dimensions = vec![in alloc; time].expect(rt, "memory");
+    let setup = Setup::new(1, 1, registry, dimensions, id, 10).expect(rt, "setup");
+    let setup = Arc::new(alloc, setup).expect(rt, "memory");
+    Board::new(alloc, setup, 1).expect(rt, "memory")
+}
+
+/// The reply to the insert of the customer.
+fn inserted(rt: &impl Abort, alloc: Global, board: &mut Board) -> Reply {
+    apply(rt, alloc, board, "1 grant root move vehicle 1 1");
+    apply(rt, alloc, board, "1 grant root move customer 1 1");
+    apply(rt, alloc, board, "1 insert 1 1 1 0")
+}
+
+fn compare_reply(rt: &impl Abort, found: Reply, wanted: Reply) {
+    assert_eq!(rt; found, wanted);
+}
+
+/// Each transit is 10: the range 50 to 60 is met where the start is free alone, and 5 to 9 never.
+#[test]
+fn the_earliest_cumul_alone_does_not_decide(rt: HostRuntime) {
+    for (fixed, lo, hi, wanted) in [
+        (false, 50u64, 60u64, Reply::Committed(1)),
+        (true, 50, 60, Reply::Denied(Denial::Bound(1, 1))),
+        (false, 5, 9, Reply::Denied(Denial::Bound(1, 1))),
+    ] {
+        let call = Box::new(
+            rt.alloc(),
+            move |_i: u32, _j: u32| -> u64
+                ensures { result ≡ 10 }
+            { 10 },
+        )
+        .expect(&rt, "memory");
+        let tens = Transit::new(2, call);
+        let mut registry = Registry::new(rt.alloc());
+        let id = registry.register(tens).expect(&rt, "room");
+        let range = Range { lo, hi };
+        let mut board = one_customer_board(&rt, rt.alloc(), registry, id, fixed, range);
+        compare_reply(&rt, inserted(&rt, rt.alloc(), &mut board), wanted);
+    }
+}

@@ -1,0 +1,154 @@
+//! A board of four customers and two vehicles over callbacks that count how often they are called.
+ghost use Rattle.std.specs.Prelude.{◌≡◌, ◌+◌, ◌*◌, ◌<◌, slice_index, length};
+
+use super::{call_of, next_event};
+use crate::comparing::{compare_count, compare_text};
+use crate::rows::{CASES, cut};
+use board_core::{Board, Reply};
+use board_lines::reply_text;
+use callback_store::{Meter, Registry, Transit, TransitId, Unary};
+use dimension_core::{Dimension, Range, Setup};
+use std::alloc::Global;
+use std::process::Abort;
+use std::sync::Arc;
+use std::sync::atomic::{AtomicU64, Ordering};
+use std::test::Fail;
+
+fn compare_reply(rt: &impl Abort, alloc: Global, reply: Reply, wanted: &str, line: &str) {
+    let text = reply_text(alloc, reply).expect(rt, "memory");
+    compare_text(rt, &text, wanted, line);
+}
+
+/// A line made so many asks, and may make that many at most, where this is told.
+fn compare_asks(rt: &impl Abort, asks: u64, most: &str, line: &str) {
+    if most.is_empty() {
+        return;
+    }
+    let most = most.parse::<u64>().expect(rt, "a number");
+    assert!(rt; asks <= most, "{line}");
+}
+
+/// Applies the line of a row, and compares its reply and its asks. A line that is no call is passed over.
+fn answer(rt: &impl Abort, alloc: Global, board: &mut Board, meter: &mut Meter, row: &str) {
+    let (line, wanted, most) = cut(row);
+    let Some(call) = call_of(alloc, line) else {
+        return;
+    };
+    let event = next_event(rt, board, call);
+    let before = meter.asks;
+    let reply = board.apply(event, meter).expect(rt, "a reply");
+    compare_reply(rt, alloc, reply, wanted, line);
+    compare_asks(rt, meter.asks.wrapping_sub(before), most, line);
+}
+
+/// A board with one desk over a shared setup.
+fn opened(rt: &impl Abort, alloc: Global, setup: &Arc<Setup>) -> Board {
+    let setup = Arc::try_clone(setup).expect(rt, "memory");
+    Board::new(alloc, setup, 1).expect(rt, "memory")
+}
+
+/// Applies the calls of a script to a board, and gives how many there are.
+fn answers(
+    rt: &impl Abort,
+    alloc: Global,
+    board: &mut Board,
+    meter: &mut Meter,
+    parts: [&str; 4],
+) -> u64 {
+    for part in parts {
+        for row in part.split('\n') {
+            answer(rt, alloc, board, meter, row);
+        }
+    }
+    board.events() as u64
+}
+
+/// Load of at most 10 with the start at 0, and time without bounds but the windows.
+fn load_and_time(
+    rt: &impl Abort,
+    alloc: Global,
+    registry: &Registry,
+    load: TransitId,
+    time: TransitId,
+) -> Vec<Dimension> {
+    let caps = vec![in alloc; 10u64, 10].expect(rt, "memory");
+    let ranges = vec![in alloc; Range { lo: 0, hi: 10 }; 5].expect(rt, "memory");
+    let loads = Dimension::new(registry, load, 0, caps, true, ranges).expect(rt, "bounds");
+    let caps = vec![in alloc; 1000u64, 1000].expect(rt, "memory");
+    let ranges = vec![in alloc;
+        Range { lo: 0, hi: 1000 },
+        Range { lo: 0, hi: 500 },
+        Range { lo: 0, hi: 500 },
+        Range { lo: 0, hi: 140 },
+        Range { lo: 0, hi: 500 },
+    ]
+    .expect(rt, "memory");
+    let times = Dimension::new(registry, time, 1000, caps, false, ranges).expect(rt, "bounds");
+    let mut dimensions = Vec::new(alloc);
+    dimensions.push(loads).expect(rt, "memory");
+    dimensions.push(times).expect(rt, "memory");
+    dimensions
+}
+
+/// The calls of all scripts.
+const CALLS: u64 = 303;
+
+/// Compares the meter with how often the closures were called.
+fn compare_meter(rt: &impl Abort, meter: Meter, calls: u64) {
+    assert_eq!(rt; calls, meter.asks);
+    assert_eq!(rt; meter.walks, 0);
+}
+
+/// Customers 1 to 4 with demands 4, 3, 3 and 5 and their travels, over callbacks that count how often they are called. In the end they
+/// were called as often as the meter says.
+#[test]
+fn four_customers(rt: HostRuntime) -> Result<(), Fail> {
+    let demands = vec![in rt.alloc(); 0u64, 4, 3, 3, 5]?;
+    let travels = vec![in rt.alloc();
+        0u64, 28, 84, 141, 50, 28, 0, 56, 113, 22, 84, 56, 0, 56, 36, 141, 113, 56, 0, 92, 50, 22,
+        36, 92, 0,
+    ]?;
+    let calls = Arc::new(rt.alloc(), AtomicU64::new(0)).expect(&rt, "memory");
+    let of_demands = Arc::try_clone(&calls).expect(&rt, "memory");
+    let of_travels = Arc::try_clone(&calls).expect(&rt, "memory");
+    let demand = Box::new(
+        rt.alloc(),
+        move |i: u32| -> u64
+            requires { i < length demands.items }
+            ensures { result ≡ slice_index demands.items i }
+        {
+            of_demands.fetch_add(1, Ordering::SeqCst);
+            demands[i as usize]
+        },
+    )
+    .expect(&rt, "memory");
+    let travel = Box::new(
+        rt.alloc(),
+        move |i: u32, j: u32| -> u64
+            requires { i * 5 + j < length travels.items }
+            ensures { result ≡ slice_index travels.items (i * 5 + j) }
+        {
+            of_travels.fetch_add(1, Ordering::SeqCst);
+            travels[i as usize * 5 + j as usize]
+        },
+    )
+    .expect(&rt, "memory");
+    let demand = Unary::new(5, demand);
+    let travel = Transit::new(5, travel);
+    let alloc = rt.alloc();
+    let mut registry = Registry::new(alloc);
+    let load = registry.register_unary(demand).expect(&rt, "room");
+    let time = registry.register(travel).expect(&rt, "room");
+    let dimensions = load_and_time(&rt, alloc, &registry, load, time);
+    let setup = Setup::new(4, 2, registry, dimensions, time, 100).expect(&rt, "setup");
+    let setup = Arc::new(alloc, setup).expect(&rt, "memory");
+    let mut meter = Meter::new();
+    let mut events = 0u64;
+    for (parts, _) in CASES {
+        let mut board = opened(&rt, alloc, &setup);
+        events = events.wrapping_add(answers(&rt, alloc, &mut board, &mut meter, parts));
+    }
+    compare_count(&rt, events, CALLS, "calls");
+    compare_meter(&rt, meter, calls.load(Ordering::SeqCst));
+    Ok(())
+}

@@ -1,0 +1,13 @@
+//! Comparisons. What compares owns nothing: each `assert` of a function that holds values is a way out at which all of them are dropped,
+//! which its proof pays for.
+use std::process::Abort;
+
+/// Compares a text with the one that is wanted of a line.
+pub(crate) fn compare_text(rt: &impl Abort, found: &str, wanted: &str, line: &str) {
+    assert_eq!(rt; found, wanted, "{line}");
+}
+
+/// Compares how many there are.
+pub(crate) fn compare_count(rt: &impl Abort, found: u64, wanted: u64, what: &str) {
+    assert_eq!(rt; found, wanted, "{what}");
+}

@@ -1,0 +1,514 @@
+//! The program's runs: instances and scripts in, replies out.
+mod devices;
+mod examples;
+
+use crate::rows::{CASES, LISTED, cut};
+use board_program::{
+    Stop, check_bytes, check_file, joined, read_file, run_files, scripted, stopped,
+};
+use board_text::RunFault;
+use devices::{make_drip, make_line_by_line, make_narrow};
+use examples::EXAMPLES;
+use solomon_reader::Kind;
+use std::io::{Read, Write};
+use std::process::Abort;
+use std::rt::Files;
+use std::{fs, str};
+
+/// An instance of four customers and two vehicles.
+const A: &str =
+    "A\n\nVEHICLE\nNUMBER     CAPACITY\n  2          10\n\nCUSTOMER\nCUST NO.  XCOORD.  YCOORD.  DEMAND  READY TIME  DUE DATE  SERVICE TIME\n\n    0      0      0      0      0     100      0\n    1      2      2      4      0      50      0\n    2      6      6      3      0      50      0\n    3     10     10      3      0      14      0\n    4      3      4      5      0      50      0\n";
+
+/// What a check says of it.
+const REPORT: &str = "name A\ncustomers 4\nvehicles 2\ncapacity 10\nhorizon 1000\n";
+
+/// What a run is to write, to say on the faults' stream, and to end with.
+type Wanted<'a> = (&'a str, &'a str, u8);
+
+/// Compares what a run said and ended with.
+fn compare_end(rt: &impl Abort, faults: &[u8], status: u8, wanted: Wanted<'_>) {
+    assert_eq!(rt; str::from_utf8(faults).expect(rt, "text"), wanted.1);
+    assert_eq!(rt; status, wanted.2);
+}
+
+/// Compares what a run wrote, said and ended with.
+fn compare(rt: &impl Abort, output: &[u8], faults: &[u8], status: u8, wanted: Wanted<'_>) {
+    assert_eq!(rt; str::from_utf8(output).expect(rt, "text"), wanted.0);
+    compare_end(rt, faults, status, wanted);
+}
+
+/// A run wrote a front of these replies, of a length that fits.
+fn compare_front(rt: &impl Abort, output: &[u8], replies: &str, fits: bool) {
+    assert!(rt; replies.as_bytes().starts_with(output));
+    assert!(rt; fits);
+}
+
+/// The run of a joined input gives what is wanted.
+fn joined_gives<H: AllocGlobal + Abort, I: Read>(rt: &H, reader: &mut I, wanted: Wanted<'_>) {
+    let mut output = Vec::new(rt.alloc());
+    let mut faults = Vec::new(rt.alloc());
+    let status = joined(rt, rt.alloc(), reader, &mut output, &mut faults);
+    compare(rt, output.as_slice(), faults.as_slice(), status, wanted);
+}
+
+/// The run of an instance and what stands behind it gives what is wanted.
+fn gives<H: AllocGlobal + Abort>(rt: &H, instance: &str, behind: &str, wanted: Wanted<'_>) {
+    let input = format!(in rt.alloc(); "{instance}{behind}").expect(rt, "memory");
+    joined_gives(rt, &mut input.as_bytes(), wanted);
+}
+
+/// The run of a script in an input of its own gives what is wanted.
+fn scripted_gives<H: AllocGlobal + Abort, I: Read>(rt: &H, script: &mut I, wanted: Wanted<'_>) {
+    let mut output = Vec::new(rt.alloc());
+    let mut faults = Vec::new(rt.alloc());
+    let status = scripted(
+        rt,
+        rt.alloc(),
+        A.as_bytes(),
+        script,
+        &mut output,
+        &mut faults,
+    );
+    compare(rt, output.as_slice(), faults.as_slice(), status, wanted);
+}
+
+/// A check of an instance's text gives what is wanted.
+fn check_gives<H: AllocGlobal + Abort>(rt: &H, instance: &str, wanted: Wanted<'_>) {
+    let mut output = Vec::new(rt.alloc());
+    let mut faults = Vec::new(rt.alloc());
+    let status = check_bytes(rt.alloc(), instance.as_bytes(), &mut output, &mut faults);
+    compare(rt, output.as_slice(), faults.as_slice(), status, wanted);
+}
+
+/// Puts a line at the end of a text, unless it is empty.
+fn put(rt: &impl Abort, text: &mut String, line: &str) {
+    if line.is_empty() {
+        return;
+    }
+    text.push_str(line).expect(rt, "memory");
+    text.push('\n').expect(rt, "memory");
+}
+
+/// The lines of a script, and the replies to them.
+fn texts<H: AllocGlobal + Abort>(rt: &H, parts: [&str; 4]) -> (String, String) {
+    let mut script = String::new(rt.alloc());
+    let mut replies = String::new(rt.alloc());
+    for part in parts {
+        for row in part.split('\n') {
+            let (line, reply, _) = cut(row);
+            put(rt, &mut script, line);
+            put(rt, &mut replies, reply);
+        }
+    }
+    (script, replies)
+}
+
+/// The script in an input of its own, and behind an instance.
+fn answers<H: AllocGlobal + Abort>(rt: &H, parts: [&str; 4], status: u8) {
+    let (script, replies) = texts(rt, parts);
+    let wanted = (replies.as_str(), "", status);
+    scripted_gives(rt, &mut script.as_bytes(), wanted);
+    let input = format!(in rt.alloc(); "{A}%%\n{script}").expect(rt, "memory");
+    joined_gives(rt, &mut input.as_bytes(), wanted);
+}
+
+#[test]
+fn answers_scripts(rt: HostRuntime) {
+    for (parts, status) in CASES {
+        answers(&rt, parts, status);
+    }
+}
+
+/// The examples of the pages give what stands beside them, and each has a line that counts as refused.
+#[test]
+fn the_examples_of_the_pages(rt: HostRuntime) {
+    for (input, wanted) in EXAMPLES {
+        joined_gives(&rt, &mut input.as_bytes(), (*wanted, "", 1));
+    }
+}
+
+/// Bytes that come and go one at a time give the same.
+#[test]
+fn a_byte_at_a_time(rt: HostRuntime) {
+    let (script, replies) = texts(&rt, LISTED);
+    let input = format!(in rt.alloc(); "{A}%%\n{script}").expect(&rt, "memory");
+    let mut reader = make_drip(input.as_bytes(), 1, usize::MAX);
+    let mut output = make_narrow(Vec::new(rt.alloc()), 1, usize::MAX, usize::MAX);
+    let mut faults = Vec::new(rt.alloc());
+    let status = joined(&rt, rt.alloc(), &mut reader, &mut output, &mut faults);
+    let wanted = (replies.as_str(), "", 0);
+    compare(
+        &rt,
+        output.taken.as_slice(),
+        faults.as_slice(),
+        status,
+        wanted,
+    );
+}
+
+/// A script whose reads fail after so many: what was written is longer than was told before, and how long it is.
+fn reads_fail<H: AllocGlobal + Abort>(
+    rt: &H,
+    script: &str,
+    reads: usize,
+    replies: &str,
+    told: usize,
+) -> usize {
+    let mut reader = make_line_by_line(script.as_bytes(), reads);
+    let mut output = Vec::new(rt.alloc());
+    let mut faults = Vec::new(rt.alloc());
+    let status = scripted(
+        rt,
+        rt.alloc(),
+        A.as_bytes(),
+        &mut reader,
+        &mut output,
+        &mut faults,
+    );
+    let fits = reads == 0 || told < output.len();
+    compare_front(rt, output.as_slice(), replies, fits);
+    let wanted = ("", "dispatch: run fault read\n", 3);
+    compare_end(rt, faults.as_slice(), status, wanted);
+    output.len()
+}
+
+/// Where the n-th read fails, the replies to the lines before it were written.
+#[test]
+fn a_reader_that_fails(rt: HostRuntime) {
+    let (script, replies) = texts(&rt, LISTED);
+    let mut told = 0;
+    for reads in 0..9 {
+        told = reads_fail(&rt, script.as_str(), reads, replies.as_str(), told);
+    }
+    let mut reader = make_line_by_line(script.as_bytes(), 9);
+    scripted_gives(&rt, &mut reader, (replies.as_str(), "", 0));
+}
+
+/// A script of eight replies to a writer that fails after so many writes, or so many flushes: all replies were written only
+/// where it failed at none but the last flush.
+fn writes_fail<H: AllocGlobal + Abort>(
+    rt: &H,
+    script: &str,
+    writes: usize,
+    flushes: usize,
+    wanted: Wanted<'_>,
+) {
+    let mut reader = make_line_by_line(script.as_bytes(), usize::MAX);
+    let mut output = make_narrow(Vec::new(rt.alloc()), usize::MAX, writes, flushes);
+    let mut faults = Vec::new(rt.alloc());
+    let status = scripted(
+        rt,
+        rt.alloc(),
+        A.as_bytes(),
+        &mut reader,
+        &mut output,
+        &mut faults,
+    );
+    let is_whole = output.taken.len() == wanted.0.len();
+    let fits = is_whole == (writes == 8 && flushes >= 8);
+    compare_front(rt, output.taken.as_slice(), wanted.0, fits);
+    compare_end(rt, faults.as_slice(), status, wanted);
+}
+
+/// Where a write or a flush fails, a prefix of the replies was written.
+#[test]
+fn a_writer_that_fails(rt: HostRuntime) {
+    let (script, replies) = texts(&rt, LISTED);
+    let wanted = (replies.as_str(), "dispatch: run fault write\n", 3);
+    for writes in 0..8 {
+        writes_fail(&rt, script.as_str(), writes, 10, wanted);
+    }
+    for flushes in 0..10 {
+        writes_fail(&rt, script.as_str(), 8, flushes, wanted);
+    }
+    writes_fail(&rt, script.as_str(), 8, 10, (replies.as_str(), "", 0));
+}
+
+#[test]
+fn the_line_between(rt: HostRuntime) {
+    for (between, wanted) in [
+        ("", ""),
+        ("%%", ""),
+        ("%%\n", ""),
+        ("%%\r\n", ""),
+        ("%%\n1 fly\n", "bad word\n"),
+        ("%%\r\n1 fly\r\n", "bad word\n"),
+        ("%%\n%%\n", "bad number\n"),
+    ] {
+        let status = u8::from(!wanted.is_empty());
+        gives(&rt, A, between, (wanted, "", status));
+    }
+    // A carriage return is dropped only before a line feed: these are node rows with too few fields.
+    for between in ["%%\r", "%% \n", " %%\n", "%%\r\r\n"] {
+        let wanted = ("", "dispatch: instance fault fields line 15\n", 3);
+        gives(&rt, A, between, wanted);
+    }
+}
+
+/// A text that is no instance has the same fault in a check and before a script.
+fn has_fault<H: AllocGlobal + Abort>(rt: &H, instance: &str, fault: &str) {
+    check_gives(rt, instance, ("", fault, 3));
+    gives(rt, instance, "%%\n1 list\n", ("", fault, 3));
+}
+
+/// The same of an instance with one part exchanged.
+fn has_fault_with<H: AllocGlobal + Abort>(rt: &H, part: &str, other: &str, fault: &str) {
+    let text = A.replace(rt.alloc(), part, other).expect(rt, "memory");
+    has_fault(rt, text.as_str(), fault);
+}
+
+#[test]
+fn faults_of_an_instance(rt: HostRuntime) {
+    for (part, other, fault) in [
+        (
+            "1      2      2      4",
+            "1      2.50   2      4",
+            "dispatch: instance fault number line 11\n",
+        ),
+        (
+            "    2      6      6      3      0      50      0\n",
+            "",
+            "dispatch: instance fault order line 12\n",
+        ),
+    ] {
+        has_fault_with(&rt, part, other, fault);
+    }
+    has_fault(
+        &rt,
+        "A\n\nVEHICLE\n",
+        "dispatch: instance fault fleet line 4\n",
+    );
+}
+
+/// An instance of so many customers.
+fn large<H: AllocGlobal + Abort>(rt: &H, customers: u32) -> String {
+    let mut text = String::from_str(rt.alloc(), A).expect(rt, "memory");
+    for customer in 5..=customers {
+        write!(text, "{customer} 3 4 0 0 50 0\n").expect(rt, "memory");
+    }
+    text
+}
+
+/// A board of 1,000 customers is opened, and one more is too many.
+#[test]
+fn the_most_customers(rt: HostRuntime) {
+    let most = large(&rt, 1000);
+    let report = "name A\ncustomers 1000\nvehicles 2\ncapacity 10\nhorizon 1000\n";
+    check_gives(&rt, &most, (report, "", 0));
+    gives(&rt, &most, "%%\n1 list\n", ("end\n", "", 0));
+    let fault = "dispatch: instance fault count line 1011\n";
+    has_fault(&rt, &large(&rt, 1001), fault);
+}
+
+/// An instance with one part exchanged is the same instance, to a check and before a script.
+fn is_the_same<H: AllocGlobal + Abort>(rt: &H, part: &str, other: &str) {
+    let text = A.replace(rt.alloc(), part, other).expect(rt, "memory");
+    check_gives(rt, text.as_str(), (REPORT, "", 0));
+    gives(rt, text.as_str(), "%%\n1 list\n", ("end\n", "", 0));
+}
+
+#[test]
+fn checks_an_instance(rt: HostRuntime) {
+    check_gives(&rt, A, (REPORT, "", 0));
+    check_gives(&rt, A.trim_end(), (REPORT, "", 0));
+    is_the_same(&rt, "\n", "\r\n");
+    is_the_same(&rt, "1      2      2      4", "1      2.00   2      4");
+}
+
+#[test]
+fn a_failing_reader(rt: HostRuntime) {
+    let fault = "dispatch: run fault read\n";
+    for reads in 0..=(A.len() + 6) / 7 {
+        joined_gives(&rt, &mut make_drip(A.as_bytes(), 7, reads), ("", fault, 3));
+    }
+    let input = format!(in rt.alloc(); "{A}%%\n1 list\n").expect(&rt, "memory");
+    let reads = (input.len() + 6) / 7;
+    joined_gives(
+        &rt,
+        &mut make_drip(input.as_bytes(), 7, reads),
+        ("end\n", fault, 3),
+    );
+}
+
+/// A script that is one comment of so many bytes gives what is wanted.
+fn long_line<H: AllocGlobal + Abort>(rt: &H, length: usize, wanted: Wanted<'_>) {
+    let line = "#".repeat(rt.alloc(), length).expect(rt, "memory");
+    let input = format!(in rt.alloc(); "{A}%%\n{line}").expect(rt, "memory");
+    joined_gives(rt, &mut input.as_bytes(), wanted);
+}
+
+#[test]
+fn long_lines(rt: HostRuntime) {
+    long_line(&rt, 4096, ("", "", 0));
+    let fault = "dispatch: run fault long-line\n";
+    long_line(&rt, 4097, ("", fault, 3));
+}
+
+/// The second writer takes no byte, and the third fails once all is written.
+#[test]
+fn a_failing_writer(rt: HostRuntime) {
+    for (most, writes, flushes, written) in [
+        (usize::MAX, 0, 9, ""),
+        (0, 9, 9, ""),
+        (usize::MAX, 9, 0, REPORT),
+    ] {
+        let mut output = make_narrow(Vec::new(rt.alloc()), most, writes, flushes);
+        let mut faults = Vec::new(rt.alloc());
+        let status = check_bytes(rt.alloc(), A.as_bytes(), &mut output, &mut faults);
+        let wanted = (written, "dispatch: run fault write\n", 3);
+        compare(
+            &rt,
+            output.taken.as_slice(),
+            faults.as_slice(),
+            status,
+            wanted,
+        );
+    }
+}
+
+const KINDS: &[(Kind, &str)] = &[
+    (Kind::Name, "dispatch: instance fault name line 4\n"),
+    (Kind::Vehicle, "dispatch: instance fault vehicle line 4\n"),
+    (Kind::Fleet, "dispatch: instance fault fleet line 4\n"),
+    (Kind::Customer, "dispatch: instance fault customer line 4\n"),
+    (Kind::Heading, "dispatch: instance fault heading line 4\n"),
+    (Kind::Fields, "dispatch: instance fault fields line 4\n"),
+    (Kind::Number, "dispatch: instance fault number line 4\n"),
+    (Kind::Order, "dispatch: instance fault order line 4\n"),
+    (Kind::Window, "dispatch: instance fault window line 4\n"),
+    (Kind::Depot, "dispatch: instance fault depot line 4\n"),
+    (Kind::Count, "dispatch: instance fault count line 4\n"),
+    (Kind::End, "dispatch: instance fault end line 4\n"),
+];
+
+#[test]
+fn lines_of_an_instance_fault(rt: HostRuntime) {
+    for (kind, wanted) in KINDS {
+        let mut faults = Vec::new(rt.alloc());
+        let status = stopped(&mut faults, Stop::Instance(*kind, 4));
+        compare_end(&rt, faults.as_slice(), status, ("", *wanted, 3));
+    }
+}
+
+#[test]
+fn lines_of_a_stop(rt: HostRuntime) {
+    for (stop, wanted) in [
+        (Stop::Open, "dispatch: open fault\n"),
+        (Stop::Run(RunFault::Read), "dispatch: run fault read\n"),
+        (Stop::Run(RunFault::Write), "dispatch: run fault write\n"),
+        (
+            Stop::Run(RunFault::LongLine),
+            "dispatch: run fault long-line\n",
+        ),
+        (
+            Stop::Run(RunFault::NoMemory),
+            "dispatch: run fault no-memory\n",
+        ),
+    ] {
+        let mut faults = Vec::new(rt.alloc());
+        let status = stopped(&mut faults, stop);
+        compare_end(&rt, faults.as_slice(), status, ("", wanted, 3));
+    }
+}
+
+/// How many bytes are read of a file of so many, or none where it is too long.
+fn read_of<H: AllocGlobal + Abort>(rt: &H, length: usize) -> Option<usize> {
+    let text = vec![in rt.alloc(); b'x'; length].expect(rt, "memory");
+    match read_file(rt.alloc(), text.as_slice()) {
+        Ok(read) => Some(read.len()),
+        Err(_) => None,
+    }
+}
+
+#[test]
+fn files_of_an_instance(rt: HostRuntime) {
+    assert_eq!(rt; read_of(&rt, 16_777_216), Some(16_777_216));
+    assert_eq!(rt; read_of(&rt, 16_777_217), None);
+    assert!(rt; read_file(rt.alloc(), make_drip(A.as_bytes(), 7, 9)).is_err());
+}
+
+/// A check of an instance's file gives what is wanted.
+fn check_file_gives<H: AllocGlobal + Abort + Files>(rt: &H, path: &str, wanted: Wanted<'_>) {
+    let mut output = Vec::new(rt.alloc());
+    let mut faults = Vec::new(rt.alloc());
+    let status = check_file(rt, rt.alloc(), path, &mut output, &mut faults);
+    compare(rt, output.as_slice(), faults.as_slice(), status, wanted);
+}
+
+#[test]
+fn paths_that_cannot_be_read(rt: HostRuntime) {
+    // The second is a folder: it opens, and the first read fails.
+    for (path, wanted) in [
+        ("no such file", "dispatch: cannot read no such file\n"),
+        ("/", "dispatch: cannot read /\n"),
+    ] {
+        check_file_gives(&rt, path, ("", wanted, 3));
+    }
+}
+
+#[test]
+fn a_long_instance(rt: HostRuntime) {
+    // One byte more than 16,777,216 stands before the line `%%`.
+    let mut input = vec![in rt.alloc(); b' '; 16_777_216].expect(&rt, "memory");
+    input.extend_from_slice(b"\n%%\n").expect(&rt, "memory");
+    let wanted = ("", "dispatch: run fault read\n", 3);
+    joined_gives(&rt, &mut input.as_slice(), wanted);
+}
+
+#[test]
+fn the_longest_instance(rt: HostRuntime) {
+    // Just 16,777,216 bytes stand before the line `%%`, the last of them a blank line.
+    let mut input = Vec::from_slice(rt.alloc(), A.as_bytes()).expect(&rt, "memory");
+    input.resize(16_777_215, b' ').expect(&rt, "memory");
+    input
+        .extend_from_slice(b"\n%%\n1 list\n")
+        .expect(&rt, "memory");
+    joined_gives(&rt, &mut input.as_slice(), ("end\n", "", 0));
+}
+
+/// The run of an instance's file and a script's gives what is wanted.
+fn run_gives<H: AllocGlobal + Abort + Files>(
+    rt: &H,
+    instance: &str,
+    script: &str,
+    wanted: Wanted<'_>,
+) {
+    let mut output = Vec::new(rt.alloc());
+    let mut faults = Vec::new(rt.alloc());
+    let status = run_files(rt, rt.alloc(), instance, script, &mut output, &mut faults);
+    compare(rt, output.as_slice(), faults.as_slice(), status, wanted);
+}
+
+/// The instance is judged before the script is opened.
+#[test]
+fn files_of_a_run(rt: HostRuntime) {
+    for (instance, wanted) in [
+        ("no such file", "dispatch: cannot read no such file\n"),
+        ("/", "dispatch: cannot read /\n"),
+        ("/dev/null", "dispatch: instance fault name line 1\n"),
+    ] {
+        run_gives(&rt, instance, "no script", ("", wanted, 3));
+    }
+}
+
+const INSTANCE_FILE: &str = "program_tests_instance";
+
+const SCRIPT_FILE: &str = "program_tests_script";
+
+/// The third script is a folder: it opens, and the first read fails.
+#[test]
+fn files_that_are_read(rt: HostRuntime) {
+    let (script, replies) = texts(&rt, LISTED);
+    fs::write(&rt, INSTANCE_FILE, A).expect(&rt, "a file");
+    fs::write(&rt, SCRIPT_FILE, script.as_str()).expect(&rt, "a file");
+    check_file_gives(&rt, INSTANCE_FILE, (REPORT, "", 0));
+    for (path, wanted) in [
+        (SCRIPT_FILE, (replies.as_str(), "", 0)),
+        ("no script", ("", "dispatch: cannot read no script\n", 3)),
+        ("/", ("", "dispatch: run fault read\n", 3)),
+    ] {
+        run_gives(&rt, INSTANCE_FILE, path, wanted);
+    }
+    fs::remove_file(&rt, SCRIPT_FILE).expect(&rt, "a file");
+    fs::remove_file(&rt, INSTANCE_FILE).expect(&rt, "a file");
+}

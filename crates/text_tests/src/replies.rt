@@ -1,0 +1,73 @@
+use crate::comparing::compare_written;
+use board_rules::{
+    AskFault, Fault, Refusal, calls_keep_the_rest, changes_by_stamps, commands_by_parts,
+    current_vehicles_keep_their_routes, customers_have_one_spot, histories_grow_by_entries,
+    histories_settle_policies, legal_histories_leave_good_states, listings_are_determined,
+    pins_by_touches, plans_are_judged_by_new_routes, proposals_commit_exactly,
+    replies_are_determined, right_replies_keep_good_states, separation_of_duty_holds,
+    spots_change_on_named_vehicles, verdicts_by_agreeing_facts,
+};
+use rbac_core::Refusal as PolicyRefusal;
+use separation_core::Name;
+
+#[test]
+fn what_the_policy_refuses(rt: HostRuntime) {
+    let set = Name::new(b"s").expect(&rt, "name");
+    for (refusal, wanted) in [
+        (PolicyRefusal::Ssd(set), Some(Refusal::Ssd(set))),
+        (PolicyRefusal::InSet, Some(Refusal::InSet)),
+        (PolicyRefusal::NoMemory, None),
+    ] {
+        assert_eq!(rt; Refusal::of_policy(refusal).ok(), wanted);
+    }
+}
+
+const FAULTS: &[(Fault, &str)] = &[
+    (
+        Fault::OutOfTurn,
+        "there is no such desk, or the turn is not the desk's last plus one",
+    ),
+    (Fault::Full, "the journal is full"),
+    (Fault::NoMemory, "out of memory"),
+];
+
+const ASK_FAULTS: &[(AskFault, &str)] = &[
+    (AskFault::NoSession, "the session does not exist"),
+    (AskFault::NoAccess, "the session lacks `audit` on the board"),
+    (AskFault::NoUser, "there is no such user"),
+    (AskFault::NoRole, "there is no such role"),
+    (AskFault::NotThere, "there is no such session to review"),
+    (AskFault::NoMemory, "out of memory"),
+];
+
+#[test]
+fn texts_of_faults(rt: HostRuntime) {
+    for (fault, text) in FAULTS {
+        compare_written(&rt, rt.alloc(), fault, text);
+    }
+    for (fault, text) in ASK_FAULTS {
+        compare_written(&rt, rt.alloc(), fault, text);
+    }
+}
+
+/// Each law is called once: its contract can be met.
+#[test]
+fn laws_are_called() {
+    right_replies_keep_good_states();
+    legal_histories_leave_good_states();
+    listings_are_determined();
+    histories_grow_by_entries();
+    histories_settle_policies();
+    separation_of_duty_holds();
+    spots_change_on_named_vehicles();
+    proposals_commit_exactly();
+    replies_are_determined();
+    current_vehicles_keep_their_routes();
+    calls_keep_the_rest();
+    verdicts_by_agreeing_facts();
+    changes_by_stamps();
+    commands_by_parts();
+    pins_by_touches();
+    plans_are_judged_by_new_routes();
+    customers_have_one_spot();
+}

@@ -1,0 +1,105 @@
+use std::process::Abort;
+use text_words::{cut_at, keep_line, number_by_digits, number_of, words_of};
+
+fn compare(rt: &impl Abort, found: &[&[u8]], wanted: &[&[u8]]) {
+    assert_eq!(rt; found.len(), wanted.len());
+    for (word, other) in found.iter().zip(wanted) {
+        assert_eq!(rt; *word, *other);
+    }
+}
+
+const WORDS: &[(&[u8], &[&[u8]])] = &[
+    (
+        b" \t10 insert\t\t2  1\r ",
+        &[b"10", b"insert", b"2", b"1\r"],
+    ),
+    (b" \t ", &[]),
+    (b"", &[]),
+];
+
+#[test]
+fn words_are_parted_by_spaces_and_tabs(rt: HostRuntime) {
+    for (line, wanted) in WORDS {
+        let words = words_of(rt.alloc(), line).expect(&rt, "memory");
+        compare(&rt, &words, wanted);
+    }
+}
+
+/// Compares where a line ends, and its words where it has an end.
+fn compare_line(
+    rt: &impl Abort,
+    end: Option<usize>,
+    words: &[&[u8]],
+    wanted_end: Option<usize>,
+    wanted: &[&[u8]],
+) {
+    assert_eq!(rt; end, wanted_end);
+    if end.is_some() {
+        compare(rt, words, wanted);
+    }
+}
+
+/// Texts, where the first line of each ends, and its words. Lines are cut 32 bytes at a time.
+const LINES: &[(&[u8], Option<usize>, &[&[u8]])] = &[
+    (
+        b"12 open a-name-of-thirty-two-bytes-or-more\tdispatcher  planner\n3 fly\n",
+        Some(62),
+        &[
+            b"12",
+            b"open",
+            b"a-name-of-thirty-two-bytes-or-more",
+            b"dispatcher",
+            b"planner",
+        ],
+    ),
+    (
+        b"------------------------------------------- \n",
+        Some(44),
+        &[b"-------------------------------------------"],
+    ),
+    (b"8 fly\n", Some(5), &[b"8", b"fly"]),
+    (b"-------------------------------------------", None, &[]),
+];
+
+#[test]
+fn a_long_line_is_cut_as_a_short_one(rt: HostRuntime) {
+    let mut kept = Vec::new(rt.alloc());
+    for (text, end, words) in LINES {
+        let found = keep_line(&mut kept, *text).expect(&rt, "memory");
+        compare_line(&rt, found, &kept, *end, words);
+    }
+}
+
+const NUMBERS: &[(&[u8], Option<u32>)] = &[
+    (b"0", Some(0)),
+    (b"40", Some(40)),
+    (b"307", Some(307)),
+    (b"9182", Some(9182)),
+    (b"1:2", None),
+    (b"/123", None),
+    (b"0000000007", Some(7)),
+    (b"4294967295", Some(4_294_967_295)),
+    (b"4294967296", None),
+    (b"00000000007", None),
+    (b"", None),
+    (b"+5", None),
+    (b"2.0", None),
+];
+
+#[test]
+fn numbers_are_digits_alone(rt: HostRuntime) {
+    for (word, number) in NUMBERS {
+        assert_eq!(rt; number_of(word), *number);
+        assert_eq!(rt; number_by_digits(word), *number);
+    }
+}
+
+#[test]
+fn a_text_is_cut_at_its_first_separator(rt: HostRuntime) {
+    let (digits, rest) = cut_at(b"2.50.1", b'.');
+    assert_eq!(rt; digits, b"2".as_slice());
+    assert_eq!(rt; rest, Some(b"50.1".as_slice()));
+    let (digits, rest) = cut_at(b"250", b'.');
+    assert_eq!(rt; digits, b"250".as_slice());
+    assert!(rt; rest.is_none());
+}
