@@ -13,7 +13,7 @@ pub struct Meter {
 
 impl Meter {
     ghost use Rattle.std.specs.Prelude.{◌≡◌};
-    ghost use Rattle.callback_store.specs.Meter.{after_ask, after_asks, after_probe, after_walk, AsksAtMost};
+    ghost use Rattle.callback_store.specs.Meter.{after_ask, after_asks, after_probe, after_walk, AsksJust};
 
     /// A meter that has counted nothing.
     pub fn new() -> Meter
@@ -29,7 +29,7 @@ impl Meter {
     /// Counts one ask.
     pub fn ask(&mut self)
         ensures value { self.new ≡ after_ask self.old }
-        ensures one { AsksAtMost self.old self.new 1 }
+        ensures one { AsksJust self.old self.new 1 }
     {
         self.asks = self.asks.saturating_add(1);
     }
@@ -38,7 +38,7 @@ impl Meter {
     #[inline(always)]
     pub fn ask_many(&mut self, count: u64)
         ensures value { self.new ≡ after_asks self.old count }
-        ensures most { AsksAtMost self.old self.new count }
+        ensures just { AsksJust self.old self.new count }
     {
         self.asks = self.asks.saturating_add(count);
     }

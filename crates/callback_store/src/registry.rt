@@ -1,5 +1,5 @@
 ghost use Rattle.std.specs.Prelude.{◌≡◌, ℕ, ◌+◌, ◌*◌, ◌<◌, ◌≤◌, ◌↔◌, true, false, List, [], ◌∷◌, ◌++◌, length, map, IfOk, OnErr, IsErrOf, nat_lt, All};
-ghost use Rattle.callback_store.specs.Meter.{after_ask, after_asks, AsksAtMost};
+ghost use Rattle.callback_store.specs.Meter.{after_ask, after_asks, AsksJust};
 ghost use Rattle.callback_store.specs.Tables.{AreTables, slot_table, pair_table, node_table, table_at, nodes_of, is_fitting, entry};
 
 use crate::meter::Meter;
@@ -160,7 +160,7 @@ impl Registry {
         ensures answer { result ≡ entry (table_at (tables self.now) id) i j }
         ensures small { result ≤ 1000000000 }
         ensures counted { meter.new ≡ after_ask meter.old }
-        ensures one { AsksAtMost meter.old meter.new 1 }
+        ensures one { AsksJust meter.old meter.new 1 }
     {
         // The kinds are told apart here and not in the slot: each function between here and the closure would cost one more test after it.
         match &self.slots[id.index as usize] {
@@ -179,7 +179,7 @@ impl Registry {
         ensures answers { answers.new ≡ map (λ j. entry (table_at (tables self.now) id) i j) to.now }
         ensures small { All (λ x. x ≤ 1000000000) answers.new }
         ensures counted { meter.new ≡ after_asks meter.old (length to.now) }
-        ensures most { AsksAtMost meter.old meter.new (length to.now) }
+        ensures just { AsksJust meter.old meter.new (length to.now) }
     {
         let slot = &self.slots[id.index as usize];
         slot.ask_row(meter, i, to, answers)
@@ -202,7 +202,7 @@ impl Registry {
         ensures answers { answers.new ≡ map (λ i. entry (table_at (tables self.now) id) i j) from.now }
         ensures small { All (λ x. x ≤ 1000000000) answers.new }
         ensures counted { meter.new ≡ after_asks meter.old (length from.now) }
-        ensures most { AsksAtMost meter.old meter.new (length from.now) }
+        ensures just { AsksJust meter.old meter.new (length from.now) }
     {
         let slot = &self.slots[id.index as usize];
         slot.ask_column(meter, j, from, answers)

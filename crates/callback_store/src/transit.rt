@@ -1,6 +1,6 @@
 ghost use Rattle.std.specs.Prelude.{◌≡◌, ℕ, ◌<◌, ◌≤◌, List, length, map, All};
 ghost use Rattle.callback_store.specs.Callback.{PairsOf, PairsOf-prop, IsPairsOf};
-ghost use Rattle.callback_store.specs.Meter.{after_ask, after_asks, AsksAtMost};
+ghost use Rattle.callback_store.specs.Meter.{after_ask, after_asks, AsksJust};
 
 use crate::meter::Meter;
 
@@ -49,7 +49,7 @@ impl Transit {
         ensures answer { result ≡ entry (pair_table self.now) i j }
         ensures small { result ≤ 1000000000 }
         ensures counted { meter.new ≡ after_ask meter.old }
-        ensures one { AsksAtMost meter.old meter.new 1 }
+        ensures one { AsksJust meter.old meter.new 1 }
     {
         meter.ask();
         (self.call)(i, j)
@@ -64,7 +64,7 @@ impl Transit {
         ensures answers { answers.new ≡ map (λ j. entry (pair_table self.now) i j) to.now }
         ensures small { All (λ x. x ≤ 1000000000) answers.new }
         ensures counted { meter.new ≡ after_asks meter.old (length to.now) }
-        ensures most { AsksAtMost meter.old meter.new (length to.now) }
+        ensures just { AsksJust meter.old meter.new (length to.now) }
     {
         meter.ask_many(to.len() as u64);
         for k in 0..to.len() {
@@ -81,7 +81,7 @@ impl Transit {
         ensures answers { answers.new ≡ map (λ i. entry (pair_table self.now) i j) from.now }
         ensures small { All (λ x. x ≤ 1000000000) answers.new }
         ensures counted { meter.new ≡ after_asks meter.old (length from.now) }
-        ensures most { AsksAtMost meter.old meter.new (length from.now) }
+        ensures just { AsksJust meter.old meter.new (length from.now) }
     {
         meter.ask_many(from.len() as u64);
         for k in 0..from.len() {

@@ -1,6 +1,6 @@
 ghost use Rattle.std.specs.Prelude.{◌≡◌, ℕ, ◌<◌, ◌≤◌, List, length, map, slice_index, All};
 ghost use Rattle.callback_store.specs.Callback.{TableOf, TableOf-prop, IsTableOf};
-ghost use Rattle.callback_store.specs.Meter.{after_ask, after_asks, AsksAtMost};
+ghost use Rattle.callback_store.specs.Meter.{after_ask, after_asks, AsksJust};
 
 use crate::meter::Meter;
 
@@ -48,7 +48,7 @@ impl Unary {
         ensures answer { result ≡ slice_index (node_table self.now).entries i }
         ensures small { result ≤ 1000000000 }
         ensures counted { meter.new ≡ after_ask meter.old }
-        ensures one { AsksAtMost meter.old meter.new 1 }
+        ensures one { AsksJust meter.old meter.new 1 }
     {
         meter.ask();
         (self.call)(i)
@@ -62,7 +62,7 @@ impl Unary {
         ensures answers { answers.new ≡ map (λ i. slice_index (node_table self.now).entries i) nodes.now }
         ensures small { All (λ x. x ≤ 1000000000) answers.new }
         ensures counted { meter.new ≡ after_asks meter.old (length nodes.now) }
-        ensures most { AsksAtMost meter.old meter.new (length nodes.now) }
+        ensures just { AsksJust meter.old meter.new (length nodes.now) }
     {
         meter.ask_many(nodes.len() as u64);
         for k in 0..nodes.len() {
@@ -77,7 +77,7 @@ impl Unary {
         ensures answers { answers.new ≡ map (λ a. slice_index (node_table self.now).entries i) answers.old }
         ensures small { All (λ x. x ≤ 1000000000) answers.new }
         ensures counted { meter.new ≡ after_asks meter.old (length answers.old) }
-        ensures most { AsksAtMost meter.old meter.new (length answers.old) }
+        ensures just { AsksJust meter.old meter.new (length answers.old) }
     {
         meter.ask_many(answers.len() as u64);
         for k in 0..answers.len() {

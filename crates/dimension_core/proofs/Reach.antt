@@ -1,10 +1,20 @@
-use Rattle.std.proofs.Common.{◌≡◌, ℕ, suc, ◌+◌, ◌-◌, ◌<◌, ◌≤◌, ◌∙◌, sym, ap, subst, refl, arith, List, [], ◌∷◌, ◌++◌, length, take, drop, slice_index, slice_index_or, is_some, IsTrue, ◌↔◌, ◌⊎◌, inl, inr, Option, Some, None}
+use Rattle.std.proofs.Common.{◌≡◌, ℕ, suc, ◌+◌, ◌-◌, ◌<◌, ◌≤◌, ◌∙◌, sym, ap, subst, refl, arith, Bool, true, false, List, [], ◌∷◌, ◌++◌, length, take, drop, slice_index, slice_index_or, is_some, IsTrue, ◌↔◌, ◌⊎◌, inl, inr, Option, Some, None}
+use Rattle.std.specs.Bool.{OnTrue}
 use Rattle.std.proofs.Math.Logic.{∥∥₁_elim, ∥∥₁_map}
 use Rattle.std.proofs.Props.{props}
 use Rattle.std.proofs.lemmas.List.{take_more, take_all, take-append-drop}
 use Rattle.callback_store.specs.Tables.{Table}
 use Rattle.dimension_core.specs.declared.range.Range.{Range}
-use Rattle.dimension_core.specs.Cumuls.{Bounds, IsCumul, IsStart, IsStep, IsWithin, IsSpan, GoOn, AreCumuls, Reaches, last_of, IsInBounds, IsEarly}
+use Rattle.dimension_core.specs.Cumuls.{Bounds, IsCumul, IsStart, IsStep, IsWithin, IsSpan, GoOn, AreCumuls, Reaches, last_of, IsInBounds, IsEarly, route_asks}
+
+pub on_true : (b : Bool) (P : Type 0) → (b ≡ true → P) → OnTrue b P
+on_true false P p = tt
+on_true true P p = p refl
+
+-- a route that is not empty is asked for each customer and for the return
+pub asks_some : (route : List ℕ) → 0 < length route → route_asks route ≡ length route + 1
+asks_some [] h = absurd (omega arith)
+asks_some (c ∷ cs) h = refl
 
 pub last_of-push : (n : ℕ) (ms : List ℕ) (m : ℕ) → last_of n (ms ++ m ∷ []) ≡ m
 last_of-push n [] m = refl

@@ -64,6 +64,11 @@ pub record AreCumulsByPlace (t : Table) (d : Bounds) (vehicle : ℕ) (nodes cumu
 abbrev pub IsInBounds : Table → Bounds → ℕ → List ℕ → Type 0
 IsInBounds t d vehicle route = ∥ (route ≡ []) ⊎ ((cumuls : List ℕ) × AreCumuls t d vehicle (route ++ 0 ∷ []) cumuls) ∥₁
 
+-- how many answers the cumuls or the cost of a route take: one for each customer and one for the return, and none where the route is empty
+abbrev pub route_asks : List ℕ → ℕ
+route_asks [] = 0
+route_asks (c ∷ cs) = length (c ∷ cs) + 1
+
 -- the last of some numbers, or n where there is none
 abbrev pub last_of : ℕ → List ℕ → ℕ
 last_of n [] = n

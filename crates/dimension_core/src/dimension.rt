@@ -1,9 +1,10 @@
-ghost use Rattle.std.specs.Prelude.{◌≡◌, ℕ, ◌+◌, ◌<◌, ◌≤◌, ◌↔◌, true, false, List, [], ◌∷◌, ◌++◌, length, slice_index, IfSome, IfOk, IsErrOf, IsTrue, Some, None, All, MatchOption};
+ghost use Rattle.std.specs.Prelude.{◌≡◌, ℕ, ◌+◌, ◌<◌, ◌≤◌, ◌↔◌, true, false, List, length, IfSome, OnSome, IfOk, IsTrue, Some, None, All};
+ghost use Rattle.std.specs.Bool.{OnTrue};
 ghost use Rattle.std.specs.Result.{result_err};
-ghost use Rattle.callback_store.specs.Meter.{after_ask, AsksAtMost};
+ghost use Rattle.callback_store.specs.Meter.{after_ask, AsksJust, AsksAtMost};
 ghost use Rattle.callback_store.specs.Registry.{tables};
 ghost use Rattle.callback_store.specs.Tables.{Table, entry};
-ghost use Rattle.dimension_core.specs.Cumuls.{Bounds, IsStart, IsStep, IsWithin, IsSpan, IsServed, cap_of, range_of, IsInBounds, Reaches, table_of, last_of, dimension_refusal, is_in_range, are_caps, are_ranges, is_sized, IsEarly};
+ghost use Rattle.dimension_core.specs.Cumuls.{Bounds, IsStart, IsStep, IsWithin, IsSpan, IsServed, cap_of, range_of, IsInBounds, Reaches, table_of, last_of, dimension_refusal, is_in_range, are_caps, are_ranges, is_sized, IsEarly, route_asks};
 ghost use Rattle.dimension_core.specs.Onward.{IsBefore};
 
 use crate::range::Range;
@@ -223,7 +224,7 @@ impl Dimension {
         ensures span { IsSpan result (λ y. (x : ℕ) × IsWithin (Some range) x × IsStep (table_of (tables registry.now) self.now) self.now vehicle i x j y) }
         ensures small { IfSome result (λ r. r.hi ≤ 1000000000000) }
         ensures counted { meter.new ≡ after_ask meter.old }
-        ensures one { AsksAtMost meter.old meter.new 1 }
+        ensures one { AsksJust meter.old meter.new 1 }
     {
         let transit = registry.ask(self.id(), meter, i, j);
         let node = self.range(j);
@@ -288,7 +289,7 @@ impl Dimension {
         ensures span { IsSpan result (IsBefore (table_of (tables registry.now) self.now) self.now vehicle i j range) }
         ensures small { IfSome result (λ r. r.hi ≤ 1000000000000) }
         ensures counted { meter.new ≡ after_ask meter.old }
-        ensures one { AsksAtMost meter.old meter.new 1 }
+        ensures one { AsksJust meter.old meter.new 1 }
     {
         let way = registry.ask(self.id(), meter, i, j);
         if range.hi < way {
@@ -305,42 +306,9 @@ impl Dimension {
         }
     }
 
-    /// The cumuls that a vehicle may have at the last of some further nodes, and that node, after those of the range at the node `from`,
-    /// and none where there are none. The range and `from` may come from anything that was done before: where the range is the span of
-    /// those stops and `from` the last of them, the result is the span of these and the further nodes. It asks the callback at most once
-    /// for each node.
-    pub fn carry(
-        &self,
-        registry: &Registry,
-        range: Range,
-        from: u32,
-        nodes: &[u32],
-        vehicle: u32,
-        meter: &mut Meter,
-    ) -> Option<(Range, u32)>
-        requires served { IsServed (tables registry.now) self.now }
-        requires from { from < length self.now.ranges }
-        requires known { All (λ node. node < length self.now.ranges) nodes.now }
-        requires low { 1 ≤ vehicle }
-        requires high { vehicle ≤ length self.now.caps }
-        ensures span { (done : List ℕ) → IsSpan (Some range) (Reaches (table_of (tables registry.now) self.now) self.now vehicle done) → from ≡ last_of 0 done
-            → MatchOption result
-            (IsSpan None (Reaches (table_of (tables registry.now) self.now) self.now vehicle (done ++ nodes.now)))
-            (λ r. IsSpan (Some r.0) (Reaches (table_of (tables registry.now) self.now) self.now vehicle (done ++ nodes.now)) × (r.1 ≡ last_of 0 (done ++ nodes.now))) }
-        ensures known { IfSome result (λ r. r.1 < length self.now.ranges) }
-        ensures asks { AsksAtMost meter.old meter.new (length nodes.now) }
-    {
-        let mut reached = range;
-        let mut last = from;
-        for node in nodes {
-            reached = self.extend(registry, reached, last, *node, vehicle, meter)?;
-            last = *node;
-        }
-        Some((reached, last))
-    }
-
     /// The cumuls that a vehicle may have at the last of some nodes on its way from the depot, and none where there are
-    /// none. The first of them is the early value at that node. It asks the callback at most once for each node.
+    /// none. The first of them is the early value at that node. It asks the callback once for each node, and stops asking where there are
+    /// none.
     #[tactic(auto, using(crate::proofs::Reach::span_early))]
     pub fn reach(
         &self,
@@ -355,6 +323,7 @@ impl Dimension {
         requires high { vehicle ≤ length self.now.caps }
         ensures span { IsSpan result (Reaches (table_of (tables registry.now) self.now) self.now vehicle nodes.now) }
         ensures asks { AsksAtMost meter.old meter.new (length nodes.now) }
+        ensures whole { OnSome result (AsksJust meter.old meter.new (length nodes.now)) }
         ensures early { IfSome result (λ r. IsEarly (table_of (tables registry.now) self.now) self.now vehicle nodes.now r.lo) }
         ensures small { IfSome result (λ r. r.hi ≤ 1000000000000) }
     {
@@ -369,7 +338,8 @@ impl Dimension {
 
     /// Whether a vehicle's route is in bounds: it is empty, or there are cumuls for its stops.
     ///
-    /// It asks the callback at most once for each customer and once for the return.
+    /// It asks the callback once for each customer and once for the return, and not at all where the route is empty. It stops asking where
+    /// there are no cumuls.
     pub fn in_bounds(
         &self,
         registry: &Registry,
@@ -382,7 +352,8 @@ impl Dimension {
         requires low { 1 ≤ vehicle }
         requires high { vehicle ≤ length self.now.caps }
         ensures bounds { IsTrue result ↔ IsInBounds (table_of (tables registry.now) self.now) self.now vehicle route.now }
-        ensures asks { AsksAtMost meter.old meter.new (length route.now + 1) }
+        ensures asks { AsksAtMost meter.old meter.new (route_asks route.now) }
+        ensures whole { OnTrue result (AsksJust meter.old meter.new (route_asks route.now)) }
     {
         if route.is_empty() {
             return true;

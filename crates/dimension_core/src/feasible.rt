@@ -1,5 +1,6 @@
-ghost use Rattle.std.specs.Prelude.{◌≡◌, ℕ, ◌+◌, ◌*◌, ◌≤◌, All, List, length, MatchOption};
-ghost use Rattle.callback_store.specs.Meter.{AsksAtMost};
+ghost use Rattle.std.specs.Prelude.{◌≡◌, ℕ, ◌+◌, ◌*◌, ◌≤◌, All, List, length, MatchOption, IfNone};
+ghost use Rattle.callback_store.specs.Meter.{AsksJust, AsksAtMost};
+ghost use Rattle.dimension_core.specs.Cumuls.{route_asks};
 ghost use Rattle.dimension_core.specs.Feasible.{FitsAll, IsFirstOut};
 ghost use Rattle.dimension_core.specs.Setting.{Setting, IsSetting};
 ghost use Rattle.dimension_core.specs.Setup.{setting};
@@ -10,13 +11,15 @@ use callback_store::Meter;
 /// The first dimension in which the vehicle's route is out of bounds, or none where the route is in bounds in each.
 ///
 /// Dimensions count from 1, vehicles from 1 to that of the setup, and the route's customers are nodes from 0 on.
-/// It asks the callback of a dimension at most once for each customer and once for the return.
+/// It asks the callback of each dimension once for each customer and once for the return, and not at all where the route is empty. It stops
+/// asking where the route is out of bounds.
 pub fn first_out(setup: &Setup, vehicle: u32, route: &[u32], meter: &mut Meter) -> Option<u32>
     requires known { All (λ c. c ≤ (setting setup.now).customers) route.now }
     requires low { 1 ≤ vehicle }
     requires high { vehicle ≤ (setting setup.now).vehicles }
     ensures first { MatchOption result (FitsAll (setting setup.now) vehicle route.now) (IsFirstOut (setting setup.now) vehicle route.now) }
-    ensures asks { AsksAtMost meter.old meter.new (length (setting setup.now).dimensions * (length route.now + 1)) }
+    ensures asks { AsksAtMost meter.old meter.new (length (setting setup.now).dimensions * route_asks route.now) }
+    ensures whole { IfNone result (AsksJust meter.old meter.new (length (setting setup.now).dimensions * route_asks route.now)) }
     ensures sound { IsSetting (setting setup.now) }
 {
     for (k, dimension) in setup.dimensions().iter().enumerate() {

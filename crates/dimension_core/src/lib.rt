@@ -7,7 +7,6 @@ mod feasible;
 mod laws;
 mod range;
 mod setup;
-mod spans;
 
 pub use dimension::{Dimension, DimensionFault};
 pub use fault::SetupFault;
@@ -15,4 +14,3 @@ pub use feasible::{first_out, first_out_is_alone};
 pub use laws::{cumuls_are_by_place, spans_go_on, spans_meet};
 pub use range::Range;
 pub use setup::Setup;
-pub use spans::{extend_spans, first_spans};

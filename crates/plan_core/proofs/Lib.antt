@@ -4,7 +4,6 @@ pub mod Fronts
 pub mod Kept
 pub mod KnownRoutes
 pub mod LastCommits
-pub mod Outs
 pub mod Places
 pub mod Settled
 pub mod Short

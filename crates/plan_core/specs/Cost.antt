@@ -1,5 +1,6 @@
-use Rattle.std.specs.Prelude.{ℕ, ◌+◌, List, [], ◌∷◌, ◌++◌, length, sum_by}
+use Rattle.std.specs.Prelude.{ℕ, ◌+◌, List, [], ◌∷◌, ◌++◌, sum_by}
 use Rattle.callback_store.specs.Tables.{Table, entry}
+pub use Rattle.dimension_core.specs.Cumuls.{route_asks}
 
 -- the sum of f over the steps of the way from a node over these nodes, in order
 abbrev pub way : (ℕ → ℕ → ℕ) → ℕ → List ℕ → ℕ
@@ -19,11 +20,6 @@ route_cost table (c ∷ cs) = way_cost table 0 ((c ∷ cs) ++ 0 ∷ [])
 abbrev pub cost_of : Table → List (List ℕ) → ℕ
 cost_of table routes = sum_by (route_cost table) routes
 
--- how many answers the cost of a route takes: one for each customer and one for the return, and none where the route is empty
-abbrev pub route_asks : List ℕ → ℕ
-route_asks [] = 0
-route_asks (c ∷ cs) = length (c ∷ cs) + 1
-
--- and those that the cost of all routes takes
+-- how many answers the cost of all routes takes
 abbrev pub asks_of : List (List ℕ) → ℕ
 asks_of routes = sum_by route_asks routes

@@ -1,5 +1,4 @@
 pub mod Among
-pub mod Bounds
 pub mod Commits
 pub mod Cost
 pub mod Front

@@ -1,6 +1,6 @@
 //! What routes cost: the sum of a callback's answers over neighbouring stops.
 ghost use Rattle.std.specs.Prelude.{◌≡◌, ◌<◌, ◌≤◌, length, All};
-ghost use Rattle.callback_store.specs.Meter.{AsksAtMost};
+ghost use Rattle.callback_store.specs.Meter.{AsksJust};
 ghost use Rattle.callback_store.specs.Registry.{tables};
 ghost use Rattle.callback_store.specs.Tables.{nodes_of, table_at};
 ghost use Rattle.dimension_core.specs.Setting.{IsSetting};
@@ -16,13 +16,13 @@ use std::sync::Arc;
 /// The sum of the setup's cost callback over neighbouring stops of a route: the depot, its customers, the depot; 0 where the route is
 /// empty. The route's customers are nodes, counted from 0, and there are at most 1,000 of them.
 ///
-/// It asks the callback at most once for each customer and once for the return, and not at all where the route is empty.
+/// It asks the callback once for each customer and once for the return, and not at all where the route is empty.
 pub fn route_cost(setup: &Setup, route: &[u32], meter: &mut Meter) -> u64
     requires known { All (λ c. c ≤ (setting setup.now).customers) route.now }
     requires short { length route.now ≤ 1000 }
     ensures value { result ≡ route_cost (table_at (setting setup.now).tables (setting setup.now).cost) route.now }
     ensures small { result ≤ 1001000000000 }
-    ensures asks { AsksAtMost meter.old meter.new (route_asks route.now) }
+    ensures just { AsksJust meter.old meter.new (route_asks route.now) }
     ensures sound { IsSetting (setting setup.now) }
 {
     cost_of_route(setup.registry(), setup.cost(), route, meter)
@@ -36,7 +36,7 @@ fn cost_of_route(registry: &Registry, cost: TransitId, route: &[u32], meter: &mu
     requires short { length route.now ≤ 1000 }
     ensures value { result ≡ route_cost (table_at (tables registry.now) cost) route.now }
     ensures small { result ≤ 1001000000000 }
-    ensures asks { AsksAtMost meter.old meter.new (route_asks route.now) }
+    ensures just { AsksJust meter.old meter.new (route_asks route.now) }
 {
     if route.is_empty() {
         return 0;
@@ -63,7 +63,7 @@ pub(crate) fn cost_of_routes(
     requires short { All (λ r. length r.value ≤ 1000) routes.now }
     requires few { length routes.now ≤ 1000 }
     ensures value { result ≡ cost_of (table_at (tables registry.now) cost) (routes_of routes.now) }
-    ensures asks { AsksAtMost meter.old meter.new (asks_of (routes_of routes.now)) }
+    ensures just { AsksJust meter.old meter.new (asks_of (routes_of routes.now)) }
 {
     let mut sum = 0;
     for route in routes {

@@ -1,7 +1,6 @@
 //! The plan of a fleet: one route for each vehicle, which commit changed each of them last, and what the routes cost.
 #![tactic(auto)]
 
-mod bounds;
 mod cost;
 mod front;
 mod laws;
@@ -10,7 +9,6 @@ mod replace;
 mod route;
 mod touch;
 
-pub use bounds::first_bound;
 pub use cost::route_cost;
 pub use front::common_front;
 pub use laws::{

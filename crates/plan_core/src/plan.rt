@@ -1,5 +1,5 @@
 ghost use Rattle.std.specs.Prelude.{◌≡◌, ℕ, ◌+◌, ◌*◌, ◌-◌, ◌≤◌, ◌<◌, ◌↔◌, List, [], length, replicate, Some, IfOk, IfSome, IfNone, IsTrue, All};
-ghost use Rattle.callback_store.specs.Meter.{AsksAtMost};
+ghost use Rattle.callback_store.specs.Meter.{AsksJust};
 ghost use Rattle.callback_store.specs.Tables.{table_at};
 ghost use Rattle.dimension_core.specs.Setup.{setting};
 ghost use Rattle.plan_core.specs.Plan.{routes_of, changes_of, StandsAt, IsPlaced, IsPlan, AreChanges, AreSizes, route_at, stamp_of, with_routes, replaced};
@@ -130,11 +130,11 @@ impl Plan {
     /// The sum of the setup's cost callback over the neighbouring stops of all routes that are not empty. The plan must have the setup's
     /// number of customers.
     ///
-    /// It asks the callback at most once for each placed customer and once for each route that is not empty.
+    /// It asks the callback once for each placed customer and once for each route that is not empty.
     pub fn cost(&self, setup: &Setup, meter: &mut Meter) -> u64
         requires { self.now.customers ≡ (setting setup.now).customers }
         ensures value { result ≡ cost_of (table_at (setting setup.now).tables (setting setup.now).cost) self.now.routes }
-        ensures asks { AsksAtMost meter.old meter.new (asks_of self.now.routes) }
+        ensures just { AsksJust meter.old meter.new (asks_of self.now.routes) }
     {
         cost_of_routes(setup.registry(), setup.cost(), &self.routes, meter)
     }

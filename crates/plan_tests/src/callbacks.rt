@@ -2,6 +2,8 @@ ghost use Rattle.std.specs.Prelude.{◌≡◌, ◌<◌, ◌+◌, ◌-◌, ◌*�
 
 use callback_store::{Meter, RegisterFault, Registry, Transit, Unary};
 use std::process::Abort;
+use std::sync::Arc;
+use std::sync::atomic::{AtomicU64, Ordering};
 use std::test::Fail;
 
 fn compare(rt: &impl Abort, found: u64, wanted: u64, what: &str) {
@@ -66,19 +68,29 @@ fn registers_both_kinds(rt: HostRuntime) -> Result<(), Fail> {
     Ok(())
 }
 
+/// Rows and columns ask the closure once for each answer: the closures count their calls beside the meter.
 #[test]
 fn answers_a_row_and_a_column(rt: HostRuntime) -> Result<(), Fail> {
+    let calls = Arc::new(rt.alloc(), AtomicU64::new(0)).expect(&rt, "memory");
+    let of_pairs = Arc::try_clone(&calls).expect(&rt, "memory");
+    let of_nodes = Arc::try_clone(&calls).expect(&rt, "memory");
     let two = Box::new(
         rt.alloc(),
         move |i: u32, j: u32| -> u64
             ensures { result ≡ 30 * (j - i) + 10 * (i - j) }
-        { 30 * u64::from(j.saturating_sub(i)) + 10 * u64::from(i.saturating_sub(j)) },
+        {
+            of_pairs.fetch_add(1, Ordering::SeqCst);
+            30 * u64::from(j.saturating_sub(i)) + 10 * u64::from(i.saturating_sub(j))
+        },
     )?;
     let one = Box::new(
         rt.alloc(),
         move |i: u32| -> u64
             ensures { result ≡ 7 * i }
-        { 7 * u64::from(i) },
+        {
+            of_nodes.fetch_add(1, Ordering::SeqCst);
+            7 * u64::from(i)
+        },
     )?;
     let steps = Transit::new(3, two);
     let weights = Unary::new(3, one);
@@ -88,15 +100,40 @@ fn answers_a_row_and_a_column(rt: HostRuntime) -> Result<(), Fail> {
     let mut meter = Meter::new();
     let mut answers = [1u32; 4];
     registry.ask_row(pairs, &mut meter, 1, &[2, 0, 1, 2], &mut answers);
-    compare_answers(&rt, &answers, &[30, 10, 0, 30], &meter, 4);
+    compare_answers(
+        &rt,
+        &answers,
+        &[30, 10, 0, 30],
+        &meter,
+        calls.load(Ordering::SeqCst),
+    );
     registry.ask_column(pairs, &mut meter, 1, &[2, 0, 1, 2], &mut answers);
-    compare_answers(&rt, &answers, &[10, 30, 0, 10], &meter, 8);
+    compare_answers(
+        &rt,
+        &answers,
+        &[10, 30, 0, 10],
+        &meter,
+        calls.load(Ordering::SeqCst),
+    );
     registry.ask_row(nodes, &mut meter, 1, &[2, 0, 1, 2], &mut answers);
-    compare_answers(&rt, &answers, &[7, 7, 7, 7], &meter, 12);
+    compare_answers(
+        &rt,
+        &answers,
+        &[7, 7, 7, 7],
+        &meter,
+        calls.load(Ordering::SeqCst),
+    );
     registry.ask_column(nodes, &mut meter, 1, &[2, 0, 1, 2], &mut answers);
-    compare_answers(&rt, &answers, &[14, 0, 7, 14], &meter, 16);
+    compare_answers(
+        &rt,
+        &answers,
+        &[14, 0, 7, 14],
+        &meter,
+        calls.load(Ordering::SeqCst),
+    );
     registry.ask_row(pairs, &mut meter, 1, &[], &mut []);
     compare(&rt, meter.asks, 16, "asks after no node");
+    compare(&rt, calls.load(Ordering::SeqCst), 16, "calls");
     Ok(())
 }
 

@@ -1,11 +1,11 @@
 -- What holds of the new routes that are left to be judged holds of all of them.
-use Rattle.std.proofs.Common.{◌≡◌, ℕ, ◌*◌, ◌≤◌, refl, sym, subst, arith, List, [], ◌∷◌, ◌++◌, append_assoc, length}
+use Rattle.std.proofs.Common.{◌≡◌, ℕ, ◌+◌, ◌*◌, ◌≤◌, ◌∙◌, refl, ap, sym, subst, arith, List, [], ◌∷◌, ◌++◌, append_assoc, length}
 use Rattle.std.specs.Prelude.{All}
 use Rattle.std.proofs.lemmas.List.{append-nil}
 use Rattle.std.proofs.lemmas.List.Elements.{All-cons}
-use Rattle.std.proofs.lemmas.List.Sums.{sum_by-cons}
+use Rattle.std.proofs.lemmas.List.Sums.{sum_by-append, sum_by-cons}
 use Rattle.callback_store.specs.declared.meter.Meter.{Meter}
-use Rattle.callback_store.specs.Meter.{AsksAtMost, no_ask, asks_after}
+use Rattle.callback_store.specs.Meter.{AsksJust, AsksAtMost, none_asked, asks_after, asks_both}
 use Rattle.dimension_core.specs.Feasible.{FitsAll, IsFirstOut}
 use Rattle.dimension_core.specs.NewRoutes.{Changes, AllFit, AllKnown, IsOut}
 use Rattle.dimension_core.specs.Setting.{Setting}
@@ -72,21 +72,34 @@ rows_within s (c ∷ cs) (r ∷ rs) cache sized new =
 rows_within s [] (r ∷ rs) cache sized new = absurd new
 rows_within s (c ∷ cs) [] cache sized new = absurd new
 
--- what may still be asked for the rest of some new routes leads to no more than what may be asked for all of them
-abbrev pub MayAsk : ℕ → List (List ℕ) → Changes → Changes → Meter → Meter → Type 0
-MayAsk n routes all rest from to = (m : Meter) → AsksAtMost to m (judge_asks n routes rest) → AsksAtMost from m (judge_asks n routes all)
+-- for the new routes before those that are left all was asked
+abbrev pub AreAsked : ℕ → List (List ℕ) → Changes → Changes → Meter → Meter → Type 0
+AreAsked n routes all rest from to = (done : Changes) × (all ≡ done ++ rest) × AsksJust from to (judge_asks n routes done)
 
-first_asks : (n : ℕ) (routes : List (List ℕ)) (c : ℕ × List ℕ) (next : Changes) (a b m : Meter) → AsksAtMost a b (n * walk_asks (route_at routes c.0) c.1) → AsksAtMost b m (judge_asks n routes next)
-    → AsksAtMost a m (judge_asks n routes (c ∷ next))
-first_asks n routes c next a b m p q =
-    let e = sum_by-cons (λ (x : ℕ × List ℕ). n * walk_asks (route_at routes x.0) x.1) c next in
-    asks_after a b m _ _ _ p q (omega arith)
+pub asked_none : (n : ℕ) (routes : List (List ℕ)) (all : Changes) (m : Meter) → AreAsked n routes all all m m
+asked_none n routes all m = ([], refl, none_asked m)
 
-pub may_next : (n : ℕ) (routes : List (List ℕ)) (all rest next : Changes) (c : ℕ × List ℕ) (from a b : Meter) → MayAsk n routes all rest from a → rest ≡ c ∷ next
-    → AsksAtMost a b (n * walk_asks (route_at routes c.0) c.1) → MayAsk n routes all next from b
-may_next n routes all rest next c from a b may e p m q =
-    may m (subst (λ (cs : Changes). AsksAtMost a m (judge_asks n routes cs)) (sym e) (first_asks n routes c next a b m p q))
+pub asked_next : (n : ℕ) (routes : List (List ℕ)) (all rest next : Changes) (c : ℕ × List ℕ) (from a b : Meter) → AreAsked n routes all rest from a → rest ≡ c ∷ next
+    → AsksJust a b (n * walk_asks (route_at routes c.0) c.1) → AreAsked n routes all next from b
+asked_next n routes all rest next c from a b p e q =
+    let done : Changes = p.0 in
+    let parts = sum_by-append (λ (x : ℕ × List ℕ). n * walk_asks (route_at routes x.0) x.1) done (c ∷ []) in
+    let one = sum_by-cons (λ (x : ℕ × List ℕ). n * walk_asks (route_at routes x.0) x.1) c [] in (
+      done ++ c ∷ [],
+      p.1 ∙ ap (λ (cs : Changes). done ++ cs) e ∙ sym (append_assoc done (c ∷ []) next),
+      asks_both from a b _ _ _ _ _ _ p.2 q (omega (arith, parts, one)) (omega (arith, parts, one)),
+    )
 
-pub may_out : (n : ℕ) (routes : List (List ℕ)) (all rest next : Changes) (c : ℕ × List ℕ) (from a b : Meter) → MayAsk n routes all rest from a → rest ≡ c ∷ next
+pub asked_out : (n : ℕ) (routes : List (List ℕ)) (all rest next : Changes) (c : ℕ × List ℕ) (from a b : Meter) → AreAsked n routes all rest from a → rest ≡ c ∷ next
     → AsksAtMost a b (n * walk_asks (route_at routes c.0) c.1) → AsksAtMost from b (judge_asks n routes all)
-may_out n routes all rest next c from a b may e p = may_next n routes all rest next c from a b may e p b (no_ask b (judge_asks n routes next))
+asked_out n routes all rest next c from a b p e q =
+    let more = sum_by-cons (λ (x : ℕ × List ℕ). n * walk_asks (route_at routes x.0) x.1) c next in
+    let whole : judge_asks n routes all ≡ judge_asks n routes p.0 + judge_asks n routes (c ∷ next) =
+    ap (judge_asks n routes) (p.1 ∙ ap (λ (cs : Changes). p.0 ++ cs) e) ∙ sum_by-append (λ (x : ℕ × List ℕ). n * walk_asks (route_at routes x.0) x.1) p.0 (c ∷ next) in
+    asks_after from a b _ _ _ p.2 q (omega (arith, whole, more))
+
+pub asked_all : (n : ℕ) (routes : List (List ℕ)) (all rest : Changes) (from to : Meter) → AreAsked n routes all rest from to → rest ≡ []
+    → AsksJust from to (judge_asks n routes all)
+asked_all n routes all rest from to p e =
+    let whole : all ≡ p.0 = p.1 ∙ ap (λ (cs : Changes). p.0 ++ cs) e ∙ append-nil p.0 in
+    subst (λ (cs : Changes). AsksJust from to (judge_asks n routes cs)) (sym whole) p.2

@@ -1,5 +1,5 @@
 ghost use Rattle.std.specs.Prelude.{◌≡◌, ℕ, ◌+◌, ◌*◌, ◌-◌, ◌<◌, ◌≤◌, List, [], length, take, replicate, All, IfOk, IfErr, OnOk};
-ghost use Rattle.callback_store.specs.Meter.{AsksAtMost};
+ghost use Rattle.callback_store.specs.Meter.{AsksJust, AsksAtMost};
 ghost use Rattle.dimension_core.specs.Cumuls.{IsEarly, table_of};
 ghost use Rattle.dimension_core.specs.Feasible.{FitsAll, IsFeasible};
 ghost use Rattle.dimension_core.specs.NewRoutes.{Changes, AllFit, AllKnown};
@@ -54,7 +54,8 @@ impl Cache {
 
     /// The cache of a plan that is in bounds, and has the setup's numbers of customers and vehicles.
     ///
-    /// It asks the callback of a dimension at most once for each placed customer and once for each route that is not empty.
+    /// It asks the callback of each dimension once for each placed customer and once for each route that is not empty; fewer times where
+    /// memory runs out.
     pub fn of(
         alloc: Global,
         setup: &Setup,
@@ -66,6 +67,7 @@ impl Cache {
         requires feasible { IsFeasible (setting setup.now) plan.now.routes }
         ensures cache { IfOk result (IsCacheOf (setting setup.now) plan.now.routes) }
         ensures asks { AsksAtMost meter.old meter.new (length (setting setup.now).dimensions * asks_of plan.now.routes) }
+        ensures whole { OnOk result (AsksJust meter.old meter.new (length (setting setup.now).dimensions * asks_of plan.now.routes)) }
     {
         let mut rows = Vec::with_capacity(alloc, setup.vehicles() as usize)?;
         for before in 0..setup.vehicles() {
@@ -79,8 +81,8 @@ impl Cache {
     /// customers of the setup, with at most 1,000 customers each.
     ///
     /// Each dimension of a new route is walked from the end of the longest common prefix of the old and the new route on, and no other
-    /// vehicle's route is looked at. It asks the callback of a dimension at most once for each customer after the common prefix and once
-    /// for the return.
+    /// vehicle's route is looked at. It asks the callback of each dimension once for each customer after the common prefix and once for the
+    /// return, and not at all for an empty route. It stops asking where a new route is out of bounds, or memory runs out.
     pub fn judge(
         &self,
         setup: &Setup,
@@ -96,6 +98,7 @@ impl Cache {
         ensures rows { IfOk result (λ pending. AreNewRows (setting setup.now) (changes_of changes.now) pending.rows) }
         ensures fault { IfErr result (IsJudgeFault (setting setup.now) (changes_of changes.now)) }
         ensures asks { AsksAtMost meter.old meter.new (judge_asks (length (setting setup.now).dimensions) plan.now.routes (changes_of changes.now)) }
+        ensures whole { OnOk result (AsksJust meter.old meter.new (judge_asks (length (setting setup.now).dimensions) plan.now.routes (changes_of changes.now))) }
     {
         let alloc = *self.rows.allocator();
         self.judge_in(Room::new(alloc), setup, plan, changes, meter)
@@ -118,6 +121,7 @@ impl Cache {
         ensures rows { IfOk result (λ pending. AreNewRows (setting setup.now) (changes_of changes.now) pending.rows) }
         ensures fault { IfErr result (IsJudgeFault (setting setup.now) (changes_of changes.now)) }
         ensures asks { AsksAtMost meter.old meter.new (judge_asks (length (setting setup.now).dimensions) plan.now.routes (changes_of changes.now)) }
+        ensures whole { OnOk result (AsksJust meter.old meter.new (judge_asks (length (setting setup.now).dimensions) plan.now.routes (changes_of changes.now))) }
     {
         let mut rows = room.into_rows(changes.len())?;
         for k in 0..changes.len() {
@@ -148,6 +152,7 @@ impl Cache {
         ensures row { OnOk result (IsRowOf (setting setup.now) vehicle route.now row.new) }
         ensures fault { IfErr result (IsRowFault (setting setup.now) vehicle route.now) }
         ensures asks { AsksAtMost meter.old meter.new (length (setting setup.now).dimensions * walk_asks (route_at plan.now.routes vehicle) route.now) }
+        ensures whole { OnOk result (AsksJust meter.old meter.new (length (setting setup.now).dimensions * walk_asks (route_at plan.now.routes vehicle) route.now)) }
     {
         let old = plan.route(vehicle).customers();
         let kept = &self.rows[vehicle as usize - 1];
@@ -196,6 +201,7 @@ fn first_row(
     requires high { vehicle ≤ (setting setup.now).vehicles }
     ensures row { IfOk result (IsRowOf (setting setup.now) vehicle (route_at plan.now.routes vehicle)) }
     ensures asks { AsksAtMost meter.old meter.new (length (setting setup.now).dimensions * route_asks (route_at plan.now.routes vehicle)) }
+    ensures whole { OnOk result (AsksJust meter.old meter.new (length (setting setup.now).dimensions * route_asks (route_at plan.now.routes vehicle))) }
 {
     let route = plan.route(vehicle).customers();
     let none = Row::empty(alloc);

@@ -1,6 +1,6 @@
 //! The ranges along the route of one vehicle.
 ghost use Rattle.std.specs.Prelude.{◌≡◌, ℕ, ◌+◌, ◌*◌, ◌<◌, ◌≤◌, [], length, take, drop, All, IfErr, OnOk, vec_capacity};
-ghost use Rattle.callback_store.specs.Meter.{AsksAtMost};
+ghost use Rattle.callback_store.specs.Meter.{AsksJust, AsksAtMost};
 ghost use Rattle.dimension_core.specs.Feasible.{FitsAll, IsFirstOut};
 ghost use Rattle.dimension_core.specs.Setup.{setting};
 ghost use Rattle.range_cache.specs.Asks.{walk_asks};
@@ -63,8 +63,8 @@ impl Row {
     /// Makes a row that of the vehicle's new route, from this row of its old route. Each dimension is walked from the end of the longest
     /// common prefix on. It stops at the first dimension in which the new route is out of bounds.
     ///
-    /// It asks the callback of a dimension at most once for each customer after the common prefix and once for the return, and not at all
-    /// where the new route is empty. Out of line, so that its loops have the registers to themselves.
+    /// It asks the callback of each dimension once for each customer after the common prefix and once for the return, and not at all where
+    /// the new route is empty. It stops asking where the new route is out of bounds. Out of line, so that its loops have the registers to themselves.
     #[inline(never)]
     pub(crate) fn change(
         &self,
@@ -84,6 +84,7 @@ impl Row {
         ensures row { OnOk result (IsRowOf (setting setup.now) vehicle new.now row.new) }
         ensures fault { IfErr result (IsRowFault (setting setup.now) vehicle new.now) }
         ensures asks { AsksAtMost meter.old meter.new (length (setting setup.now).dimensions * walk_asks old.now new.now) }
+        ensures whole { OnOk result (AsksJust meter.old meter.new (length (setting setup.now).dimensions * walk_asks old.now new.now)) }
     {
         let count = setup.dimensions().len();
         row.stops = new.len() as u32;

@@ -1,6 +1,6 @@
 //! A walk along a route in one dimension, from a kept range on.
 ghost use Rattle.std.specs.Prelude.{◌≡◌, ◌+◌, ◌-◌, ◌<◌, ◌≤◌, ◌↔◌, ◌++◌, [], List, length, take, None, All, IfOk, OnOk, IfSome, IsTrue, MatchOption, vec_len, vec_capacity};
-ghost use Rattle.callback_store.specs.Meter.{AsksAtMost};
+ghost use Rattle.callback_store.specs.Meter.{AsksJust, AsksAtMost};
 ghost use Rattle.dimension_core.specs.Cumuls.{last_of};
 ghost use Rattle.dimension_core.specs.Feasible.{FitsIn};
 ghost use Rattle.dimension_core.specs.Setup.{setting};
@@ -58,8 +58,8 @@ fn push_kept(ranges: &mut Vec<Range>, kept: &[Range]) -> Result<(), AllocError>
 /// Walks along a route that is not empty in one dimension, from the customer after the kept ranges to the return. True where the route is
 /// in bounds; the range of each of its customers then follows the others, and there is room for them. Dimensions count from 0.
 ///
-/// It stops at the first stop at which there is no cumul, and asks the callback at most once for each customer after the kept ranges and
-/// once for the return.
+/// It asks the callback once for each customer after the kept ranges and once for the return, and stops at the first stop at which there is
+/// no cumul.
 pub(crate) fn walk(
     setup: &Setup,
     dimension: usize,
@@ -80,6 +80,7 @@ pub(crate) fn walk(
     ensures ranges { IfOk result (λ is_in. IsTrue is_in → (more : List Range) × (ranges.new.items ≡ ranges.old.items ++ more) × (length more ≡ length route.now) × IsTrack (setting setup.now) dimension vehicle route.now more) }
     ensures capacity { vec_capacity ranges.old ≤ vec_capacity ranges.new }
     ensures asks { AsksAtMost meter.old meter.new (length route.now + 1 - length kept.now) }
+    ensures whole { IfOk result (λ is_in. IsTrue is_in → AsksJust meter.old meter.new (length route.now + 1 - length kept.now)) }
 {
     spans_go_on();
     let Some((mut range, mut from)) = begin(setup, dimension, vehicle, route, kept) else {

@@ -1,5 +1,6 @@
-use Rattle.std.proofs.Common.{ℕ, ◌<◌, ◌+◌, ◌*◌, length}
-use Rattle.callback_store.specs.Meter.{AsksAtMost}
+use Rattle.std.proofs.Common.{ℕ, ◌<◌, ◌*◌}
+use Rattle.callback_store.specs.Meter.{AsksJust}
+use Rattle.dimension_core.specs.Cumuls.{route_asks}
 use Rattle.dimension_core.specs.Setup.{setting}
 use Rattle.dimension_core.specs.Feasible.{FitsIn}
 use Rattle.dimension_core.proofs.feasible.first_out.Given as goal
@@ -8,5 +9,5 @@ use Rattle.dimension_core.proofs.feasible.first_out.Given as goal
 abbrev pub invariant-loop-k : goal.invariant-loop-k
 invariant-loop-k g l = record {
   fits : (n : ℕ) → n < l.k → FitsIn (setting l.setup) n l.vehicle l.route;
-  asks : AsksAtMost l.fn.meter l.meter (l.k * (length l.route + 1));
+  asks : AsksJust l.fn.meter l.meter (l.k * route_asks l.route);
 }

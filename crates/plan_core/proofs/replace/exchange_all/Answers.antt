@@ -1,6 +1,6 @@
-use Rattle.std.proofs.Common.{◌≡◌, ◌∙◌, ◌∷◌, ◌+◌, ◌-◌, ◌<◌, ℕ, List, length, drop, drop-cons, add-one, subst, sym, ap, arith, slice_index_or, slice_set, Global}
+use Rattle.std.proofs.Common.{◌≡◌, ◌∙◌, ◌∷◌, ◌+◌, ◌-◌, ℕ, List, length, drop, drop-cons, add-one, subst, sym, arith, slice_index_or, Global}
 use Rattle.std.specs.declared.sync.Arc.{Arc}
-use Rattle.std.proofs.lemmas.List.{length-set, length-map, map-set, drop-set-lt, drop_all}
+use Rattle.std.proofs.lemmas.List.{length-set, length-map, map-set, drop-set-lt}
 use Rattle.plan_core.specs.Plan.{AreApart, routes_of, changes_of, with_routes, with_stamps}
 use Rattle.plan_core.proofs.Exchange.{IsExchanging, exchanging_first, exchanging_step, known_next}
 use Rattle.plan_core.proofs.replace.exchange_all.Goals as goal

@@ -1,6 +1,6 @@
 use Rattle.std.proofs.Common.{◌+◌, refl, arith}
 use Rattle.std.proofs.lemmas.Grind.{common_steps}
-use Rattle.callback_store.specs.Meter.{asks_after}
+use Rattle.callback_store.specs.Meter.{asks_both}
 use Rattle.dimension_core.specs.Feasible.{FitsIn}
 use Rattle.dimension_core.specs.Setup.{setting}
 use Rattle.range_cache.proofs.Tracks.{next_at, return_at, never, after_at, no_answer, more_push}
@@ -36,7 +36,7 @@ loop-place-preserved g c =
       capacity = let so_far = i.capacity in let same = c.push_reserved.ensures.capacity in omega (arith, so_far, same);
       small = c.in-Some-after.ensures.small;
       known = grind (arith, common_steps);
-      asks = asks_after _ _ _ _ _ _ i.asks c.ask-way.ensures.one (omega arith);
+      asks = asks_both _ _ _ _ _ _ _ _ _ i.asks c.ask-way.ensures.one (omega arith) (omega arith);
     }
 
 pub returns-clause-bounds : goal.returns-clause-bounds
@@ -46,3 +46,10 @@ returns-clause-bounds g c =
     rw c.is_some.ensures
     (return_at c.spans_go_on.ensures s c.args.dimension c.args.vehicle c.args.route.now c.loop-place.place _ _ _ _ _ _ _
     c.registry-registry.ensures.value c.dimensions.ensures.value c.requires.dimension c.index-dimensions-dimension.is i.span i.last (after_at _ _ _ _ _ _ _ _ _ c.after-end.ensures.span c.id-2.ensures c.ask-back.ensures.answer) c.loop-place-test.false c.requires.some refl)
+
+pub returns-clause-whole : goal.returns-clause-whole
+returns-clause-whole g c = λ found.
+    let i = c.loop-place.invariant in
+    let begun = c.loop-place.auto.place in
+    let ended = c.loop-place-test.false in
+    asks_both _ _ _ _ _ _ _ _ _ i.asks c.ask-back.ensures.one (omega arith) (omega arith)

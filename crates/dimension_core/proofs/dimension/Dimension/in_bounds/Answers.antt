@@ -1,8 +1,8 @@
 use Rattle.std.proofs.Common.{◌≡◌, ◌<◌, arith, length, [], ◌∷◌, inl, refl}
 use Rattle.std.proofs.lemmas.Grind.{common_steps}
 use Rattle.std.proofs.lemmas.List.{nil_from_length}
-use Rattle.callback_store.specs.Meter.{asks_after}
-use Rattle.dimension_core.proofs.Reach.{bounds_found, span_none, span_push, last_of-index}
+use Rattle.callback_store.specs.Meter.{asks_after, asks_both, asks_wider}
+use Rattle.dimension_core.proofs.Reach.{bounds_found, span_none, span_push, last_of-index, asks_some, on_true}
 use Rattle.dimension_core.proofs.dimension.Dimension.in_bounds.Goals as goal
 
 pub returns-in-None-clause-bounds : goal.returns-in-None-clause-bounds
@@ -19,7 +19,19 @@ returns-in-Some-clause-bounds g c =
     rw c.is_some.ensures b
 
 pub returns-in-Some-clause-asks : goal.returns-in-Some-clause-asks
-returns-in-Some-clause-asks g c = asks_after _ _ _ _ _ _ c.reach.ensures.asks c.extend.ensures.one (omega arith)
+returns-in-Some-clause-asks g c =
+    let asks = asks_some c.args.route.now (grind (arith, common_steps)) in
+    asks_after _ _ _ _ _ _ c.reach.ensures.asks c.extend.ensures.one (omega (arith, asks))
+
+pub returns-in-Some-clause-whole : goal.returns-in-Some-clause-whole
+returns-in-Some-clause-whole g c =
+    let asks = asks_some c.args.route.now (grind (arith, common_steps)) in
+    on_true _ _ (λ found. asks_both _ _ _ _ _ _ _ _ _ c.in-Some.ensures.whole c.extend.ensures.one (omega (arith, asks)) (omega (arith, asks)))
+
+pub returns-in-None-clause-asks : goal.returns-in-None-clause-asks
+returns-in-None-clause-asks g c =
+    let asks = asks_some c.args.route.now (grind (arith, common_steps)) in
+    asks_wider _ _ _ _ _ _ c.reach.ensures.asks (omega arith) (omega (arith, asks))
 
 pub returns-then-is_empty-clause-bounds : goal.returns-then-is_empty-clause-bounds
 returns-then-is_empty-clause-bounds g c =

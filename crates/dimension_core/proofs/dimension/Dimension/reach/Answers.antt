@@ -1,5 +1,5 @@
 use Rattle.std.proofs.Common.{[], rules, refl, arith}
-use Rattle.callback_store.specs.Meter.{no_ask, asks_after}
+use Rattle.callback_store.specs.Meter.{none_asked, asks_then, asks_wider}
 use Rattle.callback_store.specs.Registry.{tables}
 use Rattle.dimension_core.specs.Cumuls.{table_of}
 use Rattle.dimension_core.proofs.Reach.{span_start, span_none, span_more, span_rest, span_early, span_whole, last_of-push_at}
@@ -10,7 +10,7 @@ loop-node-init g c = record {
   span = span_start (table_of (tables c.args.registry.now) c.args.self.now) _ _ _ c.in_ok-range.ensures.span;
   last = refl;
   small = c.in_ok-range.ensures.small;
-  asks = no_ask _ _;
+  asks = none_asked _;
   known = c.in_ok-range.ensures.depot;
 }
 
@@ -27,7 +27,7 @@ loop-node-preserved g c =
       span = span_more _ _ _ _ _ _ _ _ _ c.loop-node-test.true i.span i.last refl c.in_ok-range-2.ensures.span;
       last = last_of-push_at _ _ c.loop-node-test.true;
       small = c.in_ok-range-2.ensures.small;
-      asks = asks_after _ _ _ _ _ _ i.asks c.extend.ensures.one (omega arith);
+      asks = asks_then _ _ _ _ _ _ _ i.asks c.extend.ensures.one;
       known = search rules;
     }
 
@@ -38,7 +38,7 @@ returns-clause-early g c =
 pub returns-in_err-range-2-clause-asks : goal.returns-in_err-range-2-clause-asks
 returns-in_err-range-2-clause-asks g c =
     let within = c.loop-node-test.true in
-    asks_after _ _ _ _ _ _ c.loop-node.invariant.asks c.extend.ensures.one (omega arith)
+    asks_wider _ _ _ _ _ _ (asks_then _ _ _ _ _ _ _ c.loop-node.invariant.asks c.extend.ensures.one) (omega arith) (omega arith)
 
 pub returns-in_err-range-clause-span : goal.returns-in_err-range-clause-span
 returns-in_err-range-clause-span g c =

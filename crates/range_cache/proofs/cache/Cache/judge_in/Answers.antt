@@ -1,14 +1,14 @@
 use Rattle.std.proofs.Common.{◌≡◌, ◌∙◌, ◌∷◌, ◌+◌, ◌*◌, ℕ, List, ap, sym, subst, arith, drop, take, drop-cons, add-one, length}
 use Rattle.std.proofs.lemmas.List.{drop_all, length-set, take_more_set, take_all}
 use Rattle.std.proofs.lemmas.Result.{err_from_is_err_and}
-use Rattle.callback_store.specs.Meter.{AsksAtMost, no_ask}
+use Rattle.callback_store.specs.Meter.{AsksJust, AsksAtMost, asks_wider}
 use Rattle.dimension_core.specs.Feasible.{FitsAll}
 use Rattle.dimension_core.specs.Setup.{setting}
 use Rattle.plan_core.specs.Plan.{changes_of, route_at}
 use Rattle.range_cache.specs.Asks.{walk_asks}
 use Rattle.range_cache.specs.Cache.{IsRowOf}
 use Rattle.range_cache.specs.Row.{IsRowFault}
-use Rattle.range_cache.proofs.Judged.{rest_next, rest_fault, rest_none, rows_within, may_next, may_out}
+use Rattle.range_cache.proofs.Judged.{rest_next, rest_fault, rest_none, rows_within, asked_next, asked_out, asked_all}
 use Rattle.range_cache.proofs.cache.Cache.judge_in.Goals as goal
 
 pub returns-in_err-change_row-clause-fault : goal.returns-in_err-change_row-clause-fault
@@ -31,7 +31,7 @@ returns-in_err-change_row-clause-asks g c =
     let i = c.loop-k.k in
     let next : drop i c.args.changes.now ≡ item.result ∷ drop (i + 1) c.args.changes.now =
     rw add-one (drop-cons c.args.changes.now i item.result c.loop-k-test.true ∙ ap (λ x. x ∷ drop (Prim.Native.Nat.suc i) c.args.changes.now) (sym item.is)) in
-    may_out (length s.dimensions) c.args.plan.now.routes (changes_of c.args.changes.now) (changes_of (drop i c.args.changes.now)) (changes_of (drop (i + 1) c.args.changes.now))
+    asked_out (length s.dimensions) c.args.plan.now.routes (changes_of c.args.changes.now) (changes_of (drop i c.args.changes.now)) (changes_of (drop (i + 1) c.args.changes.now))
     (item.result.0, item.result.1.value) _ _ _ c.loop-k.invariant.asks (ap (λ xs. changes_of xs) next)
     (subst (λ (r : List ℕ). AsksAtMost c.loop-k.meter c.change_row.new.meter (length s.dimensions * walk_asks (route_at c.args.plan.now.routes item.result.0) r)) c.deref.ensures c.change_row.ensures.asks)
 
@@ -49,9 +49,9 @@ loop-k-preserved g c =
           (item.result.0, item.result.1.value) c.change_row.new.row c.loop-k.invariant.rest (ap (λ xs. changes_of xs) next)
           (subst (λ (r : List ℕ). FitsAll s item.result.0 r) c.deref.ensures c.in_ok-change_row.ensures.fits)
           (subst (λ (r : List ℕ). IsRowOf s item.result.0 r c.change_row.new.row) c.deref.ensures c.in_ok-change_row.ensures.row));
-      asks = may_next (length s.dimensions) c.args.plan.now.routes (changes_of c.args.changes.now) (changes_of (drop i c.args.changes.now)) (changes_of (drop (i + 1) c.args.changes.now))
+      asks = asked_next (length s.dimensions) c.args.plan.now.routes (changes_of c.args.changes.now) (changes_of (drop i c.args.changes.now)) (changes_of (drop (i + 1) c.args.changes.now))
           (item.result.0, item.result.1.value) _ _ _ c.loop-k.invariant.asks (ap (λ xs. changes_of xs) next)
-          (subst (λ (r : List ℕ). AsksAtMost c.loop-k.meter c.change_row.new.meter (length s.dimensions * walk_asks (route_at c.args.plan.now.routes item.result.0) r)) c.deref.ensures c.change_row.ensures.asks);
+          (subst (λ (r : List ℕ). AsksJust c.loop-k.meter c.change_row.new.meter (length s.dimensions * walk_asks (route_at c.args.plan.now.routes item.result.0) r)) c.deref.ensures c.in_ok-change_row.ensures.whole);
     }
 
 pub new-requires : goal.new-requires
@@ -69,5 +69,12 @@ returns-clause-rows g c =
     let whole : take c.loop-k.k c.loop-k.rows.items ≡ c.loop-k.rows.items = take_all c.loop-k.k c.loop-k.rows.items (omega (arith, c.loop-k-test.false, c.loop-k.invariant.sized)) in
     rw c.new.ensures.rows (rw whole at (rest_none s _ _ _ c.loop-k.invariant.rest end).1)
 
+pub returns-clause-whole : goal.returns-clause-whole
+returns-clause-whole g c =
+    let end = ap (λ xs. changes_of xs) (drop_all c.loop-k.k c.args.changes.now c.loop-k-test.false) in
+    asked_all _ _ _ _ _ _ c.loop-k.invariant.asks end
+
 pub returns-clause-asks : goal.returns-clause-asks
-returns-clause-asks g c = c.loop-k.invariant.asks _ (no_ask _ _)
+returns-clause-asks g c =
+    let end = ap (λ xs. changes_of xs) (drop_all c.loop-k.k c.args.changes.now c.loop-k-test.false) in
+    asks_wider _ _ _ _ _ _ (asked_all _ _ _ _ _ _ c.loop-k.invariant.asks end) (omega arith) (omega arith)

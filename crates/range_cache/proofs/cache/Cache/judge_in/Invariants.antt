@@ -1,13 +1,13 @@
 use Rattle.std.proofs.Common.{◌≡◌, drop, take, length}
 use Rattle.dimension_core.specs.Setup.{setting}
 use Rattle.plan_core.specs.Plan.{changes_of}
-use Rattle.range_cache.proofs.Judged.{IsRest, MayAsk}
+use Rattle.range_cache.proofs.Judged.{IsRest, AreAsked}
 use Rattle.range_cache.proofs.cache.Cache.judge_in.Given as goal
 
--- what holds of the rest holds of all, and the rest may ask what is left
+-- what holds of the rest holds of all, and for those before it all was asked
 abbrev pub invariant-loop-k : goal.invariant-loop-k
 invariant-loop-k g l = record {
   sized : length l.rows.items ≡ length l.changes;
   rest : IsRest (setting l.setup) (changes_of l.changes) (changes_of (drop l.k l.changes)) (take l.k l.rows.items);
-  asks : MayAsk (length (setting l.setup).dimensions) l.plan.routes (changes_of l.changes) (changes_of (drop l.k l.changes)) l.fn.meter l.meter;
+  asks : AreAsked (length (setting l.setup).dimensions) l.plan.routes (changes_of l.changes) (changes_of (drop l.k l.changes)) l.fn.meter l.meter;
 }

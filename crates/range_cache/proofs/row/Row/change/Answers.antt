@@ -31,7 +31,7 @@ loop-dimension-preserved g c =
       filled = ranges_more s c.args.vehicle c.args.new.now c.loop-dimension.dimension _ _ i.filled (c.in_ok-walk.ensures.ranges c.if-not-branch.false);
       room = let more = c.walk.ensures.capacity in let so_far = i.room in omega (arith, more, so_far);
       fits = below_more _ _ i.fits (c.in_ok-walk.ensures.bounds.0 c.if-not-branch.false);
-      asks = asks_more _ _ _ c.loop-dimension.dimension c.common_front-front.result _ c.args.old.now c.args.new.now i.asks c.walk.ensures.asks long c.common_front-front.ensures.value (grind (arith, common_steps));
+      asks = asks_more _ _ _ c.loop-dimension.dimension c.common_front-front.result _ c.args.old.now c.args.new.now i.asks (c.in_ok-walk.ensures.whole c.if-not-branch.false) long c.common_front-front.ensures.value (grind (arith, common_steps));
     }
 
 pub returns-clause-fits : goal.returns-clause-fits

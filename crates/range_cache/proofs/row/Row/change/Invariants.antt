@@ -1,6 +1,6 @@
 use Rattle.std.proofs.Common.{ℕ, ◌*◌, ◌<◌, ◌≤◌, ◌≡◌, length}
 use Rattle.std.specs.Prelude.{vec_capacity}
-use Rattle.callback_store.specs.Meter.{AsksAtMost}
+use Rattle.callback_store.specs.Meter.{AsksJust}
 use Rattle.dimension_core.specs.Feasible.{FitsIn}
 use Rattle.dimension_core.specs.Setup.{setting}
 use Rattle.range_cache.specs.Asks.{walk_asks}
@@ -14,5 +14,5 @@ invariant-loop-dimension g l = record {
   filled : AreFilled (setting l.setup) l.vehicle l.new l.dimension l.row-inside.ranges.items;
   room : length (setting l.setup).dimensions * length l.new ≤ vec_capacity l.row-inside.ranges;
   fits : (d : ℕ) → d < l.dimension → FitsIn (setting l.setup) d l.vehicle l.new;
-  asks : AsksAtMost l.fn.meter l.meter (l.dimension * walk_asks l.old l.new);
+  asks : AsksJust l.fn.meter l.meter (l.dimension * walk_asks l.old l.new);
 }
