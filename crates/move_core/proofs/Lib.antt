@@ -12,3 +12,4 @@ pub mod Plans
 pub mod FirstChange
 pub mod TouchedKnown
 pub mod ByEffect
+pub mod Savings

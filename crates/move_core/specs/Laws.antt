@@ -1,12 +1,14 @@
 -- Laws of moves, each said of all plans. The public functions of `laws.rt` have them as contracts.
 use Rattle.std.specs.Prelude.{◌≡◌, ◌≢◌, ℕ, ◌+◌, ◌-◌, ◌<◌, ◌≤◌, ◌↔◌, ◌⊎◌, true, List, [], ◌∷◌, ◌++◌, length, take, drop, slice_get, Some, All, Contains}
+use Rattle.callback_store.specs.Tables.{Table}
 use Rattle.plan_core.specs.declared.touch.Touch.{Touch}
+use Rattle.plan_core.specs.Cost.{cost_of}
 use Rattle.plan_core.specs.Plan.{Changes, StandsAt, IsPlaced, IsPlan, AreChanges, IsNamed, route_at, with_routes}
 use Rattle.plan_core.specs.Commits.{named_vehicles}
 use Rattle.plan_core.specs.Front.{common_front}
 use Rattle.move_core.specs.declared.moves.Move.{Move}
 use Rattle.move_core.specs.declared.moves.Move.TheVariants.{Insert, Remove, Shift, Swap, Reverse, Cross}
-use Rattle.move_core.specs.Moves.{is_placed, is_possible, effect, named_by, stretch, without, with_stretch}
+use Rattle.move_core.specs.Moves.{is_placed, is_possible, effect, changes_by, named_by, stretch, without, with_stretch}
 use Rattle.move_core.specs.Possible.{CanInsert, CanRemove, CanShift, CanSwap, CanReverse, CanCross}
 use Rattle.move_core.specs.Touched.{touched_by, untouched_of}
 use Rattle.move_core.specs.Changed.{IsFirstChange, first_change}
@@ -74,3 +76,19 @@ pub record ShiftsInParts : Type 0 where
       → with_stretch (without r p n) at (stretch r p n) ≡ take (at - 1) r ++ (stretch r p n ++ (take (p - at) (drop (at - 1) r) ++ drop (p - 1 + n) r))
   pub after : (r : List ℕ) (p n at : ℕ) → 1 ≤ p → p ≤ at → at + n ≤ length r + 1
       → with_stretch (without r p n) at (stretch r p n) ≡ take (p - 1) r ++ (take (at - p) (drop (p - 1 + n) r) ++ (stretch r p n ++ drop (at - 1 + n) r))
+
+-- the vehicles that a move names have the same routes in two plans
+abbrev pub AgreeOnNamed : Move → List (List ℕ) → List (List ℕ) → Type 0
+AgreeOnNamed mv routes later = All (λ v. route_at later v ≡ route_at routes v) (named_by mv)
+
+-- Where the named vehicles have the same routes in two plans, the move makes the same new routes in both. Where it has an effect in both,
+-- the costs of the two plans differ by the same, and so it saves the same.
+pub record MovesSaveTheSame : Type 0 where
+  pub routes : (routes later : List (List ℕ)) (mv : Move) → AgreeOnNamed mv routes later → changes_by later mv ≡ changes_by routes mv
+  pub costs : (t : Table) (n : ℕ) (routes later : List (List ℕ)) (mv : Move) → AgreeOnNamed mv routes later
+      → effect n routes mv ≡ Some (changes_by routes mv) → effect n later mv ≡ Some (changes_by later mv)
+      → cost_of t (with_routes (changes_by later mv) later) + cost_of t routes ≡ cost_of t (with_routes (changes_by routes mv) routes) + cost_of t later
+  pub saved : (t : Table) (n : ℕ) (routes later : List (List ℕ)) (mv : Move) (saving : ℕ) → AgreeOnNamed mv routes later
+      → effect n routes mv ≡ Some (changes_by routes mv) → effect n later mv ≡ Some (changes_by later mv)
+      → cost_of t (with_routes (changes_by routes mv) routes) + saving ≡ cost_of t routes
+      → cost_of t (with_routes (changes_by later mv) later) + saving ≡ cost_of t later

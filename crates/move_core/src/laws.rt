@@ -1,7 +1,10 @@
 //! Laws of the definitions, each the contract of a function that does nothing.
-ghost use Rattle.move_core.specs.Laws.{MovesArePossible, PlacedIsTested, MovesNameVehicles, MovesKeepPlans, MovesKeepTheUntouched, FrontsByFirstChange, MovesInsideRearrange, MovesBetweenCarryOver, ShiftsInParts};
+ghost use Rattle.move_core.specs.Laws.{MovesArePossible, PlacedIsTested, MovesNameVehicles, MovesKeepPlans, MovesKeepTheUntouched, FrontsByFirstChange, MovesInsideRearrange, MovesBetweenCarryOver, ShiftsInParts, MovesSaveTheSame};
 
-use plan_core::{among_is_tested, customers_stand_by_route, fronts_are_common, routes_replaced};
+use plan_core::{
+    among_is_tested, costs_differ_by_named, customers_stand_by_route, fronts_are_common,
+    routes_replaced,
+};
 
 /// A move of each kind has an effect exactly where its numbers are in range.
 pub fn moves_are_possible()
@@ -64,3 +67,12 @@ pub fn moves_between_carry_over()
 pub fn shifts_in_parts()
     ensures { ShiftsInParts }
 {}
+
+/// A move saves the same in two plans in which the vehicles that it names have the same routes: it makes the same new routes in both, and
+/// where it has an effect in both, the costs of the two plans differ by the same.
+pub fn moves_save_the_same()
+    ensures { MovesSaveTheSame }
+{
+    costs_differ_by_named();
+    moves_name_vehicles();
+}

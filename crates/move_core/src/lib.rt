@@ -12,6 +12,7 @@ mod touches;
 pub use fault::MoveFault;
 pub use laws::{
     fronts_by_first_change, moves_are_possible, moves_between_carry_over, moves_inside_rearrange,
-    moves_keep_plans, moves_keep_the_untouched, moves_name_vehicles, shifts_in_parts,
+    moves_keep_plans, moves_keep_the_untouched, moves_name_vehicles, moves_save_the_same,
+    shifts_in_parts,
 };
 pub use moves::Move;
