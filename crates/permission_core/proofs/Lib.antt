@@ -1,2 +1,3 @@
+mod NumberLaws
 mod RangeLaws
 mod RowLaws

@@ -46,6 +46,11 @@ is_object customers vehicles Board = true
 is_object customers vehicles (Vehicle k) = nat_le 1 k && nat_le k vehicles
 is_object customers vehicles (Customer c) = nat_le 1 c && nat_le c customers
 
+-- no two objects among this many customers and vehicles have one number
+abbrev pub HaveNumbersOfTheirOwn : ℕ → ℕ → Type 0
+HaveNumbersOfTheirOwn customers vehicles =
+    (one other : Object) → is_object customers vehicles one ≡ true → is_object customers vehicles other ≡ true → number_of one ≡ number_of other → one ≡ other
+
 -- the set and the n objects from `first` on
 unfoldable pub with_range : ℕ → ℕ → ℕ → ℕ
 with_range set first zero = set

@@ -1,5 +1,5 @@
 //! Tables of permissions, and the rows that a change of the policy puts into them.
-ghost use Rattle.std.specs.Prelude.{◌≡◌, ◌<◌, ◌≤◌, ◌+◌, ℕ, true, false, [], IfOk, length, nat_eq, is_some, unwrap_or, ◌==◌, if◌then◌else◌};
+ghost use Rattle.std.specs.Prelude.{◌≡◌, ◌<◌, ◌≤◌, ◌+◌, ℕ, true, false, [], IfOk, OnOk, length, nat_eq, is_some, unwrap_or, ◌==◌, if◌then◌else◌};
 ghost use Rattle.std.specs.Map.{lookup};
 ghost use Rattle.std.specs.Option.{option_map};
 ghost use Rattle.indexmap.specs.IndexMap.{spare};
@@ -88,10 +88,13 @@ impl Tables {
 
     /// The rows of these sessions by the policy, for `put`. The policy must be over the customers and vehicles of these tables.
     ///
-    /// A session that is not in the policy gets no rows. Every growth is made here, and no bit changes.
+    /// A session that is not in the policy gets no rows. Every growth is made here, and no bit changes. Where memory runs out, there may be
+    /// more room than before, and nothing else differs.
     pub fn rebuild(&mut self, policy: &Policy, sessions: &[u32]) -> Result<Rows, AllocError>
         requires sizes { HasSizes policy.now self.old }
         ensures kept { self.new ≡ record self.old { room = self.new.room } }
+        ensures room { self.old.room ≤ self.new.room }
+        ensures ready { OnOk result (length sessions.now ≤ self.new.room) }
         ensures of { IfOk result (λ rows. rows.of ≡ self.new) }
         ensures rebuilt { IfOk result (λ rows. (session : ℕ) → is_among sessions.now session ≡ true →
             AreRowsOf policy.now session (rows_after rows session)) }
@@ -121,14 +124,14 @@ impl Tables {
         put_all(&mut self.rows, changes);
     }
 
-    /// The rows of the session, for a caller that asks about many objects.
+    /// The rows of the session, for a caller that asks about many objects by `check_in`.
     pub fn session_rows(&self, session: u32) -> Option<&SessionRows>
         ensures { option_map (λ rows. rows.now) result ≡ rows_of self.now session }
     {
         self.rows.get(&session)
     }
 
-    /// What `check` answers for a session with these rows, without looking them up again.
+    /// What `check` answers for a session with these rows, without looking them up again, and without a count.
     #[inline(always)]
     pub fn allows(&self, found: Option<&SessionRows>, operation: Operation, object: Object) -> bool
         ensures { result ≡ allowed_by self.now.customers self.now.vehicles (option_map (λ rows. rows.now) found.entry) operation object }
@@ -142,7 +145,25 @@ impl Tables {
         }
     }
 
-    /// Whether the session may do the operation to the object: one probe, of one word.
+    /// What `check` answers for a session with these rows, without looking them up again: one probe, of one word.
+    #[inline(always)]
+    pub fn check_in(
+        &self,
+        found: Option<&SessionRows>,
+        operation: Operation,
+        object: Object,
+        meter: &mut Meter,
+    ) -> bool
+        ensures value { result ≡ allowed_by self.now.customers self.now.vehicles (option_map (λ rows. rows.now) found.entry) operation object }
+        ensures session { (session : ℕ) → option_map (λ rows. rows.now) found.entry ≡ rows_of self.now session →
+            result ≡ allows self.now session operation object }
+        ensures probe { meter.new ≡ after_probe meter.old }
+    {
+        meter.probe();
+        self.allows(found, operation, object)
+    }
+
+    /// Whether the session may do the operation to the object: one look-up of the session's rows, and one probe.
     pub fn check(
         &self,
         session: u32,
@@ -153,8 +174,7 @@ impl Tables {
         ensures value { result ≡ allows self.now session operation object }
         ensures probe { meter.new ≡ after_probe meter.old }
     {
-        meter.probe();
-        self.allows(self.session_rows(session), operation, object)
+        self.check_in(self.session_rows(session), operation, object, meter)
     }
 }
 

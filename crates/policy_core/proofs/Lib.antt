@@ -1,9 +1,12 @@
 mod AccessLaws
+mod AuthorityLaws
 mod BreakLaws
 mod ComingLaws
 mod CommandLaws
 mod CountLaws
+mod EntryLaws
 mod FewerLaws
+mod FreeLaws
 mod HoldLaws
 mod NumberLaws
 mod OpeningLaws

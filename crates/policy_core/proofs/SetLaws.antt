@@ -1,15 +1,17 @@
 -- What a change of the sets does to the whole policy.
-use Rattle.std.proofs.Common.{◌≡◌, cond, ℕ, Bool, List, [], ◌∷◌, ◌||◌, map, Some, None, sym, refl, subst, ap, ◌∙◌}
+use Rattle.std.proofs.Common.{◌≡◌, cond, ℕ, Bool, false, List, [], ◌∷◌, ◌||◌, map, Some, None, sym, refl, subst, ap, ◌∙◌}
 use Rattle.std.specs.Option.{option_map}
 use Rattle.std.specs.List.{list_any}
-use Rattle.role_hierarchy.specs.Order.{Order}
+use Rattle.role_hierarchy.specs.Order.{Order, is_there}
 use Rattle.role_hierarchy.specs.Below.{closed}
-use Rattle.separation_core.specs.Groups.{Groups, is_broken, with_set, changed, limit_of, first_breaking}
+use Rattle.separation_core.specs.Groups.{Groups, is_broken, is_in_some, with_set, changed, limit_of, first_breaking}
 use Rattle.separation_core.specs.GroupLaws.{breaking-with_set, breaking-changed}
 use Rattle.separation_core.specs.declared.sets.Limit.{Limit}
 use Rattle.policy_core.specs.declared.refusal.Refusal.TheVariants.{Ssd, Dsd}
 use Rattle.policy_core.specs.declared.session.Session.{Session}
 use Rattle.policy_core.specs.declared.session.Counting.{Counting}
+use Rattle.policy_core.proofs.CommandLaws.{none_mapped}
+use Rattle.policy_core.proofs.FreeLaws.{bare_ssd, bare_dsd}
 use Rattle.policy_core.specs.State.{PolicyState, IsPolicy, authorized, counted, counted_all, broken_ssd, broken_dsd}
 
 any_closed : (order : Order) (limit : Limit) (users : List (List ℕ × ℕ)) → list_any (λ roles. is_broken (closed order roles) limit) (map (λ u. u.1) users) ≡ list_any (λ given. is_broken given limit) (map (λ u. closed order u.1) users)
@@ -53,8 +55,41 @@ module _ (p now : PolicyState) (same : p ≡ now) (is : IsPolicy p) (name : List
       ∙ ap (option_map Dsd) (sym (breaking-changed (counted_all p) p.dsd name f old here is.dsd))) there
 
 -- other sets, which are not broken either
-pub ssd_whole : (p : PolicyState) → IsPolicy p → (groups : Groups) → first_breaking (authorized p) groups ≡ None → IsPolicy (record p { ssd = groups })
-ssd_whole p is groups none = record { ssd = none; dsd = is.dsd; slots = is.slots; numbers = is.numbers; few_customers = is.few_customers; few_vehicles = is.few_vehicles }
+pub ssd_whole : (p : PolicyState) → IsPolicy p → (groups : Groups) → first_breaking (authorized p) groups ≡ None → ((slot : ℕ) → is_there p.order slot ≡ false → is_in_some groups slot ≡ false) → IsPolicy (record p { ssd = groups })
+ssd_whole p is groups none outside = record {
+  ssd = none;
+  dsd = is.dsd;
+  slots = is.slots;
+  numbers = is.numbers;
+  few_customers = is.few_customers;
+  few_vehicles = is.few_vehicles;
+  few_users = is.few_users;
+  few_sessions = is.few_sessions;
+  free = λ slot f. bare_ssd p.grants p.users p.sessions p.ssd p.dsd slot (is.free slot f) groups (outside slot f);
+  count = is.count;
+}
 
-pub dsd_whole : (p : PolicyState) → IsPolicy p → (groups : Groups) → first_breaking (counted_all p) groups ≡ None → IsPolicy (record p { dsd = groups })
-dsd_whole p is groups none = record { ssd = is.ssd; dsd = none; slots = is.slots; numbers = is.numbers; few_customers = is.few_customers; few_vehicles = is.few_vehicles }
+pub dsd_whole : (p : PolicyState) → IsPolicy p → (groups : Groups) → first_breaking (counted_all p) groups ≡ None → ((slot : ℕ) → is_there p.order slot ≡ false → is_in_some groups slot ≡ false) → IsPolicy (record p { dsd = groups })
+dsd_whole p is groups none outside = record {
+  ssd = is.ssd;
+  dsd = none;
+  slots = is.slots;
+  numbers = is.numbers;
+  few_customers = is.few_customers;
+  few_vehicles = is.few_vehicles;
+  few_users = is.few_users;
+  few_sessions = is.few_sessions;
+  free = λ slot f. bare_dsd p.grants p.users p.sessions p.ssd p.dsd slot (is.free slot f) groups (outside slot f);
+  count = is.count;
+}
+
+-- sets that are not broken as they would be in the policy that was judged
+pub ssd_judged : (p now : PolicyState) → p ≡ now → (groups : Groups) (made : PolicyState → Groups) → groups ≡ made p → broken_ssd (record now { ssd = made now }) ≡ None → first_breaking (authorized p) groups ≡ None
+ssd_judged p now same groups made is whole =
+    let judged : broken_ssd (record p { ssd = made p }) ≡ None = ap (λ (q : PolicyState). broken_ssd (record q { ssd = made q })) same ∙ whole in
+    ap (first_breaking (authorized p)) is ∙ none_mapped Ssd _ judged
+
+pub dsd_judged : (p now : PolicyState) → p ≡ now → (groups : Groups) (made : PolicyState → Groups) → groups ≡ made p → broken_dsd (record now { dsd = made now }) ≡ None → first_breaking (counted_all p) groups ≡ None
+dsd_judged p now same groups made is whole =
+    let judged : broken_dsd (record p { dsd = made p }) ≡ None = ap (λ (q : PolicyState). broken_dsd (record q { dsd = made q })) same ∙ whole in
+    ap (first_breaking (counted_all p)) is ∙ none_mapped Dsd _ judged

@@ -1,4 +1,5 @@
 pub mod Access
+pub mod Authority
 pub mod Commands
 pub mod Opening
 pub mod Reviews

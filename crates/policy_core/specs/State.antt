@@ -1,14 +1,16 @@
 -- The policy as data: USERS, ROLES, UA, PA, RH and SESSIONS of ANSI INCITS 359-2004, 6.1 and 6.2, and its SSD and DSD sets, 6.3 and 6.4. A
 -- role is its slot; its name is in the list of roles.
-use Rattle.std.specs.Prelude.{◌≡◌, ◌≤◌, ℕ, Bool, true, ◌&&◌, nat_le, nat_lt, List, [], ◌∷◌, map, Option, Some, None, bytes_eq, nat_eq, is_some, unwrap_or}
+use Rattle.std.specs.Prelude.{◌≡◌, ◌≤◌, ℕ, Bool, true, false, ◌&&◌, nat_le, nat_lt, List, [], ◌∷◌, length, map, Option, Some, None, bytes_eq, nat_eq, is_some, unwrap_or}
+use Rattle.std.specs.List.{list_any}
 use Rattle.std.specs.Map.{lookup}
 use Rattle.std.specs.Option.{option_map, option_or}
 use Rattle.indexmap.specs.IndexMap.{insert_entry}
 use Rattle.role_hierarchy.specs.Roles.{has}
-use Rattle.role_hierarchy.specs.Order.{Order, no_order}
+use Rattle.role_hierarchy.specs.Order.{Order, no_order, is_there, role_count}
 use Rattle.role_hierarchy.specs.Below.{closed}
-use Rattle.separation_core.specs.Groups.{Groups, first_breaking}
-use Rattle.permission_core.specs.Permissions.{Rows, no_rows}
+use Rattle.separation_core.specs.Groups.{Groups, first_breaking, is_in_some}
+use Rattle.permission_core.specs.Permissions.{Rows, no_rows, row_at}
+use Rattle.permission_core.specs.declared.objects.Operation.{Operation}
 use Rattle.policy_core.specs.declared.refusal.Refusal.{Refusal}
 use Rattle.policy_core.specs.declared.refusal.Refusal.TheVariants.{Ssd, Dsd}
 use Rattle.policy_core.specs.declared.session.Session.{Session}
@@ -56,8 +58,24 @@ pub record HasSlots (roles : List (List ℕ × ℕ)) (used : ℕ) : Type 0 where
   pub there : (a : List ℕ) (slot : ℕ) → lookup (bytes_eq a) roles ≡ Some slot → has used slot ≡ true
   pub apart : (a b : List ℕ) (slot : ℕ) → lookup (bytes_eq a) roles ≡ Some slot → lookup (bytes_eq b) roles ≡ Some slot → a ≡ b
 
+-- the roles of the set are there
+abbrev pub AreThere : Order → ℕ → Type 0
+AreThere order roles = (slot : ℕ) → is_there order slot ≡ false → has roles slot ≡ false
+
+-- Nothing has the slot: no permission, no user, no session and no set.
+pub record AreBare (grants : Rows) (assigned : List (List ℕ × ℕ)) (opened : List (ℕ × Session)) (static dynamic : Groups) (slot : ℕ) : Type 0 where
+  pub permissions : (operation : Operation) → row_at grants slot operation ≡ 0
+  pub users : list_any (λ u. has u.1 slot) assigned ≡ false
+  pub sessions : list_any (λ s. has s.1.active slot) opened ≡ false
+  pub ssd : is_in_some static slot ≡ false
+  pub dsd : is_in_some dynamic slot ≡ false
+
+abbrev pub IsBare : PolicyState → ℕ → Type 0
+IsBare p slot = AreBare p.grants p.users p.sessions p.ssd p.dsd slot
+
 -- What every policy keeps: no user is authorized for, and for no session are counted, as many roles of a set as its
--- number; the sessions' numbers rise, none above the last one used.
+-- number; the sessions' numbers rise, none above the last one used; there are no more of each kind than there may be; and there are as many
+-- roles as slots in use, so that a free slot belongs to no role and has nothing.
 pub record IsPolicy (p : PolicyState) : Type 0 where
   pub ssd : first_breaking (authorized p) p.ssd ≡ None
   pub dsd : first_breaking (counted_all p) p.dsd ≡ None
@@ -65,6 +83,10 @@ pub record IsPolicy (p : PolicyState) : Type 0 where
   pub numbers : rise 0 p.last (numbers_of p.sessions) ≡ true
   pub few_customers : p.customers ≤ 1000
   pub few_vehicles : p.vehicles ≤ 1000
+  pub few_users : length p.users ≤ 1024
+  pub few_sessions : length p.sessions ≤ 1024
+  pub free : (slot : ℕ) → is_there p.order slot ≡ false → IsBare p slot
+  pub count : length p.roles ≡ role_count p.order
 
 -- why a state is not allowed: the first set that it breaks
 abbrev pub broken_ssd : PolicyState → Option Refusal

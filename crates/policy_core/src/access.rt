@@ -3,6 +3,7 @@ ghost use Rattle.std.specs.Prelude.{◌≡◌, ℕ, ◌<◌, ◌≤◌, [], ◌�
 ghost use Rattle.std.specs.Map.{lookup};
 ghost use Rattle.std.specs.Result.{result_err};
 ghost use Rattle.role_hierarchy.specs.Below.{closed};
+ghost use Rattle.role_hierarchy.specs.Order.{is_there};
 ghost use Rattle.role_hierarchy.specs.Roles.{has};
 ghost use Rattle.callback_store.specs.Meter.{after_walk};
 ghost use Rattle.permission_core.specs.Objects.{number_of, first_of, size_of, is_bad_range};
@@ -61,7 +62,9 @@ impl Policy {
         ensures size { IfOk result (λ r. r.2 - r.1 ≡ size_of range) }
         ensures order { IfOk result (λ r. r.1 ≤ r.2) }
         ensures small { IfOk result (λ r. r.2 ≤ 2048) }
+        ensures there { IfOk result (λ r. is_there self.now.order r.0 ≡ true) }
     {
+        self.is_policy();
         let Some(slot) = self.slot_of(role) else {
             return Err(Refusal::NoRole);
         };

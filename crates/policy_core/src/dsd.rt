@@ -2,12 +2,13 @@
 ghost use Rattle.std.specs.Prelude.{◌≡◌, ℕ, ◌<◌, ◌≤◌, [], ◌∷◌, List, None, Some, OnOk, OnErr, IfErr, IfOk, IfNone, IfSome, ◌↔◌, ◌+◌, ◌-◌, true, false, bytes_eq, nat_eq, is_some, is_none, map, unwrap_or, length, filter, not};
 ghost use Rattle.std.specs.Map.{lookup};
 ghost use Rattle.std.specs.Result.{result_err};
-ghost use Rattle.std.specs.List.{list_any};
+ghost use Rattle.std.specs.List.{list_any, list_all};
 ghost use Rattle.separation_core.specs.Groups.{is_broken, limit_of, with_set, changed, new_refusal, add_refusal, set_refusal};
 ghost use Rattle.separation_core.specs.declared.sets.Limit.{Limit};
-ghost use Rattle.policy_core.specs.State.{slot_of, broken_dsd, counted};
+ghost use Rattle.policy_core.specs.State.{is_role, slot_of, broken_dsd, counted};
 ghost use Rattle.policy_core.specs.Commands.{Says, slots_of, as_refusal, dsd_created, dsd_create_refusal, dsd_joined, dsd_add_refusal, dsd_left, dsd_drop_refusal, dsd_deleted, dsd_delete_refusal, dsd_numbered, dsd_number_refusal};
 ghost use Rattle.role_hierarchy.specs.Below.{closed};
+ghost use Rattle.role_hierarchy.specs.Order.{is_there};
 
 use crate::fault::refusal_of_fault;
 use crate::policy::Policy;
@@ -40,6 +41,7 @@ impl Policy {
         ensures refused { result_err result ≡ dsd_create_refusal self.now name number roles.now }
         ensures set { IfOk result (λ set. set ≡ slots_of self.now roles.now) }
         ensures whole { OnOk result (broken_dsd (dsd_created self.now name number roles.now) ≡ None) }
+        ensures there { OnOk result (list_all (is_role self.now) roles.now ≡ true) }
     {
         let Some(set) = self.slots_of(roles) else {
             return Err(Refusal::NoRole);
@@ -104,7 +106,9 @@ impl Policy {
         ensures slot { IfOk result (λ slot. slot ≡ slot_of self.now role) }
         ensures room { OnOk result (add_refusal (limit_of self.now.dsd name) (slot_of self.now role) ≡ None) }
         ensures whole { OnOk result (broken_dsd (dsd_joined self.now name role) ≡ None) }
+        ensures there { IfOk result (λ slot. is_there self.now.order slot ≡ true) }
     {
+        self.is_policy();
         let Some(slot) = self.slot_of(role) else {
             return Err(Refusal::NoRole);
         };

@@ -3,6 +3,7 @@
 #![tactic(auto)]
 
 mod access;
+mod authority;
 mod dsd;
 mod fault;
 mod policy;
@@ -14,6 +15,10 @@ mod sessions;
 mod ssd;
 mod users;
 
+pub use authority::{
+    authority_is_by_chains, cycles_are_by_chains, refusals_are_by_chains, separation_is_by_chains,
+    sessions_keep_authorized_roles,
+};
 pub use policy::Policy;
 pub use refusal::Refusal;
 pub use session::{Counting, Session};

@@ -2,6 +2,7 @@
 ghost use Rattle.std.specs.Prelude.{◌≡◌, ℕ, ◌<◌, ◌≤◌, [], ◌∷◌, List, None, Some, OnOk, OnErr, IfErr, IfOk, IfNone, IfSome, ◌↔◌, ◌+◌, ◌-◌, true, false, bytes_eq, nat_eq, is_some, is_none, map, unwrap_or, length, filter, not};
 ghost use Rattle.std.specs.Map.{lookup};
 ghost use Rattle.role_hierarchy.specs.Below.{IsOrder};
+ghost use Rattle.role_hierarchy.specs.Roles.{first_free};
 ghost use Rattle.separation_core.specs.Groups.{AreSets, HoldsFor};
 ghost use Rattle.std.specs.Prelude.{Contains};
 ghost use Rattle.std.specs.List.{IsDistinct};
@@ -160,6 +161,14 @@ impl Policy {
         self.order.is_order();
         self.ssd.are_sets();
         self.dsd.are_sets();
+    }
+
+    /// A law, for callers' proofs: no slot is free for a role exactly where there are 256 roles.
+    pub fn is_full_by_count(&self)
+        ensures { (first_free self.now.order.roles ≡ None) ↔ (length self.now.roles ≡ 256) }
+    {
+        self.is_policy();
+        self.order.is_full_by_count();
     }
 
     /// A law, for callers' proofs: no two users and no two roles have one name.

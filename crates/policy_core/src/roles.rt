@@ -7,6 +7,7 @@ ghost use Rattle.role_hierarchy.specs.Below.{closed, juniors_of};
 ghost use Rattle.role_hierarchy.specs.Order.{is_there, stands, with_pair};
 ghost use Rattle.role_hierarchy.specs.Roles.{has, without};
 ghost use Rattle.std.specs.Prelude.{◌++◌, bit_or};
+ghost use Rattle.separation_core.specs.Groups.{is_in_some};
 ghost use Rattle.policy_core.specs.State.{slot_of, broken, broken_ssd, broken_dsd};
 ghost use Rattle.policy_core.specs.Wider.{AreSeniors, wider, all_wider, held_in, active_in};
 ghost use Rattle.policy_core.specs.Commands.{Says, add_role_refusal, role_added, role_gone, delete_role_refusal, inherited, inherit_refusal, uninherited, uninherit_refusal, kept_authorized};
@@ -20,13 +21,15 @@ use separation_core::Name;
 use std::alloc::AllocError;
 
 impl Policy {
-    /// AddRole. In this order `Already`, `Full`; `NoMemory` may come in place of any answer.
+    /// AddRole. In this order `Already`, `Full`, where there are 256 roles; `NoMemory` may come in place of any answer.
     #[tactic(auto, unfolding(crate::specs::Commands::add_role_refusal))]
     pub fn add_role(&mut self, role: Name) -> Result<(), Refusal>
         ensures ok { OnOk result (self.new ≡ role_added self.old role) }
         ensures allowed { OnOk result (add_role_refusal self.old role ≡ None) }
         ensures err { OnErr result (self.new ≡ self.old) }
         ensures refused { IfErr result (λ e. Says e (add_role_refusal self.old role)) }
+        ensures room { OnOk result (length self.old.roles < 256) }
+        ensures full { IfErr result (λ e. e ≡ Refusal.Full → length self.old.roles ≡ 256) }
     {
         if self.roles.contains_key(&role) {
             return Err(Refusal::Already);
@@ -69,6 +72,8 @@ impl Policy {
         ensures slot { IfOk result (λ slot. slot ≡ slot_of self.now role) }
         ensures here { IfOk result (λ slot. lookup (bytes_eq role) self.now.roles ≡ Some slot) }
         ensures there { IfOk result (λ slot. is_there self.now.order slot ≡ true) }
+        ensures no_ssd { IfOk result (λ slot. is_in_some self.now.ssd slot ≡ false) }
+        ensures no_dsd { IfOk result (λ slot. is_in_some self.now.dsd slot ≡ false) }
     {
         self.is_policy();
         let Some(slot) = self.slot_of(role) else {

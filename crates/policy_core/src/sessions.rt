@@ -5,7 +5,7 @@ ghost use Rattle.std.specs.Result.{result_err};
 ghost use Rattle.std.specs.List.{list_all};
 ghost use Rattle.role_hierarchy.specs.Below.{closed};
 ghost use Rattle.role_hierarchy.specs.Roles.{with_role};
-ghost use Rattle.policy_core.specs.State.{is_session, session_of, is_role, user_of, with_session, broken_dsd, counted};
+ghost use Rattle.policy_core.specs.State.{AreThere, is_session, session_of, is_role, user_of, with_session, broken_dsd, counted};
 ghost use Rattle.policy_core.specs.Commands.{Says, authorized_for, slots_of, opened, open_refusal, shut, close_refusal, activated, activate_refusal, deactivated, deactivate_refusal, migrated, migrate_refusal, migrated_session};
 
 use crate::policy::Policy;
@@ -39,6 +39,8 @@ impl Policy {
         ensures refused { result_err result ≡ open_refusal self.now user roles.now }
         ensures session { IfOk result (λ session. session ≡ record { user = user; active = slots_of self.now roles.now }) }
         ensures room { OnOk result (self.now.last < 4294967295) }
+        ensures few { OnOk result (length self.now.sessions < 1024) }
+        ensures there { OnOk result (list_all (is_role self.now) roles.now ≡ true) }
         ensures whole { OnOk result (broken_dsd (opened self.now user roles.now) ≡ None) }
     {
         let Some(held) = self.roles_of(user) else {
@@ -90,7 +92,9 @@ impl Policy {
         ensures there { OnOk result (is_session self.now number ≡ true) }
         ensures session { IfOk result (λ session. with_session self.now number session ≡ activated self.now number role) }
         ensures whole { OnOk result (broken_dsd (activated self.now number role) ≡ None) }
+        ensures used { IfOk result (λ session. AreThere self.now.order session.active) }
     {
+        self.is_policy();
         let Some(slot) = self.slot_of(role) else {
             return Err(Refusal::NoRole);
         };
@@ -129,6 +133,7 @@ impl Policy {
         ensures there { OnOk result (is_session self.now number ≡ true) }
         ensures session { IfOk result (λ session. with_session self.now number session ≡ deactivated self.now number role) }
         ensures whole { IfOk result (λ session. broken_dsd (with_session self.now number session) ≡ None) }
+        ensures used { IfOk result (λ session. AreThere self.now.order session.active) }
     {
         let Some(slot) = self.slot_of(role) else {
             return Err(Refusal::NoRole);
@@ -259,6 +264,7 @@ impl Policy {
     fn put_session(&mut self, number: u32, session: Session)
         requires there { is_session self.old number ≡ true }
         requires whole { broken_dsd (with_session self.old number session) ≡ None }
+        requires used { AreThere self.old.order session.active }
         ensures { self.new ≡ with_session self.old number session }
     {
         match self.sessions.insert(number, session) {

@@ -3,7 +3,7 @@ ghost use Rattle.std.specs.Prelude.{◌≡◌, ℕ, ◌<◌, ◌≤◌, [], ◌�
 ghost use Rattle.std.specs.Map.{lookup};
 ghost use Rattle.std.specs.Result.{result_err};
 ghost use Rattle.role_hierarchy.specs.Roles.{with_role, without};
-ghost use Rattle.policy_core.specs.State.{is_user, held_by, slot_of, with_roles, broken_ssd};
+ghost use Rattle.policy_core.specs.State.{AreThere, is_user, held_by, slot_of, with_roles, broken_ssd};
 ghost use Rattle.policy_core.specs.Commands.{Says, add_user_refusal, user_added, delete_user_refusal, user_gone, assign_refusal, assigned, narrowed, deassigned, deassign_refusal};
 
 use crate::policy::Policy;
@@ -33,7 +33,8 @@ impl Policy {
 
     #[tactic(auto, unfolding(crate::specs::Commands::add_user_refusal))]
     fn refusal_of_add_user(&self, user: Name) -> Option<Refusal>
-        ensures { result ≡ add_user_refusal self.now user }
+        ensures value { result ≡ add_user_refusal self.now user }
+        ensures room { IfNone result (length self.now.users < 1024) }
     {
         if self.users.contains_key(&user) {
             return Some(Refusal::Already);
@@ -76,7 +77,9 @@ impl Policy {
         ensures there { OnOk result (is_user self.now user ≡ true) }
         ensures roles { IfOk result (λ roles. with_roles self.now user roles ≡ assigned self.now user role) }
         ensures whole { OnOk result (broken_ssd (assigned self.now user role) ≡ None) }
+        ensures used { IfOk result (λ roles. AreThere self.now.order roles) }
     {
+        self.is_policy();
         let Some(held) = self.roles_of(user) else {
             return Err(Refusal::NoUser);
         };
@@ -114,6 +117,7 @@ impl Policy {
         ensures there { OnOk result (is_user self.now user ≡ true) }
         ensures roles { IfOk result (λ roles. roles ≡ without (held_by self.now user) (slot_of self.now role)) }
         ensures whole { IfOk result (λ roles. broken_ssd (with_roles self.now user roles) ≡ None) }
+        ensures used { IfOk result (λ roles. AreThere self.now.order roles) }
     {
         let Some(held) = self.roles_of(user) else {
             return Err(Refusal::NoUser);
@@ -163,6 +167,7 @@ impl Policy {
     fn put_roles(&mut self, user: Name, roles: RoleSet)
         requires there { is_some (lookup (bytes_eq user) self.old.users) ≡ true }
         requires whole { broken_ssd (with_roles self.old user roles) ≡ None }
+        requires used { AreThere self.old.order roles }
         ensures { self.new ≡ with_roles self.old user roles }
     {
         match self.users.insert(user, roles) {

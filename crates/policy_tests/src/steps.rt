@@ -148,6 +148,67 @@ fn commands_by_a_spare_policy(rt: HostRuntime) {
     compare_role(&rt, &twin, name(&rt, b"f"), true, true);
 }
 
+/// Tries the command, once more where memory ran out, and gives it up.
+fn try_and_give_up(rt: &impl Abort, twin: &mut Twin, command: &Command) {
+    let is_tried = twin.prepare(command).is_ok() || twin.prepare(command).is_ok();
+    assert!(rt; is_tried, "{command:?}");
+    twin.give_up();
+}
+
+/// Tries the command, once more where memory ran out, and lets it stand.
+fn keep(rt: &impl Abort, twin: &mut Twin, command: Command) {
+    match twin.prepare(&command) {
+        Ok(_) => twin.settle(command),
+        Err(_) => match twin.prepare(&command) {
+            Ok(_) => twin.settle(command),
+            Err(_) => assert!(rt; false, "{command:?}"),
+        },
+    }
+}
+
+/// Gives the command up, and then lets it stand.
+fn give_up_and_keep(rt: &impl Abort, twin: &mut Twin, command: Command) {
+    try_and_give_up(rt, twin, &command);
+    keep(rt, twin, command);
+}
+
+/// A command that is refused leaves none tried, whatever was tried before.
+fn be_refused(rt: &impl Abort, twin: &mut Twin, role: Name, other: Name) {
+    let is_tried = twin.prepare(&Command::AddRole { role: other }).is_ok();
+    let is_again = twin.prepare(&Command::AddRole { role }).is_ok();
+    assert!(rt; !is_again, "{is_tried}");
+    compare_role(rt, twin, other, false, false);
+}
+
+/// Each command is given up once before it stands, and goes on once more where memory runs out: so this test ends well also where one
+/// allocation fails, whichever it is.
+#[test]
+fn commands_go_on_after_given_up_ones(rt: HostRuntime) {
+    let alloc = rt.alloc();
+    let Ok(opening) = Policy::opening(alloc, 4, 2) else {
+        return;
+    };
+    let Ok(mut twin) = Twin::new(alloc, opening) else {
+        return;
+    };
+    let (d, e, f) = (name(&rt, b"d"), name(&rt, b"e"), name(&rt, b"f"));
+    give_up_and_keep(&rt, &mut twin, Command::AddRole { role: d });
+    compare_role(&rt, &twin, d, true, true);
+    give_up_and_keep(&rt, &mut twin, Command::AddRole { role: e });
+    be_refused(&rt, &mut twin, d, f);
+    let pair = Command::AddInheritance {
+        senior: d,
+        junior: e,
+    };
+    give_up_and_keep(&rt, &mut twin, pair);
+    give_up_and_keep(&rt, &mut twin, Command::AddUser { user: d });
+    give_up_and_keep(&rt, &mut twin, Command::AssignUser { user: d, role: d });
+    try_and_give_up(&rt, &mut twin, &Command::DeleteRole { role: d });
+    compare_role(&rt, &twin, d, true, true);
+    give_up_and_keep(&rt, &mut twin, Command::DeleteRole { role: e });
+    compare_role(&rt, &twin, e, false, false);
+}
+
 fn compare_names(rt: &impl Abort, found: &[Name], wanted: &[&str]) {
     assert_eq!(rt; found.len(), wanted.len());
     for (one, text) in found.iter().zip(wanted) {

@@ -1,4 +1,6 @@
 mod AffectedLaws
+mod MemoryLaws
+mod NumberLaws
+mod SizeLaws
 mod StayLaws
 mod StepLaws
-mod SizeLaws

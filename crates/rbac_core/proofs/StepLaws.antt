@@ -2,6 +2,7 @@
 use Rattle.std.proofs.Common.{◌≡◌, ℕ, Option, Some, None, sym, subst, ap, ap₂, ◌∙◌}
 use Rattle.std.specs.Prelude.{Result, Ok, Err, OnOk, IfOk, IfErr}
 use Rattle.std.specs.Option.{option_or}
+use Rattle.std.specs.Result.{result_err}
 use Rattle.rbac_core.specs.declared.command.Command.{Command}
 use Rattle.rbac_core.specs.declared.command.Outcome.{Outcome}
 use Rattle.policy_core.specs.declared.refusal.Refusal.{Refusal}
@@ -35,3 +36,11 @@ module _ (p : PolicyState) (session : ℕ) (command : Command) where
   pub step_err : None ≡ guard p session command → (r : Result Outcome Refusal) → IfErr r (λ e. Says e (refusal_of p command)) → IfErr r (λ e. IsRefused e (step p session command) p)
   step_err passed (Ok o) says = tt
   step_err passed (Err e) says = (let P : PolicyState × Result Outcome Refusal → Type 0 = λ a. IsRefused e a p in subst P (sym (judged None passed)) (said e p (after p command) (outcome_of p command) (refusal_of p command) says))
+
+  -- a command that takes no memory
+  pub step_refused : (e : Refusal) → Some e ≡ guard p session command → step p session command ≡ (p, Err e)
+  step_refused e h = judged (Some e) h
+
+  pub step_exact : None ≡ guard p session command → (r : Result Outcome Refusal) → result_err r ≡ refusal_of p command → IfErr r (λ e. step p session command ≡ (p, Err e))
+  step_exact passed (Ok o) exact = tt
+  step_exact passed (Err e) exact = judged None passed ∙ ap (λ x. answered p x (after p command) (outcome_of p command)) (sym exact)

@@ -7,6 +7,7 @@ pub use Rattle.policy_core.specs.Opening
 pub use Rattle.policy_core.specs.Reviews
 pub use Rattle.policy_core.specs.State
 pub mod Affected
+pub mod Numbers
 pub mod Step
 pub mod Tried
 pub mod Twins

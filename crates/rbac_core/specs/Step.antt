@@ -1,5 +1,5 @@
 -- One step of a policy: the guard, the refusals of the command, the state after it and the answer.
-use Rattle.std.specs.Prelude.{◌≡◌, ℕ, ◌+◌, Bool, false, not, ◌&&◌, if◌then◌else◌, List, Option, Some, None, bytes_eq, Result, Ok, Err, ⊤}
+use Rattle.std.specs.Prelude.{◌≡◌, ℕ, ◌+◌, Bool, true, false, not, ◌&&◌, if◌then◌else◌, List, Option, Some, None, bytes_eq, Result, Ok, Err, ⊤}
 use Rattle.std.specs.Option.{option_or}
 use Rattle.permission_core.specs.declared.objects.Operation.TheVariants.{Admin}
 use Rattle.permission_core.specs.declared.objects.Object.TheVariants.{Board}
@@ -95,6 +95,16 @@ after p (DeleteSession session) = shut p session
 after p (AddActiveRole session role) = activated p session role
 after p (DropActiveRole session role) = deactivated p session role
 after p Migrate = migrated p
+
+-- carrying out the command may take memory
+abbrev pub takes_memory : Command → Bool
+takes_memory (AddUser user) = true
+takes_memory (AddRole role) = true
+takes_memory (AddInheritance senior junior) = true
+takes_memory (CreateSsdSet name number roles) = true
+takes_memory (CreateDsdSet name number roles) = true
+takes_memory (CreateSession user roles) = true
+takes_memory _ = false
 
 -- what such a command answers
 abbrev pub outcome_of : PolicyState → Command → Outcome

@@ -1,8 +1,11 @@
 //! One step of a policy: the guard, and then the command.
-ghost use Rattle.std.specs.Prelude.{◌≡◌, OnOk, OnErr, IfOk, IfErr, None, Ok};
+ghost use Rattle.std.specs.Prelude.{◌≡◌, ◌≢◌, Some, OnOk, OnErr, IfOk, IfErr, None, Ok, Err, false};
+ghost use Rattle.std.specs.Result.{result_err};
 ghost use Rattle.policy_core.specs.Commands.{Says};
 ghost use Rattle.policy_core.specs.Access.{has_access};
-ghost use Rattle.rbac_core.specs.Step.{is_own, guard_by, guard, refusal_of, after, outcome_of, step, IsRefused};
+ghost use Rattle.policy_core.specs.State.{PolicyState};
+ghost use Rattle.rbac_core.specs.declared.command.Command.{Command as ACommand};
+ghost use Rattle.rbac_core.specs.Step.{is_own, guard_by, guard, refusal_of, after, takes_memory, outcome_of, step, IsRefused};
 
 use crate::command::{Command, Outcome};
 use policy_core::{Policy, Refusal};
@@ -59,6 +62,7 @@ pub(crate) fn change(policy: &mut Policy, command: &Command) -> Result<(), Refus
     ensures allowed { OnOk result (refusal_of policy.old command.now ≡ None) }
     ensures err { OnErr result (policy.new ≡ policy.old) }
     ensures refused { IfErr result (λ e. Says e (refusal_of policy.old command.now)) }
+    ensures exact { takes_memory command.now ≡ false → result_err result ≡ refusal_of policy.old command.now }
 {
     match command {
         Command::AddUser { user } => policy.add_user(*user),
@@ -117,13 +121,15 @@ pub(crate) fn change(policy: &mut Policy, command: &Command) -> Result<(), Refus
     }
 }
 
-/// Carries out the command, whoever gives it.
+/// Carries out the command, whoever gives it. `NoMemory` may come in place of any answer, but not for a command that takes no memory: only
+/// AddUser, AddRole, AddInheritance, CreateSsdSet, CreateDsdSet and CreateSession take any.
 pub fn carry_out(policy: &mut Policy, command: &Command) -> Result<Outcome, Refusal>
     ensures ok { OnOk result (policy.new ≡ after policy.old command.now) }
     ensures outcome { IfOk result (λ outcome. outcome ≡ outcome_of policy.old command.now) }
     ensures allowed { OnOk result (refusal_of policy.old command.now ≡ None) }
     ensures err { OnErr result (policy.new ≡ policy.old) }
     ensures refused { IfErr result (λ e. Says e (refusal_of policy.old command.now)) }
+    ensures exact { takes_memory command.now ≡ false → result_err result ≡ refusal_of policy.old command.now }
 {
     match command {
         Command::CreateSession { user, roles } => {
@@ -137,14 +143,21 @@ pub fn carry_out(policy: &mut Policy, command: &Command) -> Result<Outcome, Refu
     }
 }
 
-/// One step: the guard, and then the command. `NoMemory` may come in place of any answer.
+/// One step: the guard, and then the command. `NoMemory` may come in place of any answer where the command takes memory.
 pub fn step(policy: &mut Policy, session: u32, command: &Command) -> Result<Outcome, Refusal>
     ensures ok { IfOk result (λ outcome. step policy.old session command.now ≡ (policy.new, Ok outcome)) }
     ensures err { OnErr result (policy.new ≡ policy.old) }
     ensures refused { IfErr result (λ e. IsRefused e (step policy.old session command.now) policy.old) }
+    ensures exact { takes_memory command.now ≡ false → IfErr result (λ e. step policy.old session command.now ≡ (policy.old, Err e)) }
 {
     if let Some(refusal) = guard(policy, session, command) {
         return Err(refusal);
     }
     carry_out(policy, command)
 }
+
+/// A law, for callers' proofs: running out of memory is none of the reasons for which a command is refused, so that a command that takes
+/// no memory never answers `NoMemory`.
+pub fn refusals_are_not_of_memory()
+    ensures { (p : PolicyState) (command : ACommand) → refusal_of p command ≢ Some Refusal.NoMemory }
+{}

@@ -1,8 +1,8 @@
 //! A policy with a spare one, on which a command is tried.
-ghost use Rattle.std.specs.Prelude.{◌≡◌, None, OnOk, IfOk, IfErr, true, false};
+ghost use Rattle.std.specs.Prelude.{◌≡◌, None, OnOk, OnErr, IfOk, IfErr, true, false};
 ghost use Rattle.policy_core.specs.Commands.{Says};
 ghost use Rattle.rbac_core.specs.Step.{refusal_of, after, outcome_of, guard, guard_by};
-ghost use Rattle.rbac_core.specs.Twins.{Follows};
+ghost use Rattle.rbac_core.specs.Twins.{Follows, tried_of};
 
 use crate::command::{Command, Outcome};
 use crate::steps::{carry_out, change, guard};
@@ -18,15 +18,17 @@ enum Lag {
     Even,
     /// The spare one lacks this command.
     Behind(Command),
-    /// A command was tried on the spare one, and not kept.
+    /// A command was tried on the spare one, and may be kept.
     Ahead,
+    /// The spare one holds what is not to be kept.
+    Apart,
 }
 
 /// A policy with a spare one. A command is tried on the spare policy, and the two are exchanged where it is to be kept. The spare one then
 /// lacks that command, and is brought up to date with it before the next command is tried. So a command copies no policy, except the one
-/// that follows a command that was tried and given up.
+/// that follows a command that was tried and not kept.
 ///
-/// Contracts see the policy, and the state that `settle` would make.
+/// Contracts see the policy, and the state that `settle` would make: the policy itself where nothing is tried.
 pub struct Twin {
     // Boxed, so that the two are exchanged by exchanging two words.
     policy: Box<Policy>,
@@ -89,12 +91,13 @@ impl Twin {
     }
 
     /// Tries the command on the spare policy, which is first made equal to the other, whoever gives the command. The policy stays as it is.
-    /// What `tried` answers after a refusal is not promised.
+    /// After a refusal nothing is tried.
     pub fn prepare(&mut self, command: &Command) -> Result<Outcome, Refusal>
         ensures now { self.new.now ≡ self.old.now }
         ensures ok { OnOk result (self.new.tried ≡ after self.old.now command.now) }
         ensures outcome { IfOk result (λ outcome. outcome ≡ outcome_of self.old.now command.now) }
         ensures allowed { OnOk result (refusal_of self.old.now command.now ≡ None) }
+        ensures err { OnErr result (self.new.tried ≡ self.old.now) }
         ensures refused { IfErr result (λ e. Says e (refusal_of self.old.now command.now)) }
     {
         if !even_out(&self.policy, &mut self.spare, &mut self.lag) {
@@ -103,6 +106,16 @@ impl Twin {
         let outcome = carry_out(&mut self.spare, command)?;
         self.lag = Lag::Ahead;
         Ok(outcome)
+    }
+
+    /// Gives up the command that was tried, if there is one: nothing is tried any more. It takes no memory, and copies nothing; the next
+    /// command that is tried then copies the policy.
+    pub fn give_up(&mut self)
+        ensures { self.new ≡ record { now = self.old.now; tried = self.old.now } }
+    {
+        if let Lag::Ahead = self.lag {
+            self.lag = Lag::Apart;
+        }
     }
 
     /// Exchanges the two policies: what was tried is kept. It takes no memory. The contract requires that the policy does not refuse this
@@ -135,19 +148,24 @@ fn copy_over(policy: &Policy, spare: &mut Policy) -> bool
     }
 }
 
-/// Makes the spare policy equal to the other, by the command that it lacks, or by a copy; `false` where memory ran out.
+/// Makes the spare policy equal to the other, by the command that it lacks, or by a copy; `false` where memory ran out. In either case what
+/// was tried before is given up.
 fn even_out(policy: &Policy, spare: &mut Policy, lag: &mut Lag) -> bool
     requires { Follows lag.old spare.old policy.now }
     ensures follows { Follows lag.new spare.new policy.now }
+    ensures nothing { tried_of lag.new spare.new policy.now ≡ policy.now }
     ensures even { (result ≡ true) → spare.new ≡ policy.now }
 {
     let even = match lag {
         Lag::Even => true,
         Lag::Behind(command) => change(spare, command).is_ok(),
         Lag::Ahead => copy_over(policy, spare),
+        Lag::Apart => copy_over(policy, spare),
     };
     if even {
         *lag = Lag::Even;
+    } else if let Lag::Ahead = lag {
+        *lag = Lag::Apart;
     }
     even
 }

@@ -151,6 +151,13 @@ impl Hierarchy {
         self.used.is_small();
     }
 
+    /// A law, for callers' proofs: no slot is free exactly where there are 256 roles.
+    pub fn is_full_by_count(&self)
+        ensures { (first_free self.now.roles ≡ None) ↔ (role_count self.now ≡ 256) }
+    {
+        self.used.is_small();
+    }
+
     /// A law, for callers' proofs: both roles of each pair are there, and seniority is a partial order, as ANSI INCITS 359-2004, 6.2
     /// requires.
     pub fn is_partial_order(&self)

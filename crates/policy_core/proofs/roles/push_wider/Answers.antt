@@ -1,4 +1,4 @@
-use Rattle.std.proofs.Common.{◌++◌, ◌∷◌, [], sym, ap, ◌∙◌}
+use Rattle.std.proofs.Common.{◌++◌, sym, ap, ◌∙◌}
 use Rattle.std.proofs.lemmas.List.{append-nil}
 use Rattle.policy_core.proofs.WiderLaws.{wider_met, wider_apart}
 use Rattle.policy_core.proofs.roles.push_wider.Goals as goal

@@ -1,8 +1,9 @@
 use Rattle.std.proofs.Common.{ap, ◌∙◌}
-use Rattle.separation_core.specs.Groups.{first_breaking}
+use Rattle.separation_core.specs.Groups.{Groups, first_breaking, is_in_some}
 use Rattle.separation_core.specs.GroupLaws.{breaking-without_set}
 use Rattle.policy_core.specs.Seen.{state_of}
 use Rattle.policy_core.specs.State.{counted_all}
+use Rattle.policy_core.proofs.FreeLaws.{in_none-without_set}
 use Rattle.policy_core.proofs.SetLaws.{dsd_whole}
 use Rattle.policy_core.proofs.policy.Policy.delete_dsd_set.Goals as goal
 
@@ -10,3 +11,4 @@ pub invariant_of-self-2 : goal.invariant_of-self-2
 invariant_of-self-2 c =
     let p = state_of c.self.inside in
     dsd_whole p c.self.invariant c.delete.new.self (ap (first_breaking (counted_all p)) c.in_default.ensures.ok ∙ breaking-without_set (counted_all p) p.dsd c.args.name c.self.invariant.dsd)
+    (λ slot f. ap (λ (groups : Groups). is_in_some groups slot) c.in_default.ensures.ok ∙ in_none-without_set p.dsd c.args.name slot (c.self.invariant.free slot f).dsd)
