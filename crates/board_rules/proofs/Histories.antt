@@ -1,9 +1,9 @@
 -- Legal histories, entry by entry.
-use Rattle.std.proofs.Common.{◌≡◌, ℕ, zero, suc, ◌+◌, ◌<◌, ◌≤◌, ◌⊎◌, inl, inr, sym, ap, subst, refl, arith, ◌∙◌, List, [], ◌∷◌, ◌++◌, length, take, Some, length-append}
+use Rattle.std.proofs.Common.{◌≡◌, ℕ, zero, suc, ◌+◌, ◌<◌, ◌≤◌, ◌⊎◌, inl, inr, sym, ap, subst, refl, arith, ◌∙◌, List, [], ◌∷◌, ◌++◌, length, take, drop, Some, length-append}
 use Rattle.std.specs.Prelude.{slice_get, cond, ◌==◌}
 use Rattle.std.proofs.Math.Logic.{∥∥₁_elim}
 use Rattle.std.proofs.Props.{props}
-use Rattle.std.proofs.lemmas.List.{take_all}
+use Rattle.std.proofs.lemmas.List.{take_all, take-append-drop}
 use Rattle.std.proofs.lemmas.List.Sums.{sum_by-append}
 use Rattle.dimension_core.specs.Setting.{Setting}
 use Rattle.move_core.specs.Moves.{named_by}
@@ -117,3 +117,28 @@ legal-push o es e legal next k f h = elim (places es e k f h) [
   | inl p ↦ subst (λ (before : List Entry). IsNext o before f) (sym p.1) (legal k f p.0)
   | inr p ↦ subst (λ (before : List Entry). IsNext o before f) (sym p.1) (subst (λ (x : Entry). IsNext o es x) (sym p.0) next)
 ]
+
+-- ---- prefixes
+
+-- what stands in a list stands in each list that goes on from it, after the same entries
+within : (es more : List Entry) (k : ℕ) (e : Entry) → slice_get es k ≡ Some e → (slice_get (es ++ more) k ≡ Some e) × (take k (es ++ more) ≡ take k es)
+within [] more k e h = absurd cc
+within (x ∷ es) more zero e h = (h, refl)
+within (x ∷ es) more (suc k) e h = let r = within es more k e h in (r.0, ap (λ xs. x ∷ xs) r.1)
+
+pub legal-prefix : (o : Opening) (es more : List Entry) → IsLegal (record { opening = o; entries = es ++ more }) → IsLegal (record { opening = o; entries = es })
+legal-prefix o es more legal k e h =
+    let there = within es more k e h in
+    subst (λ (before : List Entry). IsNext o before e) there.1 (legal k e there.0)
+
+pub legal-take : (o : Opening) (es : List Entry) (k : ℕ) → IsLegal (record { opening = o; entries = es }) → IsLegal (record { opening = o; entries = take k es })
+legal-take o es k legal = legal-prefix o (take k es) (drop k es) (subst (λ (xs : List Entry). IsLegal (record { opening = o; entries = xs })) (sym (take-append-drop k es)) legal)
+
+-- ---- more entries
+
+pub state_from-append : (state : BoardState) (es more : List Entry) → state_from state (es ++ more) ≡ state_from (state_from state es) more
+state_from-append state [] more = refl
+state_from-append state (e ∷ es) more = state_from-append (after state e.call e.reply) es more
+
+pub turns_of-append : (desk : ℕ) (es more : List Entry) → turns_of desk (es ++ more) ≡ turns_of desk es + turns_of desk more
+turns_of-append desk es more = sum_by-append (λ (e : Entry). cond (e.desk == desk) 1 0) es more

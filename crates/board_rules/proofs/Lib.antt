@@ -13,6 +13,7 @@ mod Held
 mod Histories
 mod Keeping
 mod Moved
+mod Numbers
 mod Orders
 mod Outs
 mod Parts

@@ -1,9 +1,10 @@
--- What one call changes: the difference of two states.
+-- What one call changes: the difference of two states, and the new routes that it gives.
 use Rattle.std.specs.Prelude.{◌≡◌, ◌≢◌, ℕ, ◌+◌, ◌≤◌, ◌==◌, nat_eq, List, length, map, position, Option, Some, None, Contains}
-use Rattle.std.specs.List.{IsDistinct}
+use Rattle.std.specs.List.{IsDistinct, range_with_len}
 use Rattle.std.specs.Option.{option_map}
 use Rattle.dimension_core.specs.Setting.{Setting}
-use Rattle.plan_core.specs.Plan.{route_at}
+use Rattle.plan_core.specs.Plan.{Changes, AreApart, route_at, with_routes, with_stamps}
+use Rattle.plan_core.specs.Commits.{last_commit}
 use Rattle.pin_core.specs.Pins.{pin_of, front_of}
 use Rattle.board_rules.specs.declared.call.Entry.{Entry}
 use Rattle.board_rules.specs.Pinning.{vehicle_of}
@@ -42,3 +43,14 @@ pub record IsDelta (s : Setting) (old new : BoardState) (delta : DeltaShown) : T
 -- the changes are those of an entry in a state
 abbrev pub IsDeltaOf : Setting → BoardState → Entry → DeltaShown → Type 0
 IsDeltaOf s state e delta = IsDelta s state (after state e.call e.reply) delta
+
+-- for each vehicle from 1 to n the number of the last commit that changed it, 0 where there is none
+abbrev pub stamps_of : ℕ → List (List ℕ) → List ℕ
+stamps_of n commits = map (λ v. last_commit v commits) (range_with_len 1 n)
+
+-- New routes lead from one state to another: they are of vehicles of the fleet, each once, and the routes and the stamps of the other
+-- state are those of the one with the named vehicles changed. Where nothing is committed there are none.
+pub record AreRoutesOf (old new : BoardState) (changes : Changes) : Type 0 where
+  pub apart : AreApart (length old.routes) changes
+  pub routes : with_routes changes old.routes ≡ new.routes
+  pub stamps : stamps_of (length old.routes) new.commits ≡ with_stamps changes (length new.commits) (stamps_of (length old.routes) old.commits)

@@ -1,6 +1,9 @@
+ghost use Rattle.std.specs.Prelude.{◌≡◌, IfOk};
+
 use crate::reply::Reply;
 use move_core::Move;
 use rbac_core::Command;
+use std::alloc::AllocError;
 
 /// What a session asks of the board. Customers and vehicles count from 1, and each number may be any u32.
 #[derive(Debug, Drop)]
@@ -47,6 +50,52 @@ pub enum Call {
     },
 }
 
+impl Call {
+    /// The same call once more. Only a command with a list of names takes memory.
+    pub fn copy(&self) -> Result<Call, AllocError>
+        ensures { IfOk result (λ call. call ≡ self.now) }
+    {
+        let call = match self {
+            Call::Propose { session, base, mv } => Call::Propose {
+                session: *session,
+                base: *base,
+                mv: *mv,
+            },
+            Call::Pin { session, customer } => Call::Pin {
+                session: *session,
+                customer: *customer,
+            },
+            Call::Unpin { session, customer } => Call::Unpin {
+                session: *session,
+                customer: *customer,
+            },
+            Call::Freeze {
+                session,
+                vehicle,
+                length,
+            } => Call::Freeze {
+                session: *session,
+                vehicle: *vehicle,
+                length: *length,
+            },
+            Call::Thaw {
+                session,
+                vehicle,
+                length,
+            } => Call::Thaw {
+                session: *session,
+                vehicle: *vehicle,
+                length: *length,
+            },
+            Call::Policy { session, command } => Call::Policy {
+                session: *session,
+                command: command.copy()?,
+            },
+        };
+        Ok(call)
+    }
+}
+
 /// A call with its tag: the desk that makes it, from 1, and the number of that desk's turn, from 1.
 #[derive(Debug, Drop)]
 pub struct Event {
@@ -62,4 +111,18 @@ pub struct Entry {
     pub turn: u32,
     pub call: Call,
     pub reply: Reply,
+}
+
+impl Entry {
+    /// The same entry once more. It takes memory where the copy of its call does.
+    pub fn copy(&self) -> Result<Entry, AllocError>
+        ensures { IfOk result (λ entry. entry ≡ self.now) }
+    {
+        Ok(Entry {
+            desk: self.desk,
+            turn: self.turn,
+            call: self.call.copy()?,
+            reply: self.reply,
+        })
+    }
 }

@@ -1,10 +1,11 @@
 //! Laws of the definitions, each the contract of a function that does nothing but cite the laws below it.
-ghost use Rattle.std.specs.Prelude.{◌≡◌, ◌≢◌, ℕ, ◌+◌, ◌≤◌, ◌↔◌, ◌⊎◌, ◌==◌, ◌++◌, ◌∷◌, [], Bool, List, Option, Some, None, true, false, length, nat_lt, if◌then◌else◌};
+ghost use Rattle.std.specs.Prelude.{◌≡◌, ◌≢◌, ℕ, ◌+◌, ◌≤◌, ◌↔◌, ◌⊎◌, ◌==◌, ◌++◌, ◌∷◌, [], Bool, List, Option, Some, None, true, false, length, take, nat_lt, if◌then◌else◌};
 ghost use Rattle.permission_core.specs.declared.objects.Operation.{Operation};
 ghost use Rattle.permission_core.specs.declared.objects.Object.{Object};
 ghost use Rattle.policy_core.specs.declared.refusal.Refusal.{Refusal as PolicyRefusal};
 ghost use Rattle.policy_core.specs.State.{PolicyState};
 ghost use Rattle.rbac_core.specs.declared.command.Command.{Command};
+ghost use Rattle.rbac_core.specs.Numbers.{AreNumbersUsed, DoNumbersRise};
 ghost use Rattle.rbac_core.specs.Step.{guard, refusal_of, outcome_of, after as carried_out};
 ghost use Rattle.policy_core.specs.Access.{has_access, CheckAccess};
 ghost use Rattle.dimension_core.specs.Setting.{Setting};
@@ -34,7 +35,7 @@ ghost use Rattle.board_rules.specs.Delta.{spot_in};
 ghost use Rattle.board_rules.specs.State.{BoardState, opening_state};
 ghost use Rattle.board_rules.specs.Rules.{Basis, Agree, IsVerdictBy, is_changed_after, routes_after};
 ghost use Rattle.board_rules.specs.Step.{IsReply, after};
-ghost use Rattle.board_rules.specs.History.{Opening, History, state_after, turns_of, IsNext, IsLegal};
+ghost use Rattle.board_rules.specs.History.{Opening, History, state_from, state_after, turns_of, IsNext, IsLegal};
 ghost use Rattle.board_rules.specs.Good.{IsGood, state_of, state_at};
 ghost use Rattle.board_rules.specs.Listing.{RowShown, IsListing};
 ghost use Rattle.board_rules.specs.Given.{Laws};
@@ -54,6 +55,7 @@ use plan_core::{
     among_is_tested, currency_by_stamps, customers_stand_by_route, routes_are_known,
     routes_replaced,
 };
+use rbac_core::session_numbers_rise;
 
 /// The laws of plans, moves and pins, fetched once for all laws here.
 fn laws_below()
@@ -102,6 +104,20 @@ pub fn histories_grow_by_entries()
     ensures turns { (desk : ℕ) (es : List Entry) (e : Entry) → turns_of desk (es ++ e ∷ []) ≡ turns_of desk es + (if e.desk == desk then 1 else 0) }
 {}
 
+/// A prefix of a legal history is legal: whatever comes later, each entry was right at its place. So the first entries of a legal history,
+/// however many, are a legal history too.
+pub fn prefixes_of_legal_histories_are_legal()
+    ensures prefix { (o : Opening) (es more : List Entry) → IsLegal (record { opening = o; entries = es ++ more }) → IsLegal (record { opening = o; entries = es }) }
+    ensures first { (o : Opening) (es : List Entry) (k : ℕ) → IsLegal (record { opening = o; entries = es }) → IsLegal (record { opening = o; entries = take k es }) }
+{}
+
+/// The state after more entries goes on from the one before them, and a desk's turns add up.
+pub fn histories_go_on()
+    ensures from { (state : BoardState) (es more : List Entry) → state_from state (es ++ more) ≡ state_from (state_from state es) more }
+    ensures state { (s : Setting) (es more : List Entry) → state_after s (es ++ more) ≡ state_from (state_after s es) more }
+    ensures turns { (desk : ℕ) (es more : List Entry) → turns_of desk (es ++ more) ≡ turns_of desk es + turns_of desk more }
+{}
+
 /// After a legal history a call has exactly one right reply.
 pub fn replies_are_determined()
     ensures one { (h : History) (call : Call) (reply other : Reply) → IsLegal h → IsReply h.opening.setting (state_of h) call reply → IsReply h.opening.setting (state_of h) call other → reply ≡ other }
@@ -125,6 +141,16 @@ pub fn histories_settle_policies()
 pub fn separation_of_duty_holds()
     ensures { (h : History) → IsSeparated (state_of h).policy }
 {}
+
+/// The numbers of sessions rise along every history: from each state to a later one the last number used does not fall, a session that was
+/// not there before has a number above all that were used before, and no session's number is above the last one used. So no number is
+/// used twice.
+pub fn session_numbers_rise_in_histories()
+    ensures rise { (h : History) (k : ℕ) → DoNumbersRise (state_at h k).policy (state_of h).policy }
+    ensures used { (h : History) → AreNumbersUsed (state_of h).policy }
+{
+    session_numbers_rise();
+}
 
 /// The headline. After each legal history a proposal is committed exactly where its session exists, each named vehicle is in the fleet,
 /// CheckAccess holds for `move` on each named vehicle and each touched customer, the base is current by the list of all commits, the move
