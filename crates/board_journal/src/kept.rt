@@ -1,0 +1,20 @@
+//! Entries as they are read from a journal.
+use crate::answer::Answer;
+use board_rules::Entry;
+use move_core::Move;
+
+/// An entry, lent by the journal.
+#[derive(Clone, Copy, Debug, Drop)]
+pub enum Kept<'a> {
+    /// A proposal, with the fields of its entry and its call. The reply stands in fewer bytes, and is `answer.reply()`.
+    Proposal {
+        desk: u32,
+        turn: u32,
+        session: u32,
+        base: u32,
+        mv: &'a Move,
+        answer: Answer,
+    },
+    /// Any entry, proposals among them.
+    Whole(&'a Entry),
+}

@@ -1,0 +1,55 @@
+//! An entry in 48 bytes.
+ghost use Rattle.std.specs.Prelude.{◌≡◌, ℕ, List, false, MatchOption};
+ghost use Rattle.board_rules.specs.declared.call.Entry.{Entry};
+ghost use Rattle.board_journal.specs.Entries.{entry_of};
+ghost use Rattle.board_journal.specs.Packed.{is_packed};
+
+use crate::answer::{Answer, short};
+use board_rules::{Call, Event, Reply};
+use move_core::Move;
+use std::mem::size_of;
+
+/// A proposal with its reply, or the index of an entry among those that stand whole. The desk is at most 65,535.
+#[derive(Clone, Copy, Debug, PartialEq, Eq)]
+pub(crate) enum Packed {
+    Proposal {
+        desk: u16,
+        turn: u32,
+        session: u32,
+        base: u32,
+        mv: Move,
+        answer: Answer,
+    },
+    Whole(u32),
+}
+
+/// The bytes of a record. The desk stands beside the tag, and the answer in eight bytes: anything larger would show here.
+const RECORD_BYTES: usize = 48;
+
+const _: () = prove!(size_of::<Packed>() <= RECORD_BYTES);
+
+impl Packed {
+    ghost use Rattle.board_journal.specs.Records.{entry_in, IsWithin};
+
+    /// The record of an event with its reply, where it fits into one: it is a proposal, and the desk and the numbers of its reply are small
+    /// enough.
+    #[inline]
+    pub(crate) fn of(event: &Event, reply: &Reply) -> Option<Packed>
+        ensures { MatchOption result (is_packed event.now reply.now ≡ false)
+            (λ packed. ((whole : List Entry) → entry_in whole packed ≡ entry_of event.now reply.now) × ((n : ℕ) → IsWithin n packed)) }
+    {
+        let Call::Propose { session, base, mv } = &event.call else {
+            return None;
+        };
+        let desk = short(event.desk)?;
+        let answer = Answer::of(*reply)?;
+        Some(Packed::Proposal {
+            desk,
+            turn: event.turn,
+            session: *session,
+            base: *base,
+            mv: *mv,
+            answer,
+        })
+    }
+}

@@ -1,0 +1,162 @@
+//! A page of the journal.
+ghost use Rattle.std.specs.Prelude.{◌≡◌, ℕ, List, ◌+◌, ◌≤◌, ◌<◌, ◌++◌, ◌∷◌, [], true, length, slice_get, Some, IfOk, OnOk};
+ghost use Rattle.std.specs.Option.{option_map};
+ghost use Rattle.board_rules.specs.declared.call.Entry.{Entry};
+ghost use Rattle.board_journal.specs.Shown.{HasRoom};
+ghost use Rattle.board_journal.specs.Entries.{entry_of};
+ghost use Rattle.board_journal.specs.Packed.{is_packed};
+ghost use Rattle.board_journal.specs.Kept.{kept_entry};
+ghost use Rattle.board_journal.specs.Records.{entry_in, IsWithin};
+
+use crate::kept::Kept;
+use crate::packed::Packed;
+use board_rules::{Entry, Event, Reply};
+use std::alloc::{AllocError, Global};
+use std::marker::Model;
+
+/// How many entries a page has room for.
+pub(crate) const PAGE_ENTRIES: usize = 4096;
+
+/// For how many whole entries a page has room at first.
+const FIRST_WHOLE: usize = 16;
+
+/// The records of up to 4,096 entries, and beside them the entries that did not fit into records.
+#[derive(Drop)]
+pub(crate) struct Page {
+    records: Vec<Packed>,
+    whole: Vec<Entry>,
+}
+
+impl Model for Page {
+    ghost use Rattle.std.specs.Prelude.{◌-◌, length, vec_capacity};
+    ghost use Rattle.board_journal.specs.Shown.{Shown};
+
+    ghost Value = { Shown };
+
+    ghost use Rattle.board_journal.specs.Records.{entries_in};
+    ghost use Rattle.board_journal.specs.Pages.{IsPage};
+
+    ghost view = { λ p. record { entries = entries_in p.whole.items p.records.items; room = 4096 - length p.records.items; spare = vec_capacity p.whole - length p.whole.items } };
+
+    ghost invariant = { λ p. IsPage p.records.items p.whole.items (vec_capacity p.records) (vec_capacity p.whole) };
+}
+
+impl Page {
+    /// An empty page.
+    pub(crate) fn new(alloc: Global) -> Result<Page, AllocError>
+        ensures entries { IfOk result (λ page. page.entries ≡ []) }
+        ensures room { IfOk result (λ page. page.room ≡ 4096) }
+        ensures spare { IfOk result (λ page. page.spare ≡ 16) }
+    {
+        let records = Vec::with_capacity(alloc, PAGE_ENTRIES)?;
+        let whole = Vec::with_capacity(alloc, FIRST_WHOLE)?;
+        Ok(Page { records, whole })
+    }
+
+    /// How many entries it has.
+    #[inline]
+    pub(crate) fn len(&self) -> usize
+        ensures len { result ≡ length self.now.entries }
+        ensures room { result + self.now.room ≡ 4096 }
+    {
+        self.records.len()
+    }
+
+    /// Makes room for one more whole entry, where there is none: the room doubles.
+    pub(crate) fn make_spare(&mut self) -> Result<(), AllocError>
+        ensures entries { self.new.entries ≡ self.old.entries }
+        ensures room { self.new.room ≡ self.old.room }
+        ensures some { OnOk result (1 ≤ self.new.spare) }
+        ensures kept { 1 ≤ self.old.spare → self.new.spare ≡ self.old.spare }
+        ensures grown { OnOk result (self.old.spare ≡ 0 → 16 ≤ self.new.spare) }
+    {
+        let len = self.whole.len();
+        if len < self.whole.capacity() {
+            return Ok(());
+        }
+        self.whole.reserve_exact(len.max(FIRST_WHOLE))
+    }
+
+    /// Appends an event with its reply.
+    #[inline]
+    pub(crate) fn push(&mut self, event: Event, reply: Reply)
+        requires { HasRoom self.old }
+        ensures entries { self.new.entries ≡ self.old.entries ++ entry_of event reply ∷ [] }
+        ensures room { self.new.room + 1 ≡ self.old.room }
+        ensures spare { self.old.spare ≤ self.new.spare + 1 }
+        ensures packed { is_packed event reply ≡ true → self.new.spare ≡ self.old.spare }
+    {
+        let packed = Packed::of(&event, &reply);
+        let Event { desk, turn, call } = event;
+        match packed {
+            Some(packed) => self.push_packed(packed),
+            None => self.push_whole(Entry {
+                desk,
+                turn,
+                call,
+                reply,
+            }),
+        }
+    }
+
+    /// Appends the record of an entry that does not stand whole.
+    #[inline]
+    fn push_packed(&mut self, packed: Packed)
+        requires room { HasRoom self.old }
+        requires within { (n : ℕ) → IsWithin n packed }
+        ensures entries { (entry : Entry) → ((whole : List Entry) → entry_in whole packed ≡ entry) → self.new.entries ≡ self.old.entries ++ entry ∷ [] }
+        ensures room { self.new.room + 1 ≡ self.old.room }
+        ensures spare { self.new.spare ≡ self.old.spare }
+    {
+        self.records.push_reserved(packed);
+    }
+
+    /// Appends an entry that stands whole.
+    fn push_whole(&mut self, entry: Entry)
+        requires { HasRoom self.old }
+        ensures entries { self.new.entries ≡ self.old.entries ++ entry ∷ [] }
+        ensures room { self.new.room + 1 ≡ self.old.room }
+        ensures spare { self.new.spare + 1 ≡ self.old.spare }
+    {
+        let place = self.whole.len() as u32;
+        self.whole.push_reserved(entry);
+        self.records.push_reserved(Packed::Whole(place));
+    }
+
+    /// The entry at an index, from 0.
+    #[inline(always)]
+    pub(crate) fn entry(&self, index: usize) -> Kept<'_>
+        requires { index < length self.now.entries }
+        ensures { slice_get self.now.entries index ≡ Some (kept_entry result) }
+    {
+        match &self.records[index] {
+            Packed::Proposal {
+                desk,
+                turn,
+                session,
+                base,
+                mv,
+                answer,
+            } => Kept::Proposal {
+                desk: u32::from(*desk),
+                turn: *turn,
+                session: *session,
+                base: *base,
+                mv,
+                answer: *answer,
+            },
+            Packed::Whole(place) => Kept::Whole(&self.whole[*place as usize]),
+        }
+    }
+
+    /// The entry at an index, or none where there are not that many.
+    #[inline]
+    pub(crate) fn get(&self, index: usize) -> Option<Kept<'_>>
+        ensures { option_map kept_entry result ≡ slice_get self.now.entries index }
+    {
+        if index >= self.len() {
+            return None;
+        }
+        Some(self.entry(index))
+    }
+}

@@ -1,0 +1,164 @@
+//! Entries of each kind, read again, and the ends of pages.
+use crate::{Journal, Kept};
+use board_rules::{Call, Denial, Entry, Event, Refusal, Reply};
+use move_core::Move;
+use std::alloc::AllocError;
+use std::process::Abort;
+use std::test::Fail;
+
+const SHIFT: Move = Move::Shift {
+    vehicle: 3,
+    place: 1,
+    length: 2,
+    to: 4,
+    at: 7,
+};
+
+fn proposal() -> Call {
+    Call::Propose {
+        session: 5,
+        base: 9,
+        mv: SHIFT,
+    }
+}
+
+fn bad_place() -> Reply {
+    Reply::Denied(Denial::BadPlace)
+}
+
+/// Appends a call of desk 64.
+fn add(journal: &mut Journal, turn: u32, call: Call, reply: Reply) -> Result<(), AllocError> {
+    journal.make_room()?;
+    journal.push(
+        Event {
+            desk: 64,
+            turn,
+            call,
+        },
+        reply,
+    );
+    Ok(())
+}
+
+/// Compares what stands at an index with the proposal of a turn and its reply.
+fn compare(rt: &impl Abort, journal: &Journal, index: usize, turn: u32, reply: Reply) {
+    match journal.get(index) {
+        Some(
+            Kept::Proposal {
+                desk: 64,
+                turn: found,
+                session: 5,
+                base: 9,
+                mv,
+                answer,
+            },
+        ) => {
+            assert_eq!(rt; found, turn);
+            assert_eq!(rt; *mv, SHIFT);
+            assert_eq!(rt; answer.reply(), reply);
+        }
+        other => panic!(rt; "{index}: {other:?}"),
+    }
+}
+
+/// Compares the turns of all entries, read one after the other, with the numbers from 1 to the last.
+fn compare_turns(rt: &impl Abort, journal: &Journal, last: u32) {
+    let mut turn = 0u32;
+    for kept in journal.iter() {
+        turn = turn.wrapping_add(1);
+        match kept {
+            Kept::Proposal { turn: found, .. } => assert_eq!(rt; found, turn),
+            Kept::Whole(entry) => panic!(rt; "{turn}: {entry:?}"),
+        }
+    }
+    assert_eq!(rt; turn, last);
+}
+
+#[test]
+fn keeps_each_answer_to_a_proposal(rt: HostRuntime) -> Result<(), Fail> {
+    let denials = [
+        Denial::NoSession,
+        Denial::BadVehicle,
+        Denial::AccessVehicle(65535),
+        Denial::Ahead,
+        Denial::Stale(2),
+        Denial::BadPlace,
+        Denial::AccessCustomer(3, 1),
+        Denial::Frozen(4),
+        Denial::Pinned(1000, 65535),
+        Denial::Bound(4, 8),
+    ];
+    let mut journal = Journal::new(rt.alloc())?;
+    add(&mut journal, 1, proposal(), Reply::Committed(4294967295))?;
+    for denial in denials {
+        add(&mut journal, 2, proposal(), Reply::Denied(denial))?;
+    }
+    compare(&rt, &journal, 0, 1, Reply::Committed(4294967295));
+    let mut index = 0usize;
+    for denial in denials {
+        index = index.wrapping_add(1);
+        compare(&rt, &journal, index, 2, Reply::Denied(denial));
+    }
+    Ok(())
+}
+
+#[test]
+fn keeps_whole_what_fits_no_record(rt: HostRuntime) -> Result<(), Fail> {
+    let far = Reply::Denied(Denial::Bound(65536, 1));
+    let refused = Reply::Refused(Refusal::NotPlaced);
+    let mut journal = Journal::new(rt.alloc())?;
+    add(&mut journal, 1, proposal(), far)?;
+    let pin = Call::Pin {
+        session: 1,
+        customer: 7,
+    };
+    add(&mut journal, 2, pin, refused)?;
+    match journal.get(0) {
+        Some(
+            Kept::Whole(
+                Entry {
+                    desk: 64,
+                    turn: 1,
+                    call: Call::Propose { mv, .. },
+                    reply,
+                },
+            ),
+        ) => {
+            assert_eq!(rt; *mv, SHIFT);
+            assert_eq!(rt; *reply, far);
+        }
+        other => panic!(rt; "{other:?}"),
+    }
+    match journal.get(1) {
+        Some(
+            Kept::Whole(
+                Entry {
+                    desk: 64,
+                    turn: 2,
+                    call: Call::Pin {
+                        session: 1,
+                        customer: 7,
+                    },
+                    reply,
+                },
+            ),
+        ) => assert_eq!(rt; *reply, refused),
+        other => panic!(rt; "{other:?}"),
+    }
+    Ok(())
+}
+
+#[test]
+fn goes_on_over_pages(rt: HostRuntime) -> Result<(), Fail> {
+    let mut journal = Journal::new(rt.alloc())?;
+    for turn in 1..=8193 {
+        add(&mut journal, turn, proposal(), bad_place())?;
+    }
+    assert_eq!(rt; journal.len(), 8193);
+    compare(&rt, &journal, 4095, 4096, bad_place());
+    compare(&rt, &journal, 4096, 4097, bad_place());
+    compare(&rt, &journal, 8192, 8193, bad_place());
+    assert!(rt; journal.get(8193).is_none());
+    compare_turns(&rt, &journal, 8193);
+    Ok(())
+}
