@@ -1,5 +1,5 @@
 -- A core keeps its history after one more call, and what it holds is ready for the next judgement.
-use Rattle.std.proofs.Common.{◌≡◌, ℕ, zero, suc, Some, ◌+◌, ◌-◌, ◌<◌, ◌≤◌, true, List, [], ◌∷◌, ◌++◌, length, refl, sym, ap, ◌∙◌, subst, arith, inl, inr, length-set}
+use Rattle.std.proofs.Common.{◌≡◌, ℕ, zero, suc, Some, ◌+◌, ◌-◌, ◌<◌, ◌≤◌, true, List, [], ◌∷◌, ◌++◌, length, refl, sym, ap, ◌∙◌, subst, arith, inl, inr, length-set, length-append}
 use Rattle.std.specs.Prelude.{◌==◌, slice_get, slice_index, slice_set, replicate, cond, if◌then◌else◌}
 use Rattle.std.proofs.lemmas.Bool.{and_parts, leb-true, cases_eq, eq-eqb, ne_eqb, eqb-true}
 use Rattle.std.proofs.lemmas.List.{length-replicate, get_or-set_same, get_or-set_other}
@@ -48,19 +48,16 @@ holds_tried s old new state tries holds = subst (λ (h : HeldState). Holds s h s
   cache = holds.cache;
 })
 
--- the entries and the free room are together within the limit where the length and the capacity are
-pub room_within : (n capacity most : ℕ) → n ≤ most → capacity ≤ most → n + (capacity - n) ≤ most
-room_within n capacity most few small = omega arith
-
 -- a core with the same journal and turns, which holds the same state, keeps its history too
 pub kept_same : (s : Setting) (old new : CoreState) → IsKept s old → new.journal ≡ old.journal → new.turns ≡ old.turns → Tries old.held new.held
-    → length new.journal + new.room ≤ s.max_events → IsKept s new
-kept_same s old new kept journal turns tries room =
-    let same : new ≡ record old { held = new.held; room = new.room } = λ i. record { held = new.held; journal = journal i; turns = turns i; room = new.room } in
+    → IsKept s new
+kept_same s old new kept journal turns tries =
+    let same : new ≡ record old { held = new.held; room = new.room; spare = new.spare } =
+    λ i. record { held = new.held; journal = journal i; turns = turns i; room = new.room; spare = new.spare } in
     subst (λ (c : CoreState). IsKept s c) (sym same) (record {
       legal = kept.legal;
       held = holds_tried s old.held new.held (state_after s old.journal) tries kept.held;
-      room = subst (λ (es : List Entry). length es + new.room ≤ s.max_events) journal room;
+      few = kept.few;
       turns = kept.turns;
       some_desk = kept.some_desk;
       few_desks = kept.few_desks;
@@ -73,8 +70,8 @@ pub kept_after : (s : Setting) (core new : CoreState) (e : Entry)
     → ((desk : ℕ) (es : List Entry) (x : Entry) → turns_of desk (es ++ x ∷ []) ≡ turns_of desk es + (if x.desk == desk then 1 else 0))
     → IsKept s core → length core.journal < s.max_events → IsNext (record { setting = s; desks = length core.turns }) core.journal e
     → new.journal ≡ core.journal ++ e ∷ [] → new.turns ≡ slice_set core.turns (e.desk - 1) e.turn
-    → Holds s new.held (after (state_after s core.journal) e.call e.reply) → length new.journal + new.room ≤ s.max_events → IsKept s new
-kept_after s core new e legal_more state_more turns_more kept space next journal turns holds room =
+    → Holds s new.held (after (state_after s core.journal) e.call e.reply) → IsKept s new
+kept_after s core new e legal_more state_more turns_more kept space next journal turns holds =
     let o : Opening = record { setting = s; desks = length core.turns } in
     let same_desks : length new.turns ≡ length core.turns = ap length turns ∙ length-set core.turns (e.desk - 1) e.turn in
     let low = next.desk_low in
@@ -83,7 +80,7 @@ kept_after s core new e legal_more state_more turns_more kept space next journal
       legal = subst (λ (n : ℕ). IsLegal (record { opening = record { setting = s; desks = n }; entries = new.journal })) (sym same_desks)
           (subst (λ (es : List Entry). IsLegal (record { opening = o; entries = es })) (sym journal) (legal_more o core.journal e kept.legal next));
       held = subst (λ (x : BoardState). Holds s new.held x) (sym (ap (state_after s) journal ∙ state_more s core.journal e)) holds;
-      room = room;
+      few = let more = ap length journal ∙ length-append core.journal (e ∷ []) in omega (arith, space, more);
       turns = λ desk from to.
           let there : desk ≤ length core.turns = omega arith in
           let old : slice_index core.turns (desk - 1) ≡ turns_of desk core.journal = kept.turns desk from there in
@@ -136,14 +133,14 @@ makes_of s old new p of same_journal same_turns turn space reply will =
     }
 
 -- a core that was just opened
-pub kept_opened : (s : Setting) (core : CoreState) (desks : ℕ) → IsOpening s core.held → core.journal ≡ [] → core.turns ≡ replicate desks 0 → core.room ≡ 0 → 1 ≤ desks → desks ≤ 64 → IsKept s core
+pub kept_opened : (s : Setting) (core : CoreState) (desks : ℕ) → IsOpening s core.held → core.journal ≡ [] → core.turns ≡ replicate desks 0 → 1 ≤ desks → desks ≤ 64 → IsKept s core
 unfolding IsOpening
-kept_opened s core desks opening journal turns room low high =
+kept_opened s core desks opening journal turns low high =
     let many : length core.turns ≡ desks = ap length turns ∙ length-replicate desks 0 in
     record {
       legal = λ k e at. let none : slice_get (let es : List Entry = [] in es) k ≡ Some e = subst (λ (es : List Entry). slice_get es k ≡ Some e) journal at in absurd cc;
       held = subst (λ (es : List Entry). Holds s core.held (state_after s es)) (sym journal) opening;
-      room = subst (λ (es : List Entry). length es + core.room ≤ s.max_events) (sym journal) (omega (arith, room));
+      few = subst (λ (es : List Entry). length es ≤ s.max_events) (sym journal) (omega arith);
       turns = λ desk from to. ap (λ xs. slice_index xs (desk - 1)) turns ∙ (zeros desks (desk - 1) ∙ sym (ap (turns_of desk) journal));
       some_desk = subst (λ (n : ℕ). 1 ≤ n) (sym many) low;
       few_desks = subst (λ (n : ℕ). n ≤ 64) (sym many) high;

@@ -24,5 +24,6 @@ pub record IsFitting (p : PreparedState) : Type 0 where
   pub judged : p.judged.of ≡ p.of.held
   pub reply : p.judged.reply ≡ p.entry.reply
   pub room : 0 < p.of.room
+  pub spare : 0 < p.of.spare
   pub desk_low : 1 ≤ p.entry.desk
   pub desk_high : p.entry.desk ≤ length p.of.turns

@@ -1,5 +1,5 @@
 //! A board: a setup and the core that was opened with it.
-ghost use Rattle.std.specs.Prelude.{◌≡◌, ◌≤◌, ◌↔◌, ◌∷◌, ◌++◌, [], true, false, length, Some, None, IfOk, OnOk, IfErr, OnErr, IsErrOf};
+ghost use Rattle.std.specs.Prelude.{◌≡◌, ◌≢◌, ◌≤◌, ◌↔◌, ◌∷◌, ◌++◌, [], true, false, length, Some, None, IfOk, OnOk, IfErr, OnErr, IsErrOf};
 ghost use Rattle.std.specs.Result.{result_err};
 ghost use Rattle.dimension_core.specs.Setup.{setting};
 ghost use Rattle.plan_core.specs.Plan.{route_at};
@@ -11,15 +11,15 @@ ghost use Rattle.board_rules.specs.declared.reply.Fault.{Fault};
 ghost use Rattle.board_rules.specs.declared.reply.AskFault.{AskFault};
 ghost use Rattle.board_rules.specs.Good.{state_of};
 ghost use Rattle.board_rules.specs.History.{is_turn, turns_of, IsLegal};
+ghost use Rattle.board_rules.specs.Delta.{spot_in};
 ghost use Rattle.board_rules.specs.Listing.{IsListing};
 ghost use Rattle.board_rules.specs.Questions.{MayAsk, list_fault, audit_fault, review_fault, review_of, check_of};
-ghost use Rattle.board_state.specs.Work.{WorksAtMost, call_asks, call_probes, reply_asks};
+ghost use Rattle.board_state.specs.Work.{WorksAtMost, IsWorkOf, call_asks, call_probes};
 
 use crate::body::Core;
 use crate::prepared::Prepared;
-use board_rules::{
-    AskFault, Entry, Event, Fault, Reply, Review, Row, legal_histories_leave_good_states,
-};
+use board_journal::Journal;
+use board_rules::{AskFault, Event, Fault, Reply, Review, Row};
 use callback_store::Meter;
 use dimension_core::Setup;
 use plan_core::Route;
@@ -58,11 +58,10 @@ impl Board {
         ensures opening { (history self.new).opening ≡ (history self.old).opening }
         ensures out_of_turn { IsErrOf result Fault.OutOfTurn ↔ (is_turn (history self.old).opening.desks (history self.old).entries event.desk event.turn ≡ false) }
         ensures full { IsErrOf result Fault.Full ↔ ((is_turn (history self.old).opening.desks (history self.old).entries event.desk event.turn ≡ true) × (length (history self.old).entries ≡ (history self.old).opening.setting.max_events)) }
+        ensures untaken { IfErr result (λ fault. fault ≢ Fault.NoMemory → meter.new ≡ meter.old) }
         ensures err { OnErr result (history self.new ≡ history self.old) }
         ensures legal { IsLegal (history self.new) }
-        ensures work { IfOk result (λ reply. WorksAtMost meter.old meter.new
-            (reply_asks (call_asks (history self.old).opening.setting (state_of (history self.old)).routes event.call) reply)
-            (call_probes (state_of (history self.old)).pins (state_of (history self.old)).routes event.call)) }
+        ensures work { IfOk result (λ reply. IsWorkOf (history self.old).opening.setting (state_of (history self.old)).pins (state_of (history self.old)).routes event.call reply meter.old meter.new) }
         ensures most { WorksAtMost meter.old meter.new
             (call_asks (history self.old).opening.setting (state_of (history self.old)).routes event.call)
             (call_probes (state_of (history self.old)).pins (state_of (history self.old)).routes event.call) }
@@ -79,9 +78,8 @@ impl Board {
         ensures makes { IfOk result (Makes (history self.old).opening.setting) }
         ensures out_of_turn { IsErrOf result Fault.OutOfTurn ↔ (is_turn (history self.old).opening.desks (history self.old).entries event.desk event.turn ≡ false) }
         ensures full { IsErrOf result Fault.Full ↔ ((is_turn (history self.old).opening.desks (history self.old).entries event.desk event.turn ≡ true) × (length (history self.old).entries ≡ (history self.old).opening.setting.max_events)) }
-        ensures work { IfOk result (λ prepared. WorksAtMost meter.old meter.new
-            (reply_asks (call_asks (history self.old).opening.setting (state_of (history self.old)).routes event.call) prepared.entry.reply)
-            (call_probes (state_of (history self.old)).pins (state_of (history self.old)).routes event.call)) }
+        ensures untaken { IfErr result (λ fault. fault ≢ Fault.NoMemory → meter.new ≡ meter.old) }
+        ensures work { IfOk result (λ prepared. IsWorkOf (history self.old).opening.setting (state_of (history self.old)).pins (state_of (history self.old)).routes event.call prepared.entry.reply meter.old meter.new) }
         ensures most { WorksAtMost meter.old meter.new
             (call_asks (history self.old).opening.setting (state_of (history self.old)).routes event.call)
             (call_probes (state_of (history self.old)).pins (state_of (history self.old)).routes event.call) }
@@ -92,9 +90,10 @@ impl Board {
     /// Puts a judged event in place: it is journaled with its reply. It takes no memory.
     ///
     /// The contract requires that the board's core still is, as contracts see it, the one for which the event was judged (`of`), and that
-    /// the entry may come next (`makes`). The last `prepare` promises both of what it answered. The core that it leaves may differ from the
-    /// one before in what was tried on the spare policy and in the room for growth, also where it answers a fault. So pass what the last
-    /// `prepare` of this very board answered, with no `prepare`, `settle` or `apply` in between.
+    /// the entry may come next (`makes`). The last `prepare` promises both of what it answered. Contracts see of a core what it holds, its
+    /// journal, its turns, what was tried on the spare policy and the room for growth, and a later `prepare` may change the last two also
+    /// where it answers a fault. So pass what the last `prepare` of this very board answered, with no `prepare`, `settle` or `apply` in
+    /// between.
     pub fn settle(&mut self, prepared: Prepared) -> Reply
         requires of { prepared.of ≡ self.old.core }
         requires makes { Makes (history self.old).opening.setting prepared }
@@ -119,8 +118,8 @@ impl Board {
     }
 
     /// The journal, lent to a session that may `audit` the board. Faults, in order: `NoSession`, `NoAccess`. It takes no memory.
-    pub fn audit(&self, session: u32) -> Result<&[Entry], AskFault>
-        ensures entries { IfOk result (λ entries. entries.now ≡ (history self.now).entries) }
+    pub fn audit(&self, session: u32) -> Result<&Journal, AskFault>
+        ensures entries { IfOk result (λ journal. journal.now.entries ≡ (history self.now).entries) }
         ensures asked { result_err result ≡ audit_fault (state_of (history self.now)) session }
     {
         self.core.audit(session)
@@ -161,7 +160,9 @@ impl Board {
 
     /// How many desks there are: 1 to 64.
     pub fn desks(&self) -> u32
-        ensures { result ≡ (history self.now).opening.desks }
+        ensures value { result ≡ (history self.now).opening.desks }
+        ensures low { 1 ≤ result }
+        ensures high { result ≤ 64 }
     {
         self.core.desks()
     }
@@ -170,14 +171,16 @@ impl Board {
     pub fn turns(&self, desk: u32) -> u32
         requires low { 1 ≤ desk }
         requires high { desk ≤ (history self.now).opening.desks }
-        ensures { result ≡ turns_of desk (history self.now).entries }
+        ensures value { result ≡ turns_of desk (history self.now).entries }
+        ensures few { result ≤ (history self.now).opening.setting.max_events }
     {
         self.core.turns(desk)
     }
 
     /// How many entries the journal has.
     pub fn events(&self) -> usize
-        ensures { result ≡ length (history self.now).entries }
+        ensures value { result ≡ length (history self.now).entries }
+        ensures few { result ≤ (history self.now).opening.setting.max_events }
     {
         self.core.events()
     }
@@ -191,13 +194,19 @@ impl Board {
         self.core.route(vehicle)
     }
 
+    /// The vehicle and the place of a customer, if it stands somewhere. It may be any number.
+    pub fn place_of(&self, customer: u32) -> Option<(u32, u32)>
+        ensures { result ≡ spot_in (state_of (history self.now)).routes customer }
+    {
+        self.core.place_of(customer)
+    }
+
     /// The vehicle to which a customer is pinned, if any. The customer is 1 to the number of customers.
     pub fn pinned(&self, customer: u32) -> Option<u32>
         requires low { 1 ≤ customer }
         requires high { customer ≤ (history self.now).opening.setting.customers }
         ensures { result ≡ pin_of (state_of (history self.now)).pins customer }
     {
-        legal_histories_leave_good_states();
         self.core.pinned(customer)
     }
 
@@ -207,7 +216,6 @@ impl Board {
         requires high { vehicle ≤ (history self.now).opening.setting.vehicles }
         ensures { result ≡ front_of (state_of (history self.now)).pins vehicle }
     {
-        legal_histories_leave_good_states();
         self.core.frozen(vehicle)
     }
 }

@@ -1,17 +1,18 @@
 //! The data of a board: what is held of its state, its journal and the turns of its desks.
-ghost use Rattle.std.specs.Prelude.{◌≡◌, ◌≤◌, ◌<◌, ◌↔◌, ◌∷◌, ◌++◌, [], true, false, length, vec_len, vec_capacity, IfOk, OnOk, IsErrOf, MatchOption};
+ghost use Rattle.std.specs.Prelude.{◌≡◌, ◌≢◌, ◌≤◌, ◌<◌, ◌↔◌, ◌∷◌, ◌++◌, [], true, false, length, IfOk, IfErr, OnOk, IsErrOf, MatchOption};
 ghost use Rattle.dimension_core.specs.Setup.{setting};
 ghost use Rattle.dimension_core.specs.Setting.{Setting};
 ghost use Rattle.board_rules.specs.declared.reply.Fault.{Fault};
 ghost use Rattle.board_rules.specs.History.{is_turn, state_after};
-ghost use Rattle.board_state.specs.Work.{WorksAtMost, call_asks, call_probes, reply_asks};
+ghost use Rattle.board_state.specs.Work.{WorksAtMost, IsWorkOf, call_asks, call_probes};
 ghost use Rattle.board_core.specs.Kept.{IsKept, history_of, entry_of};
 ghost use Rattle.board_core.specs.Prepared.{Makes};
 ghost use Rattle.board_core.specs.Taking.{IsTaken, IsDue};
 
 use crate::prepared::Prepared;
+use board_journal::Journal;
 use board_rules::{
-    Call, Entry, Event, Fault, Reply, histories_grow_by_entries, legal_histories_leave_good_states,
+    Event, Fault, Reply, histories_grow_by_entries, legal_histories_leave_good_states,
 };
 use board_state::State;
 use callback_store::Meter;
@@ -23,7 +24,7 @@ use std::snapshot::Snapshot;
 /// All of a board except its setup, which is lent to each call.
 pub struct Core {
     pub(crate) state: State,
-    pub(crate) journal: Vec<Entry>,
+    pub(crate) journal: Journal,
     pub(crate) turns: Vec<u32>,
 }
 
@@ -39,12 +40,11 @@ impl Drop for Core {
 }
 
 impl Model for Core {
-    ghost use Rattle.std.specs.Prelude.{◌-◌, length, vec_capacity};
     ghost use Rattle.board_core.specs.Kept.{CoreState};
 
     ghost Value = { CoreState };
 
-    ghost view = { λ a. record { held = a.state; journal = a.journal.items; turns = a.turns.items; room = vec_capacity a.journal - length a.journal.items } };
+    ghost view = { λ a. record { held = a.state; journal = a.journal.entries; turns = a.turns.items; room = a.journal.room; spare = a.journal.spare } };
 }
 
 impl Core {
@@ -59,7 +59,7 @@ impl Core {
         let turns = vec![in alloc; 0u32; desks as usize]?;
         Ok(Core {
             state,
-            journal: Vec::new(alloc),
+            journal: Journal::new(alloc)?,
             turns,
         })
     }
@@ -107,9 +107,8 @@ impl Core {
         ensures makes { IfOk result (Makes (setting setup.now)) }
         ensures out_of_turn { IsErrOf result Fault.OutOfTurn ↔ (is_turn (length self.old.turns) self.old.journal event.desk event.turn ≡ false) }
         ensures full { IsErrOf result Fault.Full ↔ ((is_turn (length self.old.turns) self.old.journal event.desk event.turn ≡ true) × (length self.old.journal ≡ (setting setup.now).max_events)) }
-        ensures work { IfOk result (λ prepared. WorksAtMost meter.old meter.new
-            (reply_asks (call_asks (setting setup.now) (state_after (setting setup.now) self.old.journal).routes event.call) prepared.entry.reply)
-            (call_probes (state_after (setting setup.now) self.old.journal).pins (state_after (setting setup.now) self.old.journal).routes event.call)) }
+        ensures untaken { IfErr result (λ fault. fault ≢ Fault.NoMemory → meter.new ≡ meter.old) }
+        ensures work { IfOk result (λ prepared. IsWorkOf (setting setup.now) (state_after (setting setup.now) self.old.journal).pins (state_after (setting setup.now) self.old.journal).routes event.call prepared.entry.reply meter.old meter.new) }
         ensures most { WorksAtMost meter.old meter.new
             (call_asks (setting setup.now) (state_after (setting setup.now) self.old.journal).routes event.call)
             (call_probes (state_after (setting setup.now) self.old.journal).pins (state_after (setting setup.now) self.old.journal).routes event.call) }
@@ -138,17 +137,15 @@ impl Core {
         ensures of { IfOk result (λ prepared. prepared.of ≡ self.new) }
         ensures entry { IfOk result (λ prepared. prepared.entry ≡ entry_of event prepared.entry.reply) }
         ensures makes { IfOk result (Makes (setting setup.now)) }
-        ensures work { IfOk result (λ prepared. WorksAtMost meter.old meter.new
-            (reply_asks (call_asks (setting setup.now) (state_after (setting setup.now) self.old.journal).routes event.call) prepared.entry.reply)
-            (call_probes (state_after (setting setup.now) self.old.journal).pins (state_after (setting setup.now) self.old.journal).routes event.call)) }
+        ensures work { IfOk result (λ prepared. IsWorkOf (setting setup.now) (state_after (setting setup.now) self.old.journal).pins (state_after (setting setup.now) self.old.journal).routes event.call prepared.entry.reply meter.old meter.new) }
         ensures most { WorksAtMost meter.old meter.new
             (call_asks (setting setup.now) (state_after (setting setup.now) self.old.journal).routes event.call)
             (call_probes (state_after (setting setup.now) self.old.journal).pins (state_after (setting setup.now) self.old.journal).routes event.call) }
     {
         legal_histories_leave_good_states();
-        let most = setup.max_events();
+        let _most = setup.max_events();
         let alloc = *self.journal.allocator();
-        make_room(&mut self.journal, most)?;
+        self.journal.make_room()?;
         let judged = self.state.prepare(alloc, setup, &event.call, meter)?;
         let Event { desk, turn, call } = event;
         Ok(Prepared {
@@ -183,41 +180,9 @@ impl Core {
         let reply = self.state.settle(judged);
         self.turns[desk as usize - 1] = turn;
         let answer = copy_of(&reply);
-        record(&mut self.journal, Event { desk, turn, call }, reply);
+        self.journal.push(Event { desk, turn, call }, reply);
         answer
     }
-}
-
-/// For how many entries a journal has room at first. A list this large grows by moving its pages, and is not copied.
-const FIRST_ENTRIES: usize = 4096;
-
-/// Makes room for one more entry: the journal doubles, from 4,096 entries on, and never has room for more than `most`.
-pub(crate) fn make_room(journal: &mut Vec<Entry>, most: u32) -> Result<(), AllocError>
-    requires { vec_len journal.old < most }
-    ensures items { journal.new.items ≡ journal.old.items }
-    ensures room { OnOk result (vec_len journal.new < vec_capacity journal.new) }
-    ensures most { vec_capacity journal.old ≤ most → vec_capacity journal.new ≤ most }
-{
-    let len = journal.len();
-    if len < journal.capacity() {
-        return Ok(());
-    }
-    journal.reserve_exact(len.max(FIRST_ENTRIES).min(most as usize - len))
-}
-
-/// Appends an event with its reply, where there is room for it.
-#[inline(always)]
-pub(crate) fn record(journal: &mut Vec<Entry>, event: Event, reply: Reply)
-    requires { vec_len journal.old < vec_capacity journal.old }
-    ensures items { journal.new.items ≡ journal.old.items ++ entry_of event reply ∷ [] }
-    ensures capacity { vec_capacity journal.new ≡ vec_capacity journal.old }
-{
-    journal.push_reserved(Entry {
-        desk: event.desk,
-        turn: event.turn,
-        call: event.call,
-        reply,
-    });
 }
 
 /// A copy of the reply.

@@ -11,6 +11,7 @@ mod readers;
 mod reviews;
 
 pub use board::Board;
+pub use board_journal::{Answer, Journal, Kept};
 pub use board_rules::{
     AskFault, Call, Delta, Denial, Entry, Event, Fault, Refusal, Reply, Review, Row,
 };

@@ -1,17 +1,21 @@
 //! Judged events.
 ghost use Rattle.std.specs.Prelude.{IfOk};
 ghost use Rattle.dimension_core.specs.Setting.{Setting};
-ghost use Rattle.board_rules.specs.Delta.{IsDeltaOf};
+ghost use Rattle.board_rules.specs.Delta.{IsDeltaOf, AreRoutesOf};
 ghost use Rattle.board_rules.specs.History.{state_after};
+ghost use Rattle.board_rules.specs.Step.{after};
+ghost use Rattle.plan_core.specs.Plan.{changes_of};
 ghost use Rattle.board_core.specs.Kept.{IsKept};
 ghost use Rattle.board_core.specs.Prepared.{Makes};
 
 use crate::body::Core;
 use board_rules::{Call, Delta, legal_histories_leave_good_states};
 use board_state::Judged;
+use plan_core::Route;
 use std::alloc::AllocError;
 use std::marker::Model;
 use std::snapshot::Snapshot;
+use std::sync::Arc;
 
 /// A judged event that is not yet in place, with the core for which it was judged.
 #[derive(Drop)]
@@ -42,5 +46,14 @@ impl Prepared {
     {
         legal_histories_leave_good_states();
         self.judged.delta()
+    }
+
+    /// The new routes of the vehicles whose routes the entry changes, shared with the judgement: one or two where it is a commit, and none
+    /// for every other entry. No route is walked or copied.
+    pub fn new_routes(&self) -> Result<Vec<(u32, Arc<Route>)>, AllocError>
+        ensures { (s : Setting) → IsKept s self.now.of → Makes s self.now → IfOk result (λ routes. AreRoutesOf (state_after s self.now.of.journal)
+            (after (state_after s self.now.of.journal) self.now.entry.call self.now.entry.reply) (changes_of routes.items)) }
+    {
+        self.judged.new_routes()
     }
 }

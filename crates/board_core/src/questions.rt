@@ -12,7 +12,8 @@ ghost use Rattle.board_core.specs.Kept.{IsKept};
 use crate::body::Core;
 use crate::listing::rows;
 use crate::reviews::names;
-use board_rules::{AskFault, Entry, Review, Row};
+use board_journal::Journal;
+use board_rules::{AskFault, Review, Row};
 use dimension_core::Setup;
 use rbac_core::{Object, Operation};
 use separation_core::Name;
@@ -41,13 +42,13 @@ impl Core {
     }
 
     /// The journal, lent to a session that may `audit` the board. Faults, in order: `NoSession`, `NoAccess`. It takes no memory.
-    pub fn audit(&self, session: u32) -> Result<&[Entry], AskFault>
-        ensures entries { IfOk result (λ entries. entries.now ≡ self.now.journal) }
+    pub fn audit(&self, session: u32) -> Result<&Journal, AskFault>
+        ensures entries { IfOk result (λ journal. journal.now.entries ≡ self.now.journal) }
         ensures asked { (s : Setting) → IsKept s self.now → result_err result ≡ audit_fault (state_after s self.now.journal) session }
     {
         match self.audit_fault(session) {
             Some(fault) => Err(fault),
-            None => Ok(self.journal.as_slice()),
+            None => Ok(&self.journal),
         }
     }
 

@@ -10,3 +10,4 @@ pub mod Spots
 pub mod Releases
 pub mod Deltas
 pub mod Naming
+pub mod NewRoutes

@@ -1,8 +1,8 @@
 -- Pins that a session may override: judging the touched customers is judging all customers.
 use Rattle.std.proofs.Common.{◌≡◌, ℕ, zero, suc, ◌+◌, ◌<◌, ◌≤◌, ◌⊎◌, inl, inr, Bool, true, false, List, [], ◌∷◌, ◌++◌, length, drop, get_or, Option, Some, None, refl, sym, ap, subst, ◌∙◌, arith, ⊎_elim, All, length-append}
-use Rattle.std.specs.Prelude.{slice_get, is_some, is_none, if◌then◌else◌}
+use Rattle.std.specs.Prelude.{slice_get, is_some, is_none, ◌&&◌, if◌then◌else◌, count_by}
 use Rattle.std.proofs.lemmas.Bool.{both_ways, cases_order}
-use Rattle.std.proofs.lemmas.List.Sums.{sum_by-drop_more}
+use Rattle.std.proofs.lemmas.List.Sums.{sum_by-cons, sum_by-drop_more}
 use Rattle.std.proofs.lemmas.Option.{get_or_from_slice_get, slice_get_within}
 use Rattle.plan_core.specs.declared.touch.Touch.{Touch}
 use Rattle.pin_core.specs.Pins.{PinState, IsHeld, StandsOn, DoPinsHold, pin_of}
@@ -121,3 +121,29 @@ none_freed pins others touched n known holds = record {
 pub leaving_left : (pins : PinState) (others : List (List ℕ)) (touched : List Touch) (i : ℕ) (d : Touch) → i < length touched
     → leaving pins others (drop i touched) ≡ (if is_leaving pins others (get_or touched i d).customer then 1 else 0) + leaving pins others (drop (i + 1) touched)
 leaving_left pins others touched i d h = sum_by-drop_more _ touched i d h
+
+-- a customer that stays is not leaving
+pub stays_test : (pins : PinState) (others : List (List ℕ)) (c : ℕ) → IsHeld pins others c
+    → ((v : ℕ) → StandsOn others c v → pin_of pins c ≡ Some v → pin_of (after_commit others pins) c ≡ Some v) → is_leaving pins others c ≡ false
+stays_test pins others c held kept = split (pin_of pins c) refl
+  where
+    split : (o : Option ℕ) → pin_of pins c ≡ o → is_leaving pins others c ≡ false
+    split None e = rw e refl
+    split (Some v) e = rw (e, kept v (held v e) e) refl
+
+-- where the pins hold in other routes, nobody is leaving
+no_pin : (o : Option ℕ) → (is_some o && is_none o) ≡ false
+no_pin None = refl
+no_pin (Some v) = refl
+
+count_none : (pins : PinState) (touched : List Touch) → count_by (λ t. is_some (pin_of pins t.customer) && is_none (pin_of pins t.customer)) touched ≡ 0
+count_none pins [] = refl
+count_none pins (t ∷ ts) =
+    let more = sum_by-cons (λ (u : Touch). if is_some (pin_of pins u.customer) && is_none (pin_of pins u.customer) then 1 else 0) t ts in
+    let none : ◌≡◌ {A = ℕ} (if is_some (pin_of pins t.customer) && is_none (pin_of pins t.customer) then 1 else 0) 0 = ap (λ (b : Bool). if b then 1 else 0) (no_pin (pin_of pins t.customer)) in
+    let rest = count_none pins ts in
+    omega (arith, more, none, rest)
+
+pub none_leaving : (pins : PinState) (others : List (List ℕ)) (touched : List Touch) → after_commit others pins ≡ pins → leaving pins others touched ≡ 0
+none_leaving pins others touched e =
+    ap (λ (p : PinState). count_by (λ t. is_some (pin_of pins t.customer) && is_none (pin_of p t.customer)) touched) e ∙ count_none pins touched

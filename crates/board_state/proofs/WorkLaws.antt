@@ -1,42 +1,239 @@
 -- Work that follows other work.
-use Rattle.std.proofs.Common.{◌≡◌, ℕ, ◌+◌, ◌≤◌, ◌∙◌, refl, arith, min}
+use Rattle.std.proofs.Common.{◌≡◌, ℕ, ◌+◌, ◌≤◌, ◌∙◌, refl, ap, subst, arith, min, Result, Ok, Err, Option, Some, None}
+use Rattle.std.specs.Prelude.{IfErr, IfNone}
 use Rattle.callback_store.specs.declared.meter.Meter.{Meter}
-use Rattle.callback_store.specs.Meter.{AsksAtMost, after_probe}
-use Rattle.board_state.specs.Work.{WorksAtMost}
+use Rattle.callback_store.specs.Meter.{Asks, after_probe}
+use Rattle.board_rules.specs.declared.reply.Denial.{Denial}
+use Rattle.board_rules.specs.declared.reply.Denial.TheVariants.{NoSession, BadVehicle, AccessVehicle, Ahead, Stale, BadPlace, AccessCustomer, Frozen, Pinned, Bound}
+use Rattle.board_state.specs.declared.stop.Stop.{Stop}
+use Rattle.board_state.specs.declared.stop.Stop.TheVariants.{Denied, NoMemory}
+use Rattle.board_state.specs.Verdicts.{ComesEarly, IsLate, asks_least, asks_most, probes_least, probes_most, early_least, stop_asks, stop_least, stop_most}
+use Rattle.board_state.specs.Work.{Works, WorksJust, WorksAtMost, denial_least, denial_most, denial_asks}
 
 -- nothing was counted
 pub idle : (m : Meter) (asks probes : ℕ) → WorksAtMost m m asks probes
-idle m asks probes = record { walks = refl; asks_low = omega arith; asks_high = omega arith; probes_low = omega arith; probes_high = omega arith }
+idle m asks probes = record {
+  walks = refl;
+  asks_low = omega arith;
+  asks_least = omega arith;
+  asks_high = omega arith;
+  probes_low = omega arith;
+  probes_least = omega arith;
+  probes_high = omega arith;
+}
 
--- a limit may be wider
-pub wider : (old new : Meter) (asks probes more_asks more_probes : ℕ) → WorksAtMost old new asks probes → asks ≤ more_asks → probes ≤ more_probes → WorksAtMost old new more_asks more_probes
-wider old new asks probes more_asks more_probes h few_asks few_probes =
-    record {
-      walks = h.walks;
-      asks_low = h.asks_low;
-      asks_high = omega (arith, h.asks_high);
-      probes_low = h.probes_low;
-      probes_high = omega (arith, h.probes_high);
-    }
+pub just_idle : (m : Meter) → WorksJust m m 0 0
+just_idle m = idle m 0 0
 
--- two pieces of work, one after the other, count at most what both may count together
-pub then : (a b c : Meter) (asks probes more_asks more_probes all_asks all_probes : ℕ) → WorksAtMost a b asks probes → WorksAtMost b c more_asks more_probes
+-- bounds may be wider
+pub within : (old new : Meter) (i asks j probes k more_asks l more_probes : ℕ) → Works old new i asks j probes → k ≤ i → asks ≤ more_asks → l ≤ j → probes ≤ more_probes
+    → Works old new k more_asks l more_probes
+within old new i asks j probes k more_asks l more_probes h less_asks few_asks less_probes few_probes = record {
+  walks = h.walks;
+  asks_low = h.asks_low;
+  asks_least = omega (arith, h.asks_least);
+  asks_high = omega (arith, h.asks_high);
+  probes_low = h.probes_low;
+  probes_least = omega (arith, h.probes_least);
+  probes_high = omega (arith, h.probes_high);
+}
+
+pub wider : {i j : ℕ} (old new : Meter) (asks probes more_asks more_probes : ℕ) → Works old new i asks j probes → asks ≤ more_asks → probes ≤ more_probes
+    → WorksAtMost old new more_asks more_probes
+wider {i} {j} old new asks probes more_asks more_probes h few_asks few_probes =
+    within old new i asks j probes 0 more_asks 0 more_probes h (omega arith) few_asks (omega arith) few_probes
+
+-- two pieces of work, one after the other, count what both count together
+pub both : (a b c : Meter) (i m j n k o l p : ℕ) → Works a b i m j n → Works b c k o l p → Works a c (i + k) (m + o) (j + l) (n + p)
+both a b c i m j n k o l p h q = record {
+  walks = q.walks ∙ h.walks;
+  asks_low = omega (arith, h.asks_low, q.asks_low);
+  asks_least = omega (arith, h.asks_least, h.asks_low, q.asks_least, q.asks_low);
+  asks_high = omega (arith, h.asks_high, q.asks_high);
+  probes_low = omega (arith, h.probes_low, q.probes_low);
+  probes_least = omega (arith, h.probes_least, h.probes_low, q.probes_least, q.probes_low);
+  probes_high = omega (arith, h.probes_high, q.probes_high);
+}
+
+pub both_within : (a b c : Meter) (i m j n k o l p i' m' j' n' : ℕ) → Works a b i m j n → Works b c k o l p → i' ≤ i + k → m + o ≤ m' → j' ≤ j + l → n + p ≤ n'
+    → Works a c i' m' j' n'
+both_within a b c i m j n k o l p i' m' j' n' h q less_asks few_asks less_probes few_probes =
+    within a c (i + k) (m + o) (j + l) (n + p) i' m' j' n' (both a b c i m j n k o l p h q) less_asks few_asks less_probes few_probes
+
+pub then : {i j k l : ℕ} (a b c : Meter) (asks probes more_asks more_probes all_asks all_probes : ℕ) → Works a b i asks j probes → Works b c k more_asks l more_probes
     → asks + more_asks ≤ all_asks → probes + more_probes ≤ all_probes → WorksAtMost a c all_asks all_probes
-then a b c asks probes more_asks more_probes all_asks all_probes h k few_asks few_probes =
-    record {
-      walks = k.walks ∙ h.walks;
-      asks_low = omega (arith, h.asks_low, k.asks_low);
-      asks_high = omega (arith, h.asks_high, k.asks_high);
-      probes_low = omega (arith, h.probes_low, k.probes_low);
-      probes_high = omega (arith, h.probes_high, k.probes_high);
-    }
+then {i} {j} {k} {l} a b c asks probes more_asks more_probes all_asks all_probes h q few_asks few_probes =
+    both_within a b c i asks j probes k more_asks l more_probes 0 all_asks 0 all_probes h q (omega arith) few_asks (omega arith) few_probes
+
+-- one probe more, exactly
+pub probe_more : (a b c : Meter) (n : ℕ) → WorksJust a b 0 n → WorksJust b c 0 1 → WorksJust a c 0 (n + 1)
+probe_more a b c n h q = both a b c 0 0 n n 0 0 1 1 h q
 
 -- a count of asks alone
-pub asks_alone : (a b : Meter) (asks probes : ℕ) → AsksAtMost a b asks → WorksAtMost a b asks probes
-asks_alone a b asks probes h =
+pub asks_alone : (a b : Meter) (i asks : ℕ) → Asks a b i asks → Works a b i asks 0 0
+asks_alone a b i asks h =
     let same = h.probes in
-    record { walks = h.walks; asks_low = h.least; asks_high = h.most; probes_low = omega arith; probes_high = omega arith }
+    record {
+      walks = h.walks;
+      asks_low = h.rises;
+      asks_least = h.low;
+      asks_high = h.high;
+      probes_low = omega arith;
+      probes_least = omega arith;
+      probes_high = omega arith;
+    }
 
 -- one probe
-pub probed : (a b : Meter) → b ≡ after_probe a → a.probes ≤ 18446744073709551615 → WorksAtMost a b 0 1
-probed a b h small = rw h (record { walks = refl; asks_low = omega arith; asks_high = omega arith; probes_low = omega arith; probes_high = omega arith })
+pub probed : (a b : Meter) → b ≡ after_probe a → a.probes ≤ 18446744073709551615 → WorksJust a b 0 1
+probed a b h small = rw h (record {
+  walks = refl;
+  asks_low = omega arith;
+  asks_least = omega arith;
+  asks_high = omega arith;
+  probes_low = omega arith;
+  probes_least = omega arith;
+  probes_high = omega arith;
+})
+
+pub if_none : {X : Type 0} (o : Option X) (P : Type 0) → P → IfNone o P
+if_none None P p = p
+if_none (Some x) P p = tt
+
+pub where_none : {X : Type 0} (o : Option X) (P : Type 0) → IfNone o P → o ≡ None → P
+where_none {X} o P h e = subst (λ (x : Option X). IfNone x P) e h
+
+-- ---- judgements
+
+-- a whole judgement counts no less than any part of it, and no more
+pub most_probes : {C : Type 0} (n t l : ℕ) (r : Result C Stop) → probes_most n t l r ≤ n + t + l
+most_probes n t l (Ok new) = omega arith
+most_probes n t l (Err NoMemory) = omega arith
+most_probes n t l (Err (Denied NoSession)) = omega arith
+most_probes n t l (Err (Denied BadVehicle)) = omega arith
+most_probes n t l (Err (Denied (AccessVehicle v))) = omega arith
+most_probes n t l (Err (Denied Ahead)) = omega arith
+most_probes n t l (Err (Denied (Stale v))) = omega arith
+most_probes n t l (Err (Denied BadPlace)) = omega arith
+most_probes n t l (Err (Denied (AccessCustomer v p))) = omega arith
+most_probes n t l (Err (Denied (Frozen v))) = omega arith
+most_probes n t l (Err (Denied (Pinned v p))) = omega arith
+most_probes n t l (Err (Denied (Bound v d))) = omega arith
+
+pub most_asks : {C : Type 0} (m : ℕ) (r : Result C Stop) → asks_most m r ≤ m
+most_asks m (Ok new) = omega arith
+most_asks m (Err NoMemory) = omega arith
+most_asks m (Err (Denied NoSession)) = omega arith
+most_asks m (Err (Denied BadVehicle)) = omega arith
+most_asks m (Err (Denied (AccessVehicle v))) = omega arith
+most_asks m (Err (Denied Ahead)) = omega arith
+most_asks m (Err (Denied (Stale v))) = omega arith
+most_asks m (Err (Denied BadPlace)) = omega arith
+most_asks m (Err (Denied (AccessCustomer v p))) = omega arith
+most_asks m (Err (Denied (Frozen v))) = omega arith
+most_asks m (Err (Denied (Pinned v p))) = omega arith
+most_asks m (Err (Denied (Bound v d))) = omega arith
+
+-- the rules from the touched customers on, after the probes of the named vehicles
+named_least : {C : Type 0} (n t l : ℕ) (r : Result C Stop) → probes_least n t l r ≤ n + probes_least 0 t l r
+named_least n t l (Ok new) = omega arith
+named_least n t l (Err NoMemory) = omega arith
+named_least n t l (Err (Denied NoSession)) = omega arith
+named_least n t l (Err (Denied BadVehicle)) = omega arith
+named_least n t l (Err (Denied (AccessVehicle v))) = omega arith
+named_least n t l (Err (Denied Ahead)) = omega arith
+named_least n t l (Err (Denied (Stale v))) = omega arith
+named_least n t l (Err (Denied BadPlace)) = omega arith
+named_least n t l (Err (Denied (AccessCustomer v p))) = omega arith
+named_least n t l (Err (Denied (Frozen v))) = omega arith
+named_least n t l (Err (Denied (Pinned v p))) = omega arith
+named_least n t l (Err (Denied (Bound v d))) = omega arith
+
+named_most : {C : Type 0} (n t l : ℕ) (r : Result C Stop) → n + probes_most 0 t l r ≤ probes_most n t l r
+named_most n t l (Ok new) = omega arith
+named_most n t l (Err NoMemory) = omega arith
+named_most n t l (Err (Denied NoSession)) = omega arith
+named_most n t l (Err (Denied BadVehicle)) = omega arith
+named_most n t l (Err (Denied (AccessVehicle v))) = omega arith
+named_most n t l (Err (Denied Ahead)) = omega arith
+named_most n t l (Err (Denied (Stale v))) = omega arith
+named_most n t l (Err (Denied BadPlace)) = omega arith
+named_most n t l (Err (Denied (AccessCustomer v p))) = omega arith
+named_most n t l (Err (Denied (Frozen v))) = omega arith
+named_most n t l (Err (Denied (Pinned v p))) = omega arith
+named_most n t l (Err (Denied (Bound v d))) = omega arith
+
+pub after_named : {C : Type 0} (a b c : Meter) (n t l i m : ℕ) (r : Result C Stop) → WorksJust a b 0 n → Works b c i m (probes_least 0 t l r) (probes_most 0 t l r)
+    → Works a c i m (probes_least n t l r) (probes_most n t l r)
+after_named a b c n t l i m r h q =
+    both_within a b c 0 0 n n i m _ _ i m _ _ h q (omega arith) (omega arith) (named_least n t l r) (named_most n t l r)
+
+-- the rules on the new routes, after the probes of the touched customers
+touched_least : {C : Type 0} (t l : ℕ) (r : Result C Stop) → probes_least 0 t l r ≤ t + probes_least 0 0 l r
+touched_least t l (Ok new) = omega arith
+touched_least t l (Err NoMemory) = omega arith
+touched_least t l (Err (Denied NoSession)) = omega arith
+touched_least t l (Err (Denied BadVehicle)) = omega arith
+touched_least t l (Err (Denied (AccessVehicle v))) = omega arith
+touched_least t l (Err (Denied Ahead)) = omega arith
+touched_least t l (Err (Denied (Stale v))) = omega arith
+touched_least t l (Err (Denied BadPlace)) = omega arith
+touched_least t l (Err (Denied (AccessCustomer v p))) = omega arith
+touched_least t l (Err (Denied (Frozen v))) = omega arith
+touched_least t l (Err (Denied (Pinned v p))) = omega arith
+touched_least t l (Err (Denied (Bound v d))) = omega arith
+
+touched_most : {C : Type 0} (t l : ℕ) (r : Result C Stop) → IfErr r IsLate → t + probes_most 0 0 l r ≤ probes_most 0 t l r
+touched_most t l (Ok new) late = omega arith
+touched_most t l (Err NoMemory) late = omega arith
+touched_most t l (Err (Denied NoSession)) late = absurd late
+touched_most t l (Err (Denied BadVehicle)) late = absurd late
+touched_most t l (Err (Denied (AccessVehicle v))) late = absurd late
+touched_most t l (Err (Denied Ahead)) late = absurd late
+touched_most t l (Err (Denied (Stale v))) late = absurd late
+touched_most t l (Err (Denied BadPlace)) late = absurd late
+touched_most t l (Err (Denied (AccessCustomer v p))) late = absurd late
+touched_most t l (Err (Denied (Frozen v))) late = omega arith
+touched_most t l (Err (Denied (Pinned v p))) late = omega arith
+touched_most t l (Err (Denied (Bound v d))) late = omega arith
+
+pub after_touched : {C : Type 0} (a b c : Meter) (t l i m : ℕ) (r : Result C Stop) → IfErr r IsLate → WorksJust a b 0 t → Works b c i m (probes_least 0 0 l r) (probes_most 0 0 l r)
+    → Works a c i m (probes_least 0 t l r) (probes_most 0 t l r)
+after_touched a b c t l i m r late h q =
+    both_within a b c 0 0 t t i m _ _ i m _ _ h q (omega arith) (omega arith) (touched_least t l r) (touched_most t l r late)
+
+-- a denial by one of the first rules
+pub denied_early : (a b : Meter) (n t l m : ℕ) (denial : Denial) → ComesEarly denial → Works a b 0 0 (early_least n (Some denial)) n
+    → Works a b 0 (denial_asks m denial) (denial_least n t l denial) (denial_most n t l denial)
+denied_early a b n t l m NoSession early h = h
+denied_early a b n t l m BadVehicle early h = h
+denied_early a b n t l m (AccessVehicle v) early h = h
+denied_early a b n t l m Ahead early h = h
+denied_early a b n t l m (Stale v) early h = h
+denied_early a b n t l m BadPlace early h = h
+denied_early a b n t l m (AccessCustomer v p) early h = absurd early
+denied_early a b n t l m (Frozen v) early h = absurd early
+denied_early a b n t l m (Pinned v p) early h = absurd early
+denied_early a b n t l m (Bound v d) early h = absurd early
+
+-- what judging pins and fronts counted, where it let the new routes pass, and where it stopped them
+pub pinned_whole : {C : Type 0} (a b : Meter) (l : ℕ) (r : Result C Stop) {x : C} → r ≡ Ok x → Works a b 0 0 (probes_least 0 0 l r) l → WorksJust a b 0 l
+pinned_whole {C} a b l r {x} e h =
+    let here : probes_least 0 0 l r ≡ l = ap (λ (q : Result C Stop). probes_least 0 0 l q) e ∙ none_before l in
+    subst (λ (n : ℕ). Works a b 0 0 n l) here h
+  where
+    none_before : (n : ℕ) → 0 + 0 + n ≡ n
+    none_before n = omega arith
+
+pub pinned_stop : (a b : Meter) (l m : ℕ) (stop : Stop) → IsLate stop → Works a b 0 0 (stop_least 0 0 l stop) l
+    → Works a b 0 (stop_asks m stop) (stop_least 0 0 l stop) (stop_most 0 0 l stop)
+pinned_stop a b l m NoMemory late h = within a b 0 0 0 l 0 m 0 _ h (omega arith) (omega arith) (omega arith) (omega arith)
+pinned_stop a b l m (Denied NoSession) late h = absurd late
+pinned_stop a b l m (Denied BadVehicle) late h = absurd late
+pinned_stop a b l m (Denied (AccessVehicle v)) late h = absurd late
+pinned_stop a b l m (Denied Ahead) late h = absurd late
+pinned_stop a b l m (Denied (Stale v)) late h = absurd late
+pinned_stop a b l m (Denied BadPlace) late h = absurd late
+pinned_stop a b l m (Denied (AccessCustomer v p)) late h = absurd late
+pinned_stop a b l m (Denied (Frozen v)) late h = within a b 0 0 _ l _ _ _ _ h (omega arith) (omega arith) (omega arith) (omega arith)
+pinned_stop a b l m (Denied (Pinned v p)) late h = within a b 0 0 _ l _ _ _ _ h (omega arith) (omega arith) (omega arith) (omega arith)
+pinned_stop a b l m (Denied (Bound v d)) late h = within a b 0 0 _ l _ _ _ _ h (omega arith) (omega arith) (omega arith) (omega arith)

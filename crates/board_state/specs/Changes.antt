@@ -2,7 +2,7 @@
 use Rattle.std.specs.Prelude.{◌≡◌, ◌≢◌, ℕ, ◌≤◌, ◌<◌, ◌⊎◌, List, length, Some, None, All}
 use Rattle.std.specs.Option.{option_map}
 use Rattle.dimension_core.specs.Setting.{Setting}
-use Rattle.plan_core.specs.Plan.{PlanState, IsPlan, AreChanges, changes_of, replaced, route_at, with_routes}
+use Rattle.plan_core.specs.Plan.{PlanState, IsPlan, AreChanges, AreSizes, changes_of, replaced, route_at, with_routes}
 use Rattle.plan_core.specs.Commits.{AreStamps}
 use Rattle.pin_core.specs.Pins.{PinState, IsHeld, pin_of, front_of, with_pin, with_front}
 use Rattle.pin_core.specs.Allowed.{IsTouched}
@@ -114,10 +114,11 @@ IsSettleable held (Pins change) = ArePinsSettleable held.pins change
 IsSettleable held (Command rows command) = (rows.of ≡ held.tables) × (refusal_of held.policy.now command ≡ None) × (held.policy.tried ≡ after held.policy.now command)
 IsSettleable held Nothing = Unit {0}
 
--- a judged call may be put in place, and has the version of what it was judged on
+-- a judged call may be put in place, has the version of what it was judged on, and the numbers of that plan are a plan's
 pub record IsJudged (held : HeldState) (version : ℕ) (change : Change) : Type 0 where
   pub ready : IsSettleable held change
   pub then : version ≡ held.plan.version
+  pub sizes : AreSizes held.plan
 
 -- the change may be put in place, and makes these pins and frozen lengths
 pub record PinsWillBe (held : HeldState) (change : PinChange) (next : PinState) : Type 0 where
@@ -143,3 +144,8 @@ Tries old new = new ≡ record old {
   policy = record { now = old.policy.now; tried = new.policy.tried };
   tables = record old.tables { room = new.tables.room };
 }
+
+-- nothing is tried on the spare policy, unless the change is the command that was tried
+abbrev pub IsGivenUp : Change → Tried → Type 0
+IsGivenUp (Command rows command) policy = Unit {0}
+IsGivenUp _ policy = policy.tried ≡ policy.now

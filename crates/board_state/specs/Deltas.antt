@@ -2,7 +2,7 @@
 use Rattle.std.specs.Prelude.{ℕ, ◌+◌, ◌-◌, ◌≡◌, ◌≤◌, Bool, true, not, ◌&&◌, ◌==◌, nat_le, List, [], ◌∷◌, ◌++◌, length, map, filter, drop, zip, flat_map, slice_get, slice_index, Option, Some, None}
 use Rattle.std.specs.Option.{option_map, option_to_list}
 use Rattle.plan_core.specs.declared.touch.Touch.{Touch}
-use Rattle.plan_core.specs.Plan.{PlanState, changes_of, route_at, with_routes}
+use Rattle.plan_core.specs.Plan.{Changes, PlanState, changes_of, route_at, with_routes}
 use Rattle.pin_core.specs.Pins.{PinState, IsHeld}
 use Rattle.pin_core.specs.Override.{DoPinsPass}
 use Rattle.move_core.specs.declared.moves.Move.{Move}
@@ -60,6 +60,11 @@ abbrev pub released : List Touch → List Bool → List (ℕ × Option ℕ)
 released touched freed = map (λ x. (x.1.customer, None)) (filter (λ x. x.0) (zip freed touched))
 
 -- ---- all of a change
+
+-- the new routes: those of a commit, and none of every other change
+abbrev pub changed_routes : Change → Changes
+changed_routes (Replace commit) = changes_of commit.new.changes.items
+changed_routes _ = []
 
 abbrev pub changed_places : HeldState → Change → List (ℕ × Option (ℕ × ℕ))
 changed_places held (Replace commit) = places_by held.plan.routes (with_routes (changes_of commit.new.changes.items) held.plan.routes) commit.mv

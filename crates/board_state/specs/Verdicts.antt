@@ -1,5 +1,5 @@
 -- Why a proposal is not committed.
-use Rattle.std.specs.Prelude.{◌≡◌, ℕ, ◌≤◌, Bool, List, length, Result, Ok, Err, Some, ⊤, All}
+use Rattle.std.specs.Prelude.{◌≡◌, ℕ, ◌+◌, ◌≤◌, Bool, List, length, Option, Some, None, Result, Ok, Err, ⊤, All}
 use Rattle.dimension_core.specs.Setting.{Setting}
 use Rattle.plan_core.specs.declared.touch.Touch.{Touch}
 use Rattle.plan_core.specs.Plan.{Changes, IsPlan, AreChanges, with_routes}
@@ -8,12 +8,13 @@ use Rattle.pin_core.specs.Pins.{PinState, DoPinsHold, DoFrontsFit, AreFreezesKep
 use Rattle.pin_core.specs.Allowed.{AreAllTouched, IsFirstThawed}
 use Rattle.move_core.specs.declared.moves.Move.{Move}
 use Rattle.board_rules.specs.declared.reply.Denial.{Denial}
-use Rattle.board_rules.specs.declared.reply.Denial.TheVariants.{Frozen, Pinned, Bound}
+use Rattle.board_rules.specs.declared.reply.Denial.TheVariants.{AccessCustomer, Frozen, Pinned, Bound}
 use Rattle.board_rules.specs.Override.{IsFirstHeldBack}
 use Rattle.board_rules.specs.Rules.{Basis, IsVerdictBy}
 use Rattle.board_state.specs.declared.stop.Stop.{Stop}
 use Rattle.board_state.specs.declared.stop.Stop.TheVariants.{Denied, NoMemory}
 use Rattle.board_state.specs.Held.{HeldState}
+use Rattle.board_state.specs.Work.{denial_least, denial_most, denial_asks}
 
 -- a proposal is stopped by the denial that is right for it
 abbrev pub IsStop : Setting → Basis → ℕ → Move → Stop → Type 0
@@ -39,12 +40,53 @@ pub record ArePlaceable (held : HeldState) (new : Changes) (touches : List Touch
   pub known : All (λ t. (1 ≤ t.customer) × (t.customer ≤ held.plan.customers)) touches
   pub touched : AreAllTouched held.plan.routes (with_routes new held.plan.routes) touches
 
--- how many of a judgement's asks a stopped proposal may have made: none where a rule before the bounds stopped it
-abbrev pub stop_asks : ℕ → Stop → ℕ
-stop_asks n (Denied (Bound v d)) = n
-stop_asks n (Denied _) = 0
-stop_asks n NoMemory = n
+-- a denial by one of the rules that need no new route and no touched customer
+abbrev pub ComesEarly : Denial → Type 0
+ComesEarly (AccessCustomer v p) = ⊥
+ComesEarly (Frozen v) = ⊥
+ComesEarly (Pinned v p) = ⊥
+ComesEarly (Bound v d) = ⊥
+ComesEarly _ = ⊤
 
-abbrev pub result_asks : {C : Type 0} → ℕ → Result C Stop → ℕ
-result_asks n (Ok commit) = n
-result_asks n (Err stop) = stop_asks n stop
+-- new routes are stopped by one of the last rules, or since memory ran out
+abbrev pub IsLate : Stop → Type 0
+IsLate (Denied (Frozen v)) = ⊤
+IsLate (Denied (Pinned v p)) = ⊤
+IsLate (Denied (Bound v d)) = ⊤
+IsLate NoMemory = ⊤
+IsLate _ = ⊥
+
+-- what a judgement counts at least and at most by its result, where n vehicles are named and t customers touched of which l would leave, and
+-- a whole judgement of the bounds makes m asks
+abbrev pub stop_asks : ℕ → Stop → ℕ
+stop_asks m (Denied denial) = denial_asks m denial
+stop_asks m NoMemory = m
+
+abbrev pub stop_least : ℕ → ℕ → ℕ → Stop → ℕ
+stop_least n t l (Denied denial) = denial_least n t l denial
+stop_least n t l NoMemory = 0
+
+abbrev pub stop_most : ℕ → ℕ → ℕ → Stop → ℕ
+stop_most n t l (Denied denial) = denial_most n t l denial
+stop_most n t l NoMemory = n + t + l
+
+abbrev pub asks_least : {C : Type 0} → ℕ → Result C Stop → ℕ
+asks_least m (Ok new) = m
+asks_least m (Err stop) = 0
+
+abbrev pub asks_most : {C : Type 0} → ℕ → Result C Stop → ℕ
+asks_most m (Ok new) = m
+asks_most m (Err stop) = stop_asks m stop
+
+abbrev pub probes_least : {C : Type 0} → ℕ → ℕ → ℕ → Result C Stop → ℕ
+probes_least n t l (Ok new) = n + t + l
+probes_least n t l (Err stop) = stop_least n t l stop
+
+abbrev pub probes_most : {C : Type 0} → ℕ → ℕ → ℕ → Result C Stop → ℕ
+probes_most n t l (Ok new) = n + t + l
+probes_most n t l (Err stop) = stop_most n t l stop
+
+-- the same where only the first rules were tried, with or without a denial
+abbrev pub early_least : ℕ → Option Denial → ℕ
+early_least n None = n
+early_least n (Some denial) = denial_least n 0 0 denial

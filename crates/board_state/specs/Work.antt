@@ -1,5 +1,5 @@
--- How much work one call may count.
-use Rattle.std.specs.Prelude.{◌≡◌, ℕ, ◌+◌, ◌≤◌, Bool, ◌&&◌, is_some, is_none, List, length, count_by}
+-- How much work one call counts.
+use Rattle.std.specs.Prelude.{◌≡◌, ℕ, ◌+◌, ◌≤◌, min, Bool, ◌&&◌, is_some, is_none, List, length, count_by}
 use Rattle.callback_store.specs.declared.meter.Meter.{Meter}
 use Rattle.plan_core.specs.declared.touch.Touch.{Touch}
 use Rattle.pin_core.specs.Pins.{PinState, pin_of}
@@ -10,18 +10,30 @@ use Rattle.move_core.specs.Moves.{named_by, changes_by}
 use Rattle.move_core.specs.Touched.{touched_by}
 use Rattle.board_rules.specs.declared.call.Call.{Call}
 use Rattle.board_rules.specs.declared.call.Call.TheVariants.{Propose}
-use Rattle.board_rules.specs.declared.reply.Denial.TheVariants.{Bound}
+use Rattle.board_rules.specs.declared.reply.Denial.{Denial}
+use Rattle.board_rules.specs.declared.reply.Denial.TheVariants.{Ahead, Stale, BadPlace, AccessCustomer, Frozen, Pinned, Bound}
 use Rattle.board_rules.specs.declared.reply.Reply.{Reply}
 use Rattle.board_rules.specs.declared.reply.Reply.TheVariants.{Committed, Denied}
 use Rattle.board_rules.specs.Rules.{routes_after}
 
--- From the old meter to the new one at most this many asks and probes were counted, and no walk.
-pub record WorksAtMost (old new : Meter) (asks probes : ℕ) : Type 0 where
+-- From the old meter to the new one between these many asks and between these many probes were counted, and no walk. A count that stops
+-- at its greatest value shows as many as it can.
+pub record Works (old new : Meter) (least_asks asks least_probes probes : ℕ) : Type 0 where
   pub walks : new.walks ≡ old.walks
   pub asks_low : old.asks ≤ new.asks
+  pub asks_least : min (old.asks + least_asks) 18446744073709551615 ≤ new.asks
   pub asks_high : new.asks ≤ old.asks + asks
   pub probes_low : old.probes ≤ new.probes
+  pub probes_least : min (old.probes + least_probes) 18446744073709551615 ≤ new.probes
   pub probes_high : new.probes ≤ old.probes + probes
+
+-- exactly this many asks and probes were counted
+abbrev pub WorksJust : Meter → Meter → ℕ → ℕ → Type 0
+WorksJust old new asks probes = Works old new asks asks probes probes
+
+-- at most this many asks and probes were counted
+abbrev pub WorksAtMost : Meter → Meter → ℕ → ℕ → Type 0
+WorksAtMost old new asks probes = Works old new 0 asks 0 probes
 
 -- a customer is pinned to a vehicle on which it would not stand in other routes, so that a commit of these would release its pin
 abbrev pub is_leaving : PinState → List (List ℕ) → ℕ → Bool
@@ -40,14 +52,63 @@ call_asks s routes (Propose session base mv) = judge_asks (length s.dimensions) 
 call_asks s routes _ = 0
 
 -- its probes: one for each named vehicle and each touched customer, and one more for each of these that would leave the vehicle to which it
--- is pinned; every other call makes at most one
+-- is pinned; every other call makes one
 abbrev pub call_probes : PinState → List (List ℕ) → Call → ℕ
 call_probes pins routes (Propose session base mv) =
     length (named_by mv) + length (touched_by routes mv) + leaving pins (routes_after routes mv) (touched_by routes mv)
 call_probes pins routes _ = 1
 
--- how many of the asks were made for a reply: none where a rule before the bounds denies the proposal
+-- How many probes a denied proposal makes, at least and at most, where it names n vehicles and touches t customers of which l would leave:
+-- a rule that is tried makes its probes in their order up to the first that fails, and a later rule makes none.
+abbrev pub denial_least : ℕ → ℕ → ℕ → Denial → ℕ
+denial_least n t l Ahead = n
+denial_least n t l (Stale v) = n
+denial_least n t l BadPlace = n
+denial_least n t l (AccessCustomer v p) = n + 1
+denial_least n t l (Frozen v) = n + t
+denial_least n t l (Pinned v p) = n + t + l
+denial_least n t l (Bound v d) = n + t + l
+denial_least n t l _ = 1
+
+abbrev pub denial_most : ℕ → ℕ → ℕ → Denial → ℕ
+denial_most n t l (AccessCustomer v p) = n + t
+denial_most n t l (Frozen v) = n + t + l
+denial_most n t l (Pinned v p) = n + t + l
+denial_most n t l (Bound v d) = n + t + l
+denial_most n t l _ = n
+
+-- of the asks of a judgement, those that are made where the proposal is denied: none by a rule before the bounds
+abbrev pub denial_asks : ℕ → Denial → ℕ
+denial_asks n (Bound v d) = n
+denial_asks n _ = 0
+
+-- the least and the greatest number of asks for a reply
+abbrev pub reply_asks_least : ℕ → Reply → ℕ
+reply_asks_least n (Committed version) = n
+reply_asks_least n _ = 0
+
 abbrev pub reply_asks : ℕ → Reply → ℕ
 reply_asks n (Committed version) = n
-reply_asks n (Denied (Bound v d)) = n
+reply_asks n (Denied denial) = denial_asks n denial
 reply_asks n _ = 0
+
+-- the least and the greatest number of probes for a reply to a proposal
+abbrev pub reply_probes_least : ℕ → ℕ → ℕ → Reply → ℕ
+reply_probes_least n t l (Committed version) = n + t + l
+reply_probes_least n t l (Denied denial) = denial_least n t l denial
+reply_probes_least n t l _ = 0
+
+abbrev pub reply_probes : ℕ → ℕ → ℕ → Reply → ℕ
+reply_probes n t l (Denied denial) = denial_most n t l denial
+reply_probes n t l _ = n + t + l
+
+-- The work of a call that was answered: a proposal makes its asks and probes up to the first rule that fails, all of them where it is
+-- committed, and every other call makes one probe.
+abbrev pub IsWorkOf : Setting → PinState → List (List ℕ) → Call → Reply → Meter → Meter → Type 0
+IsWorkOf s pins routes (Propose session base mv) reply old new =
+    let asks = judge_asks (length s.dimensions) routes (changes_by routes mv) in
+    let touched = touched_by routes mv in
+    let left = leaving pins (routes_after routes mv) touched in
+    Works old new (reply_asks_least asks reply) (reply_asks asks reply)
+    (reply_probes_least (length (named_by mv)) (length touched) left reply) (reply_probes (length (named_by mv)) (length touched) left reply)
+IsWorkOf s pins routes _ reply old new = WorksJust old new 0 1

@@ -1,15 +1,16 @@
 //! Calls, judged and put in place at once.
-ghost use Rattle.std.specs.Prelude.{◌≡◌, IfOk, OnErr, MatchResult};
+ghost use Rattle.std.specs.Prelude.{◌≡◌, ℕ, IfOk, OnErr, MatchResult};
 ghost use Rattle.std.specs.Result.{result_err};
 ghost use Rattle.dimension_core.specs.Setting.{Setting};
 ghost use Rattle.dimension_core.specs.Setup.{setting};
 ghost use Rattle.board_rules.specs.State.{BoardState};
 ghost use Rattle.board_rules.specs.Step.{IsReply, after, refused_by};
-ghost use Rattle.board_rules.specs.declared.call.Call.TheVariants.{Propose};
+ghost use Rattle.board_rules.specs.declared.call.Call.TheVariants.{Propose, Policy};
+ghost use Rattle.rbac_core.specs.declared.command.Command.{Command};
 ghost use Rattle.board_state.specs.declared.change.Change.TheVariants.{Pins};
 ghost use Rattle.board_state.specs.Held.{Holds, IsReady};
 ghost use Rattle.board_state.specs.Changes.{Tries, WillHold, IsSettleable};
-ghost use Rattle.board_state.specs.Work.{WorksAtMost, call_asks, call_probes, reply_asks};
+ghost use Rattle.board_state.specs.Work.{WorksAtMost, IsWorkOf, call_asks, call_probes};
 
 use crate::change::{Change, PinChange};
 use crate::state::State;
@@ -37,7 +38,8 @@ impl State {
         ensures reply { (state : BoardState) → Holds (setting setup.now) self.old state → IfOk result (λ reply. ∥ IsReply (setting setup.now) state call.now reply ∥₁) }
         ensures holds { (state : BoardState) → Holds (setting setup.now) self.old state → IfOk result (λ reply. Holds (setting setup.now) self.new (after state call.now reply)) }
         ensures err { OnErr result (Tries self.old self.new) }
-        ensures work { IfOk result (λ reply. WorksAtMost meter.old meter.new (reply_asks (call_asks (setting setup.now) self.old.plan.routes call.now) reply) (call_probes self.old.pins self.old.plan.routes call.now)) }
+        ensures given_up { (session : ℕ) (command : Command) → call.now ≡ Policy session command → OnErr result (self.new.policy.tried ≡ self.new.policy.now) }
+        ensures work { IfOk result (λ reply. IsWorkOf (setting setup.now) self.old.pins self.old.plan.routes call.now reply meter.old meter.new) }
         ensures most { WorksAtMost meter.old meter.new (call_asks (setting setup.now) self.old.plan.routes call.now) (call_probes self.old.pins self.old.plan.routes call.now) }
     {
         self.agrees();
@@ -106,7 +108,7 @@ impl State {
         ensures reply { (state : BoardState) → Holds (setting setup.now) self.old state → IfOk result (λ reply. ∥ IsReply (setting setup.now) state (Propose session base mv.now) reply ∥₁) }
         ensures holds { (state : BoardState) → Holds (setting setup.now) self.old state → IfOk result (λ reply. Holds (setting setup.now) self.new (after state (Propose session base mv.now) reply)) }
         ensures err { OnErr result (self.new ≡ self.old) }
-        ensures work { IfOk result (λ reply. WorksAtMost meter.old meter.new (reply_asks (call_asks (setting setup.now) self.old.plan.routes (Propose session base mv.now)) reply) (call_probes self.old.pins self.old.plan.routes (Propose session base mv.now))) }
+        ensures work { IfOk result (λ reply. IsWorkOf (setting setup.now) self.old.pins self.old.plan.routes (Propose session base mv.now) reply meter.old meter.new) }
         ensures most { WorksAtMost meter.old meter.new (call_asks (setting setup.now) self.old.plan.routes (Propose session base mv.now)) (call_probes self.old.pins self.old.plan.routes (Propose session base mv.now)) }
     {
         self.agrees();
@@ -136,7 +138,8 @@ impl State {
         ensures reply { (state : BoardState) → Holds (setting setup.now) self.old state → IfOk result (λ reply. ∥ IsReply (setting setup.now) state call.now reply ∥₁) }
         ensures holds { (state : BoardState) → Holds (setting setup.now) self.old state → IfOk result (λ reply. Holds (setting setup.now) self.new (after state call.now reply)) }
         ensures err { OnErr result (Tries self.old self.new) }
-        ensures work { IfOk result (λ reply. WorksAtMost meter.old meter.new (reply_asks (call_asks (setting setup.now) self.old.plan.routes call.now) reply) (call_probes self.old.pins self.old.plan.routes call.now)) }
+        ensures given_up { (session : ℕ) (command : Command) → call.now ≡ Policy session command → OnErr result (self.new.policy.tried ≡ self.new.policy.now) }
+        ensures work { IfOk result (λ reply. IsWorkOf (setting setup.now) self.old.pins self.old.plan.routes call.now reply meter.old meter.new) }
         ensures most { WorksAtMost meter.old meter.new (call_asks (setting setup.now) self.old.plan.routes call.now) (call_probes self.old.pins self.old.plan.routes call.now) }
     {
         match self.judge(alloc, setup, call, meter) {

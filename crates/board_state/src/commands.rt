@@ -1,5 +1,5 @@
 //! Policy commands: tried on the spare policy, with the rows of the sessions whose access they change.
-ghost use Rattle.std.specs.Prelude.{◌≡◌, ℕ, Option, None, Some, Ok, IfOk};
+ghost use Rattle.std.specs.Prelude.{◌≡◌, ℕ, Option, None, Some, Ok, IfOk, MatchResult};
 ghost use Rattle.policy_core.specs.Commands.{Says};
 ghost use Rattle.policy_core.specs.declared.refusal.Refusal.{Refusal as PolicyRefusal};
 ghost use Rattle.rbac_core.specs.Step.{guard, guard_by, refusal_of, after};
@@ -10,8 +10,8 @@ ghost use Rattle.permission_core.specs.declared.objects.Object.TheVariants as ob
 ghost use Rattle.board_rules.specs.Policies.{board_refusal, reply_of, policy_reply, policy_after};
 ghost use Rattle.board_rules.specs.declared.reply.Reply.TheVariants.{Refused};
 ghost use Rattle.board_state.specs.declared.change.Change.TheVariants.{Nothing};
-ghost use Rattle.board_state.specs.Changes.{PolicyWillBe, Tries};
-ghost use Rattle.board_state.specs.Work.{WorksAtMost};
+ghost use Rattle.board_state.specs.Changes.{PolicyWillBe, Tries, IsGivenUp};
+ghost use Rattle.board_state.specs.Work.{WorksJust};
 
 use crate::change::Change;
 use crate::state::State;
@@ -34,7 +34,7 @@ impl State {
     ) -> Option<PolicyRefusal>
         requires { ∥ AreCompiled self.now.tables self.now.policy.now ∥₁ }
         ensures refused { result ≡ guard_by (allows self.now.tables session operations.Admin objects.Board) self.now.policy.now session command.now }
-        ensures work { WorksAtMost meter.old meter.new 0 1 }
+        ensures work { WorksJust meter.old meter.new 0 1 }
     {
         let admin = self.may(session, Operation::Admin, Object::Board, meter);
         if admin {
@@ -56,16 +56,18 @@ impl State {
         ensures kept { Tries self.old self.new }
         ensures reply { IfOk result (λ r. r.0 ≡ policy_reply self.old.policy.now session command.now) }
         ensures change { IfOk result (λ r. PolicyWillBe self.new.policy self.new.tables r.1 (policy_after self.old.policy.now session command.now)) }
-        ensures work { WorksAtMost meter.old meter.new 0 1 }
+        ensures given_up { MatchResult result (λ r. IsGivenUp r.1 self.new.policy) (λ _. self.new.policy.tried ≡ self.new.policy.now) }
+        ensures work { WorksJust meter.old meter.new 0 1 }
     {
         if let Some(refusal) = self.command_guard(session, command, meter) {
+            self.policy.give_up();
             return refused(refusal);
         }
         try_command(alloc, &mut self.policy, &mut self.tables, command)
     }
 }
 
-/// Tries a command that the session may give.
+/// Tries a command that the session may give. Where memory runs out for the rows of the sessions that it concerns, it is given up.
 fn try_command(
     alloc: Global,
     policy: &mut Twin,
@@ -77,13 +79,17 @@ fn try_command(
     ensures policy { policy.new.now ≡ policy.old.now }
     ensures tables { tables.new ≡ record tables.old { room = tables.new.room } }
     ensures reply { (session : ℕ) → guard policy.old.now session command.now ≡ None → IfOk result (λ r. r.0 ≡ policy_reply policy.old.now session command.now) }
+    ensures given_up { MatchResult result (λ r. IsGivenUp r.1 policy.new) (λ _. policy.new.tried ≡ policy.new.now) }
     ensures change { (session : ℕ) → guard policy.old.now session command.now ≡ None → IfOk result (λ r. PolicyWillBe policy.new tables.new r.1 (policy_after policy.old.now session command.now)) }
 {
     match policy.prepare(command) {
-        Ok(outcome) => {
-            let change = compile(alloc, policy, tables, command)?;
-            Ok((reply_to(outcome), change))
-        }
+        Ok(outcome) => match compile(alloc, policy, tables, command) {
+            Ok(change) => Ok((reply_to(outcome), change)),
+            Err(error) => {
+                policy.give_up();
+                Err(error)
+            }
+        },
         Err(refusal) => refused(refusal),
     }
 }
@@ -101,6 +107,7 @@ fn compile(
     requires tried { policy.now.tried ≡ after policy.now.now command.now }
     ensures tables { tables.new ≡ record tables.old { room = tables.new.room } }
     ensures change { IfOk result (λ change. PolicyWillBe policy.now tables.new change (after policy.now.now command.now)) }
+    ensures kept { IfOk result (λ change. IsGivenUp change policy.now) }
 {
     sizes_stay();
     let old = policy.policy();

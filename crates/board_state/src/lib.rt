@@ -6,6 +6,7 @@ mod change;
 mod commands;
 mod delta;
 mod named;
+mod new_routes;
 mod pinning;
 mod pins;
 mod prepare;

@@ -1,5 +1,5 @@
 //! Questions on the vehicles that a move names.
-ghost use Rattle.std.specs.Prelude.{◌≡◌, ◌≤◌, ◌+◌, ℕ, ◌∷◌, length, find, not, Some, None, nat_lt, true};
+ghost use Rattle.std.specs.Prelude.{◌≡◌, ◌≤◌, ◌+◌, ℕ, ◌∷◌, length, find, not, Some, None, nat_lt, true, IfNone};
 ghost use Rattle.std.specs.List.{list_all};
 ghost use Rattle.std.specs.Option.{option_to_list};
 ghost use Rattle.permission_table.specs.Tables.{allows};
@@ -7,7 +7,7 @@ ghost use Rattle.plan_core.specs.Plan.{stamp_of};
 ghost use Rattle.permission_core.specs.declared.objects.Operation.TheVariants as operations;
 ghost use Rattle.permission_core.specs.declared.objects.Object.TheVariants as objects;
 ghost use Rattle.board_rules.specs.Rules.{is_one_of};
-ghost use Rattle.board_state.specs.Work.{WorksAtMost};
+ghost use Rattle.board_state.specs.Work.{Works, WorksJust};
 
 use crate::state::State;
 use callback_store::Meter;
@@ -46,7 +46,8 @@ impl State {
         meter: &mut Meter,
     ) -> Option<u32>
         ensures first { result ≡ find (λ v. not (allows self.now.tables session operations.Move (objects.Vehicle v))) (named.0 ∷ option_to_list named.1) }
-        ensures work { WorksAtMost meter.old meter.new 0 (length (named.0 ∷ option_to_list named.1)) }
+        ensures work { Works meter.old meter.new 0 0 1 (length (named.0 ∷ option_to_list named.1)) }
+        ensures whole { IfNone result (WorksJust meter.old meter.new 0 (length (named.0 ∷ option_to_list named.1))) }
     {
         let (first, second) = named;
         let found = self.session_rows(session);

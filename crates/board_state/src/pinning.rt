@@ -8,7 +8,7 @@ ghost use Rattle.board_rules.specs.Pinning.{vehicle_of, pinned, pin_guard, freez
 ghost use Rattle.board_rules.specs.Rules.{is_one_of};
 ghost use Rattle.board_state.specs.Held.{held_basis};
 ghost use Rattle.board_state.specs.Changes.{PinsWillBe};
-ghost use Rattle.board_state.specs.Work.{WorksAtMost};
+ghost use Rattle.board_state.specs.Work.{WorksJust};
 
 use crate::change::PinChange;
 use crate::named::is_one_of;
@@ -31,7 +31,7 @@ impl State {
         ensures refused { result ≡ pin_guard (setting setup.now) (held_basis self.now session) customer }
         ensures low { IfNone result (1 ≤ customer) }
         ensures high { IfNone result (customer ≤ (setting setup.now).customers) }
-        ensures work { WorksAtMost meter.old meter.new 0 1 }
+        ensures work { WorksJust meter.old meter.new 0 1 }
     {
         let may = self.may(session, Operation::Pin, Object::Customer(customer), meter);
         if !self.is_open(session, may) {
@@ -58,7 +58,7 @@ impl State {
         ensures refused { result ≡ freeze_guard (setting setup.now) (held_basis self.now session) vehicle }
         ensures low { IfNone result (1 ≤ vehicle) }
         ensures high { IfNone result (vehicle ≤ (setting setup.now).vehicles) }
-        ensures work { WorksAtMost meter.old meter.new 0 1 }
+        ensures work { WorksJust meter.old meter.new 0 1 }
     {
         let may = self.may(session, Operation::Freeze, Object::Vehicle(vehicle), meter);
         if !self.is_open(session, may) {
@@ -97,7 +97,7 @@ impl State {
         requires pins { length self.now.pins.pins ≡ (setting setup.now).customers }
         ensures refused { result_err result ≡ pin_refusal (setting setup.now) (held_basis self.now session) customer }
         ensures change { IfOk result (λ change. PinsWillBe self.now change (pinned self.now.plan.routes customer self.now.pins)) }
-        ensures work { WorksAtMost meter.old meter.new 0 1 }
+        ensures work { WorksJust meter.old meter.new 0 1 }
     {
         if let Some(refusal) = self.pin_guard(setup, session, customer, meter) {
             return Err(refusal);
@@ -124,7 +124,7 @@ impl State {
         requires pins { length self.now.pins.pins ≡ (setting setup.now).customers }
         ensures refused { result_err result ≡ unpin_refusal (setting setup.now) (held_basis self.now session) customer }
         ensures change { IfOk result (λ change. PinsWillBe self.now change (with_pin customer None self.now.pins)) }
-        ensures work { WorksAtMost meter.old meter.new 0 1 }
+        ensures work { WorksJust meter.old meter.new 0 1 }
     {
         if let Some(refusal) = self.pin_guard(setup, session, customer, meter) {
             return Err(refusal);
@@ -150,7 +150,7 @@ impl State {
         requires fronts { length self.now.pins.fronts ≡ (setting setup.now).vehicles }
         ensures refused { result_err result ≡ freeze_refusal (setting setup.now) (held_basis self.now session) vehicle frozen }
         ensures change { IfOk result (λ change. PinsWillBe self.now change (with_front vehicle frozen self.now.pins)) }
-        ensures work { WorksAtMost meter.old meter.new 0 1 }
+        ensures work { WorksJust meter.old meter.new 0 1 }
     {
         if let Some(refusal) = self.freeze_guard(setup, session, vehicle, meter) {
             return Err(refusal);
@@ -175,7 +175,7 @@ impl State {
         requires fronts { length self.now.pins.fronts ≡ (setting setup.now).vehicles }
         ensures refused { result_err result ≡ thaw_refusal (setting setup.now) (held_basis self.now session) vehicle left }
         ensures change { IfOk result (λ change. PinsWillBe self.now change (with_front vehicle left self.now.pins)) }
-        ensures work { WorksAtMost meter.old meter.new 0 1 }
+        ensures work { WorksJust meter.old meter.new 0 1 }
     {
         if let Some(refusal) = self.freeze_guard(setup, session, vehicle, meter) {
             return Err(refusal);

@@ -11,8 +11,8 @@ ghost use Rattle.board_rules.specs.Override.{DoPinsAllow, AreAnswers};
 ghost use Rattle.board_rules.specs.Rules.{may_override};
 ghost use Rattle.board_state.specs.Deltas.{AreFreed};
 ghost use Rattle.board_state.specs.Held.{held_basis};
-ghost use Rattle.board_state.specs.Verdicts.{ArePlaceable, IsPinStop};
-ghost use Rattle.board_state.specs.Work.{WorksAtMost, is_leaving, leaving};
+ghost use Rattle.board_state.specs.Verdicts.{ArePlaceable, IsPinStop, IsLate, probes_least};
+ghost use Rattle.board_state.specs.Work.{Works, WorksJust, WorksAtMost, is_leaving, leaving};
 
 use crate::state::State;
 use crate::stop::Stop;
@@ -40,8 +40,10 @@ impl State {
         ensures fronts { OnOk result (AreFreezesKept self.now.pins self.now.plan.routes (with_routes (changes_of changes.now) self.now.plan.routes)) }
         ensures pins { OnOk result (DoPinsAllow self.now.pins (may_override (held_basis self.now session)) (with_routes (changes_of changes.now) self.now.plan.routes)) }
         ensures stop { IfErr result (IsPinStop self.now.pins (may_override (held_basis self.now session)) self.now.plan.routes (changes_of changes.now) touched.now) }
-        ensures work { WorksAtMost meter.old meter.new 0 (leaving self.now.pins (with_routes (changes_of changes.now) self.now.plan.routes) touched.now) }
+        ensures late { IfErr result IsLate }
+        ensures work { Works meter.old meter.new 0 0 (probes_least 0 0 (leaving self.now.pins (with_routes (changes_of changes.now) self.now.plan.routes) touched.now) result) (leaving self.now.pins (with_routes (changes_of changes.now) self.now.plan.routes) touched.now) }
     {
+        pins_after_commits();
         match self.pins.allows(&self.plan, changes, touched) {
             Ok(()) => Ok(Vec::new(alloc)),
             Err(PinFault::Frozen(vehicle)) => Err(Stop::Denied(Denial::Frozen(vehicle))),
@@ -65,7 +67,8 @@ impl State {
         ensures fronts { OnOk result (AreFreezesKept self.now.pins self.now.plan.routes (with_routes (changes_of changes.now) self.now.plan.routes)) }
         ensures pins { OnOk result (DoPinsAllow self.now.pins (may_override (held_basis self.now session)) (with_routes (changes_of changes.now) self.now.plan.routes)) }
         ensures stop { IfErr result (IsPinStop self.now.pins (may_override (held_basis self.now session)) self.now.plan.routes (changes_of changes.now) touched.now) }
-        ensures work { WorksAtMost meter.old meter.new 0 (leaving self.now.pins (with_routes (changes_of changes.now) self.now.plan.routes) touched.now) }
+        ensures late { IfErr result IsLate }
+        ensures work { Works meter.old meter.new 0 0 (probes_least 0 0 (leaving self.now.pins (with_routes (changes_of changes.now) self.now.plan.routes) touched.now) result) (leaving self.now.pins (with_routes (changes_of changes.now) self.now.plan.routes) touched.now) }
     {
         let Ok(free) = self.overrides(alloc, session, changes, touched, meter) else {
             return Err(Stop::NoMemory);
@@ -92,6 +95,7 @@ impl State {
         ensures leave { IfOk result (λ free. (k : ℕ) (t : Touch) → slice_get touched.now k ≡ Some t → slice_get free.items k ≡ Some true → ¬ IsHeld self.now.pins (with_routes (changes_of changes.now) self.now.plan.routes) t.customer) }
         ensures answers { IfOk result (λ free. AreAnswers self.now.pins (may_override (held_basis self.now session)) (with_routes (changes_of changes.now) self.now.plan.routes) touched.now free.items) }
         ensures work { WorksAtMost meter.old meter.new 0 (leaving self.now.pins (with_routes (changes_of changes.now) self.now.plan.routes) touched.now) }
+        ensures whole { OnOk result (WorksJust meter.old meter.new 0 (leaving self.now.pins (with_routes (changes_of changes.now) self.now.plan.routes) touched.now)) }
     {
         let mut free = Vec::new(alloc);
         for touch in touched {
@@ -116,7 +120,7 @@ impl State {
         ensures leaves { result ≡ true → ¬ IsHeld self.now.pins (with_routes (changes_of changes.now) self.now.plan.routes) customer }
         ensures may { IsHeld self.now.pins (with_routes (changes_of changes.now) self.now.plan.routes) customer
             ⊎ (result ≡ allows self.now.tables session operations.Override (objects.Customer customer)) }
-        ensures work { WorksAtMost meter.old meter.new 0 (if is_leaving self.now.pins (with_routes (changes_of changes.now) self.now.plan.routes) customer then 1 else 0) }
+        ensures work { WorksJust meter.old meter.new 0 (if is_leaving self.now.pins (with_routes (changes_of changes.now) self.now.plan.routes) customer then 1 else 0) }
     {
         pins_after_commits();
         if !self.pins.leaves(&self.plan, changes, customer) {

@@ -7,10 +7,11 @@ ghost use Rattle.board_rules.specs.State.{BoardState};
 ghost use Rattle.dimension_core.specs.Setting.{Setting};
 ghost use Rattle.board_rules.specs.Rules.{Agree, basis_of};
 ghost use Rattle.board_rules.specs.Step.{IsReply, after, refused_by};
-ghost use Rattle.board_rules.specs.declared.call.Call.TheVariants.{Propose};
+ghost use Rattle.board_rules.specs.declared.call.Call.TheVariants.{Propose, Policy};
+ghost use Rattle.rbac_core.specs.declared.command.Command.{Command};
 ghost use Rattle.board_state.specs.Held.{Holds, IsReady, held_basis};
-ghost use Rattle.board_state.specs.Changes.{Tries, WillHold, IsSettleable};
-ghost use Rattle.board_state.specs.Work.{WorksAtMost, call_asks, call_probes, reply_asks};
+ghost use Rattle.board_state.specs.Changes.{Tries, WillHold, IsSettleable, IsGivenUp};
+ghost use Rattle.board_state.specs.Work.{WorksAtMost, IsWorkOf, call_asks, call_probes};
 
 use crate::change::{Change, Commit, Judged, PinChange};
 use crate::state::State;
@@ -25,8 +26,8 @@ use std::snapshot::Snapshot;
 
 impl State {
     /// Judges a call, and makes every growth that it needs. Contracts see no change, except in what is tried on the spare policy and in how
-    /// many rows there is room for; those may change also where memory runs out. What it requires of the setup and of what is held is
-    /// `IsReady`.
+    /// many rows there is room for; those may change also where memory runs out. After a policy command that is refused, or given up where
+    /// memory runs out, nothing is tried. What it requires of the setup and of what is held is `IsReady`.
     pub fn prepare(
         &mut self,
         alloc: Global,
@@ -39,7 +40,8 @@ impl State {
         ensures of { IfOk result (λ judged. judged.of ≡ self.new) }
         ensures reply { (state : BoardState) → Holds (setting setup.now) self.old state → IfOk result (λ judged. ∥ IsReply (setting setup.now) state call.now judged.reply ∥₁) }
         ensures change { (state : BoardState) → Holds (setting setup.now) self.old state → IfOk result (λ judged. WillHold (setting setup.now) self.new judged.change (after state call.now judged.reply)) }
-        ensures work { IfOk result (λ judged. WorksAtMost meter.old meter.new (reply_asks (call_asks (setting setup.now) self.old.plan.routes call.now) judged.reply) (call_probes self.old.pins self.old.plan.routes call.now)) }
+        ensures given_up { (session : ℕ) (command : Command) → call.now ≡ Policy session command → MatchResult result (λ judged. IsGivenUp judged.change self.new.policy) (λ _. self.new.policy.tried ≡ self.new.policy.now) }
+        ensures work { IfOk result (λ judged. IsWorkOf (setting setup.now) self.old.pins self.old.plan.routes call.now judged.reply meter.old meter.new) }
         ensures most { WorksAtMost meter.old meter.new (call_asks (setting setup.now) self.old.plan.routes call.now) (call_probes self.old.pins self.old.plan.routes call.now) }
     {
         let (reply, change) = self.judge(alloc, setup, call, meter)?;
@@ -73,7 +75,8 @@ impl State {
         ensures ready { IfOk result (λ r. IsSettleable self.new r.1) }
         ensures reply { (state : BoardState) → Holds (setting setup.now) self.old state → IfOk result (λ r. ∥ IsReply (setting setup.now) state call.now r.0 ∥₁) }
         ensures change { (state : BoardState) → Holds (setting setup.now) self.old state → IfOk result (λ r. WillHold (setting setup.now) self.new r.1 (after state call.now r.0)) }
-        ensures work { IfOk result (λ r. WorksAtMost meter.old meter.new (reply_asks (call_asks (setting setup.now) self.old.plan.routes call.now) r.0) (call_probes self.old.pins self.old.plan.routes call.now)) }
+        ensures given_up { (session : ℕ) (command : Command) → call.now ≡ Policy session command → MatchResult result (λ r. IsGivenUp r.1 self.new.policy) (λ _. self.new.policy.tried ≡ self.new.policy.now) }
+        ensures work { IfOk result (λ r. IsWorkOf (setting setup.now) self.old.pins self.old.plan.routes call.now r.0 meter.old meter.new) }
         ensures most { WorksAtMost meter.old meter.new (call_asks (setting setup.now) self.old.plan.routes call.now) (call_probes self.old.pins self.old.plan.routes call.now) }
     {
         self.agrees();
@@ -118,7 +121,7 @@ impl State {
         ensures ready { IfOk result (λ r. IsSettleable self.old r.1) }
         ensures reply { (state : BoardState) → Holds (setting setup.now) self.old state → IfOk result (λ r. ∥ IsReply (setting setup.now) state (Propose session base mv.now) r.0 ∥₁) }
         ensures change { (state : BoardState) → Holds (setting setup.now) self.old state → IfOk result (λ r. WillHold (setting setup.now) self.old r.1 (after state (Propose session base mv.now) r.0)) }
-        ensures work { IfOk result (λ r. WorksAtMost meter.old meter.new (reply_asks (call_asks (setting setup.now) self.old.plan.routes (Propose session base mv.now)) r.0) (call_probes self.old.pins self.old.plan.routes (Propose session base mv.now))) }
+        ensures work { IfOk result (λ r. IsWorkOf (setting setup.now) self.old.pins self.old.plan.routes (Propose session base mv.now) r.0 meter.old meter.new) }
         ensures most { WorksAtMost meter.old meter.new (call_asks (setting setup.now) self.old.plan.routes (Propose session base mv.now)) (call_probes self.old.pins self.old.plan.routes (Propose session base mv.now)) }
     {
         self.agrees();

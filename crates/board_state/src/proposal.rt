@@ -1,5 +1,5 @@
 //! Proposals: the rules in their order, and what passes them all.
-ghost use Rattle.std.specs.Prelude.{◌≡◌, ◌≤◌, ◌+◌, ℕ, true, length, All, None, Some, IfOk, IfErr, OnOk, MatchOption};
+ghost use Rattle.std.specs.Prelude.{◌≡◌, ◌≤◌, ◌+◌, ℕ, true, length, All, None, Some, IfOk, IfErr, IfSome, OnOk, MatchOption};
 ghost use Rattle.dimension_core.specs.NewRoutes.{AllKnown};
 ghost use Rattle.dimension_core.specs.Setting.{Setting};
 ghost use Rattle.dimension_core.specs.Setup.{setting};
@@ -15,8 +15,8 @@ ghost use Rattle.range_cache.specs.Pending.{AreNewRows};
 ghost use Rattle.board_rules.specs.Rules.{is_one_of, IsVerdictBy, PassesEffect, PassesCustomers, PassesAll, routes_after};
 ghost use Rattle.board_state.specs.Held.{held_basis, IsReady};
 ghost use Rattle.board_state.specs.Changes.{ArePlaceableRoutes, AreMadeBy};
-ghost use Rattle.board_state.specs.Verdicts.{ArePlaceable, IsStop, result_asks};
-ghost use Rattle.board_state.specs.Work.{WorksAtMost, leaving};
+ghost use Rattle.board_state.specs.Verdicts.{ArePlaceable, IsStop, ComesEarly, IsLate, asks_least, asks_most, probes_least, probes_most, early_least};
+ghost use Rattle.board_state.specs.Work.{Works, WorksAtMost, leaving};
 
 use crate::change::{NewRoutes, Workspace};
 use crate::state::State;
@@ -52,7 +52,10 @@ impl State {
         ensures made { IfOk result (AreMadeBy self.old mv.now) }
         ensures ranges { IfOk result (λ new. AreNewRows (setting setup.now) (changes_by self.old.plan.routes mv.now) new.pending.rows) }
         ensures stop { IfErr result (IsStop (setting setup.now) (held_basis self.old session) base mv.now) }
-        ensures work { WorksAtMost meter.old meter.new (result_asks (judge_asks (length (setting setup.now).dimensions) self.old.plan.routes (changes_by self.old.plan.routes mv.now)) result)
+        ensures work { Works meter.old meter.new (asks_least (judge_asks (length (setting setup.now).dimensions) self.old.plan.routes (changes_by self.old.plan.routes mv.now)) result) (asks_most (judge_asks (length (setting setup.now).dimensions) self.old.plan.routes (changes_by self.old.plan.routes mv.now)) result)
+            (probes_least (length (named_by mv.now)) (length (touched_by self.old.plan.routes mv.now)) (leaving self.old.pins (routes_after self.old.plan.routes mv.now) (touched_by self.old.plan.routes mv.now)) result)
+            (probes_most (length (named_by mv.now)) (length (touched_by self.old.plan.routes mv.now)) (leaving self.old.pins (routes_after self.old.plan.routes mv.now) (touched_by self.old.plan.routes mv.now)) result) }
+        ensures most { WorksAtMost meter.old meter.new (judge_asks (length (setting setup.now).dimensions) self.old.plan.routes (changes_by self.old.plan.routes mv.now))
             (length (named_by mv.now) + length (touched_by self.old.plan.routes mv.now) + leaving self.old.pins (routes_after self.old.plan.routes mv.now) (touched_by self.old.plan.routes mv.now)) }
     {
         if let Some(denial) = self.early_denial(setup, session, base, mv, meter) {
@@ -74,7 +77,8 @@ impl State {
         requires { IsReady (setting setup.now) self.now }
         ensures denial { MatchOption result (PassesEffect (setting setup.now) (held_basis self.now session) base mv.now)
             (λ d. IsVerdictBy (setting setup.now) (held_basis self.now session) base mv.now (Some d)) }
-        ensures work { WorksAtMost meter.old meter.new 0 (length (named_by mv.now)) }
+        ensures early { IfSome result ComesEarly }
+        ensures work { Works meter.old meter.new 0 0 (early_least (length (named_by mv.now)) result) (length (named_by mv.now)) }
     {
         match self.base_denial(setup, session, base, mv, meter) {
             Some(denial) => Some(denial),
@@ -107,8 +111,9 @@ impl State {
         ensures made { IfOk result (AreMadeBy self.now mv.now) }
         ensures ranges { IfOk result (λ new. AreNewRows (setting setup.now) (changes_by self.now.plan.routes mv.now) new.pending.rows) }
         ensures stop { IfErr result (IsStop (setting setup.now) (held_basis self.now session) base mv.now) }
-        ensures work { WorksAtMost meter.old meter.new (result_asks (judge_asks (length (setting setup.now).dimensions) self.now.plan.routes (changes_by self.now.plan.routes mv.now)) result)
-            (length (touched_by self.now.plan.routes mv.now) + leaving self.now.pins (routes_after self.now.plan.routes mv.now) (touched_by self.now.plan.routes mv.now)) }
+        ensures work { Works meter.old meter.new (asks_least (judge_asks (length (setting setup.now).dimensions) self.now.plan.routes (changes_by self.now.plan.routes mv.now)) result) (asks_most (judge_asks (length (setting setup.now).dimensions) self.now.plan.routes (changes_by self.now.plan.routes mv.now)) result)
+            (probes_least 0 (length (touched_by self.now.plan.routes mv.now)) (leaving self.now.pins (routes_after self.now.plan.routes mv.now) (touched_by self.now.plan.routes mv.now)) result)
+            (probes_most 0 (length (touched_by self.now.plan.routes mv.now)) (leaving self.now.pins (routes_after self.now.plan.routes mv.now) (touched_by self.now.plan.routes mv.now)) result) }
     {
         let Workspace {
             touched,
@@ -148,8 +153,10 @@ impl State {
         ensures made { IfOk result (AreMadeBy self.now mv.now) }
         ensures ranges { IfOk result (λ new. AreNewRows (setting setup.now) (changes_by self.now.plan.routes mv.now) new.pending.rows) }
         ensures stop { IfErr result (IsStop (setting setup.now) (held_basis self.now session) base mv.now) }
-        ensures work { WorksAtMost meter.old meter.new (result_asks (judge_asks (length (setting setup.now).dimensions) self.now.plan.routes (changes_by self.now.plan.routes mv.now)) result)
-            (leaving self.now.pins (routes_after self.now.plan.routes mv.now) (touched_by self.now.plan.routes mv.now)) }
+        ensures late { IfErr result IsLate }
+        ensures work { Works meter.old meter.new (asks_least (judge_asks (length (setting setup.now).dimensions) self.now.plan.routes (changes_by self.now.plan.routes mv.now)) result) (asks_most (judge_asks (length (setting setup.now).dimensions) self.now.plan.routes (changes_by self.now.plan.routes mv.now)) result)
+            (probes_least 0 0 (leaving self.now.pins (routes_after self.now.plan.routes mv.now) (touched_by self.now.plan.routes mv.now)) result)
+            (probes_most 0 0 (leaving self.now.pins (routes_after self.now.plan.routes mv.now) (touched_by self.now.plan.routes mv.now)) result) }
     {
         pins_after_commits();
         let Ok(changes) = self.new_routes(alloc, room, mv, &touched) else {

@@ -1,5 +1,5 @@
 //! The rules of proposals that need no new route, in their order.
-ghost use Rattle.std.specs.Prelude.{◌≡◌, ◌≤◌, ◌+◌, ℕ, ◌∷◌, length, find, not, true, MatchOption, Some};
+ghost use Rattle.std.specs.Prelude.{◌≡◌, ◌≤◌, ◌+◌, ℕ, ◌∷◌, length, find, not, true, MatchOption, Some, IfSome, OnSome, IfNone};
 ghost use Rattle.dimension_core.specs.Setup.{setting};
 ghost use Rattle.permission_table.specs.Tables.{allows};
 ghost use Rattle.permission_table.specs.Compiled.{AreCompiled};
@@ -9,7 +9,8 @@ ghost use Rattle.permission_core.specs.declared.objects.Object.TheVariants as ob
 ghost use Rattle.move_core.specs.Moves.{named_by};
 ghost use Rattle.board_rules.specs.Rules.{IsVerdictBy, PassesBase};
 ghost use Rattle.board_state.specs.Held.{held_basis};
-ghost use Rattle.board_state.specs.Work.{WorksAtMost};
+ghost use Rattle.board_state.specs.Verdicts.{ComesEarly, early_least};
+ghost use Rattle.board_state.specs.Work.{Works, WorksJust};
 
 use crate::named::are_in_fleet;
 use crate::state::State;
@@ -34,7 +35,8 @@ impl State {
         requires compiled { ∥ AreCompiled self.now.tables self.now.policy.now ∥₁ }
         ensures denial { MatchOption result (PassesBase (setting setup.now) (held_basis self.now session) base mv.now)
             (λ d. IsVerdictBy (setting setup.now) (held_basis self.now session) base mv.now (Some d)) }
-        ensures work { WorksAtMost meter.old meter.new 0 (length (named_by mv.now)) }
+        ensures early { IfSome result ComesEarly }
+        ensures work { Works meter.old meter.new 0 0 (early_least (length (named_by mv.now)) result) (length (named_by mv.now)) }
     {
         let named = mv.vehicles();
         let barred = self.first_barred_vehicle(session, named, meter);
@@ -57,6 +59,7 @@ impl State {
     }
 
     /// The first touched customer that the session may not move.
+    #[tactic(auto, using(crate::proofs::WorkLaws::probe_more))]
     pub(crate) fn first_barred_customer(
         &self,
         session: u32,
@@ -64,7 +67,8 @@ impl State {
         meter: &mut Meter,
     ) -> Option<Touch>
         ensures first { result ≡ find (λ t. not (allows self.now.tables session operations.Move (objects.Customer t.customer))) touched.now }
-        ensures work { WorksAtMost meter.old meter.new 0 (length touched.now) }
+        ensures some { OnSome result (Works meter.old meter.new 0 0 1 (length touched.now)) }
+        ensures whole { IfNone result (WorksJust meter.old meter.new 0 (length touched.now)) }
     {
         let found = self.session_rows(session);
         for touch in touched {

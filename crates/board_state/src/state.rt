@@ -8,7 +8,7 @@ ghost use Rattle.permission_table.specs.Compiled.{AreCompiled, HasSizes};
 ghost use Rattle.board_rules.specs.State.{BoardState};
 ghost use Rattle.board_state.specs.Held.{Holds, IsOpening, IsOpened};
 ghost use Rattle.range_cache.specs.Cache.{IsCacheOf};
-ghost use Rattle.board_state.specs.Work.{WorksAtMost};
+ghost use Rattle.board_state.specs.Work.{WorksJust};
 ghost use Rattle.permission_table.specs.Tables.{allows, rows_of};
 ghost use Rattle.std.specs.Option.{option_map};
 ghost use Rattle.policy_core.specs.State.{is_session};
@@ -150,6 +150,7 @@ impl State {
     }
 
     /// CheckAccess for a session whose permissions were found: one probe.
+    #[tactic(auto, using(crate::proofs::WorkLaws::probed))]
     #[inline(always)]
     pub(crate) fn may_by(
         &self,
@@ -161,11 +162,10 @@ impl State {
     ) -> bool
         requires { option_map (λ rows. rows.now) found ≡ rows_of self.now.tables session }
         ensures value { result ≡ allows self.now.tables session operation object }
-        ensures work { WorksAtMost meter.old meter.new 0 1 }
+        ensures work { WorksJust meter.old meter.new 0 1 }
     {
         let _few = meter.probes;
-        meter.probe();
-        self.tables.allows(found, operation, object)
+        self.tables.check_in(found, operation, object, meter)
     }
 
     /// The memory that is kept for the lists of a commit.
@@ -185,7 +185,7 @@ impl State {
         meter: &mut Meter,
     ) -> bool
         ensures value { result ≡ allows self.now.tables session operation object }
-        ensures work { WorksAtMost meter.old meter.new 0 1 }
+        ensures work { WorksJust meter.old meter.new 0 1 }
     {
         let found = self.session_rows(session);
         self.may_by(session, found, operation, object, meter)

@@ -12,16 +12,16 @@ pub compile-requires-clause-compiled : goal.compile-requires-clause-compiled
 compile-requires-clause-compiled c =
     subst (λ (p : PolicyState). ∥ AreCompiled c.args.tables.now p ∥₁) (sym c.prepare.ensures.now) c.requires.compiled
 
-pub returns-in_ok-change-in-Ok-clause-reply : goal.returns-in_ok-change-in-Ok-clause-reply
-returns-in_ok-change-in-Ok-clause-reply c session free =
+pub returns-in-Ok-compile-clause-reply : goal.returns-in-Ok-compile-clause-reply
+returns-in-Ok-compile-clause-reply c session free =
     c.reply_to.ensures ∙ ap (λ (o : Outcome). reply_of (Ok o)) c.in-Ok.ensures.outcome
     ∙ sym (carried c.args.policy.now.now session c.args.command.now free c.in-Ok.ensures.allowed).0
 
-pub returns-in_ok-change-in-Ok-clause-change : goal.returns-in_ok-change-in-Ok-clause-change
-returns-in_ok-change-in-Ok-clause-change c session free =
-    subst (λ (p : PolicyState). PolicyWillBe c.prepare.new.self c.compile.new.tables c.in_ok-change-in-Ok.change p)
+pub returns-in-Ok-compile-clause-change : goal.returns-in-Ok-compile-clause-change
+returns-in-Ok-compile-clause-change c session free =
+    subst (λ (p : PolicyState). PolicyWillBe c.prepare.new.self c.compile.new.tables c.in-Ok-compile.change p)
     (ap (λ (p : PolicyState). after p c.args.command.now) c.prepare.ensures.now ∙ sym (carried c.args.policy.now.now session c.args.command.now free c.in-Ok.ensures.allowed).1)
-    c.in_ok-change-in-Ok.ensures.change
+    c.in-Ok-compile.ensures.change
 
 pub returns-in-Err-clause-reply : goal.returns-in-Err-clause-reply
 returns-in-Err-clause-reply c session free =

@@ -6,7 +6,7 @@ use Rattle.board_rules.specs.History.{state_after, IsNext}
 use Rattle.board_state.specs.Changes.{Tries}
 use Rattle.board_state.specs.Held.{Holds, IsReady}
 use Rattle.board_core.specs.Kept.{CoreState, history_of, entry_of}
-use Rattle.board_core.proofs.Keeping.{ready, kept_same, kept_after, room_within, turn_due}
+use Rattle.board_core.proofs.Keeping.{ready, kept_same, kept_after, turn_due}
 use Rattle.board_core.proofs.body.Core.carry_out.Goals as goal
 
 pub apply-requires : goal.apply-requires
@@ -23,26 +23,16 @@ apply-requires g c =
 pub returns-in_err-make_room-clause-kept : goal.returns-in_err-make_room-clause-kept
 returns-in_err-make_room-clause-kept g c =
     let s = setting c.args.setup.now in
-    let held = subst (λ (x : CoreState). length x.journal + x.room ≤ s.max_events) (sym c.self.view_is) c.requires.kept.room in
-    let before = subst (λ (x : CoreState). length x.journal < s.max_events) (sym c.self.view_is) c.requires.taken.space in
-    let few : vec_capacity c.make_room.new.journal ≤ s.max_events =
-    omega (arith, c.max_events-most.ensures.value, c.make_room.ensures.most (omega (arith, held, c.max_events-most.ensures.value))) in
     kept_same s c.args.self.now _ c.requires.kept
-    (c.make_room.ensures.items ∙ ap (λ (x : CoreState). x.journal) c.self.view_is) (ap (λ (x : CoreState). x.turns) c.self.view_is)
+    (c.make_room.ensures.entries ∙ ap (λ (x : CoreState). x.journal) c.self.view_is) (ap (λ (x : CoreState). x.turns) c.self.view_is)
     (subst (λ (x : CoreState). Tries x.held c.self.inside.state) c.self.view_is refl)
-    (room_within (length c.make_room.new.journal.items) (vec_capacity c.make_room.new.journal) s.max_events (omega (arith, before, ap length c.make_room.ensures.items)) few)
 
 pub returns-in_err-reply-clause-kept : goal.returns-in_err-reply-clause-kept
 returns-in_err-reply-clause-kept g c =
     let s = setting c.args.setup.now in
-    let held = subst (λ (x : CoreState). length x.journal + x.room ≤ s.max_events) (sym c.self.view_is) c.requires.kept.room in
-    let before = subst (λ (x : CoreState). length x.journal < s.max_events) (sym c.self.view_is) c.requires.taken.space in
-    let few : vec_capacity c.make_room.new.journal ≤ s.max_events =
-    omega (arith, c.max_events-most.ensures.value, c.make_room.ensures.most (omega (arith, held, c.max_events-most.ensures.value))) in
     kept_same s c.args.self.now _ c.requires.kept
-    (c.make_room.ensures.items ∙ ap (λ (x : CoreState). x.journal) c.self.view_is) (ap (λ (x : CoreState). x.turns) c.self.view_is)
+    (c.make_room.ensures.entries ∙ ap (λ (x : CoreState). x.journal) c.self.view_is) (ap (λ (x : CoreState). x.turns) c.self.view_is)
     (subst (λ (x : CoreState). Tries x.held c.apply.new.self) c.self.view_is c.in_err-reply.ensures.err)
-    (room_within (length c.make_room.new.journal.items) (vec_capacity c.make_room.new.journal) s.max_events (omega (arith, before, ap length c.make_room.ensures.items)) few)
 
 pub returns-clause-kept : goal.returns-clause-kept
 returns-clause-kept g c =
@@ -55,15 +45,9 @@ returns-clause-kept g c =
     let e : Entry = entry_of event c.in_ok-reply.reply in
     let due = turn_due (length core.turns) core.journal event.desk event.turn taken.due in
     let holds = subst (λ (x : CoreState). Holds s x.held state) (sym c.self.view_is) kept.held in
-    let room = subst (λ (x : CoreState). length x.journal + x.room ≤ s.max_events) (sym c.self.view_is) kept.room in
-    let before = subst (λ (x : CoreState). length x.journal < s.max_events) (sym c.self.view_is) taken.space in
-    let more = ap length c.record.ensures.items ∙ length-append c.make_room.new.journal.items _ in
-    let few : vec_capacity c.make_room.new.journal ≤ s.max_events =
-    omega (arith, c.max_events-most.ensures.value, c.make_room.ensures.most (omega (arith, room, c.max_events-most.ensures.value))) in
     kept_after s core _ e c.histories_grow_by_entries.ensures.legal c.histories_grow_by_entries.ensures.state c.histories_grow_by_entries.ensures.turns kept
     taken.space
     (record { desk_low = taken.low; desk_high = taken.high; turn = due.2; reply = c.in_ok-reply.ensures.reply state holds })
-    (c.record.ensures.items ∙ ap (λ es. es ++ e ∷ []) (c.make_room.ensures.items ∙ ap (λ (x : CoreState). x.journal) c.self.view_is))
+    (c.push.ensures.entries ∙ ap (λ es. es ++ e ∷ []) (c.make_room.ensures.entries ∙ ap (λ (x : CoreState). x.journal) c.self.view_is))
     (ap (λ (x : CoreState). slice_set x.turns (event.desk - 1) event.turn) c.self.view_is)
     (c.in_ok-reply.ensures.holds state holds)
-    (room_within (length c.record.new.journal.items) (vec_capacity c.record.new.journal) s.max_events (omega (arith, before, more, ap length c.make_room.ensures.items)) (omega (arith, few, c.record.ensures.capacity)))

@@ -4,7 +4,7 @@ use Rattle.board_rules.specs.History.{state_after}
 use Rattle.board_state.specs.Changes.{Tries}
 use Rattle.board_state.specs.Held.{Holds, IsReady}
 use Rattle.board_core.specs.Kept.{CoreState, history_of}
-use Rattle.board_core.proofs.Keeping.{ready, kept_same, room_within, makes_of}
+use Rattle.board_core.proofs.Keeping.{ready, kept_same, makes_of}
 use Rattle.board_core.proofs.body.Core.judge.Goals as goal
 
 pub prepare-requires : goal.prepare-requires
@@ -21,38 +21,23 @@ prepare-requires g c =
 pub returns-in_err-make_room-clause-kept : goal.returns-in_err-make_room-clause-kept
 returns-in_err-make_room-clause-kept g c =
     let s = setting c.args.setup.now in
-    let held = subst (λ (x : CoreState). length x.journal + x.room ≤ s.max_events) (sym c.self.view_is) c.requires.kept.room in
-    let before = subst (λ (x : CoreState). length x.journal < s.max_events) (sym c.self.view_is) c.requires.taken.space in
-    let few : vec_capacity c.make_room.new.journal ≤ s.max_events =
-    omega (arith, c.max_events-most.ensures.value, c.make_room.ensures.most (omega (arith, held, c.max_events-most.ensures.value))) in
     kept_same s c.args.self.now _ c.requires.kept
-    (c.make_room.ensures.items ∙ ap (λ (x : CoreState). x.journal) c.self.view_is) (ap (λ (x : CoreState). x.turns) c.self.view_is)
+    (c.make_room.ensures.entries ∙ ap (λ (x : CoreState). x.journal) c.self.view_is) (ap (λ (x : CoreState). x.turns) c.self.view_is)
     (subst (λ (x : CoreState). Tries x.held c.self.inside.state) c.self.view_is refl)
-    (room_within (length c.make_room.new.journal.items) (vec_capacity c.make_room.new.journal) s.max_events (omega (arith, before, ap length c.make_room.ensures.items)) few)
 
 pub returns-in_err-judged-clause-kept : goal.returns-in_err-judged-clause-kept
 returns-in_err-judged-clause-kept g c =
     let s = setting c.args.setup.now in
-    let held = subst (λ (x : CoreState). length x.journal + x.room ≤ s.max_events) (sym c.self.view_is) c.requires.kept.room in
-    let before = subst (λ (x : CoreState). length x.journal < s.max_events) (sym c.self.view_is) c.requires.taken.space in
-    let few : vec_capacity c.make_room.new.journal ≤ s.max_events =
-    omega (arith, c.max_events-most.ensures.value, c.make_room.ensures.most (omega (arith, held, c.max_events-most.ensures.value))) in
     kept_same s c.args.self.now _ c.requires.kept
-    (c.make_room.ensures.items ∙ ap (λ (x : CoreState). x.journal) c.self.view_is) (ap (λ (x : CoreState). x.turns) c.self.view_is)
+    (c.make_room.ensures.entries ∙ ap (λ (x : CoreState). x.journal) c.self.view_is) (ap (λ (x : CoreState). x.turns) c.self.view_is)
     (subst (λ (x : CoreState). Tries x.held c.prepare.new.self) c.self.view_is c.prepare.ensures.kept)
-    (room_within (length c.make_room.new.journal.items) (vec_capacity c.make_room.new.journal) s.max_events (omega (arith, before, ap length c.make_room.ensures.items)) few)
 
 pub returns-clause-kept : goal.returns-clause-kept
 returns-clause-kept g c =
     let s = setting c.args.setup.now in
-    let held = subst (λ (x : CoreState). length x.journal + x.room ≤ s.max_events) (sym c.self.view_is) c.requires.kept.room in
-    let before = subst (λ (x : CoreState). length x.journal < s.max_events) (sym c.self.view_is) c.requires.taken.space in
-    let few : vec_capacity c.make_room.new.journal ≤ s.max_events =
-    omega (arith, c.max_events-most.ensures.value, c.make_room.ensures.most (omega (arith, held, c.max_events-most.ensures.value))) in
     kept_same s c.args.self.now _ c.requires.kept
-    (c.make_room.ensures.items ∙ ap (λ (x : CoreState). x.journal) c.self.view_is) (ap (λ (x : CoreState). x.turns) c.self.view_is)
+    (c.make_room.ensures.entries ∙ ap (λ (x : CoreState). x.journal) c.self.view_is) (ap (λ (x : CoreState). x.turns) c.self.view_is)
     (subst (λ (x : CoreState). Tries x.held c.prepare.new.self) c.self.view_is c.prepare.ensures.kept)
-    (room_within (length c.make_room.new.journal.items) (vec_capacity c.make_room.new.journal) s.max_events (omega (arith, before, ap length c.make_room.ensures.items)) few)
 
 pub returns-clause-makes : goal.returns-clause-makes
 returns-clause-makes g c =
@@ -60,5 +45,5 @@ returns-clause-makes g c =
     let state = state_after s c.args.self.now.journal in
     let holds : Holds s c.self.inside.state state = subst (λ (x : CoreState). Holds s x.held state) (sym c.self.view_is) c.requires.kept.held in
     makes_of s c.args.self.now _ _ c.of.ensures
-    (c.make_room.ensures.items ∙ ap (λ (x : CoreState). x.journal) c.self.view_is) (ap (λ (x : CoreState). x.turns) c.self.view_is)
+    (c.make_room.ensures.entries ∙ ap (λ (x : CoreState). x.journal) c.self.view_is) (ap (λ (x : CoreState). x.turns) c.self.view_is)
     c.requires.taken.due c.requires.taken.space (c.in_ok-judged.ensures.reply state holds) (c.in_ok-judged.ensures.change state holds)

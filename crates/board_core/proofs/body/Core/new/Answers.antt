@@ -6,4 +6,4 @@ use Rattle.board_core.proofs.body.Core.new.Goals as goal
 pub returns-clause-kept : goal.returns-clause-kept
 returns-clause-kept g c =
     let turns : c.in_ok-turns.turns.items ≡ replicate c.args.desks 0 = search (rules, c.in_ok-turns.ensures.items_if_clones_equal, c.in_ok-turns.ensures.items) in
-    kept_opened (setting c.args.setup.now) _ c.args.desks c.in_ok-state.ensures c.new-2.ensures.items turns (omega (arith, c.new-2.ensures.capacity)) c.requires.low c.requires.high
+    kept_opened (setting c.args.setup.now) _ c.args.desks c.in_ok-state.ensures c.in_ok-new.ensures.entries turns c.requires.low c.requires.high

@@ -6,7 +6,7 @@ use Rattle.board_rules.specs.Step.{after}
 use Rattle.board_state.specs.Changes.{WillHold}
 use Rattle.board_core.specs.Kept.{CoreState, history_of}
 use Rattle.board_core.specs.Prepared.{PreparedState, Makes}
-use Rattle.board_core.proofs.Keeping.{kept_after, room_within}
+use Rattle.board_core.proofs.Keeping.{kept_after}
 use Rattle.board_core.proofs.body.Core.settle.Goals as goal
 
 pub returns-clause-kept : goal.returns-clause-kept
@@ -20,14 +20,10 @@ returns-clause-kept c s kept makes =
     let will = subst (λ (x : CoreState). WillHold s x.held i.judged.change (after (state_after s x.journal) e.call e.reply)) of made.will in
     let held = subst (λ (x : CoreState). WillHold s x.held i.judged.change (after (state_after s core.journal) e.call e.reply)) (sym c.self.view_is) will in
     let space = subst (λ (x : CoreState). length x.journal < s.max_events) of made.space in
-    let room = subst (λ (x : CoreState). length x.journal + x.room ≤ s.max_events) (sym c.self.view_is) kept.room in
-    let before = subst (λ (x : CoreState). length x.journal < s.max_events) (sym c.self.view_is) space in
-    let more = ap length c.record.ensures.items ∙ length-append c.self.inside.journal.items _ in
     kept_after s core _ e c.histories_grow_by_entries.ensures.legal c.histories_grow_by_entries.ensures.state c.histories_grow_by_entries.ensures.turns kept
     space
     (subst (λ (x : CoreState). IsNext (history_of s x).opening x.journal e) of made.next)
-    (c.record.ensures.items ∙ ap (λ r. c.self.inside.journal.items ++ record { desk = i.desk; turn = i.turn; call = i.call; reply = r } ∷ []) c.settle-reply.ensures.reply
+    (c.push.ensures.entries ∙ ap (λ r. c.self.inside.journal.entries ++ record { desk = i.desk; turn = i.turn; call = i.call; reply = r } ∷ []) c.settle-reply.ensures.reply
     ∙ ap (λ (x : CoreState). x.journal ++ e ∷ []) c.self.view_is)
     (ap (λ (x : CoreState). slice_set x.turns (i.desk - 1) i.turn) c.self.view_is)
     (c.settle-reply.ensures.holds s (after (state_after s core.journal) e.call e.reply) held)
-    (room_within (length c.record.new.journal.items) (vec_capacity c.record.new.journal) s.max_events (omega (arith, before, more)) (omega (arith, room, c.record.ensures.capacity)))

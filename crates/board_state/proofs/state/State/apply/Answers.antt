@@ -8,7 +8,7 @@ use Rattle.board_rules.specs.Pinning.{pinned}
 use Rattle.board_rules.specs.Rules.{basis_of}
 use Rattle.board_rules.specs.Step.{IsReply, after, refused_by}
 use Rattle.board_state.specs.Held.{Holds, held_basis}
-use Rattle.board_state.specs.Work.{WorksAtMost, call_asks, call_probes, reply_asks}
+use Rattle.board_state.specs.Work.{WorksAtMost, IsWorkOf, call_asks, call_probes}
 use Rattle.board_state.proofs.Stepping.{pin_same, unpin_same, freeze_same, thaw_same, pins_made, pins_ready}
 use Rattle.board_state.proofs.state.State.apply.Goals as goal
 
@@ -22,8 +22,7 @@ returns-in-Propose-clause-holds g c state holds =
 
 pub returns-in-Propose-clause-work : goal.returns-in-Propose-clause-work
 returns-in-Propose-clause-work g c =
-    subst (λ (x : Call). IfOk c.apply_proposal.result (λ r. WorksAtMost c.args.meter.now c.apply_proposal.new.meter
-    (reply_asks (call_asks (setting c.args.setup.now) c.args.self.now.plan.routes x) r) (call_probes c.args.self.now.pins c.args.self.now.plan.routes x))) (sym c.in-Propose.is) c.apply_proposal.ensures.work
+    subst (λ (x : Call). IfOk c.apply_proposal.result (λ r. IsWorkOf (setting c.args.setup.now) c.args.self.now.pins c.args.self.now.plan.routes x r c.args.meter.now c.apply_proposal.new.meter)) (sym c.in-Propose.is) c.apply_proposal.ensures.work
 
 pub returns-in-Propose-clause-most : goal.returns-in-Propose-clause-most
 returns-in-Propose-clause-most g c =

@@ -9,7 +9,7 @@ use Rattle.board_rules.specs.Rules.{basis_of}
 use Rattle.board_rules.specs.Step.{IsReply, after, refused_by}
 use Rattle.board_state.specs.Changes.{WillHold}
 use Rattle.board_state.specs.Held.{held_basis}
-use Rattle.board_state.specs.Work.{WorksAtMost, call_asks, call_probes, reply_asks}
+use Rattle.board_state.specs.Work.{WorksAtMost, IsWorkOf, call_asks, call_probes}
 use Rattle.board_state.proofs.Stepping.{pin_same, unpin_same, freeze_same, thaw_same, pins_call, policy_call}
 use Rattle.board_state.proofs.state.State.judge.Goals as goal
 
@@ -19,8 +19,7 @@ returns-in-Propose-clause-reply g c state holds =
 
 pub returns-in-Propose-clause-work : goal.returns-in-Propose-clause-work
 returns-in-Propose-clause-work g c =
-    subst (λ (x : Call). IfOk c.answer_proposal.result (λ r. WorksAtMost c.args.meter.now c.answer_proposal.new.meter
-    (reply_asks (call_asks (setting c.args.setup.now) c.args.self.now.plan.routes x) r.0) (call_probes c.args.self.now.pins c.args.self.now.plan.routes x))) (sym c.in-Propose.is) c.answer_proposal.ensures.work
+    subst (λ (x : Call). IfOk c.answer_proposal.result (λ r. IsWorkOf (setting c.args.setup.now) c.args.self.now.pins c.args.self.now.plan.routes x r.0 c.args.meter.now c.answer_proposal.new.meter)) (sym c.in-Propose.is) c.answer_proposal.ensures.work
 
 pub returns-in-Propose-clause-most : goal.returns-in-Propose-clause-most
 returns-in-Propose-clause-most g c =

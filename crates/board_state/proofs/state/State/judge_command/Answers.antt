@@ -6,6 +6,7 @@ use Rattle.permission_core.specs.declared.objects.Object.{Object}
 use Rattle.policy_core.specs.State.{PolicyState}
 use Rattle.policy_core.specs.Access.{has_access}
 use Rattle.rbac_core.specs.Step.{guard, guard_by}
+use Rattle.rbac_core.specs.Tried.{Tried}
 use Rattle.permission_table.specs.Tables.{allows}
 use Rattle.permission_table.specs.Compiled.{AreCompiled, HasSizes}
 use Rattle.std.specs.Result.{IfOk}
@@ -34,8 +35,11 @@ returns-in-Some-clause-change c =
     let held = a.self.now in
     let p = held.policy.now in
     let same = ap (λ b. guard_by b p a.session a.command.now) (sym (allows_access held.tables p c.requires.compiled a.session operations.Admin objects.Board)) in
-    (refused_call p held.policy held.tables a.session a.command.now c.in-Some.refusal c.refused.result (λ _. guarded p a.session a.command.now c.in-Some.refusal (same ∙ sym c.in-Some.ensures.refused))
-    refl c.requires.compiled c.requires.sizes c.refused.ensures.due c.refused.ensures.reply c.refused.ensures.change).1
+    let compiled = subst (λ (h : HeldState). ∥ AreCompiled h.tables p ∥₁) (sym c.self.view_is) c.requires.compiled in
+    let sizes = subst (λ (h : HeldState). HasSizes p h.tables) (sym c.self.view_is) c.requires.sizes in
+    let now : c.give_up.new.self.now ≡ p = ap (λ (t : Tried). t.now) c.give_up.ensures ∙ ap (λ (h : HeldState). h.policy.now) c.self.view_is in
+    (refused_call p c.give_up.new.self c.self.inside.tables a.session a.command.now c.in-Some.refusal c.refused.result (λ _. guarded p a.session a.command.now c.in-Some.refusal (same ∙ sym c.in-Some.ensures.refused))
+    now compiled sizes c.refused.ensures.due c.refused.ensures.reply c.refused.ensures.change).1
 
 pub returns-clause-reply : goal.returns-clause-reply
 returns-clause-reply c =

@@ -6,6 +6,7 @@ use Rattle.pin_core.specs.Allowed.{AreAllTouched}
 use Rattle.pin_core.specs.Override.{DoPinsPass, IsFirstForbidden}
 use Rattle.board_rules.specs.Rules.{may_override}
 use Rattle.board_state.specs.Held.{HeldState, held_basis}
+use Rattle.board_state.proofs.WorkLaws.{within}
 use Rattle.board_state.proofs.Overrides.{passed_allow, forbidden_held}
 use Rattle.board_state.proofs.state.State.judge_overrides.Goals as goal
 
@@ -43,3 +44,9 @@ returns-clause-stop c =
     × ((t : Touch) × IsFirstForbidden h.pins (with_routes (changes_of c.args.changes.now) h.plan.routes) c.args.touched.now c.deref.result.now t × (t.vehicle ≡ v) × (t.place ≡ p))) c.self.view_is fault in
     let first = subst (λ (free : List Bool). (t : Touch) × IsFirstForbidden held.pins others c.args.touched.now free t × (t.vehicle ≡ v) × (t.place ≡ p)) c.deref.ensures.value here.1 in
     (here.0, (first.0, forbidden_held held.pins (may_override (held_basis held c.args.session)) others c.args.touched.now c.in-Ok.free.items c.in-Ok.ensures.answers first.0 first.1, first.2, first.3))
+
+pub returns-in-Ok-allows_with-clause-work : goal.returns-in-Ok-allows_with-clause-work
+returns-in-Ok-allows_with-clause-work c = within _ _ _ _ _ _ _ _ _ _ c.in-Ok.ensures.whole (omega arith) (omega arith) (omega arith) (omega arith)
+
+pub returns-clause-work : goal.returns-clause-work
+returns-clause-work c = within _ _ _ _ _ _ _ _ _ _ c.in-Ok.ensures.whole (omega arith) (omega arith) (omega arith) (omega arith)

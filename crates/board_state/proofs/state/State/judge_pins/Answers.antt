@@ -1,10 +1,11 @@
-use Rattle.std.proofs.Common.{List, Bool, sym, subst}
+use Rattle.std.proofs.Common.{List, Bool, sym, subst, arith}
 use Rattle.plan_core.specs.Plan.{changes_of, with_routes}
 use Rattle.pin_core.specs.Allowed.{AreAllTouched}
 use Rattle.pin_core.specs.Pins.{DoPinsHold}
 use Rattle.board_state.specs.Deltas.{AreFreed}
 use Rattle.board_state.specs.Held.{HeldState}
-use Rattle.board_state.proofs.Overrides.{none_freed}
+use Rattle.board_state.proofs.Overrides.{none_freed, none_leaving}
+use Rattle.board_state.proofs.WorkLaws.{within, just_idle}
 use Rattle.board_state.proofs.state.State.judge_pins.Goals as goal
 
 pub allows-requires-clause-touched : goal.allows-requires-clause-touched
@@ -18,3 +19,11 @@ returns-in-Ok-clause-freed c =
     subst (λ (freed : List Bool). AreFreed held.pins others c.args.touched.now freed) (sym c.new.ensures.items)
     (none_freed held.pins (with_routes (changes_of c.args.changes.now) held.plan.routes) c.args.touched.now held.plan.customers c.requires.known
     (subst (λ (h : HeldState). DoPinsHold h.pins (with_routes (changes_of c.args.changes.now) h.plan.routes)) c.self.view_is c.in-Ok.ensures.1))
+
+pub returns-in-Ok-clause-work : goal.returns-in-Ok-clause-work
+returns-in-Ok-clause-work c =
+    let held = c.args.self.now in
+    let others = with_routes (changes_of c.args.changes.now) held.plan.routes in
+    let holds = subst (λ (h : HeldState). DoPinsHold h.pins (with_routes (changes_of c.args.changes.now) h.plan.routes)) c.self.view_is c.in-Ok.ensures.1 in
+    let none = none_leaving held.pins others c.args.touched.now (c.pins_after_commits.ensures.same held.pins others holds) in
+    within _ _ _ _ _ _ _ _ _ _ (just_idle _) (omega arith) (omega arith) (omega (arith, none)) (omega arith)

@@ -1,4 +1,4 @@
-use Rattle.std.proofs.Common.{◌≡◌, ◌+◌, ℕ, length, subst, arith}
+use Rattle.std.proofs.Common.{◌≡◌, ℕ, length, subst, arith}
 use Rattle.std.specs.Prelude.{OnOk, IfErr}
 use Rattle.dimension_core.specs.Setup.{setting}
 use Rattle.range_cache.specs.Asks.{judge_asks}
@@ -6,9 +6,9 @@ use Rattle.move_core.specs.Moves.{named_by, changes_by}
 use Rattle.move_core.specs.Touched.{touched_by}
 use Rattle.board_rules.specs.Rules.{PassesAll, routes_after}
 use Rattle.board_state.specs.Held.{HeldState, held_basis}
-use Rattle.board_state.specs.Verdicts.{IsStop, result_asks}
-use Rattle.board_state.specs.Work.{WorksAtMost, leaving}
-use Rattle.board_state.proofs.WorkLaws.{then}
+use Rattle.board_state.specs.Verdicts.{IsStop, asks_least, asks_most, probes_least, probes_most}
+use Rattle.board_state.specs.Work.{Works, leaving}
+use Rattle.board_state.proofs.WorkLaws.{wider, after_named, denied_early, most_asks, most_probes}
 use Rattle.board_state.proofs.state.State.judge_proposal.Goals as goal
 
 pub returns-clause-passes : goal.returns-clause-passes
@@ -21,14 +21,30 @@ returns-clause-stop g c =
     let a = c.args in
     subst (λ (h : HeldState). IfErr c.judge_move.result (IsStop (setting a.setup.now) (held_basis h a.session) a.base a.mv.now)) c.workspace-room.ensures c.judge_move.ensures.stop
 
+pub returns-in-Some-clause-work : goal.returns-in-Some-clause-work
+returns-in-Some-clause-work g c =
+    denied_early _ _ _ _ _ _ c.in-Some.denial c.in-Some.ensures.early c.in-Some.ensures.work
+
+pub returns-in-Some-clause-most : goal.returns-in-Some-clause-most
+returns-in-Some-clause-most g c = wider _ _ _ _ _ _ c.early_denial.ensures.work (omega arith) (omega arith)
+
 pub returns-clause-work : goal.returns-clause-work
 returns-clause-work g c =
     let a = c.args in
-    let held = a.self.now in
-    let later = subst (λ (h : HeldState). WorksAtMost c.early_denial.new.meter c.judge_move.new.meter
-    (result_asks (judge_asks (length (setting a.setup.now).dimensions) h.plan.routes (changes_by h.plan.routes a.mv.now)) c.judge_move.result)
-    (length (touched_by h.plan.routes a.mv.now) + leaving h.pins (routes_after h.plan.routes a.mv.now) (touched_by h.plan.routes a.mv.now))) c.workspace-room.ensures c.judge_move.ensures.work in
-    then _ _ _ 0 (length (named_by a.mv.now))
-    (result_asks (judge_asks (length (setting a.setup.now).dimensions) held.plan.routes (changes_by held.plan.routes a.mv.now)) c.judge_move.result)
-    (length (touched_by held.plan.routes a.mv.now) + leaving held.pins (routes_after held.plan.routes a.mv.now) (touched_by held.plan.routes a.mv.now))
-    _ _ c.early_denial.ensures.work later (omega arith) (omega arith)
+    let later = subst (λ (h : HeldState). Works c.early_denial.new.meter c.judge_move.new.meter
+    (asks_least (judge_asks (length (setting a.setup.now).dimensions) h.plan.routes (changes_by h.plan.routes a.mv.now)) c.judge_move.result)
+    (asks_most (judge_asks (length (setting a.setup.now).dimensions) h.plan.routes (changes_by h.plan.routes a.mv.now)) c.judge_move.result)
+    (probes_least 0 (length (touched_by h.plan.routes a.mv.now)) (leaving h.pins (routes_after h.plan.routes a.mv.now) (touched_by h.plan.routes a.mv.now)) c.judge_move.result)
+    (probes_most 0 (length (touched_by h.plan.routes a.mv.now)) (leaving h.pins (routes_after h.plan.routes a.mv.now) (touched_by h.plan.routes a.mv.now)) c.judge_move.result)) c.workspace-room.ensures c.judge_move.ensures.work in
+    after_named _ _ _ (length (named_by a.mv.now)) _ _ _ _ c.judge_move.result c.in_default.ensures.work later
+
+pub returns-clause-most : goal.returns-clause-most
+returns-clause-most g c =
+    let a = c.args in
+    let later = subst (λ (h : HeldState). Works c.early_denial.new.meter c.judge_move.new.meter
+    (asks_least (judge_asks (length (setting a.setup.now).dimensions) h.plan.routes (changes_by h.plan.routes a.mv.now)) c.judge_move.result)
+    (asks_most (judge_asks (length (setting a.setup.now).dimensions) h.plan.routes (changes_by h.plan.routes a.mv.now)) c.judge_move.result)
+    (probes_least 0 (length (touched_by h.plan.routes a.mv.now)) (leaving h.pins (routes_after h.plan.routes a.mv.now) (touched_by h.plan.routes a.mv.now)) c.judge_move.result)
+    (probes_most 0 (length (touched_by h.plan.routes a.mv.now)) (leaving h.pins (routes_after h.plan.routes a.mv.now) (touched_by h.plan.routes a.mv.now)) c.judge_move.result)) c.workspace-room.ensures c.judge_move.ensures.work in
+    let all = after_named _ _ _ (length (named_by a.mv.now)) _ _ _ _ c.judge_move.result c.in_default.ensures.work later in
+    wider _ _ _ _ _ _ all (most_asks _ c.judge_move.result) (most_probes _ _ _ c.judge_move.result)

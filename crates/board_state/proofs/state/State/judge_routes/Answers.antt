@@ -1,5 +1,5 @@
 use Rattle.std.proofs.Common.{◌≡◌, ◌≤◌, ℕ, ◌+◌, ◌⊎◌, List, Some, length, sym, ap, ◌∙◌, subst, arith, All}
-use Rattle.callback_store.specs.Meter.{AsksAtMost}
+use Rattle.callback_store.specs.Meter.{AsksJust, AsksAtMost}
 use Rattle.dimension_core.specs.Setup.{setting}
 use Rattle.dimension_core.specs.NewRoutes.{AllFit, AllKnown, IsOut}
 use Rattle.plan_core.specs.declared.touch.Touch.{Touch}
@@ -13,10 +13,10 @@ use Rattle.board_rules.specs.Override.{DoPinsAllow}
 use Rattle.board_rules.specs.Rules.{may_override, routes_after}
 use Rattle.board_state.specs.Deltas.{AreFreed}
 use Rattle.board_state.specs.Held.{HeldState, held_basis}
-use Rattle.board_state.specs.Verdicts.{IsPinStop, ArePlaceable}
-use Rattle.board_state.specs.Work.{WorksAtMost, leaving}
+use Rattle.board_state.specs.Verdicts.{IsPinStop, ArePlaceable, probes_least}
+use Rattle.board_state.specs.Work.{Works, leaving}
 use Rattle.board_state.proofs.Proposals.{pin_stop, passes_all, out_of_bounds}
-use Rattle.board_state.proofs.WorkLaws.{wider, then, asks_alone}
+use Rattle.board_state.proofs.WorkLaws.{both_within, asks_alone, pinned_whole, pinned_stop}
 use Rattle.board_state.proofs.state.State.judge_routes.Goals as goal
 
 pub returns-in-Err-clause-stop : goal.returns-in-Err-clause-stop
@@ -89,13 +89,15 @@ returns-in-Ok-judge_in-clause-work g c =
     let s = setting a.setup.now in
     let changes = ap (λ xs. changes_of xs) c.deref-2.ensures.value ∙ c.in-Ok.ensures.changes in
     let judged = ap (λ xs. changes_of xs) c.deref-4.ensures.value ∙ c.in-Ok.ensures.changes in
-    let pins = subst (λ (cs : Changes). WorksAtMost a.meter.now c.judge_pins.new.meter 0 (leaving held.pins (with_routes cs held.plan.routes) a.touched.items)) changes
-    (subst (λ (ts : List Touch). WorksAtMost a.meter.now c.judge_pins.new.meter 0 (leaving held.pins (with_routes (changes_of c.deref-2.result.now) held.plan.routes) ts)) c.deref-3.ensures.value c.judge_pins.ensures.work) in
-    let bounds = subst (λ (cs : Changes). AsksAtMost c.judge_pins.new.meter c.judge_in.new.meter (judge_asks (length s.dimensions) held.plan.routes cs)) judged
-    (subst (λ (h : HeldState). AsksAtMost c.judge_pins.new.meter c.judge_in.new.meter (judge_asks (length s.dimensions) h.plan.routes (changes_of c.deref-4.result.now))) c.self.view_is c.judge_in.ensures.asks) in
-    let touched = subst (λ (ts : List Touch). WorksAtMost a.meter.now c.judge_pins.new.meter 0 (leaving held.pins (routes_after held.plan.routes a.mv.now) ts)) c.requires.touched pins in
-    then _ _ _ 0 (leaving held.pins (routes_after held.plan.routes a.mv.now) (touched_by held.plan.routes a.mv.now)) (judge_asks (length s.dimensions) held.plan.routes (changes_by held.plan.routes a.mv.now)) 0 _ _ touched
-    (asks_alone _ _ _ 0 bounds) (omega arith) (omega arith)
+    let pins = subst (λ (cs : Changes). Works a.meter.now c.judge_pins.new.meter 0 0 (probes_least 0 0 (leaving held.pins (with_routes cs held.plan.routes) a.touched.items) c.judge_pins.result)
+    (leaving held.pins (with_routes cs held.plan.routes) a.touched.items)) changes
+    (subst (λ (ts : List Touch). Works a.meter.now c.judge_pins.new.meter 0 0 (probes_least 0 0 (leaving held.pins (with_routes (changes_of c.deref-2.result.now) held.plan.routes) ts) c.judge_pins.result)
+    (leaving held.pins (with_routes (changes_of c.deref-2.result.now) held.plan.routes) ts)) c.deref-3.ensures.value c.judge_pins.ensures.work) in
+    let touched = subst (λ (ts : List Touch). Works a.meter.now c.judge_pins.new.meter 0 0 (probes_least 0 0 (leaving held.pins (routes_after held.plan.routes a.mv.now) ts) c.judge_pins.result)
+    (leaving held.pins (routes_after held.plan.routes a.mv.now) ts)) c.requires.touched pins in
+    let bounds = subst (λ (cs : Changes). AsksJust c.judge_pins.new.meter c.judge_in.new.meter (judge_asks (length s.dimensions) held.plan.routes cs)) judged
+    (subst (λ (h : HeldState). AsksJust c.judge_pins.new.meter c.judge_in.new.meter (judge_asks (length s.dimensions) h.plan.routes (changes_of c.deref-4.result.now))) c.self.view_is c.in-Ok-judge_in.ensures.whole) in
+    both_within _ _ _ _ _ _ _ _ _ _ _ _ _ _ _ (pinned_whole _ _ _ _ c.in-Ok-judge_pins.is touched) (asks_alone _ _ _ _ bounds) (omega arith) (omega arith) (omega arith) (omega arith)
 
 pub returns-in-Err-Bound-clause-work : goal.returns-in-Err-Bound-clause-work
 returns-in-Err-Bound-clause-work g c =
@@ -104,13 +106,15 @@ returns-in-Err-Bound-clause-work g c =
     let s = setting a.setup.now in
     let changes = ap (λ xs. changes_of xs) c.deref-2.ensures.value ∙ c.in-Ok.ensures.changes in
     let judged = ap (λ xs. changes_of xs) c.deref-4.ensures.value ∙ c.in-Ok.ensures.changes in
-    let pins = subst (λ (cs : Changes). WorksAtMost a.meter.now c.judge_pins.new.meter 0 (leaving held.pins (with_routes cs held.plan.routes) a.touched.items)) changes
-    (subst (λ (ts : List Touch). WorksAtMost a.meter.now c.judge_pins.new.meter 0 (leaving held.pins (with_routes (changes_of c.deref-2.result.now) held.plan.routes) ts)) c.deref-3.ensures.value c.judge_pins.ensures.work) in
+    let pins = subst (λ (cs : Changes). Works a.meter.now c.judge_pins.new.meter 0 0 (probes_least 0 0 (leaving held.pins (with_routes cs held.plan.routes) a.touched.items) c.judge_pins.result)
+    (leaving held.pins (with_routes cs held.plan.routes) a.touched.items)) changes
+    (subst (λ (ts : List Touch). Works a.meter.now c.judge_pins.new.meter 0 0 (probes_least 0 0 (leaving held.pins (with_routes (changes_of c.deref-2.result.now) held.plan.routes) ts) c.judge_pins.result)
+    (leaving held.pins (with_routes (changes_of c.deref-2.result.now) held.plan.routes) ts)) c.deref-3.ensures.value c.judge_pins.ensures.work) in
+    let touched = subst (λ (ts : List Touch). Works a.meter.now c.judge_pins.new.meter 0 0 (probes_least 0 0 (leaving held.pins (routes_after held.plan.routes a.mv.now) ts) c.judge_pins.result)
+    (leaving held.pins (routes_after held.plan.routes a.mv.now) ts)) c.requires.touched pins in
     let bounds = subst (λ (cs : Changes). AsksAtMost c.judge_pins.new.meter c.judge_in.new.meter (judge_asks (length s.dimensions) held.plan.routes cs)) judged
     (subst (λ (h : HeldState). AsksAtMost c.judge_pins.new.meter c.judge_in.new.meter (judge_asks (length s.dimensions) h.plan.routes (changes_of c.deref-4.result.now))) c.self.view_is c.judge_in.ensures.asks) in
-    let touched = subst (λ (ts : List Touch). WorksAtMost a.meter.now c.judge_pins.new.meter 0 (leaving held.pins (routes_after held.plan.routes a.mv.now) ts)) c.requires.touched pins in
-    then _ _ _ 0 (leaving held.pins (routes_after held.plan.routes a.mv.now) (touched_by held.plan.routes a.mv.now)) (judge_asks (length s.dimensions) held.plan.routes (changes_by held.plan.routes a.mv.now)) 0 _ _ touched
-    (asks_alone _ _ _ 0 bounds) (omega arith) (omega arith)
+    both_within _ _ _ _ _ _ _ _ _ _ _ _ _ _ _ (pinned_whole _ _ _ _ c.in-Ok-judge_pins.is touched) (asks_alone _ _ _ _ bounds) (omega arith) (omega arith) (omega arith) (omega arith)
 
 pub judge_in-requires-clause-known : goal.judge_in-requires-clause-known
 judge_in-requires-clause-known g c =
@@ -122,12 +126,16 @@ pub returns-in-Err-clause-work : goal.returns-in-Err-clause-work
 returns-in-Err-clause-work g c =
     let a = c.args in
     let held = a.self.now in
-    let s = setting a.setup.now in
     let changes = ap (λ xs. changes_of xs) c.deref-2.ensures.value ∙ c.in-Ok.ensures.changes in
-    let pins = subst (λ (cs : Changes). WorksAtMost a.meter.now c.judge_pins.new.meter 0 (leaving held.pins (with_routes cs held.plan.routes) a.touched.items)) changes
-    (subst (λ (ts : List Touch). WorksAtMost a.meter.now c.judge_pins.new.meter 0 (leaving held.pins (with_routes (changes_of c.deref-2.result.now) held.plan.routes) ts)) c.deref-3.ensures.value c.judge_pins.ensures.work) in
-    let touched = subst (λ (ts : List Touch). WorksAtMost a.meter.now c.judge_pins.new.meter 0 (leaving held.pins (routes_after held.plan.routes a.mv.now) ts)) c.requires.touched pins in
-    wider _ _ 0 (leaving held.pins (routes_after held.plan.routes a.mv.now) (touched_by held.plan.routes a.mv.now)) _ _ touched (omega arith) (omega arith)
+    let pins = subst (λ (cs : Changes). Works a.meter.now c.judge_pins.new.meter 0 0 (probes_least 0 0 (leaving held.pins (with_routes cs held.plan.routes) a.touched.items) c.judge_pins.result)
+    (leaving held.pins (with_routes cs held.plan.routes) a.touched.items)) changes
+    (subst (λ (ts : List Touch). Works a.meter.now c.judge_pins.new.meter 0 0 (probes_least 0 0 (leaving held.pins (with_routes (changes_of c.deref-2.result.now) held.plan.routes) ts) c.judge_pins.result)
+    (leaving held.pins (with_routes (changes_of c.deref-2.result.now) held.plan.routes) ts)) c.deref-3.ensures.value c.judge_pins.ensures.work) in
+    let touched = subst (λ (ts : List Touch). Works a.meter.now c.judge_pins.new.meter 0 0 (probes_least 0 0 (leaving held.pins (routes_after held.plan.routes a.mv.now) ts) c.judge_pins.result)
+    (leaving held.pins (routes_after held.plan.routes a.mv.now) ts)) c.requires.touched pins in
+    let stopped = subst (λ (n : ℕ). Works a.meter.now c.judge_pins.new.meter 0 0 n (leaving held.pins (routes_after held.plan.routes a.mv.now) (touched_by held.plan.routes a.mv.now)))
+    (ap (λ r. probes_least 0 0 (leaving held.pins (routes_after held.plan.routes a.mv.now) (touched_by held.plan.routes a.mv.now)) r) c.in-Err.is) touched in
+    pinned_stop _ _ _ _ c.in-Err.stop c.in-Err.ensures.late stopped
 
 pub returns-clause-work : goal.returns-clause-work
 returns-clause-work g c =
@@ -136,10 +144,12 @@ returns-clause-work g c =
     let s = setting a.setup.now in
     let changes = ap (λ xs. changes_of xs) c.deref-2.ensures.value ∙ c.in-Ok.ensures.changes in
     let judged = ap (λ xs. changes_of xs) c.deref-4.ensures.value ∙ c.in-Ok.ensures.changes in
-    let pins = subst (λ (cs : Changes). WorksAtMost a.meter.now c.judge_pins.new.meter 0 (leaving held.pins (with_routes cs held.plan.routes) a.touched.items)) changes
-    (subst (λ (ts : List Touch). WorksAtMost a.meter.now c.judge_pins.new.meter 0 (leaving held.pins (with_routes (changes_of c.deref-2.result.now) held.plan.routes) ts)) c.deref-3.ensures.value c.judge_pins.ensures.work) in
+    let pins = subst (λ (cs : Changes). Works a.meter.now c.judge_pins.new.meter 0 0 (probes_least 0 0 (leaving held.pins (with_routes cs held.plan.routes) a.touched.items) c.judge_pins.result)
+    (leaving held.pins (with_routes cs held.plan.routes) a.touched.items)) changes
+    (subst (λ (ts : List Touch). Works a.meter.now c.judge_pins.new.meter 0 0 (probes_least 0 0 (leaving held.pins (with_routes (changes_of c.deref-2.result.now) held.plan.routes) ts) c.judge_pins.result)
+    (leaving held.pins (with_routes (changes_of c.deref-2.result.now) held.plan.routes) ts)) c.deref-3.ensures.value c.judge_pins.ensures.work) in
+    let touched = subst (λ (ts : List Touch). Works a.meter.now c.judge_pins.new.meter 0 0 (probes_least 0 0 (leaving held.pins (routes_after held.plan.routes a.mv.now) ts) c.judge_pins.result)
+    (leaving held.pins (routes_after held.plan.routes a.mv.now) ts)) c.requires.touched pins in
     let bounds = subst (λ (cs : Changes). AsksAtMost c.judge_pins.new.meter c.judge_in.new.meter (judge_asks (length s.dimensions) held.plan.routes cs)) judged
     (subst (λ (h : HeldState). AsksAtMost c.judge_pins.new.meter c.judge_in.new.meter (judge_asks (length s.dimensions) h.plan.routes (changes_of c.deref-4.result.now))) c.self.view_is c.judge_in.ensures.asks) in
-    let touched = subst (λ (ts : List Touch). WorksAtMost a.meter.now c.judge_pins.new.meter 0 (leaving held.pins (routes_after held.plan.routes a.mv.now) ts)) c.requires.touched pins in
-    then _ _ _ 0 (leaving held.pins (routes_after held.plan.routes a.mv.now) (touched_by held.plan.routes a.mv.now)) (judge_asks (length s.dimensions) held.plan.routes (changes_by held.plan.routes a.mv.now)) 0 _ _ touched
-    (asks_alone _ _ _ 0 bounds) (omega arith) (omega arith)
+    both_within _ _ _ _ _ _ _ _ _ _ _ _ _ _ _ (pinned_whole _ _ _ _ c.in-Ok-judge_pins.is touched) (asks_alone _ _ _ _ bounds) (omega arith) (omega arith) (omega arith) (omega arith)

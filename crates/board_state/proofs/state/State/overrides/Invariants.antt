@@ -6,16 +6,14 @@ use Rattle.permission_table.specs.Tables.{allows}
 use Rattle.permission_core.specs.declared.objects.Operation.TheVariants as operations
 use Rattle.permission_core.specs.declared.objects.Object.TheVariants as objects
 use Rattle.board_state.specs.Verdicts.{ArePlaceable}
-use Rattle.board_state.specs.Work.{leaving}
+use Rattle.board_state.specs.Work.{WorksJust, leaving}
 use Rattle.board_state.proofs.state.State.overrides.Given as goal
 
 abbrev pub invariant-loop-touch : goal.invariant-loop-touch
 invariant-loop-touch l = record {
-  walks : l.meter.walks ≡ l.fn.meter.walks;
-  asks : l.meter.asks ≡ l.fn.meter.asks;
-  probes_low : l.fn.meter.probes ≤ l.meter.probes;
-  probes_high : l.meter.probes + leaving l.self.pins (with_routes (changes_of l.changes) l.self.plan.routes) (drop l.touch-index l.touched)
-      ≤ l.fn.meter.probes + leaving l.self.pins (with_routes (changes_of l.changes) l.self.plan.routes) l.touched;
+  work : (n : ℕ) × WorksJust l.fn.meter l.meter 0 n
+      × (n + leaving l.self.pins (with_routes (changes_of l.changes) l.self.plan.routes) (drop l.touch-index l.touched)
+      ≡ leaving l.self.pins (with_routes (changes_of l.changes) l.self.plan.routes) l.touched);
   sized : length l.free.items ≡ l.touch-index;
   within : l.touch-index ≤ length l.touched;
   leave : (k : ℕ) (t : Touch) → slice_get l.touched k ≡ Some t → slice_get l.free.items k ≡ Some true
