@@ -1,5 +1,6 @@
 -- The entries of a journal, with their numbers.
-use Rattle.std.proofs.Common.{◌≡◌, ℕ, zero, suc, ◌+◌, ◌<◌, List, [], ◌∷◌, ◌++◌, length, take, get_or, sym, ap, ◌∙◌, arith, add-one}
+use Rattle.std.proofs.Common.{◌≡◌, ℕ, ◌+◌, List, [], ◌∷◌, ◌++◌, Result, Ok, Err, sym, ap, ◌∙◌}
+use Rattle.std.specs.Prelude.{OnOk}
 use Rattle.std.specs.List.{flat_map, enumerate_from}
 use Rattle.std.proofs.lemmas.List.{append-nil, append_assoc}
 use Rattle.board_rules.specs.declared.call.Entry.{Entry}
@@ -8,22 +9,21 @@ use Rattle.board_lines.specs.Listings.{entry_line}
 abbrev pub lines_from : ℕ → List Entry → List ℕ
 lines_from n es = flat_map (λ e. entry_line e.0 e.1) (enumerate_from n es)
 
-lines_more : (n : ℕ) (es : List Entry) (i : ℕ) (d : Entry) → i < length es → lines_from n (take (suc i) es) ≡ lines_from n (take i es) ++ entry_line (n + i) (get_or es i d)
-lines_more n [] i d lt = absurd (omega arith)
-lines_more n (e ∷ es) zero d lt = append-nil (entry_line n e) ∙ ap (λ (m : ℕ). entry_line m e) (omega arith)
-lines_more n (e ∷ es) (suc i) d lt =
-    ap (λ (l : List ℕ). entry_line n e ++ l) (lines_more (n + 1) es i d (omega arith))
-    ∙ sym (append_assoc (entry_line n e) (lines_from (n + 1) (take i es)) (entry_line (n + 1 + i) (get_or es i d)))
-    ∙ ap (λ (m : ℕ). (entry_line n e ++ lines_from (n + 1) (take i es)) ++ entry_line m (get_or es i d)) (omega arith)
+-- one entry more, of those that are left
+pub one_line_more : (old now new : List ℕ) (all left rest : List Entry) (n : ℕ) (e : Entry) → left ≡ e ∷ rest → now ++ lines_from (n + 1) left ≡ old ++ lines_from 1 all
+    → new ≡ now ++ entry_line (n + 1) e → new ++ lines_from (n + 1 + 1) rest ≡ old ++ lines_from 1 all
+one_line_more old now new all left rest n e split kept grown =
+    ap (λ (l : List ℕ). l ++ lines_from (n + 1 + 1) rest) grown
+    ∙ append_assoc now (entry_line (n + 1) e) (lines_from (n + 1 + 1) rest)
+    ∙ ap (λ (es : List Entry). now ++ lines_from (n + 1) es) (sym split)
+    ∙ kept
 
-more : (es : List Entry) (i : ℕ) (d : Entry) → i < length es → lines_from 1 (take (i + 1) es) ≡ lines_from 1 (take i es) ++ entry_line (i + 1) (get_or es i d)
-more es i d lt = rw add-one (lines_more 1 es i d lt ∙ ap (λ (m : ℕ). lines_from 1 (take i es) ++ entry_line m (get_or es i d)) (omega arith))
+-- and none
+pub no_line_more : (old now : List ℕ) (all left : List Entry) (n : ℕ) → left ≡ [] → now ++ lines_from (n + 1) left ≡ old ++ lines_from 1 all → now ≡ old ++ lines_from 1 all
+no_line_more old now all left n none kept =
+    sym (append-nil now) ∙ ap (λ (es : List Entry). now ++ lines_from (n + 1) es) (sym none) ∙ kept
 
-pub one_entry_more : (old now new : List ℕ) (es : List Entry) (i n : ℕ) (e : Entry) → i < length es → e ≡ get_or es i e → now ≡ old ++ lines_from 1 (take i es) → n ≡ i → new ≡ now ++ entry_line (n + 1) e → new ≡ old ++ lines_from 1 (take (i + 1) es)
-one_entry_more old now new es i n e lt item kept same grown =
-    grown
-    ∙ ap (λ (l : List ℕ). l ++ entry_line (n + 1) e) kept
-    ∙ ap (λ (m : ℕ). (old ++ lines_from 1 (take i es)) ++ entry_line (m + 1) e) same
-    ∙ ap (λ (x : Entry). (old ++ lines_from 1 (take i es)) ++ entry_line (i + 1) x) item
-    ∙ append_assoc old (lines_from 1 (take i es)) (entry_line (i + 1) (get_or es i e))
-    ∙ ap (λ (l : List ℕ). old ++ l) (sym (more es i e lt))
+-- a tag and what comes behind it
+pub tag_then : {T E : Type 0} (r : Result T E) (old mid new tag behind : List ℕ) → mid ≡ old ++ tag → OnOk r (new ≡ mid ++ behind) → OnOk r (new ≡ old ++ (tag ++ behind))
+tag_then (Ok x) old mid new tag behind e h = h ∙ ap (λ (l : List ℕ). l ++ behind) e ∙ append_assoc old tag behind
+tag_then (Err x) old mid new tag behind e h = tt

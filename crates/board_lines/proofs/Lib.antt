@@ -11,3 +11,4 @@ mod Reread
 mod Floats
 mod Pieces
 mod Decimals
+mod Starting

@@ -26,8 +26,11 @@ list_text rows = flat_map row_line rows ++ end_line
 -- ---- the journal
 
 -- the number of an entry, its desk and its turn
+abbrev pub tag_of : ℕ → ℕ → ℕ → List ℕ
+tag_of n desk turn = codes "event" ++ (spaced n ++ (spaced desk ++ spaced turn))
+
 abbrev pub tag_text : ℕ → Entry → List ℕ
-tag_text n entry = codes "event" ++ (spaced n ++ (spaced entry.desk ++ spaced entry.turn))
+tag_text n entry = tag_of n entry.desk entry.turn
 
 -- the call of an entry and its reply, each after a bar
 abbrev pub answer_text : Entry → List ℕ

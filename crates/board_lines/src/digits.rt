@@ -1,6 +1,7 @@
 //! Numbers, appended to a text.
 
-ghost use Rattle.std.specs.Prelude.{◌≡◌, ◌<◌, ◌++◌, [], ◌∷◌, OnOk, string_bytes};
+ghost use Rattle.std.specs.Prelude.{◌≡◌, ◌<◌, ◌++◌, [], ◌∷◌, OnOk, OnErr, string_bytes};
+ghost use Rattle.std.specs.Io.{StartsWith};
 ghost use Rattle.std.specs.List.{flat_map};
 ghost use Rattle.std.specs.Fmt.{decimal};
 ghost use Rattle.board_lines.specs.Replies.{spaced};
@@ -12,16 +13,27 @@ use std::alloc::AllocError;
 #[inline(always)]
 pub(crate) fn push_ascii(out: &mut String, ch: char) -> Result<(), AllocError>
     requires { ch < 128 }
-    ensures { OnOk result (string_bytes out.new ≡ string_bytes out.old ++ ch ∷ []) }
+    ensures ok { OnOk result (string_bytes out.new ≡ string_bytes out.old ++ ch ∷ []) }
+    ensures start { OnErr result (StartsWith (string_bytes out.new) (string_bytes out.old)) }
 {
     out.push(ch)
+}
+
+/// Appends a text.
+#[inline(always)]
+pub(crate) fn push_text(out: &mut String, text: &str) -> Result<(), AllocError>
+    ensures ok { OnOk result (string_bytes out.new ≡ string_bytes out.old ++ text.now) }
+    ensures start { OnErr result (StartsWith (string_bytes out.new) (string_bytes out.old)) }
+{
+    out.push_str(text)
 }
 
 /// Appends a number below ten.
 #[inline(always)]
 fn push_digit(out: &mut String, n: u64) -> Result<(), AllocError>
     requires { n < 10 }
-    ensures { OnOk result (string_bytes out.new ≡ string_bytes out.old ++ decimal n) }
+    ensures ok { OnOk result (string_bytes out.new ≡ string_bytes out.old ++ decimal n) }
+    ensures start { OnErr result (StartsWith (string_bytes out.new) (string_bytes out.old)) }
 {
     out.push(char::from(b'0' + n as u8))
 }
@@ -30,7 +42,8 @@ fn push_digit(out: &mut String, n: u64) -> Result<(), AllocError>
 #[inline(always)]
 fn push_below_hundred(out: &mut String, n: u64) -> Result<(), AllocError>
     requires { n < 100 }
-    ensures { OnOk result (string_bytes out.new ≡ string_bytes out.old ++ decimal n) }
+    ensures ok { OnOk result (string_bytes out.new ≡ string_bytes out.old ++ decimal n) }
+    ensures start { OnErr result (StartsWith (string_bytes out.new) (string_bytes out.old)) }
 {
     if n >= 10 {
         push_digit(out, n / 10)?;
@@ -42,7 +55,8 @@ fn push_below_hundred(out: &mut String, n: u64) -> Result<(), AllocError>
 #[inline(always)]
 fn push_below_thousand(out: &mut String, n: u64) -> Result<(), AllocError>
     requires { n < 1000 }
-    ensures { OnOk result (string_bytes out.new ≡ string_bytes out.old ++ decimal n) }
+    ensures ok { OnOk result (string_bytes out.new ≡ string_bytes out.old ++ decimal n) }
+    ensures start { OnErr result (StartsWith (string_bytes out.new) (string_bytes out.old)) }
 {
     if n >= 10 {
         push_below_hundred(out, n / 10)?;
@@ -53,7 +67,8 @@ fn push_below_thousand(out: &mut String, n: u64) -> Result<(), AllocError>
 /// Appends a number below ten thousand, digit by digit, which takes half of what the formatter takes.
 fn push_small(out: &mut String, n: u64) -> Result<(), AllocError>
     requires { n < 10000 }
-    ensures { OnOk result (string_bytes out.new ≡ string_bytes out.old ++ decimal n) }
+    ensures ok { OnOk result (string_bytes out.new ≡ string_bytes out.old ++ decimal n) }
+    ensures start { OnErr result (StartsWith (string_bytes out.new) (string_bytes out.old)) }
 {
     if n >= 10 {
         push_below_thousand(out, n / 10)?;
@@ -64,15 +79,17 @@ fn push_small(out: &mut String, n: u64) -> Result<(), AllocError>
 // Out of line, so that a small number pays nothing for the formatter's buffer.
 #[inline(never)]
 fn push_large(out: &mut String, n: u64) -> Result<(), AllocError>
-    ensures { OnOk result (string_bytes out.new ≡ string_bytes out.old ++ decimal n) }
+    ensures ok { OnOk result (string_bytes out.new ≡ string_bytes out.old ++ decimal n) }
+    ensures start { OnErr result (StartsWith (string_bytes out.new) (string_bytes out.old)) }
 {
     let mut digits = Buffer::new();
-    out.push_str(digits.format(n))
+    push_text(out, digits.format(n))
 }
 
 /// Appends a number, without leading zeros.
 pub(crate) fn push_number(out: &mut String, n: u64) -> Result<(), AllocError>
-    ensures { OnOk result (string_bytes out.new ≡ string_bytes out.old ++ decimal n) }
+    ensures ok { OnOk result (string_bytes out.new ≡ string_bytes out.old ++ decimal n) }
+    ensures start { OnErr result (StartsWith (string_bytes out.new) (string_bytes out.old)) }
 {
     if n < 10_000 {
         return push_small(out, n);
@@ -82,7 +99,8 @@ pub(crate) fn push_number(out: &mut String, n: u64) -> Result<(), AllocError>
 
 /// Appends a space and a number.
 pub(crate) fn push_spaced(out: &mut String, n: u64) -> Result<(), AllocError>
-    ensures { OnOk result (string_bytes out.new ≡ string_bytes out.old ++ spaced n) }
+    ensures ok { OnOk result (string_bytes out.new ≡ string_bytes out.old ++ spaced n) }
+    ensures start { OnErr result (StartsWith (string_bytes out.new) (string_bytes out.old)) }
 {
     push_ascii(out, ' ')?;
     push_number(out, n)
@@ -90,7 +108,8 @@ pub(crate) fn push_spaced(out: &mut String, n: u64) -> Result<(), AllocError>
 
 /// Appends some numbers, each with a space before it.
 pub(crate) fn push_each(out: &mut String, numbers: &[u32]) -> Result<(), AllocError>
-    ensures { OnOk result (string_bytes out.new ≡ string_bytes out.old ++ flat_map spaced numbers.now) }
+    ensures ok { OnOk result (string_bytes out.new ≡ string_bytes out.old ++ flat_map spaced numbers.now) }
+    ensures start { OnErr result (StartsWith (string_bytes out.new) (string_bytes out.old)) }
 {
     for n in numbers {
         push_spaced(out, u64::from(*n))?;

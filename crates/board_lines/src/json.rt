@@ -1,11 +1,12 @@
 //! A listing as JSON.
 
-ghost use Rattle.std.specs.Prelude.{◌≡◌, ◌++◌, [], ◌∷◌, map, IfOk, OnOk, string_bytes};
+ghost use Rattle.std.specs.Prelude.{◌≡◌, ◌++◌, [], ◌∷◌, map, IfOk, OnOk, OnErr, string_bytes};
+ghost use Rattle.std.specs.Io.{StartsWith};
 ghost use Rattle.std.specs.List.{flat_map};
 ghost use Rattle.serde_json.specs.View.{view};
 ghost use Rattle.board_lines.specs.Json.{number_data, cells, row_data, rows_data, json_text, comma_number, row_json, comma_row, rows_json, in_pieces};
 
-use crate::digits::{push_ascii, push_number};
+use crate::digits::{push_ascii, push_number, push_text};
 use board_rules::Row;
 use serde_json::{Value, json};
 use std::alloc::{AllocError, Global};
@@ -69,14 +70,16 @@ pub fn list_json(alloc: Global, rows: &[Row]) -> Result<String, AllocError>
 // ---- the same text, appended piece by piece
 
 fn push_comma(out: &mut String, n: u64) -> Result<(), AllocError>
-    ensures { OnOk result (string_bytes out.new ≡ string_bytes out.old ++ comma_number n) }
+    ensures ok { OnOk result (string_bytes out.new ≡ string_bytes out.old ++ comma_number n) }
+    ensures start { OnErr result (StartsWith (string_bytes out.new) (string_bytes out.old)) }
 {
     push_ascii(out, ',')?;
     push_number(out, n)
 }
 
 fn push_commas(out: &mut String, numbers: &[u64]) -> Result<(), AllocError>
-    ensures { OnOk result (string_bytes out.new ≡ string_bytes out.old ++ flat_map comma_number numbers.now) }
+    ensures ok { OnOk result (string_bytes out.new ≡ string_bytes out.old ++ flat_map comma_number numbers.now) }
+    ensures start { OnErr result (StartsWith (string_bytes out.new) (string_bytes out.old)) }
 {
     for n in numbers {
         push_comma(out, *n)?;
@@ -85,7 +88,8 @@ fn push_commas(out: &mut String, numbers: &[u64]) -> Result<(), AllocError>
 }
 
 fn push_cells(out: &mut String, row: &Row) -> Result<(), AllocError>
-    ensures { OnOk result (string_bytes out.new ≡ string_bytes out.old ++ row_json row.now) }
+    ensures ok { OnOk result (string_bytes out.new ≡ string_bytes out.old ++ row_json row.now) }
+    ensures start { OnErr result (StartsWith (string_bytes out.new) (string_bytes out.old)) }
 {
     push_ascii(out, '[')?;
     push_number(out, u64::from(row.vehicle()))?;
@@ -96,7 +100,8 @@ fn push_cells(out: &mut String, row: &Row) -> Result<(), AllocError>
 }
 
 fn push_more(out: &mut String, rows: &[Row]) -> Result<(), AllocError>
-    ensures { OnOk result (string_bytes out.new ≡ string_bytes out.old ++ flat_map comma_row rows.now) }
+    ensures ok { OnOk result (string_bytes out.new ≡ string_bytes out.old ++ flat_map comma_row rows.now) }
+    ensures start { OnErr result (StartsWith (string_bytes out.new) (string_bytes out.old)) }
 {
     for row in rows {
         push_ascii(out, ',')?;
@@ -106,7 +111,8 @@ fn push_more(out: &mut String, rows: &[Row]) -> Result<(), AllocError>
 }
 
 fn push_rows(out: &mut String, rows: &[Row]) -> Result<(), AllocError>
-    ensures { OnOk result (string_bytes out.new ≡ string_bytes out.old ++ rows_json rows.now) }
+    ensures ok { OnOk result (string_bytes out.new ≡ string_bytes out.old ++ rows_json rows.now) }
+    ensures start { OnErr result (StartsWith (string_bytes out.new) (string_bytes out.old)) }
 {
     let [first, more @ ..] = rows else {
         return Ok(());
@@ -116,16 +122,18 @@ fn push_rows(out: &mut String, rows: &[Row]) -> Result<(), AllocError>
 }
 
 fn push_pieces(out: &mut String, rows: &[Row]) -> Result<(), AllocError>
-    ensures { OnOk result (string_bytes out.new ≡ string_bytes out.old ++ in_pieces rows.now) }
+    ensures ok { OnOk result (string_bytes out.new ≡ string_bytes out.old ++ in_pieces rows.now) }
+    ensures start { OnErr result (StartsWith (string_bytes out.new) (string_bytes out.old)) }
 {
-    out.push_str("{\"rows\":[")?;
+    push_text(out, "{\"rows\":[")?;
     push_rows(out, rows)?;
-    out.push_str("]}")
+    push_text(out, "]}")
 }
 
 /// Appends the text of a listing as JSON, the same as that of `list_json`, without building a value.
 pub fn push_json(out: &mut String, rows: &[Row]) -> Result<(), AllocError>
-    ensures { OnOk result (string_bytes out.new ≡ string_bytes out.old ++ json_text rows.now) }
+    ensures ok { OnOk result (string_bytes out.new ≡ string_bytes out.old ++ json_text rows.now) }
+    ensures start { OnErr result (StartsWith (string_bytes out.new) (string_bytes out.old)) }
 {
     push_pieces(out, rows)
 }

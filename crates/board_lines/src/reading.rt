@@ -5,6 +5,7 @@ ghost use Rattle.board_rules.specs.declared.call.Call.TheVariants as calls;
 ghost use Rattle.board_lines.specs.declared.command.Command.TheVariants.{Submit};
 ghost use Rattle.board_lines.specs.declared.word.Word.TheVariants.{Propose, Hold, Manage, Separate, Session, Ask};
 ghost use Rattle.board_lines.specs.declared.word.Separation.TheVariants.{Static, Dynamic};
+ghost use Rattle.text_words.specs.Words.{words as line_words, AreFirstOf};
 ghost use Rattle.board_lines.specs.Reading.{Says, Begins, by_policy, after_word, words_read, read_of};
 
 use crate::arguments::{
@@ -482,13 +483,15 @@ pub fn read_words(alloc: Global, words: &[&[u8]]) -> Result<Command, ReadFault>
 }
 
 /// What a line says, or its first fault. The line comes without its line end. Spaces and tabs separate the words, which are kept in `kept`;
-/// the caller reuses that from line to line. The length of a line is not limited here.
+/// the caller reuses that from line to line; where memory runs out, the first of the words are kept. The length of a line is not limited
+/// here.
 pub fn read_kept<'a>(
     alloc: Global,
     kept: &mut Vec<&'a [u8]>,
     line: &'a [u8],
 ) -> Result<Command, ReadFault>
-    ensures { Says result (read_of line.now) }
+    ensures says { Says result (read_of line.now) }
+    ensures left { AreFirstOf (map (λ w. w.now) kept.new.items) (line_words line.now) }
 {
     keep_all_words(kept, line)?;
     read_words(alloc, kept.as_slice())

@@ -1,39 +1,45 @@
 //! The texts of replies and faults.
 
-ghost use Rattle.std.specs.Prelude.{◌≡◌, ◌≢◌, ◌++◌, IfOk, OnOk, string_bytes};
+ghost use Rattle.std.specs.Prelude.{◌≡◌, ◌≢◌, ◌++◌, IfOk, OnOk, OnErr, string_bytes};
+ghost use Rattle.std.specs.Io.{StartsWith};
+ghost use Rattle.board_journal.specs.Records.{reply_of};
 ghost use Rattle.board_rules.specs.declared.reply.Fault.TheVariants as faults;
 ghost use Rattle.board_rules.specs.declared.reply.AskFault.TheVariants as asks;
 ghost use Rattle.board_lines.specs.Replies.{spaced, denial_text, refusal_text, reply_text, fault_text, ask_fault_text, line_fault_text};
 
 use crate::command::LineFault;
-use crate::digits::push_spaced;
+use crate::digits::{push_spaced, push_text};
+use board_journal::Answer;
 use board_rules::{AskFault, Denial, Fault, Refusal, Reply};
 use std::alloc::{AllocError, Global};
 
 fn push_with(out: &mut String, text: &str, number: u32) -> Result<(), AllocError>
-    ensures { OnOk result (string_bytes out.new ≡ string_bytes out.old ++ (text.now ++ spaced number)) }
+    ensures ok { OnOk result (string_bytes out.new ≡ string_bytes out.old ++ (text.now ++ spaced number)) }
+    ensures start { OnErr result (StartsWith (string_bytes out.new) (string_bytes out.old)) }
 {
-    out.push_str(text)?;
+    push_text(out, text)?;
     push_spaced(out, u64::from(number))
 }
 
 fn push_with_two(out: &mut String, text: &str, first: u32, second: u32) -> Result<(), AllocError>
-    ensures { OnOk result (string_bytes out.new ≡ string_bytes out.old ++ (text.now ++ (spaced first ++ spaced second))) }
+    ensures ok { OnOk result (string_bytes out.new ≡ string_bytes out.old ++ (text.now ++ (spaced first ++ spaced second))) }
+    ensures start { OnErr result (StartsWith (string_bytes out.new) (string_bytes out.old)) }
 {
     push_with(out, text, first)?;
     push_spaced(out, u64::from(second))
 }
 
 fn push_denial(out: &mut String, denial: Denial) -> Result<(), AllocError>
-    ensures { OnOk result (string_bytes out.new ≡ string_bytes out.old ++ denial_text denial) }
+    ensures ok { OnOk result (string_bytes out.new ≡ string_bytes out.old ++ denial_text denial) }
+    ensures start { OnErr result (StartsWith (string_bytes out.new) (string_bytes out.old)) }
 {
     match denial {
-        Denial::NoSession => out.push_str("denied no-session"),
-        Denial::BadVehicle => out.push_str("denied bad-vehicle"),
+        Denial::NoSession => push_text(out, "denied no-session"),
+        Denial::BadVehicle => push_text(out, "denied bad-vehicle"),
         Denial::AccessVehicle(vehicle) => push_with(out, "denied access vehicle", vehicle),
-        Denial::Ahead => out.push_str("denied ahead"),
+        Denial::Ahead => push_text(out, "denied ahead"),
         Denial::Stale(vehicle) => push_with(out, "denied stale", vehicle),
-        Denial::BadPlace => out.push_str("denied bad-place"),
+        Denial::BadPlace => push_text(out, "denied bad-place"),
         Denial::AccessCustomer(vehicle, place) => {
             push_with_two(out, "denied access customer", vehicle, place)
         }
@@ -44,48 +50,61 @@ fn push_denial(out: &mut String, denial: Denial) -> Result<(), AllocError>
 }
 
 fn push_refusal(out: &mut String, refusal: Refusal) -> Result<(), AllocError>
-    ensures { OnOk result (string_bytes out.new ≡ string_bytes out.old ++ refusal_text refusal) }
+    ensures ok { OnOk result (string_bytes out.new ≡ string_bytes out.old ++ refusal_text refusal) }
+    ensures start { OnErr result (StartsWith (string_bytes out.new) (string_bytes out.old)) }
 {
     match refusal {
-        Refusal::NoSession => out.push_str("refused no-session"),
-        Refusal::NoAccess => out.push_str("refused no-access"),
-        Refusal::BadVehicle => out.push_str("refused bad-vehicle"),
-        Refusal::BadCustomer => out.push_str("refused bad-customer"),
-        Refusal::NoUser => out.push_str("refused no-user"),
-        Refusal::NoRole => out.push_str("refused no-role"),
-        Refusal::NoSet => out.push_str("refused no-set"),
-        Refusal::BadObject => out.push_str("refused bad-object"),
-        Refusal::Already => out.push_str("refused already"),
-        Refusal::NotThere => out.push_str("refused not-there"),
-        Refusal::NotAuthorized => out.push_str("refused not-authorized"),
-        Refusal::Cycle => out.push_str("refused cycle"),
-        Refusal::InSet => out.push_str("refused in-set"),
-        Refusal::Number => out.push_str("refused number"),
+        Refusal::NoSession => push_text(out, "refused no-session"),
+        Refusal::NoAccess => push_text(out, "refused no-access"),
+        Refusal::BadVehicle => push_text(out, "refused bad-vehicle"),
+        Refusal::BadCustomer => push_text(out, "refused bad-customer"),
+        Refusal::NoUser => push_text(out, "refused no-user"),
+        Refusal::NoRole => push_text(out, "refused no-role"),
+        Refusal::NoSet => push_text(out, "refused no-set"),
+        Refusal::BadObject => push_text(out, "refused bad-object"),
+        Refusal::Already => push_text(out, "refused already"),
+        Refusal::NotThere => push_text(out, "refused not-there"),
+        Refusal::NotAuthorized => push_text(out, "refused not-authorized"),
+        Refusal::Cycle => push_text(out, "refused cycle"),
+        Refusal::InSet => push_text(out, "refused in-set"),
+        Refusal::Number => push_text(out, "refused number"),
         Refusal::Ssd(name) => {
-            out.push_str("refused ssd ")?;
-            out.push_str(name.as_str())
+            push_text(out, "refused ssd ")?;
+            push_text(out, name.as_str())
         }
         Refusal::Dsd(name) => {
-            out.push_str("refused dsd ")?;
-            out.push_str(name.as_str())
+            push_text(out, "refused dsd ")?;
+            push_text(out, name.as_str())
         }
-        Refusal::Full => out.push_str("refused full"),
-        Refusal::NotPlaced => out.push_str("refused not-placed"),
-        Refusal::Length => out.push_str("refused length"),
+        Refusal::Full => push_text(out, "refused full"),
+        Refusal::NotPlaced => push_text(out, "refused not-placed"),
+        Refusal::Length => push_text(out, "refused length"),
     }
 }
 
 /// Appends the text of a reply, without a line end.
 #[inline(always)]
 pub fn push_reply(out: &mut String, reply: Reply) -> Result<(), AllocError>
-    ensures { OnOk result (string_bytes out.new ≡ string_bytes out.old ++ reply_text reply) }
+    ensures ok { OnOk result (string_bytes out.new ≡ string_bytes out.old ++ reply_text reply) }
+    ensures start { OnErr result (StartsWith (string_bytes out.new) (string_bytes out.old)) }
 {
     match reply {
-        Reply::Done => out.push_str("done"),
+        Reply::Done => push_text(out, "done"),
         Reply::Session(number) => push_with(out, "session", number),
         Reply::Committed(version) => push_with(out, "committed", version),
         Reply::Denied(denial) => push_denial(out, denial),
         Reply::Refused(refusal) => push_refusal(out, refusal),
+    }
+}
+
+/// Appends the text of the reply to a proposal, as the journal keeps it.
+pub(crate) fn push_verdict(out: &mut String, answer: Answer) -> Result<(), AllocError>
+    ensures ok { OnOk result (string_bytes out.new ≡ string_bytes out.old ++ reply_text (reply_of answer)) }
+    ensures start { OnErr result (StartsWith (string_bytes out.new) (string_bytes out.old)) }
+{
+    match answer.verdict() {
+        Ok(version) => push_with(out, "committed", version),
+        Err(denial) => push_denial(out, denial),
     }
 }
 
@@ -101,11 +120,12 @@ pub fn reply_text(alloc: Global, reply: Reply) -> Result<String, AllocError>
 /// Appends the text of a call that was not taken, without a line end. `NoMemory` must not be passed: it has no text, since it ends the run.
 pub fn push_fault(out: &mut String, fault: Fault) -> Result<(), AllocError>
     requires { fault ≢ faults.NoMemory }
-    ensures { OnOk result (string_bytes out.new ≡ string_bytes out.old ++ fault_text fault) }
+    ensures ok { OnOk result (string_bytes out.new ≡ string_bytes out.old ++ fault_text fault) }
+    ensures start { OnErr result (StartsWith (string_bytes out.new) (string_bytes out.old)) }
 {
     match fault {
-        Fault::OutOfTurn => out.push_str("fault out-of-turn"),
-        Fault::Full => out.push_str("fault full"),
+        Fault::OutOfTurn => push_text(out, "fault out-of-turn"),
+        Fault::Full => push_text(out, "fault full"),
         Fault::NoMemory => unreachable!(),
     }
 }
@@ -114,28 +134,30 @@ pub fn push_fault(out: &mut String, fault: Fault) -> Result<(), AllocError>
 /// run.
 pub fn push_ask_fault(out: &mut String, fault: AskFault) -> Result<(), AllocError>
     requires { fault ≢ asks.NoMemory }
-    ensures { OnOk result (string_bytes out.new ≡ string_bytes out.old ++ ask_fault_text fault) }
+    ensures ok { OnOk result (string_bytes out.new ≡ string_bytes out.old ++ ask_fault_text fault) }
+    ensures start { OnErr result (StartsWith (string_bytes out.new) (string_bytes out.old)) }
 {
     match fault {
-        AskFault::NoSession => out.push_str("refused no-session"),
-        AskFault::NoAccess => out.push_str("refused no-access"),
-        AskFault::NoUser => out.push_str("refused no-user"),
-        AskFault::NoRole => out.push_str("refused no-role"),
-        AskFault::NotThere => out.push_str("refused not-there"),
+        AskFault::NoSession => push_text(out, "refused no-session"),
+        AskFault::NoAccess => push_text(out, "refused no-access"),
+        AskFault::NoUser => push_text(out, "refused no-user"),
+        AskFault::NoRole => push_text(out, "refused no-role"),
+        AskFault::NotThere => push_text(out, "refused not-there"),
         AskFault::NoMemory => unreachable!(),
     }
 }
 
 /// Appends the text of a bad line's fault, without a line end.
 pub fn push_line_fault(out: &mut String, fault: LineFault) -> Result<(), AllocError>
-    ensures { OnOk result (string_bytes out.new ≡ string_bytes out.old ++ line_fault_text fault) }
+    ensures ok { OnOk result (string_bytes out.new ≡ string_bytes out.old ++ line_fault_text fault) }
+    ensures start { OnErr result (StartsWith (string_bytes out.new) (string_bytes out.old)) }
 {
     match fault {
-        LineFault::Number => out.push_str("bad number"),
-        LineFault::Word => out.push_str("bad word"),
-        LineFault::Count => out.push_str("bad count"),
-        LineFault::Name => out.push_str("bad name"),
-        LineFault::Op => out.push_str("bad op"),
-        LineFault::Object => out.push_str("bad object"),
+        LineFault::Number => push_text(out, "bad number"),
+        LineFault::Word => push_text(out, "bad word"),
+        LineFault::Count => push_text(out, "bad count"),
+        LineFault::Name => push_text(out, "bad name"),
+        LineFault::Op => push_text(out, "bad op"),
+        LineFault::Object => push_text(out, "bad object"),
     }
 }

@@ -1,12 +1,14 @@
 //! The texts of calls.
 
-ghost use Rattle.std.specs.Prelude.{◌≡◌, ◌++◌, [], ◌∷◌, IfOk, OnOk, string_bytes};
+ghost use Rattle.std.specs.Prelude.{◌≡◌, ◌++◌, [], ◌∷◌, IfOk, OnOk, OnErr, string_bytes};
+ghost use Rattle.std.specs.Io.{StartsWith};
 ghost use Rattle.std.specs.List.{flat_map};
 ghost use Rattle.std.specs.Fmt.{decimal};
+ghost use Rattle.board_rules.specs.declared.call.Call.TheVariants.{Propose};
 ghost use Rattle.board_lines.specs.Replies.{spaced};
 ghost use Rattle.board_lines.specs.Saying.{operation_word, range_words, behind, move_said, policy_said, after_number, event_text};
 
-use crate::digits::{push_ascii, push_each, push_number};
+use crate::digits::{push_ascii, push_each, push_number, push_text};
 use board_rules::Call;
 use move_core::Move;
 use rbac_core::{Command as PolicyCommand, ObjectRange, Operation};
@@ -16,14 +18,16 @@ use std::alloc::{AllocError, Global};
 // ---- parts
 
 fn push_name(out: &mut String, name: &Name) -> Result<(), AllocError>
-    ensures { OnOk result (string_bytes out.new ≡ string_bytes out.old ++ 32 ∷ name.now) }
+    ensures ok { OnOk result (string_bytes out.new ≡ string_bytes out.old ++ 32 ∷ name.now) }
+    ensures start { OnErr result (StartsWith (string_bytes out.new) (string_bytes out.old)) }
 {
     push_ascii(out, ' ')?;
-    out.push_str(name.as_str())
+    push_text(out, name.as_str())
 }
 
 fn push_names(out: &mut String, names: &[Name]) -> Result<(), AllocError>
-    ensures { OnOk result (string_bytes out.new ≡ string_bytes out.old ++ behind names.now) }
+    ensures ok { OnOk result (string_bytes out.new ≡ string_bytes out.old ++ behind names.now) }
+    ensures start { OnErr result (StartsWith (string_bytes out.new) (string_bytes out.old)) }
 {
     for name in names {
         push_name(out, name)?;
@@ -33,16 +37,18 @@ fn push_names(out: &mut String, names: &[Name]) -> Result<(), AllocError>
 
 /// Appends a command's word, which begins with a space, and numbers.
 fn push_numbers(out: &mut String, word: &str, numbers: &[u32]) -> Result<(), AllocError>
-    ensures { OnOk result (string_bytes out.new ≡ string_bytes out.old ++ (word.now ++ flat_map spaced numbers.now)) }
+    ensures ok { OnOk result (string_bytes out.new ≡ string_bytes out.old ++ (word.now ++ flat_map spaced numbers.now)) }
+    ensures start { OnErr result (StartsWith (string_bytes out.new) (string_bytes out.old)) }
 {
-    out.push_str(word)?;
+    push_text(out, word)?;
     push_each(out, numbers)
 }
 
 fn push_one_name(out: &mut String, word: &str, name: &Name) -> Result<(), AllocError>
-    ensures { OnOk result (string_bytes out.new ≡ string_bytes out.old ++ (word.now ++ behind (name.now ∷ []))) }
+    ensures ok { OnOk result (string_bytes out.new ≡ string_bytes out.old ++ (word.now ++ behind (name.now ∷ []))) }
+    ensures start { OnErr result (StartsWith (string_bytes out.new) (string_bytes out.old)) }
 {
-    out.push_str(word)?;
+    push_text(out, word)?;
     push_name(out, name)
 }
 
@@ -52,9 +58,10 @@ fn push_two_names(
     first: &Name,
     second: &Name,
 ) -> Result<(), AllocError>
-    ensures { OnOk result (string_bytes out.new ≡ string_bytes out.old ++ (word.now ++ behind (first.now ∷ second.now ∷ []))) }
+    ensures ok { OnOk result (string_bytes out.new ≡ string_bytes out.old ++ (word.now ++ behind (first.now ∷ second.now ∷ []))) }
+    ensures start { OnErr result (StartsWith (string_bytes out.new) (string_bytes out.old)) }
 {
-    out.push_str(word)?;
+    push_text(out, word)?;
     push_name(out, first)?;
     push_name(out, second)
 }
@@ -65,9 +72,10 @@ fn push_name_and_number(
     name: &Name,
     number: u32,
 ) -> Result<(), AllocError>
-    ensures { OnOk result (string_bytes out.new ≡ string_bytes out.old ++ (word.now ++ behind (name.now ∷ decimal number ∷ []))) }
+    ensures ok { OnOk result (string_bytes out.new ≡ string_bytes out.old ++ (word.now ++ behind (name.now ∷ decimal number ∷ []))) }
+    ensures start { OnErr result (StartsWith (string_bytes out.new) (string_bytes out.old)) }
 {
-    out.push_str(word)?;
+    push_text(out, word)?;
     push_name(out, name)?;
     push_each(out, &[number])
 }
@@ -78,32 +86,35 @@ fn push_number_and_name(
     number: u32,
     name: &Name,
 ) -> Result<(), AllocError>
-    ensures { OnOk result (string_bytes out.new ≡ string_bytes out.old ++ (word.now ++ behind (decimal number ∷ name.now ∷ []))) }
+    ensures ok { OnOk result (string_bytes out.new ≡ string_bytes out.old ++ (word.now ++ behind (decimal number ∷ name.now ∷ []))) }
+    ensures start { OnErr result (StartsWith (string_bytes out.new) (string_bytes out.old)) }
 {
-    out.push_str(word)?;
+    push_text(out, word)?;
     push_each(out, &[number])?;
     push_name(out, name)
 }
 
 fn push_operation(out: &mut String, operation: Operation) -> Result<(), AllocError>
-    ensures { OnOk result (string_bytes out.new ≡ string_bytes out.old ++ 32 ∷ operation_word operation) }
+    ensures ok { OnOk result (string_bytes out.new ≡ string_bytes out.old ++ 32 ∷ operation_word operation) }
+    ensures start { OnErr result (StartsWith (string_bytes out.new) (string_bytes out.old)) }
 {
     match operation {
-        Operation::View => out.push_str(" view"),
-        Operation::Move => out.push_str(" move"),
-        Operation::Pin => out.push_str(" pin"),
-        Operation::Freeze => out.push_str(" freeze"),
-        Operation::Admin => out.push_str(" admin"),
-        Operation::Audit => out.push_str(" audit"),
-        Operation::Override => out.push_str(" override"),
+        Operation::View => push_text(out, " view"),
+        Operation::Move => push_text(out, " move"),
+        Operation::Pin => push_text(out, " pin"),
+        Operation::Freeze => push_text(out, " freeze"),
+        Operation::Admin => push_text(out, " admin"),
+        Operation::Audit => push_text(out, " audit"),
+        Operation::Override => push_text(out, " override"),
     }
 }
 
 fn push_range(out: &mut String, range: ObjectRange) -> Result<(), AllocError>
-    ensures { OnOk result (string_bytes out.new ≡ string_bytes out.old ++ behind (range_words range)) }
+    ensures ok { OnOk result (string_bytes out.new ≡ string_bytes out.old ++ behind (range_words range)) }
+    ensures start { OnErr result (StartsWith (string_bytes out.new) (string_bytes out.old)) }
 {
     match range {
-        ObjectRange::Board => out.push_str(" board"),
+        ObjectRange::Board => push_text(out, " board"),
         ObjectRange::Vehicles { first, last } => push_numbers(out, " vehicle", &[first, last]),
         ObjectRange::Customers { first, last } => push_numbers(out, " customer", &[first, last]),
     }
@@ -116,10 +127,11 @@ fn push_permission(
     operation: Operation,
     range: ObjectRange,
 ) -> Result<(), AllocError>
-    ensures { OnOk result (string_bytes out.new ≡ string_bytes out.old
+    ensures ok { OnOk result (string_bytes out.new ≡ string_bytes out.old
         ++ (word.now ++ behind (role.now ∷ operation_word operation ∷ range_words range))) }
+    ensures start { OnErr result (StartsWith (string_bytes out.new) (string_bytes out.old)) }
 {
-    out.push_str(word)?;
+    push_text(out, word)?;
     push_name(out, role)?;
     push_operation(out, operation)?;
     push_range(out, range)
@@ -133,7 +145,8 @@ fn push_set(
     number: u32,
     roles: &[Name],
 ) -> Result<(), AllocError>
-    ensures { OnOk result (string_bytes out.new ≡ string_bytes out.old ++ (word.now ++ behind (name.now ∷ decimal number ∷ roles.now))) }
+    ensures ok { OnOk result (string_bytes out.new ≡ string_bytes out.old ++ (word.now ++ behind (name.now ∷ decimal number ∷ roles.now))) }
+    ensures start { OnErr result (StartsWith (string_bytes out.new) (string_bytes out.old)) }
 {
     push_name_and_number(out, word, name, number)?;
     push_names(out, roles)
@@ -142,7 +155,8 @@ fn push_set(
 // ---- calls, after the session
 
 fn push_move(out: &mut String, session: u32, base: u32, mv: Move) -> Result<(), AllocError>
-    ensures { OnOk result (string_bytes out.new ≡ string_bytes out.old ++ after_number (move_said session base mv)) }
+    ensures ok { OnOk result (string_bytes out.new ≡ string_bytes out.old ++ after_number (move_said session base mv)) }
+    ensures start { OnErr result (StartsWith (string_bytes out.new) (string_bytes out.old)) }
 {
     match mv {
         Move::Insert {
@@ -179,7 +193,8 @@ fn push_move(out: &mut String, session: u32, base: u32, mv: Move) -> Result<(), 
 }
 
 fn push_policy(out: &mut String, session: u32, command: &PolicyCommand) -> Result<(), AllocError>
-    ensures { OnOk result (string_bytes out.new ≡ string_bytes out.old ++ after_number (policy_said session command.now)) }
+    ensures ok { OnOk result (string_bytes out.new ≡ string_bytes out.old ++ after_number (policy_said session command.now)) }
+    ensures start { OnErr result (StartsWith (string_bytes out.new) (string_bytes out.old)) }
 {
     match command {
         PolicyCommand::AddUser { user } => push_one_name(out, " add-user", user),
@@ -240,7 +255,7 @@ fn push_policy(out: &mut String, session: u32, command: &PolicyCommand) -> Resul
         PolicyCommand::SetDsdSetCardinality { name, number } => {
             push_name_and_number(out, " dsd-number", name, *number)
         }
-        PolicyCommand::Migrate => out.push_str(" migrate"),
+        PolicyCommand::Migrate => push_text(out, " migrate"),
         PolicyCommand::CreateSession { user, roles } => {
             push_one_name(out, " open", user)?;
             push_names(out, roles.as_slice())
@@ -255,15 +270,27 @@ fn push_policy(out: &mut String, session: u32, command: &PolicyCommand) -> Resul
     }
 }
 
+/// Appends the line of a proposal.
+pub(crate) fn push_proposal(
+    out: &mut String,
+    session: u32,
+    base: u32,
+    mv: Move,
+) -> Result<(), AllocError>
+    ensures ok { OnOk result (string_bytes out.new ≡ string_bytes out.old ++ event_text (Propose session base mv)) }
+    ensures start { OnErr result (StartsWith (string_bytes out.new) (string_bytes out.old)) }
+{
+    push_number(out, u64::from(session))?;
+    push_move(out, session, base, mv)
+}
+
 /// Appends the line of a call: single spaces, numbers without leading zeros, no line end.
 pub fn push_event(out: &mut String, call: &Call) -> Result<(), AllocError>
-    ensures { OnOk result (string_bytes out.new ≡ string_bytes out.old ++ event_text call.now) }
+    ensures ok { OnOk result (string_bytes out.new ≡ string_bytes out.old ++ event_text call.now) }
+    ensures start { OnErr result (StartsWith (string_bytes out.new) (string_bytes out.old)) }
 {
     match call {
-        Call::Propose { session, base, mv } => {
-            push_number(out, u64::from(*session))?;
-            push_move(out, *session, *base, *mv)
-        }
+        Call::Propose { session, base, mv } => push_proposal(out, *session, *base, *mv),
         Call::Pin { session, customer } => {
             push_number(out, u64::from(*session))?;
             push_numbers(out, " pin", &[*customer])

@@ -1,5 +1,5 @@
 -- Runs of a board's front, as runs of what is seen of it.
-use Rattle.std.proofs.Common.{◌≡◌, ℕ, ◌+◌, ◌∙◌, List, [], ◌∷◌, ◌++◌, length, Option, Result, Ok, Err, refl, ap, sym, subst, inl, inr, append_assoc, append-nil, arith}
+use Rattle.std.proofs.Common.{◌≡◌, ℕ, ◌+◌, ◌≤◌, ◌∙◌, List, [], ◌∷◌, ◌++◌, length, Option, Result, Ok, Err, refl, ap, sym, subst, inl, inr, append_assoc, append-nil, arith}
 use Rattle.std.specs.List.{flat_map, AllByRecursion}
 use Rattle.std.specs.Io.KnownBytes.{Consumes, IsAtEnd}
 use Rattle.board_rules.specs.History.{History}
@@ -75,6 +75,7 @@ answered_seen cut_lines see old new left_old left_new was now n r h =
       bytes = h.bytes;
       given = h.given;
       at_end = h.at_end;
+      few = subst (λ (ls : List (List ℕ)). length ls ≤ 4294967296) (sym lines) h.few;
       outcomes = h.outcomes;
       run = outcomes_seen see old new h.bytes (h.lines ++ last_line h.rest) h.outcomes lines (all_lines h.lines h.rest h.cut.each h.cut.partial) h.run;
       text = h.text;

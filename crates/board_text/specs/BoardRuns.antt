@@ -1,5 +1,5 @@
 -- The result of a run over a board, by the bytes that it read.
-use Rattle.std.specs.Prelude.{◌≡◌, ℕ, ◌⊎◌, List, [], ◌++◌, length, Option, count_by}
+use Rattle.std.specs.Prelude.{◌≡◌, ℕ, ◌≤◌, ◌⊎◌, List, [], ◌++◌, length, Option, count_by}
 use Rattle.std.specs.List.{flat_map, AllByRecursion}
 use Rattle.std.specs.Io.KnownBytes.{Appends, Consumes, IsAtEnd}
 use Rattle.board_lines.specs.Reading.{read_of}
@@ -17,11 +17,12 @@ pub record AreOutcomes (old : DeskState) (text : List ℕ) (outcomes : List Outc
   pub short : AllByRecursion IsLine (lines_of text)
   pub run : Runs IsBoardStep old (lines_of text) outcomes new
 
--- All that the reader had was answered, and the answers' texts were written.
+-- All that the reader had was answered, at most 4,294,967,296 lines, and the answers' texts were written.
 pub record IsAnswered (old new : DeskState) (left_old left_new was now : Option (List ℕ)) (answers refusals : ℕ) : Type 0 where
   pub bytes : List ℕ
   pub given : Consumes left_old left_new bytes
   pub at_end : IsAtEnd left_new
+  pub few : length (lines_of bytes) ≤ 4294967296
   pub outcomes : List Outcome
   pub run : AreOutcomes old bytes outcomes new
   pub text : Appends was now (written outcomes)

@@ -15,7 +15,7 @@ use Rattle.line_engine.specs.Answers.{Answer}
 use Rattle.line_engine.specs.Answers.{Outcome}
 use Rattle.line_engine.specs.declared.run_fault.RunFault.{RunFault}
 use Rattle.line_engine.specs.declared.run_fault.RunFault.TheVariants as runs
-use Rattle.line_engine.specs.Running.{HasNoEnd, IsLine, Runs, Progress, NextLine, Ends, Broken, Served, ServeBroken, BrokenWithin, EndsLast, Finished}
+use Rattle.line_engine.specs.Running.{HasNoEnd, IsLine, Runs, Progress, NextLine, Ends, Broken, Served, ServeBroken, BrokenWithin, EndsLast, Finished, last_line}
 
 -- ---- small facts
 
@@ -282,6 +282,15 @@ finished step old new out (b ∷ line) s0 s1 n0 n1 r0 r1 lt s = record {
   answers = omega (arith, s.answers);
   refusals = omega (arith, s.refusals);
 }
+
+-- at most one line follows the last line end, and none where nothing follows it
+pub no_last : (rest : List ℕ) → length rest ≡ 0 → length (last_line rest) ≡ 0
+no_last [] e = refl
+no_last (b ∷ rest) e = absurd (omega (arith, e))
+
+pub one_last : (rest : List ℕ) → length (last_line rest) ≤ 1
+one_last [] = omega arith
+one_last (b ∷ rest) = omega arith
 
 pub nothing_left : {S : Type 0} (step : S → Command → Answer → S → Type 0) (s : S) (rest : List ℕ) (n r : ℕ) → length rest ≡ 0 → Finished step s s [] rest n n r r
 nothing_left step s [] n r e = record { outcomes = []; run = refl; text = refl; answers = omega arith; refusals = omega arith }

@@ -1,7 +1,7 @@
 -- Runs from their start to their end.
-use Rattle.std.proofs.Common.{◌≡◌, ℕ, inl, inr, List, [], ◌++◌, Option, refl, sym, ap, subst, ◌∙◌, append_assoc, arith}
+use Rattle.std.proofs.Common.{◌≡◌, ℕ, ◌+◌, ◌≤◌, inl, inr, List, [], ◌++◌, length, Option, refl, sym, ap, subst, ◌∙◌, append_assoc, arith}
 use Rattle.std.specs.Io.KnownBytes.{Appends, Keeps, Consumes, IsAtEnd}
-use Rattle.std.proofs.lemmas.List.{append-nil}
+use Rattle.std.proofs.lemmas.List.{append-nil, length-append}
 use Rattle.line_engine.specs.Answers.{has_reply, is_refusal}
 use Rattle.board_lines.specs.declared.command.Command.{Command}
 use Rattle.line_engine.specs.Answers.{Answer}
@@ -76,10 +76,11 @@ last_unwritten step refuses old mid new a b c was now x y out bytes rest given c
     )
 
 pub all_answered : {S : Type 0} (step : S → Command → Answer → S → Type 0) (old mid new : S) (a b c was now : Option (List ℕ)) (x y out bytes rest given chunk : List ℕ) (s n0 n1 r0 r1 : ℕ)
-    → Consumes a b bytes → Consumes b c chunk → chunk ≡ [] → IsAtEnd c → Appends was now out → out ≡ x ++ y → Progress step old mid x bytes rest 0 s 0 n0 0 r0 → given ≡ rest → Finished step mid new y given n0 n1 r0 r1 → Answered step old new a c was now n1 r1
-all_answered step old mid new a b c was now x y out bytes rest given chunk s n0 n1 r0 r1 g k none end q e p same f =
+    → Consumes a b bytes → Consumes b c chunk → chunk ≡ [] → IsAtEnd c → Appends was now out → out ≡ x ++ y → Progress step old mid x bytes rest 0 s 0 n0 0 r0 → given ≡ rest → s + length (last_line given) ≤ 4294967296 → Finished step mid new y given n0 n1 r0 r1 → Answered step old new a c was now n1 r1
+all_answered step old mid new a b c was now x y out bytes rest given chunk s n0 n1 r0 r1 g k none end q e p same few f =
     let f' = subst (λ (l : List ℕ). Finished step mid new y l n0 n1 r0 r1) same f in
     let given' = subst (λ (l : List ℕ). Consumes a c (bytes ++ l)) none (Consumes-then a b c bytes chunk g k) in
+    let few' = subst (λ (l : List ℕ). s + length (last_line l) ≤ 4294967296) same few in
     record {
       bytes = bytes;
       given = subst (λ (l : List ℕ). Consumes a c l) (append-nil bytes) given';
@@ -88,6 +89,7 @@ all_answered step old mid new a b c was now x y out bytes rest given chunk s n0 
       rest = rest;
       cut = p.cut;
       outcomes = p.outcomes ++ f'.outcomes;
+      few = omega (arith, few', p.seen, length-append p.lines (last_line rest));
       run = Runs-then step old mid new p.lines (last_line rest) p.outcomes f'.outcomes p.run f'.run;
       text = subst (λ (l : List ℕ). Appends was now l) (e ∙ written_then x y p.outcomes f'.outcomes p.text f'.text) q;
       answered = omega (arith, p.answers, f'.answers, count_then has_reply p.outcomes f'.outcomes);

@@ -135,7 +135,7 @@ pub record Finished {S : Type 0} (step : S → Command → Answer → S → Type
 
 -- ---- whole runs
 
--- All that the reader had was answered: each line in order, and nothing else was written.
+-- All that the reader had was answered: each line in order, of at most 4,294,967,296, and nothing else was written.
 pub record Answered {S : Type 0} (step : S → Command → Answer → S → Type 0) (old new : S) (left_old left_new was now : Option (List ℕ)) (answers refusals : ℕ) : Type 0 where
   pub bytes : List ℕ
   pub given : Consumes left_old left_new bytes
@@ -144,6 +144,7 @@ pub record Answered {S : Type 0} (step : S → Command → Answer → S → Type
   pub rest : List ℕ
   pub cut : Cut bytes lines rest
   pub outcomes : List Outcome
+  pub few : length (lines ++ last_line rest) ≤ 4294967296
   pub run : Runs step old (lines ++ last_line rest) outcomes new
   pub text : Appends was now (written outcomes)
   pub answered : answers ≡ count_by has_reply outcomes

@@ -1,12 +1,12 @@
 //! The engine of lines.
 
-ghost use Rattle.std.specs.Prelude.{◌≡◌, ◌<◌, ◌⊎◌, ◌∷◌, [], ◌++◌, List, ℕ, length, map, OnOk, OnErr, IfOk, IfErr, string_bytes};
+ghost use Rattle.std.specs.Prelude.{◌≡◌, ◌+◌, ◌<◌, ◌≤◌, ◌⊎◌, ◌∷◌, [], ◌++◌, List, ℕ, length, map, OnOk, OnErr, IfOk, IfErr, string_bytes};
 ghost use Rattle.std.specs.Io.KnownBytes.{Appends};
 ghost use Rattle.text_words.specs.Words.{words as line_words};
 ghost use Rattle.board_lines.specs.Reading.{after_word, read_of, words_read};
 ghost use Rattle.line_engine.specs.Fronts.{Gives, Drops};
 ghost use Rattle.line_engine.specs.Marks.{Marks};
-ghost use Rattle.line_engine.specs.Running.{body, Grows, Served, ServeBroken, Progress, Broken, IsLine, HasNoEnd, BrokenWithin, EndsLast, Finished, Reaches, Answered, Stopped};
+ghost use Rattle.line_engine.specs.Running.{body, Grows, Served, ServeBroken, Progress, Broken, IsLine, HasNoEnd, BrokenWithin, EndsLast, Finished, Reaches, Answered, Stopped, last_line};
 
 use crate::answer::{OutOfMemory, obey, unread};
 use crate::front::Front;
@@ -306,6 +306,7 @@ fn finish<R, F: Front<R>>(
     ensures ready { F.ready front.new }
     ensures ok { OnOk result (Grows outbox.old.held.items outbox.new.held.items (λ out. Finished F.step front.old front.new out
         partial.now outbox.old.tally.lines outbox.new.tally.lines outbox.old.tally.refused outbox.new.tally.refused)) }
+    ensures few { OnOk result (outbox.old.tally.seen + length (last_line partial.now) ≤ 4294967296) }
     ensures held { OnErr result (outbox.new.held.items ≡ outbox.old.held.items) }
     ensures err { IfErr result (λ e. EndsLast F.step F.refuses e front.old front.new outbox.old.tally.seen partial.now) }
 {

@@ -222,6 +222,27 @@ fn answers_lines_however_they_come(rt: HostRuntime) {
     }
 }
 
+/// Compares a run of blank lines to its end, a read for each of them and one at the end.
+fn compare_blank(rt: &impl Abort, counts: Result<Counts, RunFault>, reads: u32) {
+    let none = Counts {
+        lines: 0,
+        refused: 0,
+    };
+    assert!(rt; counts == Ok(none));
+    assert_eq!(rt; reads, 2_000_001);
+}
+
+/// A run goes on for as many reads as the reader has bytes for: the fault of reading is none of a reader that never fails.
+#[test]
+fn two_million_reads_are_no_fault(rt: HostRuntime) {
+    let text = vec![in rt.alloc(); b'\n'; 2_000_000].expect(&rt, "memory");
+    let mut reader = make_slow(&text, 1);
+    let mut writer = make_narrow(rt.alloc(), 1, Failing::Never);
+    let mut front = make_small(rt.alloc());
+    let counts = run_lines(&(), rt.alloc(), &mut front, &mut reader, &mut writer);
+    compare_blank(&rt, counts, reader.reads);
+}
+
 /// Compares a run that ends since the writer fails.
 fn compare_failure(rt: &impl Abort, counts: Result<Counts, RunFault>, written: &[u8]) {
     assert!(rt; counts == Err(RunFault::Write));

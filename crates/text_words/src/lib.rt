@@ -1,9 +1,9 @@
 //! Words of a line, and the numbers that words are.
 #![tactic(auto)]
 
-ghost use Rattle.std.specs.Prelude.{◌≡◌, if◌then◌else◌, Some, None, ◌<◌, ◌≤◌, ◌-◌, ◌==◌, ◌||◌, true, [], ◌∷◌, ◌++◌, IfOk, IfSome, OnOk, MatchOption, length, map, take, drop, slice_index};
+ghost use Rattle.std.specs.Prelude.{◌≡◌, if◌then◌else◌, Some, None, ◌<◌, ◌≤◌, ◌-◌, ◌==◌, ◌||◌, true, [], ◌∷◌, ◌++◌, ℕ, IfOk, IfSome, OnOk, OnErr, MatchOption, length, map, take, drop, slice_index};
 ghost use Rattle.std.specs.List.{slice_split};
-ghost use Rattle.text_words.specs.Words.{full_parts, words, number, is_gap, HasNoGap, HasNoFeed, HasNoLineFeed, IsLineEnd};
+ghost use Rattle.text_words.specs.Words.{full_parts, words, number, is_gap, AreFirstOf, HasNoGap, HasNoFeed, HasNoLineFeed, IsLineEnd};
 
 mod ends;
 
@@ -50,13 +50,14 @@ fn part_end(line: &[u8], from: usize) -> usize
 
 /// Makes `kept` the words of a line, from the left, and no more than the first `most` of them: what is between the line's spaces and tabs.
 /// Any other byte, a carriage return too, belongs to its word. The line is read once, and no further than the end of the last word that is
-/// kept.
+/// kept. Where memory runs out, the first of these words are kept.
 pub fn keep_words<'a>(
     kept: &mut Vec<&'a [u8]>,
     line: &'a [u8],
     most: usize,
 ) -> Result<(), AllocError>
-    ensures { OnOk result (map (λ w. w.now) kept.new.items ≡ take most (words line.now)) }
+    ensures words { OnOk result (map (λ w. w.now) kept.new.items ≡ take most (words line.now)) }
+    ensures left { OnErr result (AreFirstOf (map (λ w. w.now) kept.new.items) (take most (words line.now))) }
 {
     kept.clear();
     let mut start = 0;
@@ -72,7 +73,8 @@ pub fn keep_words<'a>(
 
 /// Makes `kept` all words of a line, as `keep_words` has them.
 pub fn keep_all_words<'a>(kept: &mut Vec<&'a [u8]>, line: &'a [u8]) -> Result<(), AllocError>
-    ensures { OnOk result (map (λ w. w.now) kept.new.items ≡ words line.now) }
+    ensures words { OnOk result (map (λ w. w.now) kept.new.items ≡ words line.now) }
+    ensures left { OnErr result (AreFirstOf (map (λ w. w.now) kept.new.items) (words line.now)) }
 {
     keep_words(kept, line, usize::MAX)
 }
@@ -96,7 +98,8 @@ fn keep_part<'a>(
 ) -> Result<(), AllocError>
     requires from { from ≤ to }
     requires to { to ≤ length text.now }
-    ensures { OnOk result (map (λ w. w.now) kept.new.items ≡ map (λ w. w.now) kept.old.items ++ full_parts (take (to - from) (drop from text.now) ∷ [])) }
+    ensures part { OnOk result (map (λ w. w.now) kept.new.items ≡ map (λ w. w.now) kept.old.items ++ full_parts (take (to - from) (drop from text.now) ∷ [])) }
+    ensures left { OnErr result (kept.new.items ≡ kept.old.items) }
 {
     if from < to {
         kept.push(&text[from..to])?;
@@ -105,11 +108,13 @@ fn keep_part<'a>(
 }
 
 /// Makes `kept` the words of a text's first line, and gives the place of the line feed that ends it. Line and words are cut in one pass.
-/// Where the text has no line feed, there is no such place, and `kept` may contain anything.
+/// Where the text has no line feed, there is no such place, and `kept` may contain anything. Where memory runs out, the first of the
+/// line's words are kept.
 #[inline(always)]
 pub fn keep_line<'a>(kept: &mut Vec<&'a [u8]>, text: &'a [u8]) -> Result<Option<usize>, AllocError>
     ensures end { IfOk result (λ end. MatchOption end (HasNoLineFeed text.now) (IsLineEnd text.now)) }
     ensures words { IfOk result (λ end. IfSome end (λ i. map (λ w. w.now) kept.new.items ≡ words (take i text.now))) }
+    ensures left { OnErr result ((i : ℕ) → IsLineEnd text.now i → AreFirstOf (map (λ w. w.now) kept.new.items) (words (take i text.now))) }
 {
     kept.clear();
     let mut start = 0;

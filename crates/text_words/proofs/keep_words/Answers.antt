@@ -1,7 +1,8 @@
 use Rattle.std.proofs.Common.{◌++◌, ◌+◌, ◌-◌, List, ℕ, map, drop, take, length, arith, refl, ap, sym, ◌∙◌}
-use Rattle.std.proofs.lemmas.List.{length-append}
+use Rattle.std.proofs.lemmas.List.{length-append, length-map}
+use Rattle.std.proofs.lemmas.Result.{err_from_is_err_and}
 use Rattle.text_words.specs.Words.{words}
-use Rattle.text_words.proofs.Parts.{no_word, next_word, kept_more}
+use Rattle.text_words.proofs.Parts.{no_word, next_word, kept_more, first_of_most}
 use Rattle.text_words.proofs.keep_words.Goals as goal
 use Rattle.text_words.proofs.keep_words.Goals.{then-start-end+in_ok-push, else-start-end}
 
@@ -27,3 +28,10 @@ loop-start-preserved c =
             few = before.few;
           })
     ]
+
+pub returns-in_err-push-clause-left : goal.returns-in_err-push-clause-left
+returns-in_err-push-clause-left c =
+    let line = c.args.line.now in
+    let before = c.loop-start.invariant in
+    let p = err_from_is_err_and c.from_residual.result c.from_residual.ensures.1 in
+    rw (p.1, c.in_err-push.ensures.items) (first_of_most c.args.most (map (λ w. w.now) c.loop-start.kept.items) (words (drop c.loop-start.start line)) (words line) before.found (omega (arith, length-map c.loop-start.kept.items (λ w. w.now), before.few)))

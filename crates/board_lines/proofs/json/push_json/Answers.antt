@@ -1,5 +1,5 @@
 use Rattle.board_lines.proofs.Pieces.{json_is}
 use Rattle.board_lines.proofs.json.push_json.Goals as goal
 
-pub returns : goal.returns
-returns c = rw (json_is c.args.rows.now) c.push_pieces.ensures
+pub returns-clause-ok : goal.returns-clause-ok
+returns-clause-ok c = rw (json_is c.args.rows.now) c.push_pieces.ensures.ok

@@ -1,6 +1,8 @@
-use Rattle.std.proofs.Common.{arith, string_bytes}
-use Rattle.board_lines.proofs.Journals.{one_entry_more}
+use Rattle.board_lines.proofs.Starting.{err_then, on_err, starts_then}
 use Rattle.board_lines.proofs.listing.push_audit.Goals as goal
 
-pub loop-entry-preserved : goal.loop-entry-preserved
-loop-entry-preserved c = (one_entry_more (string_bytes c.args.out.now) _ _ c.args.entries.now c.loop-entry.entry-index c.loop-entry.n c.entry-item.result c.loop-entry-test.true c.entry-item.is c.loop-entry.invariant.0 c.loop-entry.invariant.1 c.in_ok-push_entry.ensures, omega arith)
+pub returns-in_err-push_entry-clause-start : goal.returns-in_err-push_entry-clause-start
+returns-in_err-push_entry-clause-start c = on_err _ (starts_then _ _ _ _ c.loop-kept.invariant.grew.1 c.in_err-push_entry.ensures.start)
+
+pub returns-clause-start : goal.returns-clause-start
+returns-clause-start c = err_then _ _ _ _ _ c.loop-kept.invariant.grew.1 c.push_end.ensures.start

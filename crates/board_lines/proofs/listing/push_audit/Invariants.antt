@@ -1,7 +1,13 @@
-use Rattle.std.proofs.Common.{◌≡◌, ◌++◌, take, string_bytes}
-use Rattle.std.specs.List.{flat_map, enumerate_from}
-use Rattle.board_lines.specs.Listings.{entry_line}
+use Rattle.std.proofs.Common.{◌≡◌, ℕ, List, ◌+◌, ◌++◌, length, string_bytes}
+use Rattle.board_lines.proofs.Journals.{lines_from}
 use Rattle.board_lines.proofs.listing.push_audit.Given as goal
 
-abbrev pub invariant-loop-entry : goal.invariant-loop-entry
-invariant-loop-entry l = (string_bytes l.out ≡ string_bytes l.fn.out ++ flat_map (λ e. entry_line e.0 e.1) (enumerate_from 1 (take l.entry-index l.entries))) × (l.n ≡ l.entry-index)
+-- with the lines of the entries that are left, the text is that of all entries
+abbrev pub invariant-loop-kept : goal.invariant-loop-kept
+invariant-loop-kept l = record {
+  can_next : (goal.iterator-loop-kept).can_next l.kept-iterator;
+  is_finite : (goal.iterator-loop-kept).is_finite l.kept-iterator;
+  text : string_bytes l.out ++ lines_from (l.n + 1) l.kept-iterator ≡ string_bytes l.fn.out ++ lines_from 1 l.journal.entries;
+  grew : (more : List ℕ) × (string_bytes l.out ≡ string_bytes l.fn.out ++ more);
+  count : l.n + length l.kept-iterator ≡ length l.journal.entries;
+}

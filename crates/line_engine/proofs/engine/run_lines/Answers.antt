@@ -53,7 +53,7 @@ returns-then-count-eq0-clause-ok g c =
     let held : c.finish.new.outbox.held.items ≡ f.0 = nil_first _ f.0 _ c.in_ok-flush.ensures.none f.1 in
     let sent = Appends-then _ _ _ i.1 _ i.3 c.in_ok-flush.ensures.ok in
     rw c.flush-then-count-eq0.ensures.tally (all_answered g.F.Front.step _ _ _ _ _ _ _ _ x f.0 (x ++ c.finish.new.outbox.held.items) i.0 c.reads.partial.items _ _ _ _ _ _ _ i.2 c.in-Ok.ensures.bytes.0 (rw c.if-count-eq0.true refl) (c.in-Ok.ensures.bytes.1 c.if-count-eq0.true (omega arith))
-    (Appends-then _ _ _ x c.finish.new.outbox.held.items sent c.in_ok-flush-2.ensures.ok) (ap (λ (l : List ℕ). x ++ l) held) (rw (← c.flush.ensures.tally) at i.4) c.as_slice.ensures.value f.2)
+    (Appends-then _ _ _ x c.finish.new.outbox.held.items sent c.in_ok-flush-2.ensures.ok) (ap (λ (l : List ℕ). x ++ l) held) (rw (← c.flush.ensures.tally) at i.4) c.as_slice.ensures.value c.in_default-finish.ensures.few f.2)
 
 pub returns-in_err-take_piece-clause-err : goal.returns-in_err-take_piece-clause-err
 returns-in_err-take_piece-clause-err g c =

@@ -1,0 +1,8 @@
+use Rattle.board_lines.proofs.Starting.{err_then, on_err, starts_then}
+use Rattle.board_lines.proofs.json.push_pieces.Goals as goal
+
+pub returns-in_err-push_rows-clause-start : goal.returns-in_err-push_rows-clause-start
+returns-in_err-push_rows-clause-start c = on_err _ (starts_then _ _ _ _ c.in_ok-push_text.ensures.ok c.in_err-push_rows.ensures.start)
+
+pub returns-clause-start : goal.returns-clause-start
+returns-clause-start c = err_then _ _ _ _ _ c.in_ok-push_text.ensures.ok (err_then _ _ _ _ _ c.in_ok-push_rows.ensures.ok c.push_text-2.ensures.start)
