@@ -8,6 +8,7 @@ use Rattle.solomon_reader.specs.Instances.{Plain}
 use Rattle.solomon_reader.specs.Reading.{read_of}
 use Rattle.line_engine.specs.Answers.{is_refusal}
 use Rattle.line_engine.specs.Running.{AppendsFront}
+use Rattle.line_engine.specs.TextLines.{lines_of}
 use Rattle.board_text.specs.BoardRuns.{AreOutcomes, EndsAt}
 use Rattle.board_text.specs.BoardSteps.{DeskState}
 use Rattle.line_engine.specs.declared.run_fault.Counts.{Counts}
@@ -17,9 +18,9 @@ use Rattle.solomon_reader.specs.Reading.{Fails}
 use Rattle.solomon_reader.specs.declared.fault.ReadFault.{ReadFault}
 use Rattle.solomon_reader.specs.declared.fault.ReadFault.TheVariants as reads
 use Rattle.program_parts.specs.Head.{Halves, halves, AreRead}
-use Rattle.program_parts.specs.Stops.{IsStopOf}
+use Rattle.program_parts.specs.Stops.{IsStopOf, IsUnread}
 use Rattle.board_program.specs.Status.{end_status}
-use Rattle.board_program.specs.Joined.{IsRun, IsCutOff, IsUnfinished, IsDone, IsBrokenOff, IsCause, IsShort, IsEnd, Says, IsJoined, IsScripted, IsOfFiles}
+use Rattle.board_program.specs.Joined.{IsRun, IsCutOff, IsUnfinished, IsDone, IsBrokenOff, IsCause, IsShort, IsEnd, Says, IsJoined, IsOfHalves, IsScripted, IsOfFiles}
 use Rattle.program_parts.specs.Streams.{Streams, streams_of, stop_line, AgreesWithStatus}
 use Rattle.board_program.specs.Standard.{opened}
 use Rattle.program_parts.specs.declared.stop.Stop.{Stop}
@@ -61,6 +62,7 @@ done i script left now_left was now counts known h =
       record { sites = h.sites; of = h.of; new = h.new; run = subst (λ (l : List ℕ). AreOutcomes (opened h.sites) l a.outcomes h.new) (sym all) a.run },
       a.text,
       status_by counts.refused (count_by is_refusal a.outcomes) a.refused,
+      subst (λ (l : List ℕ). length (lines_of l) ≤ 4294967296) (sym all) a.few,
     )
 
 -- ---- what was answered before the run ended early
@@ -146,16 +148,25 @@ pub told_by : (r : Result Counts Stop) (status : ℕ) (told_was told_now : Optio
 told_by (Ok counts) status told_was told_now s t = inl (subst (λ (n : ℕ). n ≤ 1) (sym s) (few_chosen (eqb counts.refused 0)), t)
 told_by (Err stop) status told_was told_now s t = inr (stop, (s, t))
 
+-- by what came of the two halves of a joined input
+halves_by : (r : Result Counts Stop) (status : ℕ) (h : Halves) (was now told_was told_now : Option (List ℕ)) → status ≡ end_status r → IsToldBy r told_was told_now
+    → IsEnd h was now r → IsOfHalves h (streams_of was now told_was told_now) status
+halves_by (Ok counts) status h was now told_was told_now s t e =
+    subst (λ (n : ℕ). IsOfHalves h (streams_of was now told_was told_now) n) (sym s) (inl (e.2, inl (e.0, e.1, e.3, t)))
+halves_by (Err stop) status h was now told_was told_now s t e = elim e [
+  | inl k ↦ inl (k.0, inr (stop, k.1, (s, t)))
+  | inr u ↦ inr (stop, u.0, u.1, (s, t))
+]
+
 -- by what came of the joined input
 pub joined_by : (r : Result Counts Stop) (status : ℕ) (known was now told_was told_now : Option (List ℕ)) → status ≡ end_status r → IsToldBy r told_was told_now
     → IfSome known (λ bytes. IsEnd (halves bytes) was now r) → IfSome known (λ bytes. IsJoined bytes (streams_of was now told_was told_now) status)
 joined_by r status None was now told_was told_now s t e = tt
-joined_by (Ok counts) status (Some bytes) was now told_was told_now s t e =
-    subst (λ (n : ℕ). IsJoined bytes (streams_of was now told_was told_now) n) (sym s) (inl (e.2, inl (e.0, e.1, e.3, t)))
-joined_by (Err stop) status (Some bytes) was now told_was told_now s t e = elim e [
-  | inl k ↦ inl (k.0, inr (stop, k.1, (s, t)))
-  | inr u ↦ inr (stop, u.0, u.1, (s, t))
-]
+joined_by r status (Some bytes) was now told_was told_now s t e = halves_by r status (halves bytes) was now told_was told_now s t e
+
+pub joined_ran : (r : Result Counts Stop) (status : ℕ) (was now told_was told_now : Option (List ℕ)) → status ≡ end_status r → IsToldBy r told_was told_now
+    → (h : Halves) × IsEnd h was now r → (h : Halves) × IsOfHalves h (streams_of was now told_was told_now) status
+joined_ran r status was now told_was told_now s t e = (e.0, halves_by r status e.0 was now told_was told_now s t e.1)
 
 -- by what came of an instance's board
 pub scripted_by : (r : Result Counts Stop) (status : ℕ) (i : Plain) (left now_left was now told_was told_now : Option (List ℕ)) → status ≡ end_status r → IsToldBy r told_was told_now
@@ -187,7 +198,7 @@ unread_ran e stop r was told_was told_now status s f three t = ([], unread_says 
 ran_to_end : (i : Plain) (left now_left was now : Option (List ℕ)) (counts : Counts) → IsRun i left now_left was now counts → (script : List ℕ) × IsDone i script was now (if counts.refused == 0 then 0 else 1)
 ran_to_end i left now_left was now counts h =
     let a = h.answered in
-    (a.bytes, (a.outcomes, record { sites = h.sites; of = h.of; new = h.new; run = a.run }, a.text, status_by counts.refused (count_by is_refusal a.outcomes) a.refused))
+    (a.bytes, (a.outcomes, record { sites = h.sites; of = h.of; new = h.new; run = a.run }, a.text, status_by counts.refused (count_by is_refusal a.outcomes) a.refused, a.few))
 
 ran_off : (f : RunFault) (i : Plain) (left now_left was now : Option (List ℕ)) → IsCutOff i left now_left was now f → (script : List ℕ) × IsBrokenOff f i script was now
 ran_off f i left now_left was now h =
@@ -216,6 +227,31 @@ ran_by (Err stops.Open) status i left now_left was now told_was told_now s t ok 
 ran_by (Err (stops.Run fault)) status i left now_left was now told_was told_now s t ok err =
     let d = ran_off fault i left now_left was now err in
     (d.0, inr (stops.Run fault, (i, refl, d.1), (s, t)))
+
+-- what came of a joined input's board
+pub board_ran : (r : Result Counts Stop) (i : Plain) (instance : List ℕ) (left now_left was now : Option (List ℕ)) → read_of instance ≡ Ok i → length instance ≤ 16777216
+    → IfOk r (λ counts. IsRun i left now_left was now counts) → IfErr r (λ stop. IsUnfinished i left now_left was now stop) → (h : Halves) × IsEnd h was now r
+board_ran (Ok counts) i instance left now_left was now read short ok err =
+    let d = ran_to_end i left now_left was now counts ok in
+    (record { instance = instance; script = d.0 }, (i, read, short, d.1))
+board_ran (Err (stops.Instance kind line)) i instance left now_left was now read short ok err = absurd err
+board_ran (Err stops.Open) i instance left now_left was now read short ok err = (record { instance = instance; script = [] }, inr (tt, err.1))
+board_ran (Err (stops.Run fault)) i instance left now_left was now read short ok err =
+    let d = ran_off fault i left now_left was now err in
+    (record { instance = instance; script = d.0 }, inl (short, (i, read, d.1)))
+
+-- nothing was read up to the mark
+pub unread_ended : (stop : Stop) (r : Result Counts Stop) (was : Option (List ℕ)) → r ≡ Err stop → IsUnread stop → (h : Halves) × IsEnd h was was r
+unread_ended stop r was e u =
+    let ended : (h : Halves) × IsEnd h was was (Err stop) = (record { instance = []; script = [] }, inr (u, keeps was)) in
+    subst (λ (x : Result Counts Stop). (h : Halves) × IsEnd h was was x) (sym e) ended
+
+-- nothing came of the instance before the mark
+pub instance_ended : (e : ReadFault) (stop : Stop) (r : Result Counts Stop) (instance : List ℕ) (was : Option (List ℕ)) → r ≡ Err stop → IsStopOf e stop → Fails e (read_of instance) → length instance ≤ 16777216
+    → (h : Halves) × IsEnd h was was r
+instance_ended e stop r instance was is s f short =
+    let ended : (h : Halves) × IsEnd h was was (Err stop) = (record { instance = instance; script = [] }, inl (short, unread_short e stop (read_of instance) [] was s f)) in
+    subst (λ (x : Result Counts Stop). (h : Halves) × IsEnd h was was x) (sym is) ended
 
 -- an instance's text says which it is
 pub script_known : (text : List ℕ) (r : Result Plain Fault) (known : Option (List ℕ)) (streams : Streams) (status : ℕ) → read_of text ≡ r → IfSome known (λ script. Says r script streams status) → IfSome known (λ script. IsScripted text script streams status)

@@ -10,6 +10,7 @@ use Rattle.line_engine.specs.Answers.{Outcome, written, is_refusal}
 use Rattle.board_text.specs.BoardRuns.{AreOutcomes, IsAnswered, IsStopped}
 use Rattle.board_text.specs.BoardSteps.{DeskState}
 use Rattle.line_engine.specs.Running.{Reaches, IsTooLong}
+use Rattle.line_engine.specs.TextLines.{lines_of}
 use Rattle.line_engine.specs.declared.run_fault.Counts.{Counts}
 use Rattle.line_engine.specs.declared.run_fault.RunFault.{RunFault}
 use Rattle.line_engine.specs.declared.run_fault.RunFault.TheVariants as runs
@@ -56,9 +57,10 @@ pub record Replies (i : Plain) (script : List ℕ) (outcomes : List Outcome) : T
 abbrev pub status_of : List Outcome → ℕ
 status_of outcomes = if count_by is_refusal outcomes == 0 then 0 else 1
 
--- each line of the script was answered
+-- each line of the script was answered, of at most 4,294,967,296
 abbrev pub IsDone : Plain → List ℕ → Option (List ℕ) → Option (List ℕ) → ℕ → Type 0
-IsDone i script was now status = (outcomes : List Outcome) × Replies i script outcomes × Appends was now (written outcomes) × (status ≡ status_of outcomes)
+IsDone i script was now status =
+    (outcomes : List Outcome) × Replies i script outcomes × Appends was now (written outcomes) × (status ≡ status_of outcomes) × (length (lines_of script) ≤ 4294967296)
 
 -- What a fault says of what comes next: at LongLine, a line that is too long; at any other, nothing.
 abbrev pub IsCause : RunFault → List ℕ → Type 0
@@ -92,9 +94,13 @@ IsScripted instance script streams status = Says (read_of instance) script strea
 
 -- The instance before the mark, which is not too long, and the script behind it. Or a read failed before the mark, or memory ran out, or more
 -- bytes than the limit came: nothing is written, and that is told.
-abbrev pub IsJoined : List ℕ → Streams → ℕ → Type 0
-IsJoined bytes streams status = ((length (halves bytes).instance ≤ 16777216) × IsScripted (halves bytes).instance (halves bytes).script streams status)
+abbrev pub IsOfHalves : Halves → Streams → ℕ → Type 0
+IsOfHalves h streams status = ((length h.instance ≤ 16777216) × IsScripted h.instance h.script streams status)
     ⊎ ((stop : Stop) × IsUnread stop × Keeps streams.was streams.now × IsTold stop streams.told_was streams.told_now status)
+
+-- the same of all bytes of the input, cut at the mark
+abbrev pub IsJoined : List ℕ → Streams → ℕ → Type 0
+IsJoined bytes streams status = IsOfHalves (halves bytes) streams status
 
 -- A file could not be read, which is told, and nothing is written; or an instance and a script were, whatever their bytes are.
 abbrev pub IsOfFiles : List ℕ → List ℕ → Streams → ℕ → Type 0

@@ -1,8 +1,8 @@
 //! The joined form: an instance, a line `%%` and a script in one input.
 
 ghost use Rattle.std.specs.Prelude.{◌≡◌, ◌⊎◌, IfSome};
-ghost use Rattle.board_program.specs.Joined.{IsEnd, IsJoined};
-ghost use Rattle.program_parts.specs.Head.{halves};
+ghost use Rattle.board_program.specs.Joined.{IsEnd, IsJoined, IsOfHalves};
+ghost use Rattle.program_parts.specs.Head.{Halves, halves};
 ghost use Rattle.program_parts.specs.Streams.{streams_of, AgreesWithStatus};
 
 use crate::standard::run_board;
@@ -20,7 +20,8 @@ fn run_joined<R, I: Read, W: Write>(
     reader: &mut I,
     writer: &mut W,
 ) -> Result<Counts, Stop>
-    ensures { IfSome (I.remaining reader.old) (λ bytes. IsEnd (halves bytes) (W.contents writer.old) (W.contents writer.new) result) }
+    ensures known { IfSome (I.remaining reader.old) (λ bytes. IsEnd (halves bytes) (W.contents writer.old) (W.contents writer.new) result) }
+    ensures ran { (h : Halves) × IsEnd h (W.contents writer.old) (W.contents writer.new) result }
 {
     let Parts {
         instance,
@@ -56,6 +57,8 @@ pub fn joined<R, I: Read, W: Write, F: Write>(
     ensures told { AgreesWithStatus (F.contents faults.old) (F.contents faults.new) result }
     ensures joined { IfSome (I.remaining reader.old) (λ bytes. IsJoined bytes
         (streams_of (W.contents writer.old) (W.contents writer.new) (F.contents faults.old) (F.contents faults.new)) result) }
+    ensures ran { (h : Halves) × IsOfHalves h
+        (streams_of (W.contents writer.old) (W.contents writer.new) (F.contents faults.old) (F.contents faults.new)) result }
 {
     ended(faults, run_joined(rt, alloc, reader, writer))
 }

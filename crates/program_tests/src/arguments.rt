@@ -195,10 +195,10 @@ fn compare_said(rt: &impl Abort, written: &[u8], faults: &[u8], status: u8, want
     assert!(rt; faults.starts_with(wanted.1.as_bytes()));
 }
 
-/// What is told of words, where their text goes to a writer that takes so many writes and flushes.
-fn tells<H: AllocGlobal + Abort>(
+/// What is told of a fault, where its text goes to a writer that takes so many writes and flushes.
+fn tells_fault<H: AllocGlobal + Abort>(
     rt: &H,
-    words: &[&str],
+    fault: &OptionFault,
     writes: usize,
     flushes: usize,
     wanted: Told<'_>,
@@ -209,8 +209,7 @@ fn tells<H: AllocGlobal + Abort>(
         flushes,
     };
     let mut faults = Vec::new(rt.alloc());
-    let fault = options(rt.alloc(), words).expect_err(rt, "no options");
-    let status = told(&fault, &mut output, &mut faults);
+    let status = told(fault, &mut output, &mut faults);
     compare_said(
         rt,
         output.taken.as_slice(),
@@ -218,6 +217,18 @@ fn tells<H: AllocGlobal + Abort>(
         status,
         wanted,
     );
+}
+
+/// The same of words.
+fn tells<H: AllocGlobal + Abort>(
+    rt: &H,
+    words: &[&str],
+    writes: usize,
+    flushes: usize,
+    wanted: Told<'_>,
+) {
+    let fault = options(rt.alloc(), words).expect_err(rt, "no options");
+    tells_fault(rt, &fault, writes, flushes, wanted);
 }
 
 /// Help that cannot be written is a fault.
@@ -245,4 +256,6 @@ fn tells_of_words(rt: HostRuntime) {
     ] {
         tells(&rt, words, writes, flushes, wanted);
     }
+    let unopened = ("", "dispatch: open fault\n", 3);
+    tells_fault(&rt, &OptionFault::NoMemory, 0, 0, unopened);
 }

@@ -3,12 +3,15 @@ ghost use Rattle.std.specs.Prelude.{◌≡◌};
 
 mod counted;
 
-use crate::comparing::compare_text;
+use crate::comparing::{compare_text, compare_written};
 use crate::rows::cut;
-use board_core::{Board, Call, Denial, Event, Fault, Reply};
+use board_core::{AskFault, Board, Call, Denial, Event, Fault, Reply, Review};
 use board_lines::{Command, read_line};
 use callback_store::{Meter, Registry, Transit, TransitId};
 use dimension_core::{Dimension, Range, Setup};
+use plan_core::Route;
+use range_cache::JudgeFault;
+use rbac_core::{Object, Operation};
 use std::alloc::Global;
 use std::process::Abort;
 use std::sync::Arc;
@@ -134,10 +137,65 @@ fn compare_board(rt: &impl Abort, board: &Board) {
     assert_eq!(rt; board.version(), 11);
     assert_eq!(rt; board.route(1).customers(), [5].as_slice());
     assert_eq!(rt; board.route(2).customers(), [1, 4, 2].as_slice());
+    assert_eq!(rt; board.place_of(3), None);
+    assert_eq!(rt; board.place_of(4), Some((2, 2)));
     assert_eq!(rt; board.pinned(4), None);
     assert_eq!(rt; board.pinned(5), Some(1));
     assert_eq!(rt; board.frozen(1), 0);
     assert_eq!(rt; board.frozen(2), 2);
+}
+
+/// What the board answers after those and one more grant: the session of `root` may freeze a vehicle and view nothing, and audits all
+/// entries.
+fn compare_questions(rt: &impl Abort, board: &Board) {
+    assert_eq!(rt; board.check(1, Operation::Freeze, Object::Vehicle(2)), true);
+    assert_eq!(rt; board.check(1, Operation::View, Object::Vehicle(2)), false);
+    assert_eq!(rt; board.audit(1).map(|entries| entries.len()), Ok(26));
+    assert_eq!(rt;
+        board.audit(2).map(|entries| entries.len()),
+        Err(AskFault::NoSession)
+    );
+}
+
+/// What the board lists and reviews after those.
+fn compare_lists(rt: &impl Abort, board: &Board) {
+    let rows = board.list(1).map(|rows| rows.len());
+    compare_answered(rt, rows, Ok(0));
+    let names = board.review(1, Review::Active(1)).map(|names| names.len());
+    compare_answered(rt, names, Ok(1));
+    let names = board.review(1, Review::Active(2)).map(|names| names.len());
+    compare_answered(rt, names, Err(AskFault::NotThere));
+}
+
+fn compare_answered(
+    rt: &impl Abort,
+    found: Result<usize, AskFault>,
+    wanted: Result<usize, AskFault>,
+) {
+    assert_eq!(rt; found, wanted);
+}
+
+/// Compares the new routes of a judged call, which is one for one vehicle, or none.
+fn compare_new_routes(
+    rt: &impl Abort,
+    alloc: Global,
+    board: &mut Board,
+    line: &str,
+    wanted: Option<(u32, &[u32])>,
+) {
+    let event = event(rt, alloc, board, line);
+    let prepared = board
+        .prepare(event, &mut Meter::new())
+        .expect(rt, "a judged call");
+    let routes = prepared.new_routes().expect(rt, "memory");
+    compare_first(rt, &routes, wanted);
+}
+
+fn compare_first(rt: &impl Abort, routes: &[(u32, Arc<Route>)], wanted: Option<(u32, &[u32])>) {
+    let found = routes
+        .first()
+        .map(|(vehicle, route)| (*vehicle, route.customers()));
+    assert_eq!(rt; found, wanted);
 }
 
 /// A board of five customers, two vehicles and two desks without bounds, with one travel as its cost.
@@ -163,6 +221,18 @@ fn what_calls_make_different(rt: HostRuntime) {
     twice(&rt, rt.alloc(), &mut board, "1 grant root move vehicle 1 2");
     differences(&rt, rt.alloc(), &mut board, DIFFERENCES);
     compare_board(&rt, &board);
+    apply(&rt, rt.alloc(), &mut board, "1 grant root audit board");
+    compare_questions(&rt, &board);
+    compare_lists(&rt, &board);
+    let alloc = rt.alloc();
+    compare_new_routes(
+        &rt,
+        alloc,
+        &mut board,
+        "1 insert 3 1 1 11",
+        Some((1, &[3, 5])),
+    );
+    compare_new_routes(&rt, alloc, &mut board, "1 insert 3 1 1 0", None);
 }
 
 // ---- a start that is not fixed
@@ -225,5 +295,22 @@ fn the_earliest_cumul_alone_does_not_decide(rt: HostRuntime) {
         let range = Range { lo, hi };
         let mut board = one_customer_board(&rt, rt.alloc(), registry, id, fixed, range);
         compare_reply(&rt, inserted(&rt, rt.alloc(), &mut board), wanted);
+    }
+}
+
+// ---- faults in words
+
+const JUDGE_FAULTS: &[(JudgeFault, &str)] = &[
+    (
+        JudgeFault::Bound(3, 2),
+        "the route of vehicle 3 is out of bounds in dimension 2",
+    ),
+    (JudgeFault::NoMemory, "out of memory"),
+];
+
+#[test]
+fn faults_of_a_judgement(rt: HostRuntime) {
+    for (fault, text) in JUDGE_FAULTS {
+        compare_written(&rt, rt.alloc(), fault, text);
     }
 }

@@ -2,6 +2,7 @@
 mod devices;
 mod examples;
 
+use crate::comparing::compare_written;
 use crate::rows::{CASES, LISTED, cut};
 use board_program::{
     Stop, check_bytes, check_file, joined, read_file, run_files, scripted, stopped,
@@ -270,14 +271,43 @@ fn faults_of_an_instance(rt: HostRuntime) {
             "",
             "dispatch: instance fault order line 12\n",
         ),
+        (
+            "VEHICLE\n",
+            "VEHICLES\n",
+            "dispatch: instance fault vehicle line 3\n",
+        ),
+        (
+            "CUSTOMER\n",
+            "CUSTOMERS\n",
+            "dispatch: instance fault customer line 7\n",
+        ),
+        (
+            "CUST NO.",
+            "CUSTNO.",
+            "dispatch: instance fault heading line 8\n",
+        ),
+        (
+            "10      3      0      14",
+            "10      3     15      14",
+            "dispatch: instance fault window line 13\n",
+        ),
+        (
+            "0      0     100",
+            "1      0     100",
+            "dispatch: instance fault depot line 10\n",
+        ),
     ] {
         has_fault_with(&rt, part, other, fault);
     }
-    has_fault(
-        &rt,
-        "A\n\nVEHICLE\n",
-        "dispatch: instance fault fleet line 4\n",
-    );
+    for (text, fault) in [
+        ("A\n\nVEHICLE\n", "dispatch: instance fault fleet line 4\n"),
+        (
+            "A\nVEHICLE\nNUMBER CAPACITY\n2 10\nCUSTOMER\nCUST NO.\n",
+            "dispatch: instance fault end line 7\n",
+        ),
+    ] {
+        has_fault(&rt, text, fault);
+    }
 }
 
 /// An instance of so many customers.
@@ -289,13 +319,17 @@ fn large<H: AllocGlobal + Abort>(rt: &H, customers: u32) -> String {
     text
 }
 
-/// A board of 1,000 customers is opened, and one more is too many.
+/// A board of 1,000 customers is opened, also where its bytes come one a read, and one customer more is too many.
 #[test]
 fn the_most_customers(rt: HostRuntime) {
     let most = large(&rt, 1000);
     let report = "name A\ncustomers 1000\nvehicles 2\ncapacity 10\nhorizon 1000\n";
     check_gives(&rt, &most, (report, "", 0));
-    gives(&rt, &most, "%%\n1 list\n", ("end\n", "", 0));
+    let input = format!(in rt.alloc(); "{most}%%\n1 list\n").expect(&rt, "memory");
+    for most in [1, usize::MAX] {
+        let mut reader = make_drip(input.as_bytes(), most, usize::MAX);
+        joined_gives(&rt, &mut reader, ("end\n", "", 0));
+    }
     let fault = "dispatch: instance fault count line 1011\n";
     has_fault(&rt, &large(&rt, 1001), fault);
 }
@@ -366,48 +400,70 @@ fn a_failing_writer(rt: HostRuntime) {
     }
 }
 
-const KINDS: &[(Kind, &str)] = &[
-    (Kind::Name, "dispatch: instance fault name line 4\n"),
-    (Kind::Vehicle, "dispatch: instance fault vehicle line 4\n"),
-    (Kind::Fleet, "dispatch: instance fault fleet line 4\n"),
-    (Kind::Customer, "dispatch: instance fault customer line 4\n"),
-    (Kind::Heading, "dispatch: instance fault heading line 4\n"),
-    (Kind::Fields, "dispatch: instance fault fields line 4\n"),
-    (Kind::Number, "dispatch: instance fault number line 4\n"),
-    (Kind::Order, "dispatch: instance fault order line 4\n"),
-    (Kind::Window, "dispatch: instance fault window line 4\n"),
-    (Kind::Depot, "dispatch: instance fault depot line 4\n"),
-    (Kind::Count, "dispatch: instance fault count line 4\n"),
-    (Kind::End, "dispatch: instance fault end line 4\n"),
+/// Why a run ends early, and the line that says so, without `dispatch: ` and its line end.
+const STOPS: &[(Stop, &str)] = &[
+    (Stop::Instance(Kind::Name, 4), "instance fault name line 4"),
+    (
+        Stop::Instance(Kind::Vehicle, 4),
+        "instance fault vehicle line 4",
+    ),
+    (
+        Stop::Instance(Kind::Fleet, 4),
+        "instance fault fleet line 4",
+    ),
+    (
+        Stop::Instance(Kind::Customer, 4),
+        "instance fault customer line 4",
+    ),
+    (
+        Stop::Instance(Kind::Heading, 4),
+        "instance fault heading line 4",
+    ),
+    (
+        Stop::Instance(Kind::Fields, 4),
+        "instance fault fields line 4",
+    ),
+    (
+        Stop::Instance(Kind::Number, 4),
+        "instance fault number line 4",
+    ),
+    (
+        Stop::Instance(Kind::Order, 4),
+        "instance fault order line 4",
+    ),
+    (
+        Stop::Instance(Kind::Window, 4),
+        "instance fault window line 4",
+    ),
+    (
+        Stop::Instance(Kind::Depot, 4),
+        "instance fault depot line 4",
+    ),
+    (
+        Stop::Instance(Kind::Count, 1011),
+        "instance fault count line 1011",
+    ),
+    (Stop::Instance(Kind::End, 4), "instance fault end line 4"),
+    (Stop::Open, "open fault"),
+    (Stop::Run(RunFault::Read), "run fault read"),
+    (Stop::Run(RunFault::Write), "run fault write"),
+    (Stop::Run(RunFault::LongLine), "run fault long-line"),
+    (Stop::Run(RunFault::NoMemory), "run fault no-memory"),
 ];
 
-#[test]
-fn lines_of_an_instance_fault(rt: HostRuntime) {
-    for (kind, wanted) in KINDS {
-        let mut faults = Vec::new(rt.alloc());
-        let status = stopped(&mut faults, Stop::Instance(*kind, 4));
-        compare_end(&rt, faults.as_slice(), status, ("", *wanted, 3));
-    }
+/// The line that says why a run ended, and how the cause itself is written.
+fn is_told_as<H: AllocGlobal + Abort>(rt: &H, stop: Stop, text: &str) {
+    let mut faults = Vec::new(rt.alloc());
+    let status = stopped(&mut faults, stop);
+    let line = format!(in rt.alloc(); "dispatch: {text}\n").expect(rt, "memory");
+    compare_end(rt, faults.as_slice(), status, ("", &line, 3));
+    compare_written(rt, rt.alloc(), &stop, text);
 }
 
 #[test]
-fn lines_of_a_stop(rt: HostRuntime) {
-    for (stop, wanted) in [
-        (Stop::Open, "dispatch: open fault\n"),
-        (Stop::Run(RunFault::Read), "dispatch: run fault read\n"),
-        (Stop::Run(RunFault::Write), "dispatch: run fault write\n"),
-        (
-            Stop::Run(RunFault::LongLine),
-            "dispatch: run fault long-line\n",
-        ),
-        (
-            Stop::Run(RunFault::NoMemory),
-            "dispatch: run fault no-memory\n",
-        ),
-    ] {
-        let mut faults = Vec::new(rt.alloc());
-        let status = stopped(&mut faults, stop);
-        compare_end(&rt, faults.as_slice(), status, ("", wanted, 3));
+fn lines_of_faults(rt: HostRuntime) {
+    for (stop, text) in STOPS {
+        is_told_as(&rt, *stop, text);
     }
 }
 

@@ -9,7 +9,7 @@ use Rattle.solomon_reader.proofs.lines.Lines.next_full.Goals as goal
 pub lines-preserved : goal.lines-preserved
 lines-preserved c =
     let empty : length c.keep_words.new.kept.items ≡ 0 = search rules in
-    let none = no_words c.keep_words.new.kept.items (words c.unwrap_or-text.result.now) c.args.most c.requires empty c.in_ok-keep_words.ensures in
+    let none = no_words c.keep_words.new.kept.items (words c.unwrap_or-text.result.now) c.args.most c.requires empty c.in_ok-keep_words.ensures.words in
     grind (arith, common_steps)
 
 pub returns : goal.returns
