@@ -1,2 +1,3 @@
 pub mod Whole
 pub mod Paging
+pub mod Shared

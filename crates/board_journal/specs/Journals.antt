@@ -1,10 +1,14 @@
 -- What a journal keeps of its pages.
-use Rattle.std.specs.Prelude.{◌≡◌, ℕ, ◌+◌, ◌≤◌, List, [], length, Option, Some, None, All}
+use Rattle.std.specs.Prelude.{◌≡◌, ℕ, ◌+◌, ◌≤◌, List, [], length, map, Option, Some, None, All}
 use Rattle.std.specs.List.{flat_map}
 use Rattle.std.specs.declared.sync.Arc.{Arc}
 use Rattle.std.specs.Borrow.{Bor}
 use Rattle.board_rules.specs.declared.call.Entry.{Entry}
 use Rattle.board_journal.specs.Shown.{Shown}
+
+-- shared pages, as contracts see each of them
+abbrev pub pages_of : {Z : Type 0} → List (Arc Shown Z) → List Shown
+pages_of pages = map (λ page. page.value) pages
 
 -- the entries of full pages, one page after the other
 abbrev pub paged : {Z : Type 0} → List (Arc Shown Z) → List Entry

@@ -5,6 +5,7 @@ ghost use Rattle.board_journal.specs.Shown.{HasRoom};
 ghost use Rattle.board_journal.specs.Entries.{entry_of};
 ghost use Rattle.board_journal.specs.Packed.{is_packed};
 ghost use Rattle.board_journal.specs.Kept.{kept_entry};
+ghost use Rattle.board_journal.specs.Journals.{pages_of};
 
 use crate::entries::Entries;
 use crate::kept::Kept;
@@ -55,6 +56,16 @@ impl Journal {
             full: Vec::new(alloc),
             last,
         })
+    }
+
+    /// A journal of the same entries, to be read while this one grows. The full pages are shared, so it takes memory for a handle to each of
+    /// them and for the last page alone.
+    pub fn share(&self, alloc: Global) -> Result<Journal, AllocError>
+        ensures { IfOk result (λ journal. journal.entries ≡ self.now.entries) }
+    {
+        let full = shared(alloc, self.full.as_slice())?;
+        let last = self.last.copy(alloc)?;
+        Ok(Journal { full, last })
     }
 
     /// The allocator of its pages.
@@ -139,4 +150,18 @@ impl Journal {
     {
         Entries::over(self.full.as_slice(), &self.last)
     }
+}
+
+/// The same pages, each with one owner more.
+fn shared(alloc: Global, pages: &[Arc<Page>]) -> Result<Vec<Arc<Page>>, AllocError>
+    ensures { IfOk result (λ made. pages_of made.items ≡ pages_of pages.now) }
+{
+    let mut made = Vec::with_capacity(alloc, pages.len())?;
+    for page in pages {
+        let Ok(page) = Arc::try_clone(page) else {
+            return Err(AllocError);
+        };
+        made.push(page)?;
+    }
+    Ok(made)
 }

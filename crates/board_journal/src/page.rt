@@ -53,6 +53,17 @@ impl Page {
         Ok(Page { records, whole })
     }
 
+    /// The same page once more.
+    pub(crate) fn copy(&self, alloc: Global) -> Result<Page, AllocError>
+        ensures entries { IfOk result (λ page. page.entries ≡ self.now.entries) }
+        ensures room { IfOk result (λ page. page.room ≡ self.now.room) }
+    {
+        let mut records = Vec::with_capacity(alloc, PAGE_ENTRIES)?;
+        records.extend_from_slice(self.records.as_slice())?;
+        let whole = copies(alloc, self.whole.as_slice())?;
+        Ok(Page { records, whole })
+    }
+
     /// How many entries it has.
     #[inline]
     pub(crate) fn len(&self) -> usize
@@ -159,4 +170,15 @@ impl Page {
         }
         Some(self.entry(index))
     }
+}
+
+/// The same entries once more.
+fn copies(alloc: Global, entries: &[Entry]) -> Result<Vec<Entry>, AllocError>
+    ensures { IfOk result (λ made. made.items ≡ entries.now) }
+{
+    let mut made = Vec::with_capacity(alloc, entries.len())?;
+    for entry in entries {
+        made.push(entry.copy()?)?;
+    }
+    Ok(made)
 }
