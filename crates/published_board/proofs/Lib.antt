@@ -1,0 +1,11 @@
+pub mod Prefixes
+pub mod Written
+pub mod Pages
+pub mod Adding
+pub mod Staying
+pub mod Lanes
+pub mod Renewed
+pub mod Pictures
+pub mod Rules
+pub mod Publishing
+pub mod Kepts

@@ -1,0 +1,11 @@
+pub mod Trails
+pub mod Reached
+pub mod Told
+pub mod Written
+pub mod Lanes
+pub mod Staying
+pub mod Shelves
+pub mod Pictures
+pub mod Sights
+pub mod Published
+pub mod Kepts

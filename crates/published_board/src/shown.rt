@@ -1,0 +1,286 @@
+//! The copy that desks read, and what changes it.
+ghost use Rattle.std.specs.Prelude.{◌≡◌, ◌-◌, slice_set, IfOk, All};
+ghost use Rattle.std.specs.Bool.{OnTrue};
+ghost use Rattle.plan_core.specs.Plan.{route_at};
+ghost use Rattle.published_board.specs.Told.{told};
+ghost use Rattle.published_board.specs.Written.{written};
+ghost use Rattle.published_board.specs.Lanes.{lanes_after, since_after};
+
+use crate::trail::Trail;
+use board_rules::Delta;
+use left_right::Absorb;
+use plan_core::Route;
+use std::alloc::{AllocError, Global};
+use std::collections::LinkedList;
+use std::marker::Model;
+use std::sync::Arc;
+
+/// Whose route a lane has, and since which entry. No value of it is made.
+pub struct Mark {
+    pub vehicle: u32,
+    pub since: Trail,
+    pub entry: u64,
+}
+
+/// What the copies have in common. No value of it is made.
+pub struct Picture {
+    pub base: Trail,
+    pub cells: Shelf,
+}
+
+/// Cells, as lists. No value of it is made.
+pub struct Shelf {
+    pub lanes: LinkedList<Mark>,
+    pub pins: LinkedList<Option<u32>>,
+    pub frozen: LinkedList<u32>,
+    pub version: u32,
+    pub entries: u64,
+    pub moved: u64,
+    pub turned: u64,
+}
+
+/// The route of a vehicle, shared, and the number of the entry that gave it. The route is not there where one owner more could not be had,
+/// and contracts do not see it: so taking in a step cannot fail.
+#[derive(Drop)]
+pub struct Lane {
+    vehicle: u32,
+    route: Option<Arc<Route>>,
+    since: Trail,
+    entry: u64,
+}
+
+impl Model for Lane {
+    ghost use Rattle.std.specs.Prelude.{◌≡◌, MatchOption};
+    ghost use Rattle.plan_core.specs.Plan.{route_at};
+    ghost use Rattle.published_board.specs.declared.shown.Mark.{Mark};
+    ghost use Rattle.published_board.specs.Told.{told};
+
+    ghost Value = { Mark };
+
+    ghost view = { λ l. record { vehicle = l.vehicle; since = l.since; entry = l.entry } };
+
+    ghost invariant = { λ l. MatchOption l.route (Unit {0}) (λ r. r.value ≡ route_at (told l.since).routes l.vehicle) };
+}
+
+/// A plan, its pins and freezes: each vehicle has a cell for its route and one for its frozen length, and each customer one for its pin, so
+/// that taking in a change writes fixed cells.
+#[derive(Drop)]
+pub struct Cells {
+    /// The route of each vehicle, the first that of vehicle 1.
+    pub lanes: Vec<Lane>,
+    /// The vehicle to which each customer is pinned.
+    pub pins: Vec<Option<u32>>,
+    /// How many stops are frozen at the front of each vehicle's route.
+    pub frozen: Vec<u32>,
+    /// How many commits there were.
+    pub version: u32,
+    /// How many entries there were.
+    pub entries: u64,
+    /// The number of an entry after which no route changed.
+    pub moved: u64,
+    /// The number of an entry after which no pin and no frozen length changed.
+    pub turned: u64,
+}
+
+/// What stands after the entries of which `base` tells.
+#[derive(Drop)]
+pub struct Shown {
+    pub cells: Cells,
+    pub base: Trail,
+}
+
+/// The new routes and the changes of one entry, its number, and the log with it.
+#[derive(Drop)]
+pub struct Step {
+    pub routes: Vec<(u32, Arc<Route>)>,
+    pub delta: Delta,
+    pub entries: u64,
+    pub base: Trail,
+    ghost are: { All (λ c. c.1.value ≡ route_at (told base).routes c.0) routes.items },
+}
+
+impl Absorb<Step> for Shown {
+    ghost use Rattle.published_board.specs.Pictures.{picture_of, after_step};
+
+    type State = Picture;
+
+    ghost state = { picture_of };
+
+    ghost applied = { after_step };
+
+    ghost never_fails = { Unit {0} };
+
+    fn absorb_first(&mut self, operation: &Step, _other: &Shown) -> Result<(), AllocError> {
+        let entries = operation.entries;
+        let routes = operation.routes.as_slice();
+        let delta = &operation.delta;
+        put_all(&mut self.cells.lanes, routes, &operation.base, entries);
+        write_all(&mut self.cells.pins, delta.pins());
+        write_all(&mut self.cells.frozen, delta.frozen());
+        self.cells.version = delta.version();
+        self.cells.entries = entries;
+        self.cells.moved = since(self.cells.moved, entries, routes);
+        let turned = since(self.cells.turned, entries, delta.pins());
+        self.cells.turned = since(turned, entries, delta.frozen());
+        self.base = operation.base.again();
+        Ok(())
+    }
+}
+
+/// The number of the last change, once an entry made these changes.
+fn since<C>(old: u64, entries: u64, changes: &[C]) -> u64
+    ensures { result ≡ since_after old entries changes.now }
+{
+    if changes.is_empty() { old } else { entries }
+}
+
+impl Lane {
+    /// A lane with a route that its vehicle has in the state of which the log tells.
+    pub(crate) fn at(vehicle: u32, route: &Arc<Route>, since: &Trail, entry: u64) -> Lane
+        requires { route.now.value ≡ route_at (told since.now).routes vehicle }
+        ensures { result ≡ record { vehicle = vehicle; since = since.now; entry = entry } }
+    {
+        Lane {
+            vehicle,
+            route: Arc::try_clone(route).ok(),
+            since: since.again(),
+            entry,
+        }
+    }
+
+    /// The same lane.
+    fn again(&self) -> Lane
+        ensures { result ≡ self.now }
+    {
+        let route = match &self.route {
+            Some(route) => Arc::try_clone(route).ok(),
+            None => None,
+        };
+        Lane {
+            vehicle: self.vehicle,
+            route,
+            since: self.since.again(),
+            entry: self.entry,
+        }
+    }
+
+    /// The vehicle whose route it is.
+    pub(crate) fn vehicle(&self) -> u32
+        ensures { result ≡ self.now.vehicle }
+    {
+        self.vehicle
+    }
+
+    /// The number of the entry that gave it.
+    pub(crate) fn entry(&self) -> u64
+        ensures { result ≡ self.now.entry }
+    {
+        self.entry
+    }
+
+    /// The route, with one owner more.
+    pub(crate) fn route(&self) -> Result<Arc<Route>, AllocError>
+        ensures { IfOk result (λ r. r.value ≡ route_at (told self.now.since).routes self.now.vehicle) }
+    {
+        match &self.route {
+            Some(route) => match Arc::try_clone(route) {
+                Ok(route) => Ok(route),
+                Err(_) => Err(AllocError),
+            },
+            None => Err(AllocError),
+        }
+    }
+}
+
+/// Writes the lanes of the routes that changed.
+fn put_all(lanes: &mut Vec<Lane>, routes: &[(u32, Arc<Route>)], base: &Trail, entry: u64)
+    requires { All (λ c. c.1.value ≡ route_at (told base.now).routes c.0) routes.now }
+    ensures { lanes.new.items ≡ lanes_after base.now entry lanes.old.items routes.now }
+{
+    for change in routes {
+        let lane = Lane::at(change.0, &change.1, base, entry);
+        put(lanes, change.0, lane);
+    }
+}
+
+/// Writes the cell of a number, counted from 1, where it is there.
+pub(crate) fn put<V: Drop>(cells: &mut Vec<V>, key: u32, value: V)
+    ensures { cells.new.items ≡ slice_set cells.old.items (key - 1) value }
+{
+    let at = (key as usize).saturating_sub(1);
+    if at < cells.len() {
+        cells[at] = value;
+    }
+}
+
+/// Writes each change whose cell is there, in order.
+fn write_all<V: Copy>(cells: &mut Vec<V>, changes: &[(u32, V)])
+    ensures { cells.new.items ≡ written cells.old.items changes.now }
+{
+    for change in changes {
+        let (key, value) = *change;
+        write(cells, key, value);
+    }
+}
+
+/// Writes the cell of a number, counted from 1, where it is there.
+fn write<V: Copy>(cells: &mut Vec<V>, key: u32, value: V)
+    ensures { cells.new.items ≡ slice_set cells.old.items (key - 1) value }
+{
+    let at = (key as usize).saturating_sub(1);
+    if at < cells.len() {
+        cells[at] = value;
+    }
+}
+
+/// The same lanes once more.
+fn again(alloc: Global, lanes: &[Lane]) -> Result<Vec<Lane>, AllocError>
+    ensures { IfOk result (λ v. v.items ≡ lanes.now) }
+{
+    let mut made = Vec::with_capacity(alloc, lanes.len())?;
+    for lane in lanes {
+        made.push(lane.again())?;
+    }
+    Ok(made)
+}
+
+impl Cells {
+    ghost use Rattle.published_board.specs.Shelves.{cells_of};
+
+    /// The same cells once more.
+    fn copy(&self, alloc: Global) -> Result<Cells, AllocError>
+        ensures { IfOk result (λ x. cells_of x ≡ cells_of self.now) }
+    {
+        Ok(Cells {
+            lanes: again(alloc, self.lanes.as_slice())?,
+            pins: Vec::from_slice(alloc, self.pins.as_slice())?,
+            frozen: Vec::from_slice(alloc, self.frozen.as_slice())?,
+            version: self.version,
+            entries: self.entries,
+            moved: self.moved,
+            turned: self.turned,
+        })
+    }
+}
+
+impl Shown {
+    ghost use Rattle.published_board.specs.Pictures.{picture_of};
+
+    /// A second copy.
+    pub fn copy(&self, alloc: Global) -> Result<Shown, AllocError>
+        ensures { IfOk result (λ x. picture_of x ≡ picture_of self.now) }
+    {
+        Ok(Shown {
+            cells: self.cells.copy(alloc)?,
+            base: self.base.again(),
+        })
+    }
+
+    /// Whether two copies of one log show the same journal: whether they know as many pages of it.
+    pub fn shows_same(&self, other: &Shown) -> bool
+        requires { other.now.base.book ≡ self.now.base.book }
+        ensures { OnTrue result (self.now.base.pages ≡ other.now.base.pages) }
+    {
+        self.base.agrees(&other.base)
+    }
+}
