@@ -1,0 +1,17 @@
+//! Tests of desks: in one thread, in threads of their own, and many of them.
+#![tactic(auto)]
+
+#[cfg(test)]
+mod boards;
+#[cfg(test)]
+mod calls;
+#[cfg(test)]
+mod many;
+#[cfg(test)]
+mod one_thread;
+#[cfg(test)]
+mod questions;
+#[cfg(test)]
+mod tests;
+#[cfg(test)]
+mod threads;

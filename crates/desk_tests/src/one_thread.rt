@@ -1,0 +1,123 @@
+//! Two desks in one thread: each sees what the other did, before they meet.
+ghost use Rattle.std.specs.Prelude.{◌≡◌};
+ghost use Rattle.dimension_core.specs.Setup.{setting};
+
+use crate::calls::{compare_count, grant, insert, last, sees, submits};
+use board_lock::{Desk, Foyer, Naming, open_hall};
+use board_rules::{AskFault, Reply, Review, Row};
+use rbac_core::{Object, ObjectRange, Operation};
+use std::alloc::Global;
+use std::process::Abort;
+use std::sync::Wait;
+
+const CUSTOMERS: ObjectRange = ObjectRange::Customers { first: 1, last: 4 };
+
+const VEHICLES: ObjectRange = ObjectRange::Vehicles { first: 1, last: 2 };
+
+/// Compares vehicle, place and customer of rows.
+fn compare_rows(rt: &impl Abort, rows: &[Row], wanted: &[(u32, u32, u32)]) {
+    assert_eq!(rt; rows.len(), wanted.len());
+    for (row, spot) in rows.iter().zip(wanted) {
+        assert_eq!(rt; (row.vehicle(), row.place(), row.customer()), *spot);
+    }
+}
+
+/// Compares the early values of the first row.
+fn compare_early(rt: &impl Abort, rows: &[Row], wanted: &[u64]) {
+    let found = rows.first().map(|row| row.early());
+    assert_eq!(rt; found, Some(wanted));
+}
+
+fn compare_tests(rt: &impl Abort, found: bool, wanted: bool) {
+    assert_eq!(rt; found, wanted);
+}
+
+fn compare_turns(rt: &impl Abort, one: u32, two: u32, wanted: (u32, u32)) {
+    assert_eq!(rt; (one, two), wanted);
+}
+
+fn listed<N: Naming, R: Wait + Drop, W: Wait + Abort>(rt: &W, desk: &mut Desk<N, R>)
+    requires { setting desk.old.setup.value ≡ N.opening.setting }
+    ensures { setting desk.new.setup.value ≡ N.opening.setting }
+{
+    match desk.list(rt, 1) {
+        Ok(rows) => {
+            compare_rows(rt, &rows, &[(1, 1, 1), (0, 0, 2), (0, 0, 3), (0, 0, 4)]);
+            compare_early(rt, &rows, &[0, 28]);
+        }
+        Err(fault) => compare_count(rt, Err(fault), Ok(4)),
+    }
+}
+
+fn asked<N: Naming, R: Wait + Drop, W: Wait + Abort>(rt: &W, desk: &mut Desk<N, R>)
+    requires { setting desk.old.setup.value ≡ N.opening.setting }
+    ensures { setting desk.new.setup.value ≡ N.opening.setting }
+{
+    compare_tests(rt, desk.check(rt, 1, Operation::Audit, Object::Board), true);
+    compare_tests(
+        rt,
+        desk.check(rt, 2, Operation::Audit, Object::Board),
+        false,
+    );
+    let names = desk
+        .review(rt, 1, Review::Active(1))
+        .map(|names| names.len());
+    compare_count(rt, names, Ok(1));
+    let entries = desk.audit(rt, 1).map(|journal| journal.len());
+    compare_count(rt, entries, Ok(6));
+    let entries = desk.audit(rt, 9).map(|journal| journal.len());
+    compare_count(rt, entries, Err(AskFault::NoSession));
+}
+
+/// Desk 1 calls, and desk 2 sees it before they meet.
+fn share<N: Naming, R: Wait + Drop, W: Wait + Abort>(
+    rt: &W,
+    one: &mut Desk<N, R>,
+    two: &mut Desk<N, R>,
+)
+    requires one { setting one.old.setup.value ≡ N.opening.setting }
+    requires two { setting two.old.setup.value ≡ N.opening.setting }
+{
+    submits(rt, one, grant(rt, Operation::Move, VEHICLES), Reply::Done);
+    submits(rt, one, grant(rt, Operation::Move, CUSTOMERS), Reply::Done);
+    sees(rt, two, 0, &[]);
+    submits(rt, one, insert(1, 1, 0), Reply::Committed(1));
+    sees(rt, one, 1, &[1]);
+    sees(rt, two, 1, &[1]);
+    submits(rt, one, grant(rt, Operation::View, VEHICLES), Reply::Done);
+    submits(rt, one, grant(rt, Operation::View, CUSTOMERS), Reply::Done);
+    submits(
+        rt,
+        one,
+        grant(rt, Operation::Audit, ObjectRange::Board),
+        Reply::Done,
+    );
+    listed(rt, two);
+    asked(rt, two);
+    one.meet(rt, two);
+    sees(rt, two, 1, &[1]);
+    submits(rt, two, insert(2, 2, 0), Reply::Committed(2));
+    sees(rt, one, 2, &[1]);
+    compare_turns(rt, one.turn(), two.turn(), (7, 2));
+}
+
+/// The two desks of a hall.
+pub(crate) fn opens<N: Naming, R: Wait + Drop, W: Wait + Abort>(
+    rt: &W,
+    alloc: Global,
+    foyer: Foyer<R>,
+)
+    requires opening { foyer.room.opening ≡ N.opening }
+    requires book { foyer.room.book ≡ N.book }
+{
+    let Ok(desks) = open_hall::<N, R>(alloc, foyer) else {
+        return assert!(rt; false);
+    };
+    let Some((desks, mut two)) = last(desks) else {
+        return assert!(rt; false);
+    };
+    let Some((_desks, mut one)) = last(desks) else {
+        return assert!(rt; false);
+    };
+    share(rt, &mut one, &mut two);
+}

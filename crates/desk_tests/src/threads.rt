@@ -1,0 +1,260 @@
+//! Desks in threads of their own.
+//!
+//! That a setup and a seat may go to another thread is found of each alone, and not of both in one closure. So the closures are made in a
+//! function that knows of its types no more than that each may go.
+ghost use Rattle.std.specs.Prelude.{◌≡◌};
+ghost use Rattle.dimension_core.specs.Setup.{setting};
+
+use crate::calls::{grant, insert, last, remove, submits};
+use board_lock::{DeskOf, Foyer, Naming, Seat, open_hall};
+use board_rules::{Call, Denial, Reply};
+use dimension_core::Setup;
+use rbac_core::{ObjectRange, Operation};
+use std::alloc::Global;
+use std::process::Abort;
+use std::sync::{Arc, Wait};
+use std::thread::{Threads, join};
+
+/// What a thread does with two things that it is handed.
+pub trait Task<A, B, C> {
+    /// What must hold of the two.
+    ghost may: { A → B → Type 0 };
+
+    fn run<W: Wait>(self, rt: &W, first: A, second: B) -> C
+        requires { may first second };
+}
+
+/// Does two tasks at once, the first one in another thread.
+fn beside<
+    A: Send + Drop,
+    B: Send + Drop,
+    C: Send + Drop,
+    S: Task<A, B, C> + Send + Drop,
+    D: Drop,
+    E: Drop,
+    F: Drop,
+    T: Task<D, E, F> + Drop,
+    W: Threads + Wait + Sync,
+>(rt: &W, there: S, first: A, second: B, here: T, third: D, fourth: E) -> (C, F)
+    requires there { S.may first second }
+    requires here { T.may third fourth }
+{
+    join(
+        rt,
+        move || -> C
+            requires { S.may first second }
+        { there.run(rt, first, second) },
+        move || -> F
+            requires { T.may third fourth }
+        { here.run(rt, third, fourth) },
+    )
+}
+
+/// One call. It gives the seat back with the reply.
+#[derive(Drop)]
+struct Submit(Call);
+
+impl<N: Naming, R: Wait + Drop> Task<Arc<Setup>, Seat<N, R>, (Seat<N, R>, Option<Reply>)>
+    for Submit {
+    ghost use Rattle.dimension_core.specs.Setup.{setting};
+
+    ghost may = { λ setup seat. setting setup.value ≡ N.opening.setting };
+
+    fn run<W: Wait>(
+        self,
+        rt: &W,
+        first: Arc<Setup>,
+        second: Seat<N, R>,
+    ) -> (Seat<N, R>, Option<Reply>) {
+        let mut seat = second;
+        let reply = seat.submit(rt, &first, self.0).ok();
+        (seat, reply)
+    }
+}
+
+/// Customer 5 goes in and out of vehicle 3, so many times. It tells how many commits there were, counted from a version on.
+#[derive(Drop)]
+struct Commit {
+    from: u32,
+    commits: u32,
+}
+
+impl<N: Naming, R: Wait + Drop> Task<Arc<Setup>, Seat<N, R>, u32> for Commit {
+    ghost use Rattle.dimension_core.specs.Setup.{setting};
+
+    ghost may = { λ setup seat. setting setup.value ≡ N.opening.setting };
+
+    fn run<W: Wait>(self, rt: &W, first: Arc<Setup>, second: Seat<N, R>) -> u32 {
+        let mut seat = second;
+        let mut version = self.from;
+        for round in 0..self.commits {
+            let call = if round % 2 == 0 {
+                insert(5, 3, version)
+            } else {
+                remove(3, version)
+            };
+            if let Ok(Reply::Committed(next)) = seat.submit(rt, &first, call) {
+                version = next;
+            }
+        }
+        version
+    }
+}
+
+/// Looks at the plan until it has this version. It tells whether each look was no older than the one before, and the last version.
+#[derive(Drop)]
+struct Look(u32);
+
+impl<N: Naming, R: Wait + Drop> Task<Arc<Setup>, Seat<N, R>, (bool, u32)> for Look {
+    ghost may = { λ setup seat. Unit {0} };
+
+    fn run<W: Wait>(self, _rt: &W, _first: Arc<Setup>, second: Seat<N, R>) -> (bool, u32) {
+        let mut seat = second;
+        let mut rises = true;
+        let mut last = 0u32;
+        for _look in 0..u32::MAX {
+            let Some((kept, copied)) = looked(&mut seat) else {
+                return (false, last);
+            };
+            rises = rises && last <= kept && kept <= copied;
+            last = copied;
+            if last >= self.0 {
+                return (rises, last);
+            }
+        }
+        (false, last)
+    }
+}
+
+/// The version of the view that a seat keeps, once it was brought up, and then that of a copy.
+fn looked<N: Naming, R: Wait + Drop>(seat: &mut Seat<N, R>) -> Option<(u32, u32)> {
+    seat.refresh().ok()?;
+    let kept = seat.view()?.version;
+    let copied = seat.snapshot().ok()?.version;
+    Some((kept, copied))
+}
+
+const CUSTOMERS: ObjectRange = ObjectRange::Customers { first: 1, last: 5 };
+
+const VEHICLES: ObjectRange = ObjectRange::Vehicles { first: 1, last: 3 };
+
+/// One of the two replies came to each of the desks.
+fn compare_both(
+    rt: &impl Abort,
+    one: Option<Reply>,
+    two: Option<Reply>,
+    first: Reply,
+    second: Reply,
+) {
+    let straight = one == Some(first) && two == Some(second);
+    let crossed = one == Some(second) && two == Some(first);
+    assert!(rt; straight || crossed);
+}
+
+fn compare_looks(rt: &impl Abort, version: u32, looks: (bool, u32)) {
+    assert_eq!(rt; version, 10003);
+    assert_eq!(rt; looks, (true, 10003u32));
+}
+
+/// Two calls at once, and what came of each.
+fn race<N: Naming + Send + Sync, R: Wait + Drop + Send + Sync, W: Threads + Wait + Abort + Sync>(
+    rt: &W,
+    setup: &Arc<Setup>,
+    seats: (Seat<N, R>, Seat<N, R>),
+    calls: (Call, Call),
+    replies: (Reply, Reply),
+) -> Option<(Seat<N, R>, Seat<N, R>)>
+    requires { setting setup.now.value ≡ N.opening.setting }
+{
+    let first = Arc::try_clone(setup).ok()?;
+    let second = Arc::try_clone(setup).ok()?;
+    let (one, two) = beside(
+        rt,
+        Submit(calls.0),
+        first,
+        seats.0,
+        Submit(calls.1),
+        second,
+        seats.1,
+    );
+    compare_both(rt, one.1, two.1, replies.0, replies.1);
+    Some((one.0, two.0))
+}
+
+/// Ten thousand commits from version 3 on, while the other desk looks on.
+fn look_on<N: Naming + Send + Sync, R: Wait + Drop + Send + Sync, W: Threads + Wait + Abort + Sync>(
+    rt: &W,
+    setup: &Arc<Setup>,
+    seats: (Seat<N, R>, Seat<N, R>),
+) -> Option<u32>
+    requires { setting setup.now.value ≡ N.opening.setting }
+{
+    let first = Arc::try_clone(setup).ok()?;
+    let second = Arc::try_clone(setup).ok()?;
+    let commit = Commit {
+        from: 3,
+        commits: 10000,
+    };
+    let (version, looks) = beside(rt, commit, first, seats.0, Look(10003), second, seats.1);
+    compare_looks(rt, version, looks);
+    Some(version)
+}
+
+/// Two desks call for one vehicle, then for two, and then one of them looks on.
+fn all_at_once<
+    N: Naming + Send + Sync,
+    R: Wait + Drop + Send + Sync,
+    W: Threads + Wait + Abort + Sync,
+>(rt: &W, setup: &Arc<Setup>, seats: (Seat<N, R>, Seat<N, R>)) -> Option<u32>
+    requires { setting setup.now.value ≡ N.opening.setting }
+{
+    let calls = (insert(1, 1, 0), insert(2, 1, 0));
+    let replies = (Reply::Committed(1), Reply::Denied(Denial::Stale(1)));
+    let seats = race(rt, setup, seats, calls, replies)?;
+    let calls = (insert(3, 2, 0), insert(4, 3, 0));
+    let replies = (Reply::Committed(2), Reply::Committed(3));
+    let seats = race(rt, setup, seats, calls, replies)?;
+    look_on(rt, setup, seats)
+}
+
+fn compare_end(rt: &impl Abort, found: Option<u32>) {
+    assert_eq!(rt; found, Some(10003));
+}
+
+/// The two desks of a hall, once the first one was granted all moves.
+pub(crate) fn side_by_side<
+    N: Naming + Send + Sync,
+    R: Wait + Drop + Send + Sync,
+    W: Threads + Wait + Abort + Sync,
+>(rt: &W, alloc: Global, foyer: Foyer<R>)
+    requires opening { foyer.room.opening ≡ N.opening }
+    requires book { foyer.room.book ≡ N.book }
+{
+    let Ok(desks) = open_hall::<N, R>(alloc, foyer) else {
+        return assert!(rt; false);
+    };
+    let Some((desks, two)) = last(desks) else {
+        return assert!(rt; false);
+    };
+    let Some((_desks, mut one)) = last(desks) else {
+        return assert!(rt; false);
+    };
+    submits(
+        rt,
+        &mut one,
+        grant(rt, Operation::Move, VEHICLES),
+        Reply::Done,
+    );
+    submits(
+        rt,
+        &mut one,
+        grant(rt, Operation::Move, CUSTOMERS),
+        Reply::Done,
+    );
+    let DeskOf { setup, seat } = one;
+    let DeskOf {
+        setup: _,
+        seat: other,
+    } = two;
+    compare_end(rt, all_at_once(rt, &setup, (seat, other)));
+}
