@@ -14,10 +14,10 @@ use Rattle.role_hierarchy.specs.BelowLaws.{has-closed}
 use Rattle.separation_core.specs.Groups.{Groups, is_in_some, with_set, changed, without_set}
 use Rattle.separation_core.specs.declared.sets.Limit.{Limit}
 use Rattle.permission_core.specs.declared.objects.Operation.{Operation}
-use Rattle.permission_core.specs.declared.objects.Operation.TheVariants.{View, Move, Pin, Freeze, Admin, Audit, Override}
 use Rattle.permission_core.specs.Objects.{index_of}
 use Rattle.permission_core.specs.Permissions.{Rows, row_at, row_set, no_rows, cleared_rows, rows_cleared}
 use Rattle.policy_core.specs.declared.session.Session.{Session}
+use Rattle.policy_core.specs.RowLaws.{index_small}
 use Rattle.policy_core.specs.State.{PolicyState, HasSlots, AreBare, AreThere, is_role, slot_of}
 use Rattle.policy_core.specs.Commands.{slots_of}
 
@@ -142,15 +142,6 @@ module _ (p : PolicyState) (slots : HasSlots p.roles p.order.roles) where
   named_there roles there = slots_from roles 0 there (λ slot free. has-empty slot)
 
 -- rows of other slots
-index_small : (operation : Operation) → index_of operation < 7
-index_small View = omega arith
-index_small Move = omega arith
-index_small Pin = omega arith
-index_small Freeze = omega arith
-index_small Admin = omega arith
-index_small Audit = omega arith
-index_small Override = omega arith
-
 pub row_other : (rows : Rows) (a slot : ℕ) (operation other : Operation) (row : ℕ) → slot ≢ a → row_at (row_set rows a operation row) slot other ≡ row_at rows slot other
 row_other rows a slot operation other row apart =
     get_or-set_other rows (7 * a + index_of operation) (7 * slot + index_of other) row 0

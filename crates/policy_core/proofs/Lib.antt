@@ -6,10 +6,13 @@ mod CommandLaws
 mod CountLaws
 mod EntryLaws
 mod FewerLaws
+mod FillLaws
 mod FreeLaws
 mod HoldLaws
+mod MemberLaws
 mod NumberLaws
 mod OpeningLaws
+mod PartLaws
 mod ReviewLaws
 mod SetLaws
 mod SlotLaws

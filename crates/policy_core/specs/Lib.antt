@@ -2,7 +2,9 @@ pub mod Access
 pub mod Authority
 pub mod Commands
 pub mod Opening
+pub mod Parts
 pub mod Reviews
+pub mod RowLaws
 pub mod Seen
 pub mod State
 pub mod Wider

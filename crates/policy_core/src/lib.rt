@@ -6,10 +6,12 @@ mod access;
 mod authority;
 mod dsd;
 mod fault;
+mod parts;
 mod policy;
 mod refusal;
 mod reviews;
 mod roles;
+mod rows;
 mod session;
 mod sessions;
 mod ssd;
@@ -19,6 +21,7 @@ pub use authority::{
     authority_is_by_chains, cycles_are_by_chains, refusals_are_by_chains, separation_is_by_chains,
     sessions_keep_authorized_roles,
 };
+pub use parts::Parts;
 pub use policy::Policy;
 pub use refusal::Refusal;
 pub use session::{Counting, Session};

@@ -230,19 +230,23 @@ impl Policy {
     }
 }
 
-fn copy_users(users: &IndexMap<Name, RoleSet>) -> Result<IndexMap<Name, RoleSet>, AllocError>
+pub(crate) fn copy_users(
+    users: &IndexMap<Name, RoleSet>,
+) -> Result<IndexMap<Name, RoleSet>, AllocError>
     ensures { IfOk result (λ copy. copy.entries ≡ users.now.entries) }
 {
     users.clone()
 }
 
-fn copy_roles(roles: &IndexMap<Name, u8>) -> Result<IndexMap<Name, u8>, AllocError>
+pub(crate) fn copy_roles(roles: &IndexMap<Name, u8>) -> Result<IndexMap<Name, u8>, AllocError>
     ensures { IfOk result (λ copy. copy.entries ≡ roles.now.entries) }
 {
     roles.clone()
 }
 
-fn copy_sessions(sessions: &IndexMap<u32, Session>) -> Result<IndexMap<u32, Session>, AllocError>
+pub(crate) fn copy_sessions(
+    sessions: &IndexMap<u32, Session>,
+) -> Result<IndexMap<u32, Session>, AllocError>
     ensures { IfOk result (λ copy. copy.entries ≡ sessions.now.entries) }
 {
     sessions.clone()

@@ -1,4 +1,5 @@
 mod AffectedLaws
+mod ChangedLaws
 mod MemoryLaws
 mod NumberLaws
 mod SizeLaws

@@ -4,9 +4,11 @@ pub use Rattle.permission_core.specs.Permissions
 pub use Rattle.policy_core.specs.Access
 pub use Rattle.policy_core.specs.Commands
 pub use Rattle.policy_core.specs.Opening
+pub use Rattle.policy_core.specs.Parts
 pub use Rattle.policy_core.specs.Reviews
 pub use Rattle.policy_core.specs.State
 pub mod Affected
+pub mod Changed
 pub mod Numbers
 pub mod Step
 pub mod Tried

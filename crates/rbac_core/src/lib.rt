@@ -3,6 +3,7 @@
 //! whose access a command may change.
 #![tactic(auto)]
 
+mod changed;
 mod command;
 mod effects;
 mod names;

@@ -4,9 +4,10 @@ ghost use Rattle.policy_core.specs.Commands.{Says};
 ghost use Rattle.rbac_core.specs.Step.{refusal_of, after, outcome_of, guard, guard_by};
 ghost use Rattle.rbac_core.specs.Twins.{Follows, tried_of};
 
+use crate::changed::changed;
 use crate::command::{Command, Outcome};
 use crate::steps::{carry_out, change, guard};
-use policy_core::{Policy, Refusal};
+use policy_core::{Parts, Policy, Refusal};
 use std::alloc::{AllocError, Global};
 use std::marker::Model;
 use std::mem;
@@ -18,15 +19,15 @@ enum Lag {
     Even,
     /// The spare one lacks this command.
     Behind(Command),
-    /// A command was tried on the spare one, and may be kept.
-    Ahead,
-    /// The spare one holds what is not to be kept.
-    Apart,
+    /// A command was tried on the spare one, and may be kept. It changed these parts at most.
+    Ahead(Parts),
+    /// The spare one holds what is not to be kept, in these parts at most.
+    Apart(Parts),
 }
 
 /// A policy with a spare one. A command is tried on the spare policy, and the two are exchanged where it is to be kept. The spare one then
-/// lacks that command, and is brought up to date with it before the next command is tried. So a command copies no policy, except the one
-/// that follows a command that was tried and not kept.
+/// lacks that command, and is brought up to date with it before the next command is tried. So no command copies a policy. After a command
+/// that was tried and not kept, the next one copies back only the parts that the former may have changed.
 ///
 /// Contracts see the policy, and the state that `settle` would make: the policy itself where nothing is tried.
 pub struct Twin {
@@ -85,7 +86,7 @@ impl Twin {
         ensures { result.now ≡ self.now.tried }
     {
         match self.lag {
-            Lag::Ahead => &self.spare,
+            Lag::Ahead(_) => &self.spare,
             _ => &self.policy,
         }
     }
@@ -104,17 +105,17 @@ impl Twin {
             return Err(Refusal::NoMemory);
         }
         let outcome = carry_out(&mut self.spare, command)?;
-        self.lag = Lag::Ahead;
+        self.lag = Lag::Ahead(changed(command));
         Ok(outcome)
     }
 
     /// Gives up the command that was tried, if there is one: nothing is tried any more. It takes no memory, and copies nothing; the next
-    /// command that is tried then copies the policy.
+    /// command that is tried first copies back the parts that this one may have changed.
     pub fn give_up(&mut self)
         ensures { self.new ≡ record { now = self.old.now; tried = self.old.now } }
     {
-        if let Lag::Ahead = self.lag {
-            self.lag = Lag::Apart;
+        if let Lag::Ahead(parts) = self.lag {
+            self.lag = Lag::Apart(parts);
         }
     }
 
@@ -125,31 +126,15 @@ impl Twin {
         requires tried { self.old.tried ≡ after self.old.now command }
         ensures { self.new ≡ record { now = self.old.tried; tried = self.old.tried } }
     {
-        if let Lag::Ahead = self.lag {
+        if let Lag::Ahead(_) = self.lag {
             mem::swap(&mut self.policy, &mut self.spare);
             self.lag = Lag::Behind(command);
         }
     }
 }
 
-/// Makes the spare policy a copy of the other; `false` where memory ran out.
-// Out of line, since a policy is large, and the stack space for one is cleared wherever one may be built.
-#[inline(never)]
-fn copy_over(policy: &Policy, spare: &mut Policy) -> bool
-    ensures copied { (result ≡ true) → spare.new ≡ policy.now }
-    ensures kept { (result ≡ false) → spare.new ≡ spare.old }
-{
-    match policy.copy() {
-        Ok(copy) => {
-            *spare = copy;
-            true
-        }
-        Err(_) => false,
-    }
-}
-
-/// Makes the spare policy equal to the other, by the command that it lacks, or by a copy; `false` where memory ran out. In either case what
-/// was tried before is given up.
+/// Makes the spare policy equal to the other, by the command that it lacks, or by copies of the parts in which it may differ; `false` where
+/// memory ran out. In either case what was tried before is given up.
 fn even_out(policy: &Policy, spare: &mut Policy, lag: &mut Lag) -> bool
     requires { Follows lag.old spare.old policy.now }
     ensures follows { Follows lag.new spare.new policy.now }
@@ -159,13 +144,13 @@ fn even_out(policy: &Policy, spare: &mut Policy, lag: &mut Lag) -> bool
     let even = match lag {
         Lag::Even => true,
         Lag::Behind(command) => change(spare, command).is_ok(),
-        Lag::Ahead => copy_over(policy, spare),
-        Lag::Apart => copy_over(policy, spare),
+        Lag::Ahead(parts) => spare.restore(policy, *parts).is_ok(),
+        Lag::Apart(parts) => spare.restore(policy, *parts).is_ok(),
     };
     if even {
         *lag = Lag::Even;
-    } else if let Lag::Ahead = lag {
-        *lag = Lag::Apart;
+    } else if let Lag::Ahead(parts) = lag {
+        *lag = Lag::Apart(*parts);
     }
     even
 }

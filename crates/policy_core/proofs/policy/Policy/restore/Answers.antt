@@ -1,0 +1,39 @@
+use Rattle.std.proofs.Common.{sym, subst, ap, ◌∙◌}
+use Rattle.policy_core.specs.Seen.{state_of}
+use Rattle.policy_core.specs.State.{PolicyState, IsPolicy}
+use Rattle.policy_core.specs.Parts.{DifferIn}
+use Rattle.policy_core.proofs.CommandLaws.{same_parts}
+use Rattle.policy_core.proofs.PartLaws.{moved, restored, restored_whole}
+use Rattle.policy_core.proofs.policy.Policy.restore.Goals as goal
+
+pub returns-clause-ok : goal.returns-clause-ok
+returns-clause-ok c =
+    let p = state_of c.self.inside in
+    let q = state_of c.from.inside in
+    let parts = c.args.parts in
+    let differ : DifferIn parts p q = moved parts p q _ _ c.self.view_is c.from.view_is c.requires in
+    same_parts q _ _ _ _ _ _ _
+    (restored (λ m. m.entries) c.self.inside.users c.put.new.own c.in_ok-users.users parts.users q.users c.put.ensures c.in_ok-users.ensures differ.users)
+    (restored (λ m. m.entries) c.self.inside.roles c.put-2.new.own c.in_ok-roles.roles parts.roles q.roles c.put-2.ensures c.in_ok-roles.ensures differ.roles)
+    (restored_whole p.order c.put-3.new.own c.in_ok-order.order parts.order q.order c.put-3.ensures c.in_ok-order.ensures differ.order)
+    (c.restore_grants.ensures ∙ ap (λ (s : PolicyState). s.grants) (sym c.from.view_is))
+    (restored_whole p.ssd c.put-4.new.own c.in_ok-ssd.ssd parts.ssd q.ssd c.put-4.ensures c.in_ok-ssd.ensures differ.ssd)
+    (restored_whole p.dsd c.put-5.new.own c.in_ok-dsd.dsd parts.dsd q.dsd c.put-5.ensures c.in_ok-dsd.ensures differ.dsd)
+    (restored (λ m. m.entries) c.self.inside.sessions c.put-6.new.own c.in_ok-sessions.sessions parts.sessions q.sessions c.put-6.ensures c.in_ok-sessions.ensures differ.sessions)
+    ∙ c.from.view_is
+
+pub invariant_of-self : goal.invariant_of-self
+invariant_of-self c =
+    let p = state_of c.self.inside in
+    let q = state_of c.from.inside in
+    let parts = c.args.parts in
+    let differ : DifferIn parts p q = moved parts p q _ _ c.self.view_is c.from.view_is c.requires in
+    subst IsPolicy (sym (same_parts q _ _ _ _ _ _ _
+    (restored (λ m. m.entries) c.self.inside.users c.put.new.own c.in_ok-users.users parts.users q.users c.put.ensures c.in_ok-users.ensures differ.users)
+    (restored (λ m. m.entries) c.self.inside.roles c.put-2.new.own c.in_ok-roles.roles parts.roles q.roles c.put-2.ensures c.in_ok-roles.ensures differ.roles)
+    (restored_whole p.order c.put-3.new.own c.in_ok-order.order parts.order q.order c.put-3.ensures c.in_ok-order.ensures differ.order)
+    (c.restore_grants.ensures ∙ ap (λ (s : PolicyState). s.grants) (sym c.from.view_is))
+    (restored_whole p.ssd c.put-4.new.own c.in_ok-ssd.ssd parts.ssd q.ssd c.put-4.ensures c.in_ok-ssd.ensures differ.ssd)
+    (restored_whole p.dsd c.put-5.new.own c.in_ok-dsd.dsd parts.dsd q.dsd c.put-5.ensures c.in_ok-dsd.ensures differ.dsd)
+    (restored (λ m. m.entries) c.self.inside.sessions c.put-6.new.own c.in_ok-sessions.sessions parts.sessions q.sessions c.put-6.ensures c.in_ok-sessions.ensures differ.sessions)))
+    c.from.invariant

@@ -1,0 +1,44 @@
+-- What a command does not change.
+use Rattle.std.proofs.Common.{ℕ, Option, Some, None, true, sym, refl}
+use Rattle.std.specs.Option.{option_map_or}
+use Rattle.std.proofs.lemmas.Bool.{false≢true}
+use Rattle.role_hierarchy.specs.Roles.{first_free}
+use Rattle.policy_core.specs.Parts.{DifferIn, no_parts}
+use Rattle.policy_core.specs.RowLaws.{cleared-row_set, cleared_twice}
+use Rattle.policy_core.specs.State.{PolicyState, slot_of}
+use Rattle.policy_core.specs.Commands.{role_at}
+use Rattle.rbac_core.specs.declared.command.Command.{Command}
+use Rattle.rbac_core.specs.declared.command.Command.TheVariants.{AddUser, DeleteUser, AddRole, DeleteRole, AssignUser, DeassignUser, GrantPermission, RevokePermission, AddInheritance, DeleteInheritance, CreateSsdSet, AddSsdRoleMember, DeleteSsdRoleMember, DeleteSsdSet, SetSsdSetCardinality, CreateDsdSet, AddDsdRoleMember, DeleteDsdRoleMember, DeleteDsdSet, SetDsdSetCardinality, CreateSession, DeleteSession, AddActiveRole, DropActiveRole, Migrate}
+use Rattle.rbac_core.specs.Step.{after}
+use Rattle.rbac_core.specs.Changed.{parts_of}
+
+pub differs : (p : PolicyState) (command : Command) → DifferIn (parts_of command) (after p command) p
+differs p (AddUser user) = record { users = λ marked. absurd (false≢true (sym marked)); roles = λ same. refl; order = λ same. refl; grants = refl; ssd = λ same. refl; dsd = λ same. refl; sessions = λ same. refl }
+differs p (DeleteUser user) = record { users = λ marked. absurd (false≢true (sym marked)); roles = λ same. refl; order = λ same. refl; grants = refl; ssd = λ same. refl; dsd = λ same. refl; sessions = λ marked. absurd (false≢true (sym marked)) }
+differs p (AddRole role) = by (first_free p.order.roles)
+  where
+    by : (slot : Option ℕ) → DifferIn (record no_parts { roles = true; order = true }) (option_map_or (role_at p role) slot p) p
+    by None = record { users = λ same. refl; roles = λ same. refl; order = λ same. refl; grants = refl; ssd = λ same. refl; dsd = λ same. refl; sessions = λ same. refl }
+    by (Some slot) = record { users = λ same. refl; roles = λ marked. absurd (false≢true (sym marked)); order = λ marked. absurd (false≢true (sym marked)); grants = refl; ssd = λ same. refl; dsd = λ same. refl; sessions = λ same. refl }
+differs p (DeleteRole role) = record { users = λ marked. absurd (false≢true (sym marked)); roles = λ marked. absurd (false≢true (sym marked)); order = λ marked. absurd (false≢true (sym marked)); grants = cleared_twice p.grants (slot_of p role); ssd = λ same. refl; dsd = λ same. refl; sessions = λ marked. absurd (false≢true (sym marked)) }
+differs p (AssignUser user role) = record { users = λ marked. absurd (false≢true (sym marked)); roles = λ same. refl; order = λ same. refl; grants = refl; ssd = λ same. refl; dsd = λ same. refl; sessions = λ same. refl }
+differs p (DeassignUser user role) = record { users = λ marked. absurd (false≢true (sym marked)); roles = λ same. refl; order = λ same. refl; grants = refl; ssd = λ same. refl; dsd = λ same. refl; sessions = λ marked. absurd (false≢true (sym marked)) }
+differs p (GrantPermission role operation range) = record { users = λ same. refl; roles = λ same. refl; order = λ same. refl; grants = cleared-row_set p.grants (slot_of p role) operation _; ssd = λ same. refl; dsd = λ same. refl; sessions = λ same. refl }
+differs p (RevokePermission role operation range) = record { users = λ same. refl; roles = λ same. refl; order = λ same. refl; grants = cleared-row_set p.grants (slot_of p role) operation _; ssd = λ same. refl; dsd = λ same. refl; sessions = λ same. refl }
+differs p (AddInheritance senior junior) = record { users = λ same. refl; roles = λ same. refl; order = λ marked. absurd (false≢true (sym marked)); grants = refl; ssd = λ same. refl; dsd = λ same. refl; sessions = λ same. refl }
+differs p (DeleteInheritance senior junior) = record { users = λ same. refl; roles = λ same. refl; order = λ marked. absurd (false≢true (sym marked)); grants = refl; ssd = λ same. refl; dsd = λ same. refl; sessions = λ marked. absurd (false≢true (sym marked)) }
+differs p (CreateSsdSet name number roles) = record { users = λ same. refl; roles = λ same. refl; order = λ same. refl; grants = refl; ssd = λ marked. absurd (false≢true (sym marked)); dsd = λ same. refl; sessions = λ same. refl }
+differs p (AddSsdRoleMember name role) = record { users = λ same. refl; roles = λ same. refl; order = λ same. refl; grants = refl; ssd = λ marked. absurd (false≢true (sym marked)); dsd = λ same. refl; sessions = λ same. refl }
+differs p (DeleteSsdRoleMember name role) = record { users = λ same. refl; roles = λ same. refl; order = λ same. refl; grants = refl; ssd = λ marked. absurd (false≢true (sym marked)); dsd = λ same. refl; sessions = λ same. refl }
+differs p (DeleteSsdSet name) = record { users = λ same. refl; roles = λ same. refl; order = λ same. refl; grants = refl; ssd = λ marked. absurd (false≢true (sym marked)); dsd = λ same. refl; sessions = λ same. refl }
+differs p (SetSsdSetCardinality name number) = record { users = λ same. refl; roles = λ same. refl; order = λ same. refl; grants = refl; ssd = λ marked. absurd (false≢true (sym marked)); dsd = λ same. refl; sessions = λ same. refl }
+differs p (CreateDsdSet name number roles) = record { users = λ same. refl; roles = λ same. refl; order = λ same. refl; grants = refl; ssd = λ same. refl; dsd = λ marked. absurd (false≢true (sym marked)); sessions = λ same. refl }
+differs p (AddDsdRoleMember name role) = record { users = λ same. refl; roles = λ same. refl; order = λ same. refl; grants = refl; ssd = λ same. refl; dsd = λ marked. absurd (false≢true (sym marked)); sessions = λ same. refl }
+differs p (DeleteDsdRoleMember name role) = record { users = λ same. refl; roles = λ same. refl; order = λ same. refl; grants = refl; ssd = λ same. refl; dsd = λ marked. absurd (false≢true (sym marked)); sessions = λ same. refl }
+differs p (DeleteDsdSet name) = record { users = λ same. refl; roles = λ same. refl; order = λ same. refl; grants = refl; ssd = λ same. refl; dsd = λ marked. absurd (false≢true (sym marked)); sessions = λ same. refl }
+differs p (SetDsdSetCardinality name number) = record { users = λ same. refl; roles = λ same. refl; order = λ same. refl; grants = refl; ssd = λ same. refl; dsd = λ marked. absurd (false≢true (sym marked)); sessions = λ same. refl }
+differs p (CreateSession user roles) = record { users = λ same. refl; roles = λ same. refl; order = λ same. refl; grants = refl; ssd = λ same. refl; dsd = λ same. refl; sessions = λ marked. absurd (false≢true (sym marked)) }
+differs p (DeleteSession session) = record { users = λ same. refl; roles = λ same. refl; order = λ same. refl; grants = refl; ssd = λ same. refl; dsd = λ same. refl; sessions = λ marked. absurd (false≢true (sym marked)) }
+differs p (AddActiveRole session role) = record { users = λ same. refl; roles = λ same. refl; order = λ same. refl; grants = refl; ssd = λ same. refl; dsd = λ same. refl; sessions = λ marked. absurd (false≢true (sym marked)) }
+differs p (DropActiveRole session role) = record { users = λ same. refl; roles = λ same. refl; order = λ same. refl; grants = refl; ssd = λ same. refl; dsd = λ same. refl; sessions = λ marked. absurd (false≢true (sym marked)) }
+differs p Migrate = record { users = λ same. refl; roles = λ same. refl; order = λ same. refl; grants = refl; ssd = λ same. refl; dsd = λ same. refl; sessions = λ marked. absurd (false≢true (sym marked)) }
