@@ -5,13 +5,14 @@ use Rattle.std.specs.List.{All}
 use Rattle.std.proofs.lemmas.List.Elements.{All-head, All-tail, All-push, All-weaker}
 use Rattle.board_rules.specs.declared.call.Entry.{Entry}
 use Rattle.board_journal.specs.declared.packed.Packed.{Packed}
-use Rattle.board_journal.specs.declared.packed.Packed.TheVariants.{Proposal, Whole}
+use Rattle.board_journal.specs.declared.packed.Packed.TheVariants.{Proposal, Hold, Whole}
 use Rattle.board_journal.specs.Records.{no_entry, entry_in, entries_in, IsWithin}
 use Rattle.board_journal.specs.Pages.{IsPage}
 
 -- a record stands for the same entry beside one more whole entry
 entry-more : (whole : List Entry) (e : Entry) (p : Packed) → IsWithin (length whole) p → entry_in (whole ++ e ∷ []) p ≡ entry_in whole p
 entry-more whole e (Proposal desk turn session base mv answer) h = refl
+entry-more whole e (Hold desk turn hold ruling) h = refl
 entry-more whole e (Whole place) h = get_or_append_left whole (e ∷ []) no_entry place h
 
 entries-more : (whole : List Entry) (e : Entry) (ps : List Packed) → All (IsWithin (length whole)) ps → entries_in (whole ++ e ∷ []) ps ≡ entries_in whole ps
@@ -34,6 +35,7 @@ entries-push_whole whole ps e n is h =
 
 within-more : (m n : ℕ) → m ≤ n → (p : Packed) → IsWithin m p → IsWithin n p
 within-more m n le (Proposal desk turn session base mv answer) h = tt
+within-more m n le (Hold desk turn hold ruling) h = tt
 within-more m n le (Whole place) h = omega (arith, le, h)
 
 pub within-push_whole : (whole : List Entry) (ps : List Packed) (e : Entry) (n : ℕ) → n ≡ length whole → All (IsWithin (length whole)) ps

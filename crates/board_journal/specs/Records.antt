@@ -1,14 +1,20 @@
 -- The entries for which records stand.
 use Rattle.std.specs.Prelude.{ℕ, ◌<◌, List, map, get_or}
+use Rattle.board_rules.specs.declared.call.Call.{Call}
 use Rattle.board_rules.specs.declared.call.Call.TheVariants as calls
 use Rattle.board_rules.specs.declared.call.Entry.{Entry}
 use Rattle.board_rules.specs.declared.reply.Denial.TheVariants as denials
+use Rattle.board_rules.specs.declared.reply.Refusal.TheVariants as refusals
 use Rattle.board_rules.specs.declared.reply.Reply.{Reply}
 use Rattle.board_rules.specs.declared.reply.Reply.TheVariants as replies
 use Rattle.board_journal.specs.declared.answer.Answer.{Answer}
 use Rattle.board_journal.specs.declared.answer.Answer.TheVariants.{Committed, NoSession, BadVehicle, AccessVehicle, Ahead, Stale, BadPlace, AccessCustomer, Frozen, Pinned, Bound}
+use Rattle.board_journal.specs.declared.hold.Hold.{Hold}
+use Rattle.board_journal.specs.declared.hold.Hold.TheVariants as holds
+use Rattle.board_journal.specs.declared.hold.Ruling.{Ruling}
+use Rattle.board_journal.specs.declared.hold.Ruling.TheVariants as rulings
 use Rattle.board_journal.specs.declared.packed.Packed.{Packed}
-use Rattle.board_journal.specs.declared.packed.Packed.TheVariants.{Proposal, Whole}
+use Rattle.board_journal.specs.declared.packed.Packed.TheVariants.{Proposal, Hold as HoldRecord, Whole}
 
 abbrev pub reply_of : Answer → Reply
 reply_of (Committed version) = replies.Committed version
@@ -23,6 +29,23 @@ reply_of (Frozen vehicle) = replies.Denied (denials.Frozen vehicle)
 reply_of (Pinned vehicle place) = replies.Denied (denials.Pinned vehicle place)
 reply_of (Bound vehicle dimension) = replies.Denied (denials.Bound vehicle dimension)
 
+abbrev pub call_of : Hold → Call
+call_of (holds.Pin session customer) = calls.Pin session customer
+call_of (holds.Unpin session customer) = calls.Unpin session customer
+call_of (holds.Freeze session vehicle n) = calls.Freeze session vehicle n
+call_of (holds.Thaw session vehicle n) = calls.Thaw session vehicle n
+
+abbrev pub reply_to : Ruling → Reply
+reply_to rulings.Done = replies.Done
+reply_to rulings.NoSession = replies.Refused refusals.NoSession
+reply_to rulings.NoAccess = replies.Refused refusals.NoAccess
+reply_to rulings.BadVehicle = replies.Refused refusals.BadVehicle
+reply_to rulings.BadCustomer = replies.Refused refusals.BadCustomer
+reply_to rulings.Already = replies.Refused refusals.Already
+reply_to rulings.NotThere = replies.Refused refusals.NotThere
+reply_to rulings.NotPlaced = replies.Refused refusals.NotPlaced
+reply_to rulings.Length = replies.Refused refusals.Length
+
 -- stands for what no record names
 abbrev pub no_entry : Entry
 no_entry = record { desk = 0; turn = 0; call = calls.Pin 0 0; reply = replies.Done }
@@ -30,6 +53,7 @@ no_entry = record { desk = 0; turn = 0; call = calls.Pin 0 0; reply = replies.Do
 -- the entry for which a record stands, beside those that stand whole
 abbrev pub entry_in : List Entry → Packed → Entry
 entry_in whole (Proposal desk turn session base mv answer) = record { desk = desk; turn = turn; call = calls.Propose session base mv; reply = reply_of answer }
+entry_in whole (HoldRecord desk turn hold ruling) = record { desk = desk; turn = turn; call = call_of hold; reply = reply_to ruling }
 entry_in whole (Whole place) = get_or whole place no_entry
 
 abbrev pub entries_in : List Entry → List Packed → List Entry
@@ -38,4 +62,5 @@ entries_in whole records = map (entry_in whole) records
 -- a record names none but the first n of them
 abbrev pub IsWithin : ℕ → Packed → Type 0
 IsWithin n (Proposal desk turn session base mv answer) = Unit {0}
+IsWithin n (HoldRecord desk turn hold ruling) = Unit {0}
 IsWithin n (Whole place) = place < n

@@ -1,6 +1,7 @@
 //! The reply to a proposal in eight bytes.
 ghost use Rattle.std.specs.Prelude.{◌≡◌, false, MatchOption, MatchResult};
 ghost use Rattle.board_rules.specs.declared.reply.Reply.TheVariants.{Committed, Denied};
+ghost use Rattle.board_rules.specs.Step.{reply_by};
 ghost use Rattle.board_journal.specs.Packed.{is_short, is_short_denial, is_short_reply};
 
 use board_rules::{Denial, Reply};
@@ -34,6 +35,17 @@ impl Answer {
             Reply::Committed(version) => Some(Answer::Committed(version)),
             Reply::Denied(denial) => Answer::of_denial(denial),
             Reply::Done | Reply::Session(_) | Reply::Refused(_) => None,
+        }
+    }
+
+    /// The verdict on a proposal in eight bytes, where its numbers are small enough.
+    #[inline]
+    pub(crate) fn of_verdict(verdict: Result<u32, Denial>) -> Option<Answer>
+        ensures { MatchOption result (is_short_reply (reply_by verdict) ≡ false) (λ answer. reply_of answer ≡ reply_by verdict) }
+    {
+        match verdict {
+            Ok(version) => Some(Answer::Committed(version)),
+            Err(denial) => Answer::of_denial(denial),
         }
     }
 

@@ -2,15 +2,17 @@
 ghost use Rattle.std.specs.Prelude.{◌≡◌, ◌+◌, ◌≤◌, ◌++◌, ◌∷◌, ◌==◌, if◌then◌else◌, [], true, length, slice_get, IfOk, OnOk};
 ghost use Rattle.std.specs.Option.{option_map};
 ghost use Rattle.board_journal.specs.Shown.{HasRoom};
-ghost use Rattle.board_journal.specs.Entries.{entry_of};
-ghost use Rattle.board_journal.specs.Packed.{is_packed};
+ghost use Rattle.board_rules.specs.Step.{reply_by};
+ghost use Rattle.board_journal.specs.Entries.{entry_of, proposed};
+ghost use Rattle.board_journal.specs.Packed.{is_packed, is_packed_proposal};
 ghost use Rattle.board_journal.specs.Kept.{kept_entry};
 ghost use Rattle.board_journal.specs.Journals.{pages_of};
 
 use crate::entries::Entries;
 use crate::kept::Kept;
 use crate::page::{PAGE_ENTRIES, Page};
-use board_rules::{Event, Reply};
+use crate::proposal::Proposal;
+use board_rules::{Denial, Event, Reply};
 use std::alloc::{AllocError, Global};
 use std::marker::Model;
 use std::mem;
@@ -130,6 +132,18 @@ impl Journal {
         ensures packed { is_packed event reply ≡ true → self.new.spare ≡ self.old.spare }
     {
         self.last.push(event, reply);
+    }
+
+    /// Appends a proposal with the version that it commits or why it is denied. It takes no memory.
+    #[inline]
+    pub fn push_proposal(&mut self, proposal: Proposal, verdict: Result<u32, Denial>)
+        requires { HasRoom self.old }
+        ensures entries { self.new.entries ≡ self.old.entries ++ proposed proposal verdict ∷ [] }
+        ensures room { self.new.room + 1 ≡ self.old.room }
+        ensures spare { self.old.spare ≤ self.new.spare + 1 }
+        ensures packed { is_packed_proposal proposal.desk (reply_by verdict) ≡ true → self.new.spare ≡ self.old.spare }
+    {
+        self.last.push_proposal(proposal, verdict);
     }
 
     /// The entry at an index, from 0, or none where there are not that many. It takes no memory.

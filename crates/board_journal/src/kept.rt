@@ -1,5 +1,6 @@
 //! Entries as they are read from a journal.
 use crate::answer::Answer;
+use crate::hold::{Hold, Ruling};
 use board_rules::Entry;
 use move_core::Move;
 
@@ -15,6 +16,13 @@ pub enum Kept<'a> {
         mv: &'a Move,
         answer: Answer,
     },
-    /// Any entry, proposals among them.
+    /// A call on a pin or on a frozen front. The call and the reply stand in fewer bytes, and are `hold.call()` and `ruling.reply()`.
+    Hold {
+        desk: u32,
+        turn: u32,
+        hold: Hold,
+        ruling: Ruling,
+    },
+    /// Any entry, of each of these kinds too.
     Whole(&'a Entry),
 }

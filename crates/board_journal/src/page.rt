@@ -3,14 +3,16 @@ ghost use Rattle.std.specs.Prelude.{◌≡◌, ℕ, List, ◌+◌, ◌≤◌, �
 ghost use Rattle.std.specs.Option.{option_map};
 ghost use Rattle.board_rules.specs.declared.call.Entry.{Entry};
 ghost use Rattle.board_journal.specs.Shown.{HasRoom};
-ghost use Rattle.board_journal.specs.Entries.{entry_of};
-ghost use Rattle.board_journal.specs.Packed.{is_packed};
+ghost use Rattle.board_rules.specs.Step.{reply_by};
+ghost use Rattle.board_journal.specs.Entries.{entry_of, proposed};
+ghost use Rattle.board_journal.specs.Packed.{is_packed, is_packed_proposal};
 ghost use Rattle.board_journal.specs.Kept.{kept_entry};
 ghost use Rattle.board_journal.specs.Records.{entry_in, IsWithin};
 
 use crate::kept::Kept;
 use crate::packed::Packed;
-use board_rules::{Entry, Event, Reply};
+use crate::proposal::Proposal;
+use board_rules::{Call, Denial, Entry, Event, Reply};
 use std::alloc::{AllocError, Global};
 use std::marker::Model;
 
@@ -110,6 +112,48 @@ impl Page {
         }
     }
 
+    /// Appends a proposal with the verdict on it.
+    #[inline]
+    pub(crate) fn push_proposal(&mut self, proposal: Proposal, verdict: Result<u32, Denial>)
+        requires { HasRoom self.old }
+        ensures entries { self.new.entries ≡ self.old.entries ++ proposed proposal verdict ∷ [] }
+        ensures room { self.new.room + 1 ≡ self.old.room }
+        ensures spare { self.old.spare ≤ self.new.spare + 1 }
+        ensures packed { is_packed_proposal proposal.desk (reply_by verdict) ≡ true → self.new.spare ≡ self.old.spare }
+    {
+        match Packed::of_proposal(&proposal, verdict) {
+            Some(packed) => self.push_packed(packed),
+            None => self.push_long(proposal, verdict),
+        }
+    }
+
+    /// Appends a proposal that does not fit into a record.
+    #[cold]
+    fn push_long(&mut self, proposal: Proposal, verdict: Result<u32, Denial>)
+        requires { HasRoom self.old }
+        ensures entries { self.new.entries ≡ self.old.entries ++ proposed proposal verdict ∷ [] }
+        ensures room { self.new.room + 1 ≡ self.old.room }
+        ensures spare { self.new.spare + 1 ≡ self.old.spare }
+    {
+        let Proposal {
+            desk,
+            turn,
+            session,
+            base,
+            mv,
+        } = proposal;
+        let reply = match verdict {
+            Ok(version) => Reply::Committed(version),
+            Err(denial) => Reply::Denied(denial),
+        };
+        self.push_whole(Entry {
+            desk,
+            turn,
+            call: Call::Propose { session, base, mv },
+            reply,
+        });
+    }
+
     /// Appends the record of an entry that does not stand whole.
     #[inline]
     fn push_packed(&mut self, packed: Packed)
@@ -155,6 +199,17 @@ impl Page {
                 base: *base,
                 mv,
                 answer: *answer,
+            },
+            Packed::Hold {
+                desk,
+                turn,
+                hold,
+                ruling,
+            } => Kept::Hold {
+                desk: u32::from(*desk),
+                turn: *turn,
+                hold: *hold,
+                ruling: *ruling,
             },
             Packed::Whole(place) => Kept::Whole(&self.whole[*place as usize]),
         }

@@ -1,5 +1,5 @@
 //! Entries of each kind, read again, and the ends of pages.
-use crate::{Journal, Kept};
+use crate::{Hold, Journal, Kept};
 use board_rules::{Call, Denial, Entry, Event, Refusal, Reply};
 use move_core::Move;
 use std::alloc::AllocError;
@@ -68,7 +68,7 @@ fn compare_turns(rt: &impl Abort, journal: &Journal, last: u32) {
         turn = turn.wrapping_add(1);
         match kept {
             Kept::Proposal { turn: found, .. } => assert_eq!(rt; found, turn),
-            Kept::Whole(entry) => panic!(rt; "{turn}: {entry:?}"),
+            other => panic!(rt; "{turn}: {other:?}"),
         }
     }
     assert_eq!(rt; turn, last);
@@ -105,14 +105,8 @@ fn keeps_each_answer_to_a_proposal(rt: HostRuntime) -> Result<(), Fail> {
 #[test]
 fn keeps_whole_what_fits_no_record(rt: HostRuntime) -> Result<(), Fail> {
     let far = Reply::Denied(Denial::Bound(65536, 1));
-    let refused = Reply::Refused(Refusal::NotPlaced);
     let mut journal = Journal::new(rt.alloc())?;
     add(&mut journal, 1, proposal(), far)?;
-    let pin = Call::Pin {
-        session: 1,
-        customer: 7,
-    };
-    add(&mut journal, 2, pin, refused)?;
     match journal.get(0) {
         Some(
             Kept::Whole(
@@ -129,21 +123,71 @@ fn keeps_whole_what_fits_no_record(rt: HostRuntime) -> Result<(), Fail> {
         }
         other => panic!(rt; "{other:?}"),
     }
-    match journal.get(1) {
+    Ok(())
+}
+
+/// Appends a call on pins or fronts as a turn, and compares what stands there with it.
+fn compare_hold(
+    rt: &impl Abort,
+    journal: &mut Journal,
+    turn: u32,
+    wanted: Hold,
+    reply: Reply,
+) -> Result<(), AllocError> {
+    let index = journal.len();
+    add(journal, turn, wanted.call(), reply)?;
+    match journal.get(index) {
         Some(
-            Kept::Whole(
-                Entry {
-                    desk: 64,
-                    turn: 2,
-                    call: Call::Pin {
-                        session: 1,
-                        customer: 7,
-                    },
-                    reply,
-                },
-            ),
-        ) => assert_eq!(rt; *reply, refused),
-        other => panic!(rt; "{other:?}"),
+            Kept::Hold {
+                desk: 64,
+                turn: found,
+                hold,
+                ruling,
+            },
+        ) => {
+            assert_eq!(rt; found, turn);
+            assert_eq!(rt; hold, wanted);
+            assert_eq!(rt; ruling.reply(), reply);
+        }
+        other => panic!(rt; "{index}: {other:?}"),
+    }
+    Ok(())
+}
+
+#[test]
+fn keeps_calls_on_pins_and_fronts(rt: HostRuntime) -> Result<(), Fail> {
+    let (session, customer, vehicle, length) = (1, 7, 3, 2);
+    let holds = [
+        (
+            Hold::Pin { session, customer },
+            Reply::Refused(Refusal::NotPlaced),
+        ),
+        (
+            Hold::Unpin { session, customer },
+            Reply::Refused(Refusal::NotThere),
+        ),
+        (
+            Hold::Freeze {
+                session,
+                vehicle,
+                length,
+            },
+            Reply::Refused(Refusal::Length),
+        ),
+        (
+            Hold::Thaw {
+                session,
+                vehicle,
+                length,
+            },
+            Reply::Done,
+        ),
+    ];
+    let mut journal = Journal::new(rt.alloc())?;
+    let mut turn = 0u32;
+    for (hold, reply) in holds {
+        turn = turn.wrapping_add(1);
+        compare_hold(&rt, &mut journal, turn, hold, reply)?;
     }
     Ok(())
 }

@@ -1,11 +1,12 @@
 -- One call: which reply is right in a state, and the state that it leaves.
-use Rattle.std.specs.Prelude.{ℕ, ◌≡◌, ◌+◌, [], ◌∷◌, ◌++◌, length, Option, Some, None}
+use Rattle.std.specs.Prelude.{ℕ, ◌≡◌, ◌+◌, [], ◌∷◌, ◌++◌, length, Option, Some, None, Result, Ok, Err}
 use Rattle.dimension_core.specs.Setting.{Setting}
 use Rattle.pin_core.specs.Pins.{with_pin, with_front}
 use Rattle.move_core.specs.declared.moves.Move.{Move}
 use Rattle.move_core.specs.Moves.{named_by}
 use Rattle.board_rules.specs.declared.call.Call.{Call}
 use Rattle.board_rules.specs.declared.call.Call.TheVariants.{Propose, Pin, Unpin, Freeze, Thaw, Policy}
+use Rattle.board_rules.specs.declared.reply.Denial.{Denial}
 use Rattle.board_rules.specs.declared.reply.Refusal.{Refusal}
 use Rattle.board_rules.specs.declared.reply.Reply.{Reply}
 use Rattle.board_rules.specs.declared.reply.Reply.TheVariants.{Done, Session, Committed, Denied, Refused}
@@ -19,6 +20,11 @@ use Rattle.board_rules.specs.Pinning.{pinned, pin_refusal, unpin_refusal, freeze
 abbrev pub refused_by : Option Refusal → Reply
 refused_by None = Done
 refused_by (Some refusal) = Refused refusal
+
+-- the reply to a proposal that commits this version, or is denied
+abbrev pub reply_by : Result ℕ Denial → Reply
+reply_by (Ok version) = Committed version
+reply_by (Err denial) = Denied denial
 
 -- the reply is right for the proposal of a session in the state
 abbrev pub IsAnswer : Setting → BoardState → ℕ → ℕ → Move → Reply → Type 0
