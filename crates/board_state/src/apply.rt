@@ -4,7 +4,7 @@ ghost use Rattle.std.specs.Result.{result_err};
 ghost use Rattle.dimension_core.specs.Setting.{Setting};
 ghost use Rattle.dimension_core.specs.Setup.{setting};
 ghost use Rattle.board_rules.specs.State.{BoardState};
-ghost use Rattle.board_rules.specs.Step.{IsReply, after, refused_by};
+ghost use Rattle.board_rules.specs.Step.{IsReply, after, refused_by, reply_by};
 ghost use Rattle.board_rules.specs.declared.call.Call.TheVariants.{Propose, Policy};
 ghost use Rattle.rbac_core.specs.declared.command.Command.{Command};
 ghost use Rattle.board_state.specs.declared.change.Change.TheVariants.{Pins};
@@ -15,7 +15,7 @@ ghost use Rattle.board_state.specs.Work.{WorksAtMost, IsWorkOf, call_asks, call_
 use crate::change::{Change, PinChange};
 use crate::state::State;
 use crate::stop::Stop;
-use board_rules::{Call, Refusal, Reply, verdicts_by_agreeing_facts};
+use board_rules::{Call, Denial, Refusal, Reply, verdicts_by_agreeing_facts};
 use callback_store::Meter;
 use dimension_core::Setup;
 use move_core::{Move, moves_name_vehicles};
@@ -44,9 +44,6 @@ impl State {
     {
         self.agrees();
         match call {
-            Call::Propose { session, base, mv } => {
-                self.apply_proposal(alloc, setup, *session, *base, mv, meter)
-            }
             Call::Pin { session, customer } => {
                 let judged = self.judge_pin(setup, *session, *customer, meter);
                 Ok(self.finish(judged))
@@ -71,7 +68,9 @@ impl State {
                 let judged = self.judge_thaw(setup, *session, *vehicle, *length, meter);
                 Ok(self.finish(judged))
             }
-            Call::Policy { .. } => self.apply_judged(alloc, setup, call, meter),
+            Call::Propose { .. } | Call::Policy { .. } => {
+                self.apply_judged(alloc, setup, call, meter)
+            }
         }
     }
 
@@ -92,10 +91,10 @@ impl State {
         }
     }
 
-    /// The same for a proposal. The new routes go from the judgement to the plan directly, and not by way of a `Change`, which could be of
-    /// another kind.
+    /// The same for a proposal: the version that it commits, or why it is denied. The new routes go from the judgement to the plan directly,
+    /// and not by way of a `Change`, and the verdict is no `Reply`, which could hold a name.
     #[inline(always)]
-    fn apply_proposal(
+    pub fn propose(
         &mut self,
         alloc: Global,
         setup: &Setup,
@@ -103,12 +102,12 @@ impl State {
         base: u32,
         mv: &Move,
         meter: &mut Meter,
-    ) -> Result<Reply, AllocError>
+    ) -> Result<Result<u32, Denial>, AllocError>
         requires { IsReady (setting setup.now) self.old }
-        ensures reply { (state : BoardState) → Holds (setting setup.now) self.old state → IfOk result (λ reply. ∥ IsReply (setting setup.now) state (Propose session base mv.now) reply ∥₁) }
-        ensures holds { (state : BoardState) → Holds (setting setup.now) self.old state → IfOk result (λ reply. Holds (setting setup.now) self.new (after state (Propose session base mv.now) reply)) }
+        ensures reply { (state : BoardState) → Holds (setting setup.now) self.old state → IfOk result (λ verdict. ∥ IsReply (setting setup.now) state (Propose session base mv.now) (reply_by verdict) ∥₁) }
+        ensures holds { (state : BoardState) → Holds (setting setup.now) self.old state → IfOk result (λ verdict. Holds (setting setup.now) self.new (after state (Propose session base mv.now) (reply_by verdict))) }
         ensures err { OnErr result (self.new ≡ self.old) }
-        ensures work { IfOk result (λ reply. IsWorkOf (setting setup.now) self.old.pins self.old.plan.routes (Propose session base mv.now) reply meter.old meter.new) }
+        ensures work { IfOk result (λ verdict. IsWorkOf (setting setup.now) self.old.pins self.old.plan.routes (Propose session base mv.now) (reply_by verdict) meter.old meter.new) }
         ensures most { WorksAtMost meter.old meter.new (call_asks (setting setup.now) self.old.plan.routes (Propose session base mv.now)) (call_probes self.old.pins self.old.plan.routes (Propose session base mv.now)) }
     {
         self.agrees();
@@ -119,9 +118,9 @@ impl State {
         match self.judge_proposal(alloc, setup, session, base, mv, meter) {
             Ok(new) => {
                 self.replace(new);
-                Ok(Reply::Committed(version + 1))
+                Ok(Ok(version + 1))
             }
-            Err(Stop::Denied(denial)) => Ok(Reply::Denied(denial)),
+            Err(Stop::Denied(denial)) => Ok(Err(denial)),
             Err(Stop::NoMemory) => Err(AllocError),
         }
     }

@@ -8,7 +8,7 @@ use Rattle.pin_core.specs.Override.{after_commit}
 use Rattle.range_cache.specs.Cache.{IsCacheOf}
 use Rattle.board_state.specs.Held.{HeldState, held_basis}
 use Rattle.board_state.proofs.Stepping.{new_holds}
-use Rattle.board_state.proofs.state.State.apply_proposal.Goals as goal
+use Rattle.board_state.proofs.state.State.propose.Goals as goal
 
 pub returns-in-Ok-clause-reply : goal.returns-in-Ok-clause-reply
 returns-in-Ok-clause-reply g c state holds =
