@@ -22,9 +22,6 @@ on_err (Err e) p = p
 pub err_then : {T E : Type 0} (r : Result T E) (old mid new more : List ℕ) → mid ≡ old ++ more → OnErr r (StartsWith new mid) → OnErr r (StartsWith new old)
 err_then r old mid new more e h = on_err_weaker r (λ s. starts_then old mid new more e s) h
 
-pub err_same : {T E : Type 0} (r : Result T E) (old mid new : List ℕ) → mid ≡ old → OnErr r (StartsWith new mid) → OnErr r (StartsWith new old)
-err_same r old mid new e h = on_err_weaker r (λ s. subst (λ (l : List ℕ). StartsWith new l) e s) h
-
 -- what std's texts say where they did not grow
 pub pushed : {T E : Type 0} (r : Result T E) (old new grown : List ℕ) → new ≡ (if is_ok r then grown else old) → OnErr r (StartsWith new old)
 pushed (Ok x) old new grown h = tt

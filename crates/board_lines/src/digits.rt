@@ -1,6 +1,6 @@
 //! Numbers, appended to a text.
 
-ghost use Rattle.std.specs.Prelude.{◌≡◌, ◌<◌, ◌++◌, [], ◌∷◌, OnOk, OnErr, string_bytes};
+ghost use Rattle.std.specs.Prelude.{◌≡◌, ◌≤◌, ◌<◌, ◌++◌, [], ◌∷◌, OnOk, OnErr, string_bytes};
 ghost use Rattle.std.specs.Io.{StartsWith};
 ghost use Rattle.std.specs.List.{flat_map};
 ghost use Rattle.std.specs.Fmt.{decimal};
@@ -38,42 +38,54 @@ fn push_digit(out: &mut String, n: u64) -> Result<(), AllocError>
     out.push(char::from(b'0' + n as u8))
 }
 
-/// Appends a number below a hundred.
+// The digits of a number of two, three or four: each quotient is made once, and before anything is appended.
+
+/// Appends a number of two digits.
 #[inline(always)]
-fn push_below_hundred(out: &mut String, n: u64) -> Result<(), AllocError>
-    requires { n < 100 }
+fn push_two(out: &mut String, n: u64) -> Result<(), AllocError>
+    requires low { 10 ≤ n }
+    requires high { n < 100 }
     ensures ok { OnOk result (string_bytes out.new ≡ string_bytes out.old ++ decimal n) }
     ensures start { OnErr result (StartsWith (string_bytes out.new) (string_bytes out.old)) }
 {
-    if n >= 10 {
-        push_digit(out, n / 10)?;
-    }
-    push_digit(out, n % 10)
+    let tens = n / 10;
+    let last = n % 10;
+    push_digit(out, tens)?;
+    push_digit(out, last)
 }
 
-/// Appends a number below a thousand.
+/// Appends a number of three digits.
 #[inline(always)]
-fn push_below_thousand(out: &mut String, n: u64) -> Result<(), AllocError>
-    requires { n < 1000 }
+fn push_three(out: &mut String, n: u64) -> Result<(), AllocError>
+    requires low { 100 ≤ n }
+    requires high { n < 1000 }
     ensures ok { OnOk result (string_bytes out.new ≡ string_bytes out.old ++ decimal n) }
     ensures start { OnErr result (StartsWith (string_bytes out.new) (string_bytes out.old)) }
 {
-    if n >= 10 {
-        push_below_hundred(out, n / 10)?;
-    }
-    push_digit(out, n % 10)
+    let hundreds = n / 100;
+    let rest = n % 100;
+    let tens = rest / 10;
+    let last = rest % 10;
+    push_digit(out, hundreds)?;
+    push_digit(out, tens)?;
+    push_digit(out, last)
 }
 
-/// Appends a number below ten thousand, digit by digit, which takes half of what the formatter takes.
-fn push_small(out: &mut String, n: u64) -> Result<(), AllocError>
-    requires { n < 10000 }
+/// Appends a number of four digits.
+#[inline(always)]
+fn push_four(out: &mut String, n: u64) -> Result<(), AllocError>
+    requires low { 1000 ≤ n }
+    requires high { n < 10000 }
     ensures ok { OnOk result (string_bytes out.new ≡ string_bytes out.old ++ decimal n) }
     ensures start { OnErr result (StartsWith (string_bytes out.new) (string_bytes out.old)) }
 {
-    if n >= 10 {
-        push_below_thousand(out, n / 10)?;
-    }
-    push_digit(out, n % 10)
+    let hundreds = n / 100;
+    let rest = n % 100;
+    let tens = rest / 10;
+    let last = rest % 10;
+    push_two(out, hundreds)?;
+    push_digit(out, tens)?;
+    push_digit(out, last)
 }
 
 // Out of line, so that a small number pays nothing for the formatter's buffer.
@@ -86,15 +98,22 @@ fn push_large(out: &mut String, n: u64) -> Result<(), AllocError>
     push_text(out, digits.format(n))
 }
 
-/// Appends a number, without leading zeros.
+/// Appends a number, without leading zeros. One below ten thousand is written digit by digit, which takes half of what the formatter takes.
 pub(crate) fn push_number(out: &mut String, n: u64) -> Result<(), AllocError>
     ensures ok { OnOk result (string_bytes out.new ≡ string_bytes out.old ++ decimal n) }
     ensures start { OnErr result (StartsWith (string_bytes out.new) (string_bytes out.old)) }
 {
-    if n < 10_000 {
-        return push_small(out, n);
+    if n < 10 {
+        push_digit(out, n)
+    } else if n < 100 {
+        push_two(out, n)
+    } else if n < 1000 {
+        push_three(out, n)
+    } else if n < 10_000 {
+        push_four(out, n)
+    } else {
+        push_large(out, n)
     }
-    push_large(out, n)
 }
 
 /// Appends a space and a number.

@@ -4,7 +4,7 @@ ghost use Rattle.std.specs.Prelude.{◌≡◌, ℕ, ◌++◌, ◌+◌, IfOk, OnO
 ghost use Rattle.std.specs.Io.{StartsWith};
 ghost use Rattle.std.specs.List.{flat_map};
 ghost use Rattle.board_journal.specs.Kept.{kept_entry};
-ghost use Rattle.board_journal.specs.Records.{reply_of};
+ghost use Rattle.board_journal.specs.Records.{call_of, reply_of, reply_to};
 ghost use Rattle.board_rules.specs.declared.call.Call.TheVariants.{Propose};
 ghost use Rattle.board_lines.specs.Replies.{spaced};
 ghost use Rattle.board_lines.specs.Listings.{end_line, row_line, list_text, tag_of, answer_text, entry_text, entry_line, audit_text, name_line, review_text, check_text};
@@ -12,7 +12,7 @@ ghost use Rattle.board_lines.specs.Listings.{end_line, row_line, list_text, tag_
 use crate::digits::{push_ascii, push_spaced, push_text};
 use crate::replies::{push_reply, push_verdict};
 use crate::spelling::{push_event, push_proposal};
-use board_journal::{Answer, Journal, Kept};
+use board_journal::{Answer, Hold, Journal, Kept, Ruling};
 use board_rules::{Entry, Row};
 use move_core::Move;
 use separation_core::Name;
@@ -112,6 +112,17 @@ fn push_verdict_on(
     push_verdict(out, answer)
 }
 
+/// Appends a call on pins or fronts, and its reply.
+fn push_ruling_on(out: &mut String, hold: Hold, ruling: Ruling) -> Result<(), AllocError>
+    ensures ok { (desk turn : ℕ) → OnOk result (string_bytes out.new ≡ string_bytes out.old ++ answer_text (record { desk = desk; turn = turn; call = call_of hold; reply = reply_to ruling })) }
+    ensures start { OnErr result (StartsWith (string_bytes out.new) (string_bytes out.old)) }
+{
+    push_text(out, " | ")?;
+    push_event(out, &hold.call())?;
+    push_text(out, " | ")?;
+    push_reply(out, ruling.reply())
+}
+
 /// Appends the line of an entry without its line end.
 #[inline(always)]
 fn push_kept(out: &mut String, n: u64, kept: Kept<'_>) -> Result<(), AllocError>
@@ -129,6 +140,15 @@ fn push_kept(out: &mut String, n: u64, kept: Kept<'_>) -> Result<(), AllocError>
         } => {
             push_tag(out, n, desk, turn)?;
             push_verdict_on(out, session, base, mv, answer)
+        }
+        Kept::Hold {
+            desk,
+            turn,
+            hold,
+            ruling,
+        } => {
+            push_tag(out, n, desk, turn)?;
+            push_ruling_on(out, hold, ruling)
         }
         Kept::Whole(entry) => {
             push_tag(out, n, entry.desk, entry.turn)?;
