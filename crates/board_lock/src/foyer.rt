@@ -4,13 +4,13 @@ ghost use Rattle.dimension_core.specs.Setup.{setting};
 ghost use Rattle.board_core.specs.Boards.{history};
 
 use crate::copies::view;
-use crate::locked::Locked;
 use crate::opening::Opens;
 use board_core::{Board, Core};
 use dimension_core::Setup;
+use locked_board::Locked;
 use published_board::{Naming, Publication};
 use std::alloc::Global;
-use std::marker::{Model, PhantomData};
+use std::marker::Model;
 use std::sync::{Arc, Wait};
 use thiserror::Error;
 
@@ -32,7 +32,7 @@ pub struct Anteroom<R: Wait + Drop> {
 
 impl<R: Wait + Drop> Model for Anteroom<R> {
     ghost use Rattle.published_board.specs.Published.{Published};
-    ghost use Rattle.board_lock.specs.Ties.{IsTied};
+    ghost use Rattle.locked_board.specs.Ties.{IsTied};
 
     ghost Value = { Published };
 
@@ -64,12 +64,7 @@ impl<R: Wait + Drop> Anteroom<R> {
             publication,
             rt,
         } = self;
-        Locked {
-            core,
-            publication,
-            rt,
-            of: PhantomData,
-        }
+        Locked::over(core, publication, rt)
     }
 }
 

@@ -4,10 +4,9 @@ ghost use Rattle.board_lock.specs.Watches.{watches, watch_at};
 ghost use Rattle.board_lock.specs.Readies.{watch_of};
 
 use crate::foyer::{Anteroom, OpenFault};
-use crate::held::Held;
-use crate::locked::Locked;
 use crate::ready::Ready;
 use crate::seat::{Seat, SeatOf};
+use locked_board::{Held, Locked};
 use published_board::Naming;
 use std::alloc::Global;
 use std::sync::{Arc, Mutex, Wait};

@@ -7,12 +7,12 @@ ghost use Rattle.board_rules.specs.History.{state_after, turns_of};
 ghost use Rattle.board_rules.specs.Listing.{IsListing};
 ghost use Rattle.board_rules.specs.Questions.{MayAsk, list_fault, audit_fault, review_fault, review_of, check_of};
 ghost use Rattle.published_board.specs.Shelves.{view_of};
-ghost use Rattle.board_lock.specs.Commits.{Submitted, Looked, Faulted, Legal};
+ghost use Rattle.locked_board.specs.Commits.{Submitted, Looked, Faulted, Legal};
 
-use crate::held::Held;
 use board_journal::Journal;
 use board_rules::{AskFault, Call, Fault, Reply, Review, Row};
 use dimension_core::Setup;
+use locked_board::Held;
 use pin_core::View;
 use published_board::{Eye, Naming, SnapFault};
 use rbac_core::{Object, Operation};

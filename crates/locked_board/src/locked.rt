@@ -11,10 +11,11 @@ ghost use Rattle.board_rules.specs.Listing.{IsListing};
 ghost use Rattle.board_rules.specs.Questions.{MayAsk, list_fault, audit_fault, review_fault, review_of, check_of};
 ghost use Rattle.board_core.specs.Kept.{IsKept, entry_of};
 ghost use Rattle.board_core.specs.Prepared.{Makes};
-ghost use Rattle.board_lock.specs.Commits.{IsCommitted, IsFault, Submitted, Looked, Faulted};
+ghost use Rattle.locked_board.specs.Commits.{IsCommitted, IsFault, Submitted, Looked, Faulted};
+ghost use Rattle.locked_board.specs.Ties.{IsTied};
 
 use crate::change::Change;
-use crate::opening::Settles;
+use crate::settles::Settles;
 use board_core::{Core, Prepared};
 use board_journal::Journal;
 use board_rules::{AskFault, Call, Event, Fault, Reply, Review, Row, histories_grow_by_entries};
@@ -29,15 +30,15 @@ use std::sync::Wait;
 
 /// The core of a board and what is published of it. Contracts see it as the core.
 pub struct Locked<N: Naming, R: Wait + Drop> {
-    pub(crate) core: Core,
-    pub(crate) publication: Publication,
-    pub(crate) rt: R,
-    pub(crate) of: PhantomData<N>,
+    core: Core,
+    publication: Publication,
+    rt: R,
+    of: PhantomData<N>,
 }
 
 impl<N: Naming, R: Wait + Drop> Model for Locked<N, R> {
     ghost use Rattle.board_core.specs.Kept.{CoreState};
-    ghost use Rattle.board_lock.specs.Ties.{IsTied};
+    ghost use Rattle.locked_board.specs.Ties.{IsTied};
 
     ghost Value = { CoreState };
 
@@ -59,6 +60,19 @@ impl<N: Naming, R: Wait + Drop> Drop for Locked<N, R> {
 }
 
 impl<N: Naming, R: Wait + Drop> Locked<N, R> {
+    /// A core and what was published of it, in the hall that the name says.
+    pub fn over(core: Core, publication: Publication, rt: R) -> Locked<N, R>
+        requires { IsTied N.book N.opening core publication }
+        ensures { result ≡ core }
+    {
+        Locked {
+            core,
+            publication,
+            rt,
+            of: PhantomData,
+        }
+    }
+
     /// Judges a call, journals it and publishes it.
     pub(crate) fn commit(self, setup: &Setup, event: Event) -> (Locked<N, R>, Result<Reply, Fault>)
         requires { setting setup.now ≡ N.opening.setting }
@@ -205,8 +219,8 @@ impl<N: Naming, R: Wait + Drop> Locked<N, R> {
         eye
     }
 
-    /// An eye that has seen the journal.
-    pub(crate) fn eye(self) -> (Locked<N, R>, Result<Eye<N>, AllocError>)
+    /// An eye that has seen the journal, which is one reader more. It fails where there is no place for a reader.
+    pub fn eye(self) -> (Locked<N, R>, Result<Eye<N>, AllocError>)
         ensures same { result.0 ≡ self }
         ensures seen { IfOk result.1 (λ e. (e.seen ≡ self.journal) × (e.viewed ≡ None)) }
     {
@@ -226,8 +240,8 @@ impl<N: Naming, R: Wait + Drop> Locked<N, R> {
         (locked, answer)
     }
 
-    /// The last turn of a desk.
-    pub(crate) fn turns(&self, desk: u32) -> u32
+    /// The last turn of a desk of the hall, from 1 on: how many entries the desk has.
+    pub fn turns(&self, desk: u32) -> u32
         requires low { 1 ≤ desk }
         requires high { desk ≤ N.opening.desks }
         ensures turns { result ≡ turns_of desk self.now.journal }
@@ -237,7 +251,7 @@ impl<N: Naming, R: Wait + Drop> Locked<N, R> {
     }
 
     /// How many desks there are.
-    pub(crate) fn desks(&self) -> u32
+    pub fn desks(&self) -> u32
         ensures { result ≡ N.opening.desks }
     {
         self.core.desks()

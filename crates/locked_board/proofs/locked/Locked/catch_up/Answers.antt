@@ -2,8 +2,8 @@ use Rattle.std.proofs.Common.{List, ap, sym, ◌∙◌, subst}
 use mathlib.Core.List.{IsPrefix}
 use Rattle.board_rules.specs.declared.call.Entry.{Entry}
 use Rattle.board_rules.specs.History.{turns_of}
-use Rattle.board_lock.specs.Commits.{Legal}
-use Rattle.board_lock.proofs.locked.Locked.catch_up.Goals as goal
+use Rattle.locked_board.specs.Commits.{Legal}
+use Rattle.locked_board.proofs.locked.Locked.catch_up.Goals as goal
 
 pub returns-else-turns-own-clause-looked : goal.returns-else-turns-own-clause-looked
 returns-else-turns-own-clause-looked g c =

@@ -1,9 +1,9 @@
 use Rattle.std.proofs.Common.{◌≡◌, List, ap, ◌∙◌, subst}
 use Rattle.board_rules.specs.declared.call.Entry.{Entry}
 use Rattle.board_core.specs.Kept.{CoreState}
-use Rattle.board_lock.specs.Commits.{Legal}
-use Rattle.board_lock.proofs.Results.{where_true}
-use Rattle.board_lock.proofs.locked.Locked.show.Goals as goal
+use Rattle.locked_board.specs.Commits.{Legal}
+use Rattle.locked_board.proofs.Results.{where_true}
+use Rattle.locked_board.proofs.locked.Locked.show.Goals as goal
 
 pub returns-else-not-same-clause-legal : goal.returns-else-not-same-clause-legal
 returns-else-not-same-clause-legal g c =

@@ -5,7 +5,7 @@ ghost use Rattle.board_rules.specs.declared.reply.AskFault.{AskFault};
 ghost use Rattle.board_rules.specs.History.{state_after};
 ghost use Rattle.board_rules.specs.Listing.{IsListing};
 ghost use Rattle.board_rules.specs.Questions.{MayAsk, list_fault, audit_fault, review_fault, review_of, check_of};
-ghost use Rattle.board_lock.specs.Commits.{Submitted, Looked, Faulted};
+ghost use Rattle.locked_board.specs.Commits.{Submitted, Looked, Faulted};
 
 use crate::locked::Locked;
 use board_journal::Journal;
@@ -35,7 +35,7 @@ impl<N: Naming, R: Wait + Drop> Model for Held<N, R> {
 }
 
 impl<N: Naming, R: Wait + Drop> Held<N, R> {
-    pub(crate) fn over(locked: Locked<N, R>) -> Held<N, R> {
+    pub fn over(locked: Locked<N, R>) -> Held<N, R> {
         Held {
             locked: Some(locked),
         }
@@ -49,7 +49,7 @@ impl<N: Naming, R: Wait + Drop> Held<N, R> {
     }
 
     /// A call of a desk, which has seen a beginning of the journal and has had so many turns.
-    pub(crate) fn submit(
+    pub fn submit(
         &mut self,
         setup: &Setup,
         eye: Eye<N>,
@@ -74,18 +74,8 @@ impl<N: Naming, R: Wait + Drop> Held<N, R> {
         (eye, answer)
     }
 
-    /// Brings a desk's eye up to the journal, in which the desk has so many turns.
-    pub(crate) fn catch_up(&self, eye: Eye<N>, number: u32, own: u32) -> Eye<N>
-        requires low { 1 ≤ number }
-        requires high { number ≤ N.opening.desks }
-        ensures looked { Looked N.opening number own eye.seen result.seen }
-        ensures viewed { result.viewed ≡ eye.viewed }
-    {
-        self.locked().catch_up(eye, number, own)
-    }
-
     /// Brings the eyes of two desks up to the journal.
-    pub(crate) fn meet(
+    pub fn meet(
         &self,
         eye: Eye<N>,
         number: u32,
@@ -109,7 +99,7 @@ impl<N: Naming, R: Wait + Drop> Held<N, R> {
     }
 
     /// The rows that a session may read.
-    pub(crate) fn list(
+    pub fn list(
         &self,
         setup: &Setup,
         eye: Eye<N>,
@@ -134,7 +124,7 @@ impl<N: Naming, R: Wait + Drop> Held<N, R> {
     }
 
     /// The journal.
-    pub(crate) fn audit(
+    pub fn audit(
         &self,
         alloc: Global,
         eye: Eye<N>,
@@ -158,7 +148,7 @@ impl<N: Naming, R: Wait + Drop> Held<N, R> {
     }
 
     /// The names that a review shows.
-    pub(crate) fn review(
+    pub fn review(
         &self,
         eye: Eye<N>,
         number: u32,
@@ -182,7 +172,7 @@ impl<N: Naming, R: Wait + Drop> Held<N, R> {
     }
 
     /// CheckAccess.
-    pub(crate) fn check(
+    pub fn check(
         &self,
         eye: Eye<N>,
         number: u32,

@@ -6,8 +6,8 @@ use Rattle.board_rules.specs.Step.{after}
 use Rattle.board_rules.specs.Delta.{IsDeltaOf, AreRoutesOf}
 use Rattle.board_rules.specs.History.{IsLegal, state_after}
 use Rattle.board_core.specs.Kept.{CoreState, IsKept, entry_of}
-use Rattle.board_lock.proofs.Results.{on_ok, if_ok}
-use Rattle.board_lock.proofs.locked.Locked.commit.Goals as goal
+use Rattle.locked_board.proofs.Results.{on_ok, if_ok}
+use Rattle.locked_board.proofs.locked.Locked.commit.Goals as goal
 
 pub publish-locked-requires-clause-routes : goal.publish-locked-requires-clause-routes
 publish-locked-requires-clause-routes g c =

@@ -9,7 +9,7 @@ use Rattle.board_rules.specs.declared.reply.Reply.{Reply}
 use Rattle.board_rules.specs.declared.reply.Fault.{Fault}
 use Rattle.board_rules.specs.declared.reply.Fault.TheVariants.{OutOfTurn, Full, NoMemory}
 use Rattle.board_rules.specs.History.{Opening, turns_of, is_turn}
-use Rattle.board_lock.specs.Commits.{IsCommitted, IsFault, Submitted, Faulted, IsRefusal, Legal, entry}
+use Rattle.locked_board.specs.Commits.{IsCommitted, IsFault, Submitted, Faulted, IsRefusal, Legal, entry}
 
 abbrev pub TurnLaw : Type 0
 TurnLaw = (desk : ℕ) (es : List Entry) (e : Entry) → turns_of desk (es ++ e ∷ []) ≡ turns_of desk es + (if e.desk == desk then 1 else 0)

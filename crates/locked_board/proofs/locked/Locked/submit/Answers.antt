@@ -1,10 +1,10 @@
 use Rattle.std.proofs.Common.{List, sym, ◌∙◌, subst, arith}
 use mathlib.Core.List.{IsPrefix}
 use Rattle.board_rules.specs.declared.call.Entry.{Entry}
-use Rattle.board_lock.specs.Commits.{Submitted, Faulted, Legal}
-use Rattle.board_lock.proofs.Calls.{submitted, faulted}
-use Rattle.board_lock.proofs.Results.{ok_map, ok_then, err_map}
-use Rattle.board_lock.proofs.locked.Locked.submit.Goals as goal
+use Rattle.locked_board.specs.Commits.{Submitted, Faulted, Legal}
+use Rattle.locked_board.proofs.Calls.{submitted, faulted}
+use Rattle.locked_board.proofs.Results.{ok_map, ok_then, err_map}
+use Rattle.locked_board.proofs.locked.Locked.submit.Goals as goal
 
 pub returns-clause-ok : goal.returns-clause-ok
 returns-clause-ok g c =
