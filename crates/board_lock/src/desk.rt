@@ -1,4 +1,4 @@
-//! Desks and foyers: seats and anterooms with the setup beside.
+//! Desks: seats with the setup beside.
 ghost use Rattle.std.specs.Prelude.{◌≡◌, ◌↔◌, ◌+◌, Some, None, IfOk, IfErr, OnOk, IsErrOf, MatchOption, map, All};
 ghost use mathlib.Core.List.{IsPrefix};
 ghost use Rattle.dimension_core.specs.Setup.{setting};
@@ -6,17 +6,15 @@ ghost use Rattle.board_rules.specs.declared.reply.AskFault.{AskFault};
 ghost use Rattle.board_rules.specs.History.{state_after};
 ghost use Rattle.board_rules.specs.Listing.{IsListing};
 ghost use Rattle.board_rules.specs.Questions.{MayAsk, list_fault, audit_fault, review_fault, review_of, check_of};
-ghost use Rattle.board_core.specs.Boards.{history};
 ghost use Rattle.published_board.specs.Shelves.{view_of};
 ghost use Rattle.locked_board.specs.Commits.{Submitted, Looked, Faulted, Legal};
-ghost use Rattle.board_lock.specs.Watches.{watches};
+ghost use Rattle.board_seat.specs.Watches.{watches};
 
-use crate::foyer::{Anteroom, OpenFault, make_room};
 use crate::hall::open_seats;
-use crate::seat::SeatOf;
-use board_core::Board;
 use board_journal::Journal;
+use board_room::{Foyer, OpenFault};
 use board_rules::{AskFault, Call, Fault, Reply, Review, Row};
+use board_seat::SeatOf;
 use dimension_core::Setup;
 use locked_board::Held;
 use pin_core::View;
@@ -25,13 +23,6 @@ use rbac_core::{Object, Operation};
 use separation_core::Name;
 use std::alloc::Global;
 use std::sync::{Arc, Wait};
-
-/// A board with its published copy, before its hall has a name.
-pub struct Foyer<R: Wait + Drop> {
-    pub setup: Arc<Setup>,
-    pub room: Anteroom<R>,
-    ghost same: { setting setup.value ≡ room.opening.setting },
-}
 
 /// A desk of the hall that the name says. Its calls ask that its setup is the hall's, and leave it so.
 #[derive(Drop)]
@@ -42,17 +33,6 @@ pub struct DeskOf<N: Naming, L: Drop> {
 
 /// A desk of the hall that the name says.
 pub type Desk<N, R> = DeskOf<N, Held<N, R>>;
-
-/// Makes the published copy of a board. On a fault the board is dropped.
-pub fn make_foyer<R: Wait + Drop>(rt: R, alloc: Global, board: Board) -> Result<Foyer<R>, OpenFault>
-    ensures opening { IfOk result (λ f. f.room.opening ≡ (history board).opening) }
-    ensures entries { IfOk result (λ f. f.room.entries ≡ (history board).entries) }
-{
-    match make_room(rt, alloc, board) {
-        Ok((setup, room)) => Ok(Foyer { setup, room }),
-        Err(fault) => Err(fault),
-    }
-}
 
 /// One desk for each turn row of the board, in their order. On a fault the board is dropped.
 pub fn open_hall<N: Naming, R: Wait + Drop>(

@@ -1,11 +1,11 @@
 //! How the desks are handed out.
 ghost use Rattle.std.specs.Prelude.{◌≡◌, ◌≤◌, IfOk, map};
-ghost use Rattle.board_lock.specs.Watches.{watches, watch_at};
+ghost use Rattle.board_seat.specs.Watches.{watches, watch_at};
 ghost use Rattle.board_lock.specs.Readies.{watch_of};
 
-use crate::foyer::{Anteroom, OpenFault};
 use crate::ready::Ready;
-use crate::seat::{Seat, SeatOf};
+use board_room::{Anteroom, OpenFault};
+use board_seat::{Seat, SeatOf};
 use locked_board::{Held, Locked};
 use published_board::Naming;
 use std::alloc::Global;

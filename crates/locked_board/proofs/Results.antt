@@ -2,7 +2,6 @@
 use Rattle.std.proofs.Common.{◌≡◌, Bool, true, false, Result, Ok, Err, subst}
 use Rattle.std.specs.Prelude.{IfOk, IfErr, OnOk}
 use Rattle.std.specs.Bool.{OnTrue}
-use Rattle.std.specs.Result.{is_ok}
 
 pub where_true : (b : Bool) (P : Type 0) → OnTrue b P → b ≡ true → P
 where_true true P h e = h
@@ -26,7 +25,3 @@ ok_then (Err e) P Q p f = tt
 pub err_map : {A B : Type 0} (r : Result A B) (P Q : B → Type 0) → IfErr r P → ((x : B) → P x → Q x) → IfErr r Q
 err_map (Ok x) P Q p f = tt
 err_map (Err e) P Q p f = f e p
-
-pub where_ok : {A B : Type 0} (r : Result A B) (P : Type 0) → is_ok r ≡ true → OnOk r P → P
-where_ok (Ok x) P e h = h
-where_ok (Err y) P e h = absurd (cc e)

@@ -39,7 +39,7 @@ pub type Seat<N, R> = SeatOf<N, Held<N, R>>;
 impl<N: Naming, L: Drop> Model for SeatOf<N, L> {
     ghost use Rattle.std.specs.Prelude.{◌≤◌, IsSome};
     ghost use Rattle.board_rules.specs.History.{turns_of};
-    ghost use Rattle.board_lock.specs.Watches.{Watch, eye_in};
+    ghost use Rattle.board_seat.specs.Watches.{Watch, eye_in};
 
     ghost Value = { Watch };
 
@@ -49,7 +49,8 @@ impl<N: Naming, L: Drop> Model for SeatOf<N, L> {
 }
 
 impl<N: Naming, L: Drop> SeatOf<N, L> {
-    pub(crate) fn open(
+    /// A seat of the hall that the name says, for an eye of its own, with the desk's number and its last turn.
+    pub fn open(
         shared: Arc<Mutex<L>>,
         eye: Eye<N>,
         number: u32,

@@ -4,7 +4,7 @@ use Rattle.dimension_core.specs.Setting.{Setting}
 use Rattle.board_rules.specs.History.{state_after}
 use Rattle.board_core.specs.Kept.{IsKept}
 use Rattle.published_board.specs.Written.{AreCells}
-use Rattle.board_lock.proofs.copies.routes.Given as goal
+use Rattle.board_room.proofs.copies.routes.Given as goal
 
 -- the first cells are there
 abbrev pub invariant-loop-before : goal.invariant-loop-before

@@ -1,4 +1,4 @@
-//! A board with its published copy, before its hall has a name.
+//! The core of a board with its published copy.
 ghost use Rattle.std.specs.Prelude.{◌≡◌, IfOk};
 ghost use Rattle.dimension_core.specs.Setup.{setting};
 ghost use Rattle.board_core.specs.Boards.{history};
@@ -25,9 +25,9 @@ pub enum OpenFault {
 
 /// The core of a board with its published copy, which has no name yet.
 pub struct Anteroom<R: Wait + Drop> {
-    pub(crate) core: Core,
-    pub(crate) publication: Publication,
-    pub(crate) rt: R,
+    core: Core,
+    publication: Publication,
+    rt: R,
 }
 
 impl<R: Wait + Drop> Model for Anteroom<R> {
@@ -53,8 +53,8 @@ impl<R: Wait + Drop> Drop for Anteroom<R> {
 }
 
 impl<R: Wait + Drop> Anteroom<R> {
-    /// Gives it a name.
-    pub(crate) fn named<N: Naming>(self) -> Locked<N, R>
+    /// What lies under the lock of the hall that the name says.
+    pub fn named<N: Naming>(self) -> Locked<N, R>
         requires opening { self.opening ≡ N.opening }
         requires book { self.book ≡ N.book }
         ensures { result.journal ≡ self.entries }

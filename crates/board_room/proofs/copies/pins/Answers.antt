@@ -2,8 +2,8 @@ use Rattle.std.proofs.Common.{◌+◌, List, sym, subst, None}
 use Rattle.pin_core.specs.Pins.{pin_of}
 use Rattle.board_rules.specs.History.{state_after}
 use Rattle.published_board.specs.Written.{AreCells}
-use Rattle.board_lock.proofs.Cells.{cells_more}
-use Rattle.board_lock.proofs.copies.pins.Goals as goal
+use Rattle.board_room.proofs.Cells.{cells_more}
+use Rattle.board_room.proofs.copies.pins.Goals as goal
 
 pub loop-before-preserved : goal.loop-before-preserved
 loop-before-preserved c = λ s kept.

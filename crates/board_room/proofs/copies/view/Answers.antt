@@ -5,8 +5,8 @@ use Rattle.pin_core.specs.Pins.{pin_of, front_of}
 use Rattle.board_rules.specs.History.{state_after}
 use Rattle.board_core.specs.Kept.{history_of}
 use Rattle.published_board.specs.Written.{AreCells}
-use Rattle.board_lock.proofs.Cells.{same_cells}
-use Rattle.board_lock.proofs.copies.view.Goals as goal
+use Rattle.board_room.proofs.Cells.{same_cells}
+use Rattle.board_room.proofs.copies.view.Goals as goal
 
 pub returns-clause-view : goal.returns-clause-view
 returns-clause-view g c =

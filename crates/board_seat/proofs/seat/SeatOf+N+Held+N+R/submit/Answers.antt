@@ -1,7 +1,7 @@
 use Rattle.std.proofs.Common.{◌≡◌, refl, ℕ, ◌+◌, ◌≤◌, sym, ◌∙◌, arith}
 use Rattle.board_rules.specs.History.{turns_of}
-use Rattle.board_lock.proofs.Results.{where_ok, ok_then}
-use Rattle.board_lock.proofs.seat.SeatOf+N+Held+N+R.submit.Goals as goal
+use Rattle.board_seat.proofs.Results.{where_ok, ok_then}
+use Rattle.board_seat.proofs.seat.SeatOf+N+Held+N+R.submit.Goals as goal
 
 pub invariant_of-self : goal.invariant_of-self
 invariant_of-self g c =

@@ -4,8 +4,8 @@ use Rattle.plan_core.specs.Plan.{routes_of, route_at}
 use Rattle.board_rules.specs.State.{BoardState}
 use Rattle.board_rules.specs.History.{state_after}
 use Rattle.published_board.specs.Written.{AreCells}
-use Rattle.board_lock.proofs.Cells.{cells_more}
-use Rattle.board_lock.proofs.copies.routes.Goals as goal
+use Rattle.board_room.proofs.Cells.{cells_more}
+use Rattle.board_room.proofs.copies.routes.Goals as goal
 
 pub loop-before-preserved : goal.loop-before-preserved
 loop-before-preserved c = λ s kept.
