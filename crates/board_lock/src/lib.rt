@@ -3,11 +3,13 @@
 
 mod desk;
 mod hall;
+mod laws;
 mod ready;
 
 pub use board_room::{Anteroom, Foyer, OpenFault, make_foyer};
 pub use board_seat::{Seat, SeatOf};
 pub use desk::{Desk, DeskOf, open_hall};
+pub use laws::commits_stay_in_views;
 pub use locked_board::Held;
 pub use pin_core::View;
 pub use published_board::{Naming, SnapFault};
