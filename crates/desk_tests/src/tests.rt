@@ -54,18 +54,41 @@ fn two_desks_share_one_history(rt: HostRuntime) -> Result<(), Fail> {
     Ok(())
 }
 
+/// The same board, with room for the events of ten thousand commits.
 #[test]
 fn two_desks_call_at_once(rt: HostRuntime) -> Result<(), Fail> {
-    let alloc = rt.alloc();
-    let near = Box::new(
-        alloc,
-        move |_i: u32, _j: u32| -> u64
-            ensures { result ≡ 1 }
-        { 1 },
+    let demands = vec![in rt.alloc();
+        0u64, 0, 0, 0, 0, 4, 4, 4, 4, 4, 3, 3, 3, 3, 3, 3, 3, 3, 3, 3, 5, 5, 5, 5, 5,
+    ]?;
+    let travels = vec![in rt.alloc();
+        0u64, 28, 84, 141, 50, 28, 0, 56, 113, 22, 84, 56, 0, 56, 36, 141, 113, 56, 0, 92, 50, 22,
+        36, 92, 0,
+    ]?;
+    let demand = Box::new(
+        rt.alloc(),
+        move |i: u32, j: u32| -> u64
+            requires { i * 5 + j < length demands.items }
+            ensures { result ≡ slice_index demands.items (i * 5 + j) }
+        { demands[i as usize * 5 + j as usize] },
     )
     .map_err(|_| "memory")?;
-    let transit = Transit::new(6, near);
-    let board = free_board(alloc, transit, 2)?;
+    let travel = Box::new(
+        rt.alloc(),
+        move |i: u32, j: u32| -> u64
+            requires { i * 5 + j < length travels.items }
+            ensures { result ≡ slice_index travels.items (i * 5 + j) }
+        { travels[i as usize * 5 + j as usize] },
+    )
+    .map_err(|_| "memory")?;
+    let demand = Transit::new(5, demand);
+    let travel = Transit::new(5, travel);
+    let alloc = rt.alloc();
+    let mut registry = Registry::new(alloc);
+    let load = registry.register(demand).map_err(|_| "room")?;
+    let time = registry.register(travel).map_err(|_| "room")?;
+    let dimensions = load_and_time(alloc, &registry, load, time)?;
+    let setup = Setup::new(4, 2, registry, dimensions, time, 20000).map_err(|_| "setup")?;
+    let board = Board::new(alloc, Arc::new(alloc, setup)?, 2)?;
     let foyer = make_foyer(&rt, alloc, board).map_err(|_| "foyer")?;
     side_by_side::<Brand, _, _>(&rt, alloc, foyer);
     Ok(())

@@ -72,7 +72,7 @@ impl<N: Naming, R: Wait + Drop> Task<Arc<Setup>, Seat<N, R>, (Seat<N, R>, Option
     }
 }
 
-/// Customer 5 goes in and out of vehicle 3, so many times. It tells how many commits there were, counted from a version on.
+/// Customer 2 goes in and out of vehicle 2, so many times. It tells how many commits there were, counted from a version on.
 #[derive(Drop)]
 struct Commit {
     from: u32,
@@ -89,9 +89,9 @@ impl<N: Naming, R: Wait + Drop> Task<Arc<Setup>, Seat<N, R>, u32> for Commit {
         let mut version = self.from;
         for round in 0..self.commits {
             let call = if round % 2 == 0 {
-                insert(5, 3, version)
+                insert(2, 2, version)
             } else {
-                remove(3, version)
+                remove(2, version)
             };
             if let Ok(Reply::Committed(next)) = seat.submit(rt, &first, call) {
                 version = next;
@@ -134,9 +134,9 @@ fn looked<N: Naming, R: Wait + Drop>(seat: &mut Seat<N, R>) -> Option<(u32, u32)
     Some((kept, copied))
 }
 
-const CUSTOMERS: ObjectRange = ObjectRange::Customers { first: 1, last: 5 };
+const CUSTOMERS: ObjectRange = ObjectRange::Customers { first: 1, last: 4 };
 
-const VEHICLES: ObjectRange = ObjectRange::Vehicles { first: 1, last: 3 };
+const VEHICLES: ObjectRange = ObjectRange::Vehicles { first: 1, last: 2 };
 
 /// One of the two replies came to each of the desks.
 fn compare_both(
@@ -152,8 +152,8 @@ fn compare_both(
 }
 
 fn compare_looks(rt: &impl Abort, version: u32, looks: (bool, u32)) {
-    assert_eq!(rt; version, 10003);
-    assert_eq!(rt; looks, (true, 10003u32));
+    assert_eq!(rt; version, 10004);
+    assert_eq!(rt; looks, (true, 10004u32));
 }
 
 /// Two calls at once, and what came of each.
@@ -181,7 +181,7 @@ fn race<N: Naming + Send + Sync, R: Wait + Drop + Send + Sync, W: Threads + Wait
     Some((one.0, two.0))
 }
 
-/// Ten thousand commits from version 3 on, while the other desk looks on.
+/// Ten thousand commits from version 4 on, while the other desk looks on.
 fn look_on<N: Naming + Send + Sync, R: Wait + Drop + Send + Sync, W: Threads + Wait + Abort + Sync>(
     rt: &W,
     setup: &Arc<Setup>,
@@ -192,15 +192,15 @@ fn look_on<N: Naming + Send + Sync, R: Wait + Drop + Send + Sync, W: Threads + W
     let first = Arc::try_clone(setup).ok()?;
     let second = Arc::try_clone(setup).ok()?;
     let commit = Commit {
-        from: 3,
+        from: 4,
         commits: 10000,
     };
-    let (version, looks) = beside(rt, commit, first, seats.0, Look(10003), second, seats.1);
+    let (version, looks) = beside(rt, commit, first, seats.0, Look(10004), second, seats.1);
     compare_looks(rt, version, looks);
     Some(version)
 }
 
-/// Two desks call for one vehicle, then for two, and then one of them looks on.
+/// Two desks call for one vehicle, which then is empty again, then for two, and then one of them looks on.
 fn all_at_once<
     N: Naming + Send + Sync,
     R: Wait + Drop + Send + Sync,
@@ -211,14 +211,18 @@ fn all_at_once<
     let calls = (insert(1, 1, 0), insert(2, 1, 0));
     let replies = (Reply::Committed(1), Reply::Denied(Denial::Stale(1)));
     let seats = race(rt, setup, seats, calls, replies)?;
-    let calls = (insert(3, 2, 0), insert(4, 3, 0));
-    let replies = (Reply::Committed(2), Reply::Committed(3));
+    let (mut one, two) = seats;
+    let removed = one.submit(rt, setup, remove(1, 1)).ok();
+    assert!(rt; removed == Some(Reply::Committed(2)));
+    let seats = (one, two);
+    let calls = (insert(1, 1, 2), insert(4, 2, 2));
+    let replies = (Reply::Committed(3), Reply::Committed(4));
     let seats = race(rt, setup, seats, calls, replies)?;
     look_on(rt, setup, seats)
 }
 
 fn compare_end(rt: &impl Abort, found: Option<u32>) {
-    assert_eq!(rt; found, Some(10003));
+    assert_eq!(rt; found, Some(10004));
 }
 
 /// The two desks of a hall, once the first one was granted all moves.
