@@ -2,9 +2,9 @@
 ghost use Rattle.std.specs.Prelude.{◌≡◌};
 ghost use Rattle.dimension_core.specs.Setup.{setting};
 
-use crate::calls::{compare_count, grant, insert, last, sees, submits};
-use board_lock::{Desk, Foyer, Naming, open_hall};
-use board_rules::{AskFault, Reply, Review, Row};
+use crate::calls::{compare_count, grant, insert, last, remove, sees, submits};
+use board_lock::{Desk, Foyer, Naming, commits_stay_in_views, open_hall};
+use board_rules::{AskFault, Call, Reply, Review, Row};
 use rbac_core::{Object, ObjectRange, Operation};
 use std::alloc::Global;
 use std::process::Abort;
@@ -69,6 +69,38 @@ fn asked<N: Naming, R: Wait + Drop, W: Wait + Abort>(rt: &W, desk: &mut Desk<N, 
     compare_count(rt, entries, Err(AskFault::NoSession));
 }
 
+/// What desk 1 commits is in its next view, and once the two met, in the next one of desk 2: this is proved, and not only tried. It tells
+/// the number of the commit and the versions of the two views.
+fn commits<N: Naming, R: Wait + Drop, W: Wait>(
+    rt: &W,
+    one: &mut Desk<N, R>,
+    two: &mut Desk<N, R>,
+    call: Call,
+) -> Option<(u32, u32, u32)>
+    requires { setting one.old.setup.value ≡ N.opening.setting }
+    ensures one { setting one.new.setup.value ≡ N.opening.setting }
+    ensures two { setting two.new.setup.value ≡ setting two.old.setup.value }
+{
+    commits_stay_in_views();
+    let Ok(Reply::Committed(version)) = one.submit(rt, call) else {
+        return None;
+    };
+    let Ok(view) = one.snapshot() else {
+        return None;
+    };
+    prove!(view.version >= version);
+    one.meet(rt, two);
+    let Ok(other) = two.snapshot() else {
+        return None;
+    };
+    prove!(other.version >= version);
+    Some((version, view.version, other.version))
+}
+
+fn compare_commits(rt: &impl Abort, found: Option<(u32, u32, u32)>, wanted: u32) {
+    assert_eq!(rt; found, Some((wanted, wanted, wanted)));
+}
+
 /// Desk 1 calls, and desk 2 sees it before they meet.
 fn share<N: Naming, R: Wait + Drop, W: Wait + Abort>(
     rt: &W,
@@ -99,6 +131,7 @@ fn share<N: Naming, R: Wait + Drop, W: Wait + Abort>(
     submits(rt, two, insert(2, 2, 0), Reply::Committed(2));
     sees(rt, one, 2, &[1]);
     compare_turns(rt, one.turn(), two.turn(), (7, 2));
+    compare_commits(rt, commits(rt, one, two, remove(1, 2)), 3);
 }
 
 /// The two desks of a hall.
