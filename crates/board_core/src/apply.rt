@@ -1,21 +1,24 @@
 //! Events, judged and journaled at once.
-ghost use Rattle.std.specs.Prelude.{◌≡◌, ◌≢◌, ◌↔◌, ◌∷◌, ◌++◌, [], true, false, length, IfOk, IfErr, OnErr, IsErrOf};
+ghost use Rattle.std.specs.Prelude.{◌≡◌, ◌≢◌, ◌↔◌, ◌∷◌, ◌++◌, [], true, false, length, IfOk, IfErr, OnOk, OnErr, IsErrOf};
 ghost use Rattle.dimension_core.specs.Setup.{setting};
 ghost use Rattle.board_rules.specs.declared.reply.Fault.{Fault};
 ghost use Rattle.board_rules.specs.History.{is_turn, state_after};
-ghost use Rattle.board_state.specs.Work.{WorksAtMost, IsWorkOf, call_asks, call_probes};
+ghost use Rattle.board_state.specs.Work.{WorksAtMost, WorksJust, IsWorkOf, call_asks, call_probes};
 ghost use Rattle.board_rules.specs.Step.{reply_by};
-ghost use Rattle.board_journal.specs.Entries.{proposed, call_of};
+ghost use Rattle.board_journal.specs.Entries.{proposed, call_of, held, commanded};
+ghost use Rattle.board_rules.specs.Holds.{call_of as hold_call, reply_to};
 ghost use Rattle.board_core.specs.Kept.{IsKept, entry_of};
 ghost use Rattle.board_core.specs.Taking.{IsTaken};
 
 use crate::body::{Core, copy_of};
 use board_journal::Proposal;
 use board_rules::{
-    Call, Denial, Event, Fault, Reply, histories_grow_by_entries, legal_histories_leave_good_states,
+    Call, Denial, Event, Fault, Hold, Reply, Ruling, histories_grow_by_entries,
+    legal_histories_leave_good_states,
 };
 use callback_store::Meter;
 use dimension_core::Setup;
+use rbac_core::Command;
 use std::alloc::AllocError;
 
 impl Core {
@@ -39,21 +42,20 @@ impl Core {
         if let Some(fault) = self.due_fault(setup, event.desk, event.turn) {
             return Err(fault);
         }
-        match self.take(setup, event, meter) {
-            Ok(reply) => Ok(reply),
-            Err(_) => Err(Fault::NoMemory),
-        }
+        self.take(setup, event, meter)
     }
 
-    /// The same for an event that has its turn, where the journal is not full.
+    /// The same for an event that has its turn, where the journal is not full. What it answers is made in each arm, and moved no more: each move
+    /// of a reply is one of a name.
     #[inline(always)]
-    fn take(&mut self, setup: &Setup, event: Event, meter: &mut Meter) -> Result<Reply, AllocError>
+    fn take(&mut self, setup: &Setup, event: Event, meter: &mut Meter) -> Result<Reply, Fault>
         requires kept { IsKept (setting setup.now) self.old }
         requires taken { IsTaken (setting setup.now) self.old event.desk event.turn }
         ensures kept { IsKept (setting setup.now) self.new }
         ensures ok { IfOk result (λ reply. self.new.journal ≡ self.old.journal ++ entry_of event reply ∷ []) }
         ensures desks { length self.new.turns ≡ length self.old.turns }
         ensures err { OnErr result (self.new.journal ≡ self.old.journal) }
+        ensures fault { IfErr result (λ fault. fault ≡ Fault.NoMemory) }
         ensures work { IfOk result (λ reply. IsWorkOf (setting setup.now) (state_after (setting setup.now) self.old.journal).pins (state_after (setting setup.now) self.old.journal).routes event.call reply meter.old meter.new) }
         ensures most { WorksAtMost meter.old meter.new
             (call_asks (setting setup.now) (state_after (setting setup.now) self.old.journal).routes event.call)
@@ -69,12 +71,47 @@ impl Core {
                     base,
                     mv,
                 };
-                match self.propose(setup, proposal, meter)? {
-                    Ok(version) => Ok(Reply::Committed(version)),
-                    Err(denial) => Ok(Reply::Denied(denial)),
+                match self.propose(setup, proposal, meter) {
+                    Ok(Ok(version)) => Ok(Reply::Committed(version)),
+                    Ok(Err(denial)) => Ok(Reply::Denied(denial)),
+                    Err(_) => Err(Fault::NoMemory),
                 }
             }
-            call => self.carry_out(setup, Event { desk, turn, call }, meter),
+            Call::Pin { session, customer } => {
+                let hold = Hold::Pin { session, customer };
+                self.answer_hold(setup, desk, turn, hold, meter)
+            }
+            Call::Unpin { session, customer } => {
+                let hold = Hold::Unpin { session, customer };
+                self.answer_hold(setup, desk, turn, hold, meter)
+            }
+            Call::Freeze {
+                session,
+                vehicle,
+                length,
+            } => {
+                let hold = Hold::Freeze {
+                    session,
+                    vehicle,
+                    length,
+                };
+                self.answer_hold(setup, desk, turn, hold, meter)
+            }
+            Call::Thaw {
+                session,
+                vehicle,
+                length,
+            } => {
+                let hold = Hold::Thaw {
+                    session,
+                    vehicle,
+                    length,
+                };
+                self.answer_hold(setup, desk, turn, hold, meter)
+            }
+            Call::Policy { session, command } => {
+                self.answer_command(setup, desk, turn, session, command, meter)
+            }
         }
     }
 
@@ -115,34 +152,122 @@ impl Core {
         Ok(verdict)
     }
 
-    /// The same for an event of any kind. It stands by itself, so that a proposal makes no room for what the other calls need.
+    /// The same for a call on a pin or a front. It stands by itself, so that no other call makes room for what it needs.
     #[inline(never)]
-    fn carry_out(
+    fn answer_hold(
         &mut self,
         setup: &Setup,
-        event: Event,
+        desk: u32,
+        turn: u32,
+        hold: Hold,
+        meter: &mut Meter,
+    ) -> Result<Reply, Fault>
+        requires kept { IsKept (setting setup.now) self.old }
+        requires taken { IsTaken (setting setup.now) self.old desk turn }
+        ensures kept { IsKept (setting setup.now) self.new }
+        ensures ok { IfOk result (λ reply. self.new.journal ≡ self.old.journal ++ record { desk = desk; turn = turn; call = hold_call hold; reply = reply } ∷ []) }
+        ensures desks { length self.new.turns ≡ length self.old.turns }
+        ensures err { OnErr result (self.new.journal ≡ self.old.journal) }
+        ensures fault { IfErr result (λ fault. fault ≡ Fault.NoMemory) }
+        ensures work { IfOk result (λ reply. IsWorkOf (setting setup.now) (state_after (setting setup.now) self.old.journal).pins (state_after (setting setup.now) self.old.journal).routes (hold_call hold) reply meter.old meter.new) }
+        ensures most { WorksAtMost meter.old meter.new
+            (call_asks (setting setup.now) (state_after (setting setup.now) self.old.journal).routes (hold_call hold))
+            (call_probes (state_after (setting setup.now) self.old.journal).pins (state_after (setting setup.now) self.old.journal).routes (hold_call hold)) }
+    {
+        match self.hold(setup, desk, turn, hold, meter) {
+            Ok(ruling) => Ok(ruling.reply()),
+            Err(_) => Err(Fault::NoMemory),
+        }
+    }
+
+    /// The ruling on such a call.
+    #[inline(always)]
+    fn hold(
+        &mut self,
+        setup: &Setup,
+        desk: u32,
+        turn: u32,
+        hold: Hold,
+        meter: &mut Meter,
+    ) -> Result<Ruling, AllocError>
+        requires kept { IsKept (setting setup.now) self.old }
+        requires taken { IsTaken (setting setup.now) self.old desk turn }
+        ensures kept { IsKept (setting setup.now) self.new }
+        ensures ok { IfOk result (λ ruling. self.new.journal ≡ self.old.journal ++ held desk turn hold ruling ∷ []) }
+        ensures desks { length self.new.turns ≡ length self.old.turns }
+        ensures err { OnErr result (self.new.journal ≡ self.old.journal) }
+        ensures work { IfOk result (λ ruling. IsWorkOf (setting setup.now) (state_after (setting setup.now) self.old.journal).pins (state_after (setting setup.now) self.old.journal).routes (hold_call hold) (reply_to ruling) meter.old meter.new) }
+        ensures most { WorksAtMost meter.old meter.new
+            (call_asks (setting setup.now) (state_after (setting setup.now) self.old.journal).routes (hold_call hold))
+            (call_probes (state_after (setting setup.now) self.old.journal).pins (state_after (setting setup.now) self.old.journal).routes (hold_call hold)) }
+    {
+        legal_histories_leave_good_states();
+        histories_grow_by_entries();
+        let _most = setup.max_events();
+        self.journal.make_room()?;
+        let ruling = self.state.hold(setup, hold, meter);
+        self.turns[desk as usize - 1] = turn;
+        self.journal.push_hold(desk, turn, hold, ruling);
+        Ok(ruling)
+    }
+
+    /// The same for a policy command. It stands by itself, so that no other call makes room for what it needs.
+    #[inline(never)]
+    fn answer_command(
+        &mut self,
+        setup: &Setup,
+        desk: u32,
+        turn: u32,
+        session: u32,
+        command: Command,
+        meter: &mut Meter,
+    ) -> Result<Reply, Fault>
+        requires kept { IsKept (setting setup.now) self.old }
+        requires taken { IsTaken (setting setup.now) self.old desk turn }
+        ensures kept { IsKept (setting setup.now) self.new }
+        ensures ok { IfOk result (λ reply. self.new.journal ≡ self.old.journal ++ commanded desk turn session command reply ∷ []) }
+        ensures desks { length self.new.turns ≡ length self.old.turns }
+        ensures err { OnErr result (self.new.journal ≡ self.old.journal) }
+        ensures fault { IfErr result (λ fault. fault ≡ Fault.NoMemory) }
+        ensures work { OnOk result (WorksJust meter.old meter.new 0 1) }
+        ensures most { WorksAtMost meter.old meter.new 0 1 }
+    {
+        match self.command(setup, desk, turn, session, command, meter) {
+            Ok(reply) => Ok(reply),
+            Err(_) => Err(Fault::NoMemory),
+        }
+    }
+
+    /// The reply to such a command.
+    #[inline(always)]
+    fn command(
+        &mut self,
+        setup: &Setup,
+        desk: u32,
+        turn: u32,
+        session: u32,
+        command: Command,
         meter: &mut Meter,
     ) -> Result<Reply, AllocError>
         requires kept { IsKept (setting setup.now) self.old }
-        requires taken { IsTaken (setting setup.now) self.old event.desk event.turn }
+        requires taken { IsTaken (setting setup.now) self.old desk turn }
         ensures kept { IsKept (setting setup.now) self.new }
-        ensures ok { IfOk result (λ reply. self.new.journal ≡ self.old.journal ++ entry_of event reply ∷ []) }
+        ensures ok { IfOk result (λ reply. self.new.journal ≡ self.old.journal ++ commanded desk turn session command reply ∷ []) }
         ensures desks { length self.new.turns ≡ length self.old.turns }
         ensures err { OnErr result (self.new.journal ≡ self.old.journal) }
-        ensures work { IfOk result (λ reply. IsWorkOf (setting setup.now) (state_after (setting setup.now) self.old.journal).pins (state_after (setting setup.now) self.old.journal).routes event.call reply meter.old meter.new) }
-        ensures most { WorksAtMost meter.old meter.new
-            (call_asks (setting setup.now) (state_after (setting setup.now) self.old.journal).routes event.call)
-            (call_probes (state_after (setting setup.now) self.old.journal).pins (state_after (setting setup.now) self.old.journal).routes event.call) }
+        ensures work { OnOk result (WorksJust meter.old meter.new 0 1) }
+        ensures most { WorksAtMost meter.old meter.new 0 1 }
     {
         legal_histories_leave_good_states();
         histories_grow_by_entries();
         let _most = setup.max_events();
         let alloc = *self.journal.allocator();
         self.journal.make_room()?;
-        let reply = self.state.apply(alloc, setup, &event.call, meter)?;
-        self.turns[event.desk as usize - 1] = event.turn;
+        let reply = self.state.command(alloc, session, &command, meter)?;
+        self.turns[desk as usize - 1] = turn;
         let answer = copy_of(&reply);
-        self.journal.push(event, reply);
+        self.journal
+            .push_command(desk, turn, session, command, reply);
         Ok(answer)
     }
 }

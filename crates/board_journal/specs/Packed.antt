@@ -2,14 +2,13 @@
 -- denial are at most 65,535.
 use Rattle.std.specs.Prelude.{ℕ, Bool, true, false, ◌&&◌, nat_le}
 use Rattle.board_rules.specs.declared.call.Call.{Call}
-use Rattle.board_rules.specs.declared.call.Call.TheVariants.{Propose, Pin, Unpin, Freeze, Thaw}
+use Rattle.board_rules.specs.declared.call.Call.TheVariants.{Propose}
 use Rattle.board_rules.specs.declared.call.Event.{Event}
 use Rattle.board_rules.specs.declared.reply.Denial.{Denial}
 use Rattle.board_rules.specs.declared.reply.Denial.TheVariants.{AccessVehicle, Stale, AccessCustomer, Frozen, Pinned, Bound}
-use Rattle.board_rules.specs.declared.reply.Refusal.{Refusal}
-use Rattle.board_rules.specs.declared.reply.Refusal.TheVariants.{NoSession, NoAccess, BadVehicle, BadCustomer, Already, NotThere, NotPlaced, Length}
 use Rattle.board_rules.specs.declared.reply.Reply.{Reply}
-use Rattle.board_rules.specs.declared.reply.Reply.TheVariants.{Done, Committed, Denied, Refused}
+use Rattle.board_rules.specs.declared.reply.Reply.TheVariants.{Committed, Denied}
+use Rattle.board_rules.specs.Holds.{is_hold, is_ruling}
 
 -- whether a number fits into two bytes
 abbrev pub is_short : ℕ → Bool
@@ -29,31 +28,6 @@ abbrev pub is_short_reply : Reply → Bool
 is_short_reply (Committed version) = true
 is_short_reply (Denied denial) = is_short_denial denial
 is_short_reply _ = false
-
--- whether a call is one on a pin or on a frozen front
-abbrev pub is_hold : Call → Bool
-is_hold (Pin session customer) = true
-is_hold (Unpin session customer) = true
-is_hold (Freeze session vehicle n) = true
-is_hold (Thaw session vehicle n) = true
-is_hold _ = false
-
-abbrev pub is_hold_refusal : Refusal → Bool
-is_hold_refusal NoSession = true
-is_hold_refusal NoAccess = true
-is_hold_refusal BadVehicle = true
-is_hold_refusal BadCustomer = true
-is_hold_refusal Already = true
-is_hold_refusal NotThere = true
-is_hold_refusal NotPlaced = true
-is_hold_refusal Length = true
-is_hold_refusal _ = false
-
--- whether a reply is one that such a call may have
-abbrev pub is_ruling : Reply → Bool
-is_ruling Done = true
-is_ruling (Refused refusal) = is_hold_refusal refusal
-is_ruling _ = false
 
 abbrev pub is_packed_call : Call → Reply → Bool
 is_packed_call (Propose session base mv) reply = is_short_reply reply

@@ -4,15 +4,11 @@ use Rattle.board_rules.specs.declared.call.Call.{Call}
 use Rattle.board_rules.specs.declared.call.Call.TheVariants as calls
 use Rattle.board_rules.specs.declared.call.Entry.{Entry}
 use Rattle.board_rules.specs.declared.reply.Denial.TheVariants as denials
-use Rattle.board_rules.specs.declared.reply.Refusal.TheVariants as refusals
 use Rattle.board_rules.specs.declared.reply.Reply.{Reply}
 use Rattle.board_rules.specs.declared.reply.Reply.TheVariants as replies
 use Rattle.board_journal.specs.declared.answer.Answer.{Answer}
 use Rattle.board_journal.specs.declared.answer.Answer.TheVariants.{Committed, NoSession, BadVehicle, AccessVehicle, Ahead, Stale, BadPlace, AccessCustomer, Frozen, Pinned, Bound}
-use Rattle.board_journal.specs.declared.hold.Hold.{Hold}
-use Rattle.board_journal.specs.declared.hold.Hold.TheVariants as holds
-use Rattle.board_journal.specs.declared.hold.Ruling.{Ruling}
-use Rattle.board_journal.specs.declared.hold.Ruling.TheVariants as rulings
+use Rattle.board_rules.specs.Holds.{call_of, reply_to}
 use Rattle.board_journal.specs.declared.packed.Packed.{Packed}
 use Rattle.board_journal.specs.declared.packed.Packed.TheVariants.{Proposal, Hold as HoldRecord, Whole}
 
@@ -28,23 +24,6 @@ reply_of (AccessCustomer vehicle place) = replies.Denied (denials.AccessCustomer
 reply_of (Frozen vehicle) = replies.Denied (denials.Frozen vehicle)
 reply_of (Pinned vehicle place) = replies.Denied (denials.Pinned vehicle place)
 reply_of (Bound vehicle dimension) = replies.Denied (denials.Bound vehicle dimension)
-
-abbrev pub call_of : Hold → Call
-call_of (holds.Pin session customer) = calls.Pin session customer
-call_of (holds.Unpin session customer) = calls.Unpin session customer
-call_of (holds.Freeze session vehicle n) = calls.Freeze session vehicle n
-call_of (holds.Thaw session vehicle n) = calls.Thaw session vehicle n
-
-abbrev pub reply_to : Ruling → Reply
-reply_to rulings.Done = replies.Done
-reply_to rulings.NoSession = replies.Refused refusals.NoSession
-reply_to rulings.NoAccess = replies.Refused refusals.NoAccess
-reply_to rulings.BadVehicle = replies.Refused refusals.BadVehicle
-reply_to rulings.BadCustomer = replies.Refused refusals.BadCustomer
-reply_to rulings.Already = replies.Refused refusals.Already
-reply_to rulings.NotThere = replies.Refused refusals.NotThere
-reply_to rulings.NotPlaced = replies.Refused refusals.NotPlaced
-reply_to rulings.Length = replies.Refused refusals.Length
 
 -- stands for what no record names
 abbrev pub no_entry : Entry

@@ -3,8 +3,8 @@ ghost use Rattle.std.specs.Prelude.{◌≡◌, ◌+◌, ◌≤◌, ◌++◌, ◌
 ghost use Rattle.std.specs.Option.{option_map};
 ghost use Rattle.board_journal.specs.Shown.{HasRoom};
 ghost use Rattle.board_rules.specs.Step.{reply_by};
-ghost use Rattle.board_journal.specs.Entries.{entry_of, proposed};
-ghost use Rattle.board_journal.specs.Packed.{is_packed, is_packed_proposal};
+ghost use Rattle.board_journal.specs.Entries.{entry_of, proposed, held, commanded};
+ghost use Rattle.board_journal.specs.Packed.{is_packed, is_packed_proposal, is_short};
 ghost use Rattle.board_journal.specs.Kept.{kept_entry};
 ghost use Rattle.board_journal.specs.Journals.{pages_of};
 
@@ -12,7 +12,8 @@ use crate::entries::Entries;
 use crate::kept::Kept;
 use crate::page::{PAGE_ENTRIES, Page};
 use crate::proposal::Proposal;
-use board_rules::{Denial, Event, Reply};
+use board_rules::{Denial, Event, Hold, Reply, Ruling};
+use rbac_core::Command;
 use std::alloc::{AllocError, Global};
 use std::marker::Model;
 use std::mem;
@@ -144,6 +145,36 @@ impl Journal {
         ensures packed { is_packed_proposal proposal.desk (reply_by verdict) ≡ true → self.new.spare ≡ self.old.spare }
     {
         self.last.push_proposal(proposal, verdict);
+    }
+
+    /// Appends a call on a pin or a front with the reply to it. It takes no memory.
+    #[inline]
+    pub fn push_hold(&mut self, desk: u32, turn: u32, hold: Hold, ruling: Ruling)
+        requires { HasRoom self.old }
+        ensures entries { self.new.entries ≡ self.old.entries ++ held desk turn hold ruling ∷ [] }
+        ensures room { self.new.room + 1 ≡ self.old.room }
+        ensures spare { self.old.spare ≤ self.new.spare + 1 }
+        ensures packed { is_short desk ≡ true → self.new.spare ≡ self.old.spare }
+    {
+        self.last.push_hold(desk, turn, hold, ruling);
+    }
+
+    /// Appends a policy command with the reply to it. It takes no memory.
+    #[inline]
+    pub fn push_command(
+        &mut self,
+        desk: u32,
+        turn: u32,
+        session: u32,
+        command: Command,
+        reply: Reply,
+    )
+        requires { HasRoom self.old }
+        ensures entries { self.new.entries ≡ self.old.entries ++ commanded desk turn session command reply ∷ [] }
+        ensures room { self.new.room + 1 ≡ self.old.room }
+        ensures spare { self.new.spare + 1 ≡ self.old.spare }
+    {
+        self.last.push_command(desk, turn, session, command, reply);
     }
 
     /// The entry at an index, from 0, or none where there are not that many. It takes no memory.

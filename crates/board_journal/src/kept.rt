@@ -1,7 +1,6 @@
 //! Entries as they are read from a journal.
 use crate::answer::Answer;
-use crate::hold::{Hold, Ruling};
-use board_rules::Entry;
+use board_rules::{Entry, Hold, Ruling};
 use move_core::Move;
 
 /// An entry, lent by the journal.

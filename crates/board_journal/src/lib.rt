@@ -10,7 +10,6 @@
 
 mod answer;
 mod entries;
-mod hold;
 mod journal;
 mod kept;
 mod packed;
@@ -19,7 +18,6 @@ mod proposal;
 
 pub use answer::Answer;
 pub use entries::Entries;
-pub use hold::{Hold, Ruling};
 pub use journal::Journal;
 pub use kept::Kept;
 pub use proposal::Proposal;

@@ -2,13 +2,12 @@
 ghost use Rattle.std.specs.Prelude.{◌≡◌, ℕ, List, false, MatchOption};
 ghost use Rattle.board_rules.specs.declared.call.Entry.{Entry};
 ghost use Rattle.board_rules.specs.Step.{reply_by};
-ghost use Rattle.board_journal.specs.Entries.{entry_of, proposed};
-ghost use Rattle.board_journal.specs.Packed.{is_packed, is_packed_proposal};
+ghost use Rattle.board_journal.specs.Entries.{entry_of, proposed, held};
+ghost use Rattle.board_journal.specs.Packed.{is_packed, is_packed_proposal, is_short};
 
 use crate::answer::{Answer, short};
-use crate::hold::{Hold, Ruling};
 use crate::proposal::Proposal;
-use board_rules::{Call, Denial, Event, Reply};
+use board_rules::{Call, Denial, Event, Hold, Reply, Ruling};
 use move_core::Move;
 use std::mem::size_of;
 
@@ -55,6 +54,21 @@ impl Packed {
             base: proposal.base,
             mv: proposal.mv,
             answer,
+        })
+    }
+
+    /// The record of a call on a pin or a front with the reply to it, where the desk is small enough.
+    #[inline]
+    pub(crate) fn of_hold(desk: u32, turn: u32, hold: Hold, ruling: Ruling) -> Option<Packed>
+        ensures { MatchOption result (is_short desk ≡ false)
+            (λ packed. ((whole : List Entry) → entry_in whole packed ≡ held desk turn hold ruling) × ((n : ℕ) → IsWithin n packed)) }
+    {
+        let desk = short(desk)?;
+        Some(Packed::Hold {
+            desk,
+            turn,
+            hold,
+            ruling,
         })
     }
 

@@ -4,15 +4,16 @@ ghost use Rattle.std.specs.Option.{option_map};
 ghost use Rattle.board_rules.specs.declared.call.Entry.{Entry};
 ghost use Rattle.board_journal.specs.Shown.{HasRoom};
 ghost use Rattle.board_rules.specs.Step.{reply_by};
-ghost use Rattle.board_journal.specs.Entries.{entry_of, proposed};
-ghost use Rattle.board_journal.specs.Packed.{is_packed, is_packed_proposal};
+ghost use Rattle.board_journal.specs.Entries.{entry_of, proposed, held, commanded};
+ghost use Rattle.board_journal.specs.Packed.{is_packed, is_packed_proposal, is_short};
 ghost use Rattle.board_journal.specs.Kept.{kept_entry};
 ghost use Rattle.board_journal.specs.Records.{entry_in, IsWithin};
 
 use crate::kept::Kept;
 use crate::packed::Packed;
 use crate::proposal::Proposal;
-use board_rules::{Call, Denial, Entry, Event, Reply};
+use board_rules::{Call, Denial, Entry, Event, Hold, Reply, Ruling};
+use rbac_core::Command;
 use std::alloc::{AllocError, Global};
 use std::marker::Model;
 
@@ -150,6 +151,49 @@ impl Page {
             desk,
             turn,
             call: Call::Propose { session, base, mv },
+            reply,
+        });
+    }
+
+    /// Appends a call on a pin or a front with the reply to it.
+    #[inline]
+    pub(crate) fn push_hold(&mut self, desk: u32, turn: u32, hold: Hold, ruling: Ruling)
+        requires { HasRoom self.old }
+        ensures entries { self.new.entries ≡ self.old.entries ++ held desk turn hold ruling ∷ [] }
+        ensures room { self.new.room + 1 ≡ self.old.room }
+        ensures spare { self.old.spare ≤ self.new.spare + 1 }
+        ensures packed { is_short desk ≡ true → self.new.spare ≡ self.old.spare }
+    {
+        match Packed::of_hold(desk, turn, hold, ruling) {
+            Some(packed) => self.push_packed(packed),
+            None => self.push_whole(Entry {
+                desk,
+                turn,
+                call: hold.call(),
+                reply: ruling.reply(),
+            }),
+        }
+    }
+
+    /// Appends a policy command with the reply to it.
+    #[inline]
+    pub(crate) fn push_command(
+        &mut self,
+        desk: u32,
+        turn: u32,
+        session: u32,
+        command: Command,
+        reply: Reply,
+    )
+        requires { HasRoom self.old }
+        ensures entries { self.new.entries ≡ self.old.entries ++ commanded desk turn session command reply ∷ [] }
+        ensures room { self.new.room + 1 ≡ self.old.room }
+        ensures spare { self.new.spare + 1 ≡ self.old.spare }
+    {
+        self.push_whole(Entry {
+            desk,
+            turn,
+            call: Call::Policy { session, command },
             reply,
         });
     }

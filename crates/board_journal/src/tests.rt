@@ -1,6 +1,6 @@
 //! Entries of each kind, read again, and the ends of pages.
-use crate::{Hold, Journal, Kept};
-use board_rules::{Call, Denial, Entry, Event, Refusal, Reply};
+use crate::{Journal, Kept};
+use board_rules::{Call, Denial, Entry, Event, Hold, Refusal, Reply};
 use move_core::Move;
 use std::alloc::AllocError;
 use std::process::Abort;

@@ -1,5 +1,5 @@
 -- The texts of replies and faults.
-use Rattle.std.specs.Prelude.{ℕ, List, [], ◌∷◌, ◌++◌, codes}
+use Rattle.std.specs.Prelude.{ℕ, zero, suc, List, [], ◌∷◌, ◌++◌, codes}
 use Rattle.std.specs.Fmt.{decimal}
 use Rattle.board_rules.specs.declared.reply.Denial.{Denial}
 use Rattle.board_rules.specs.declared.reply.Denial.TheVariants as denials
@@ -19,6 +19,11 @@ abbrev pub ended : List ℕ → List ℕ
 ended line = line ++ 10 ∷ []
 
 -- a space and the number
+-- the digits of a number, and none for 0: those that stand before other digits
+abbrev pub leading : ℕ → List ℕ
+leading zero = []
+leading (suc n) = decimal (suc n)
+
 abbrev pub spaced : ℕ → List ℕ
 spaced n = 32 ∷ decimal n
 

@@ -4,7 +4,7 @@ ghost use Rattle.std.specs.Prelude.{◌≡◌, ◌≤◌, ◌<◌, ◌++◌, [],
 ghost use Rattle.std.specs.Io.{StartsWith};
 ghost use Rattle.std.specs.List.{flat_map};
 ghost use Rattle.std.specs.Fmt.{decimal};
-ghost use Rattle.board_lines.specs.Replies.{spaced};
+ghost use Rattle.board_lines.specs.Replies.{spaced, leading};
 
 use itoa::Buffer;
 use std::alloc::AllocError;
@@ -38,54 +38,46 @@ fn push_digit(out: &mut String, n: u64) -> Result<(), AllocError>
     out.push(char::from(b'0' + n as u8))
 }
 
-// The digits of a number of two, three or four: each quotient is made once, and before anything is appended.
-
-/// Appends a number of two digits.
+/// Appends the digit with which a number begins, and nothing for 0.
 #[inline(always)]
-fn push_two(out: &mut String, n: u64) -> Result<(), AllocError>
+fn push_first(out: &mut String, n: u64) -> Result<(), AllocError>
+    requires { n < 10 }
+    ensures ok { OnOk result (string_bytes out.new ≡ string_bytes out.old ++ leading n) }
+    ensures start { OnErr result (StartsWith (string_bytes out.new) (string_bytes out.old)) }
+{
+    if n == 0 {
+        return Ok(());
+    }
+    push_digit(out, n)
+}
+
+/// Appends the one or two digits with which a number begins, and nothing for 0.
+#[inline(always)]
+fn push_leading(out: &mut String, n: u64) -> Result<(), AllocError>
+    requires { n < 100 }
+    ensures ok { OnOk result (string_bytes out.new ≡ string_bytes out.old ++ leading n) }
+    ensures start { OnErr result (StartsWith (string_bytes out.new) (string_bytes out.old)) }
+{
+    if n == 0 {
+        return Ok(());
+    }
+    push_first(out, n / 10)?;
+    push_digit(out, n % 10)
+}
+
+/// Appends a number of two, three or four digits. There are few places at which a digit is pushed, so that each is written out.
+#[inline(always)]
+fn push_few(out: &mut String, n: u64) -> Result<(), AllocError>
     requires low { 10 ≤ n }
-    requires high { n < 100 }
-    ensures ok { OnOk result (string_bytes out.new ≡ string_bytes out.old ++ decimal n) }
-    ensures start { OnErr result (StartsWith (string_bytes out.new) (string_bytes out.old)) }
-{
-    let tens = n / 10;
-    let last = n % 10;
-    push_digit(out, tens)?;
-    push_digit(out, last)
-}
-
-/// Appends a number of three digits.
-#[inline(always)]
-fn push_three(out: &mut String, n: u64) -> Result<(), AllocError>
-    requires low { 100 ≤ n }
-    requires high { n < 1000 }
-    ensures ok { OnOk result (string_bytes out.new ≡ string_bytes out.old ++ decimal n) }
-    ensures start { OnErr result (StartsWith (string_bytes out.new) (string_bytes out.old)) }
-{
-    let hundreds = n / 100;
-    let rest = n % 100;
-    let tens = rest / 10;
-    let last = rest % 10;
-    push_digit(out, hundreds)?;
-    push_digit(out, tens)?;
-    push_digit(out, last)
-}
-
-/// Appends a number of four digits.
-#[inline(always)]
-fn push_four(out: &mut String, n: u64) -> Result<(), AllocError>
-    requires low { 1000 ≤ n }
     requires high { n < 10000 }
     ensures ok { OnOk result (string_bytes out.new ≡ string_bytes out.old ++ decimal n) }
     ensures start { OnErr result (StartsWith (string_bytes out.new) (string_bytes out.old)) }
 {
     let hundreds = n / 100;
     let rest = n % 100;
-    let tens = rest / 10;
-    let last = rest % 10;
-    push_two(out, hundreds)?;
-    push_digit(out, tens)?;
-    push_digit(out, last)
+    push_leading(out, hundreds)?;
+    push_digit(out, rest / 10)?;
+    push_digit(out, rest % 10)
 }
 
 // Out of line, so that a small number pays nothing for the formatter's buffer.
@@ -105,12 +97,8 @@ pub(crate) fn push_number(out: &mut String, n: u64) -> Result<(), AllocError>
 {
     if n < 10 {
         push_digit(out, n)
-    } else if n < 100 {
-        push_two(out, n)
-    } else if n < 1000 {
-        push_three(out, n)
     } else if n < 10_000 {
-        push_four(out, n)
+        push_few(out, n)
     } else {
         push_large(out, n)
     }

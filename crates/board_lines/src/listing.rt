@@ -4,7 +4,8 @@ ghost use Rattle.std.specs.Prelude.{◌≡◌, ℕ, ◌++◌, ◌+◌, IfOk, OnO
 ghost use Rattle.std.specs.Io.{StartsWith};
 ghost use Rattle.std.specs.List.{flat_map};
 ghost use Rattle.board_journal.specs.Kept.{kept_entry};
-ghost use Rattle.board_journal.specs.Records.{call_of, reply_of, reply_to};
+ghost use Rattle.board_rules.specs.Holds.{call_of, reply_to};
+ghost use Rattle.board_journal.specs.Records.{reply_of};
 ghost use Rattle.board_rules.specs.declared.call.Call.TheVariants.{Propose};
 ghost use Rattle.board_lines.specs.Replies.{spaced};
 ghost use Rattle.board_lines.specs.Listings.{end_line, row_line, list_text, tag_of, answer_text, entry_text, entry_line, audit_text, name_line, review_text, check_text};
@@ -12,8 +13,8 @@ ghost use Rattle.board_lines.specs.Listings.{end_line, row_line, list_text, tag_
 use crate::digits::{push_ascii, push_spaced, push_text};
 use crate::replies::{push_reply, push_verdict};
 use crate::spelling::{push_event, push_proposal};
-use board_journal::{Answer, Hold, Journal, Kept, Ruling};
-use board_rules::{Entry, Row};
+use board_journal::{Answer, Journal, Kept};
+use board_rules::{Entry, Hold, Row, Ruling};
 use move_core::Move;
 use separation_core::Name;
 use std::alloc::{AllocError, Global};

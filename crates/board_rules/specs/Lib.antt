@@ -4,6 +4,7 @@ pub mod State
 pub mod Rules
 pub mod Pinning
 pub mod Step
+pub mod Holds
 pub mod Unchanged
 pub mod History
 pub mod Listing

@@ -7,6 +7,7 @@
 
 mod call;
 mod delta;
+mod hold;
 mod laws;
 mod reply;
 mod review;
@@ -14,6 +15,7 @@ mod row;
 
 pub use call::{Call, Entry, Event};
 pub use delta::Delta;
+pub use hold::{Hold, HoldRefusal, Ruling};
 pub use laws::{
     calls_keep_the_rest, changes_by_stamps, commands_by_parts, current_vehicles_keep_their_routes,
     customers_have_one_spot, histories_go_on, histories_grow_by_entries, histories_settle_policies,

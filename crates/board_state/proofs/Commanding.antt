@@ -128,3 +128,26 @@ refused_call p policy tables session command e (Ok r) says now compiled sizes du
         sizes = subst (λ (q : PolicyState). HasSizes q tables) (sym said.1) sizes;
       }),
     )
+
+-- the same where the answer alone is given
+pub refused_alone : {E : Type 0} (p : PolicyState) (policy : Tried) (tables : TablesState) (session : ℕ) (command : Command) (e : Refusal) (result : Result Reply E)
+    → (((o : Option Refusal) → Says e o → o ≡ Some e) → (policy_reply p session command ≡ Refused (board_refusal e)) × (policy_after p session command ≡ p))
+    → policy.now ≡ p → ∥ AreCompiled tables p ∥₁ → HasSizes p tables
+    → IfOk result (λ _. (o : Option Refusal) → Says e o → o ≡ Some e) → IfOk result (λ reply. reply ≡ Refused (board_refusal e))
+    → IfOk result (λ reply. reply ≡ policy_reply p session command) × IfOk result (λ _. PolicyWillBe policy tables Nothing (policy_after p session command))
+refused_alone p policy tables session command e (Err x) says now compiled sizes due reply = (tt, tt)
+refused_alone p policy tables session command e (Ok r) says now compiled sizes due reply =
+    let said = says due in (
+      reply ∙ sym said.0,
+      record {
+        ready = tt;
+        made = now ∙ sym said.1;
+        compiled = subst (λ (q : PolicyState). ∥ AreCompiled tables q ∥₁) (sym said.1) compiled;
+        sizes = subst (λ (q : PolicyState). HasSizes q tables) (sym said.1) sizes;
+      },
+    )
+
+-- what follows from a right answer, where there is one
+pub if_ok : {A E : Type 0} (P Q : A → Type 0) (r : Result A E) → ((x : A) → P x → Q x) → IfOk r P → IfOk r Q
+if_ok P Q (Ok x) f h = f x h
+if_ok P Q (Err e) f h = tt

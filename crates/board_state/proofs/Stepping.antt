@@ -20,9 +20,11 @@ use Rattle.move_core.specs.declared.moves.Move.{Move}
 use Rattle.move_core.specs.Moves.{named_by, changes_by, effect}
 use Rattle.board_rules.specs.declared.reply.Denial.{Denial}
 use Rattle.board_rules.specs.declared.reply.Refusal.{Refusal}
+use Rattle.board_rules.specs.declared.hold.HoldRefusal.{HoldRefusal}
+use Rattle.board_rules.specs.Holds.{refusal_for}
 use Rattle.board_rules.specs.State.{BoardState}
 use Rattle.board_rules.specs.Rules.{Basis, Agree, basis_of, is_changed_after, routes_after}
-use Rattle.std.specs.Option.{option_or}
+use Rattle.std.specs.Option.{option_or, option_map}
 use Rattle.policy_core.specs.declared.refusal.Refusal.{Refusal as PolicyRefusal}
 use Rattle.rbac_core.specs.declared.command.Command.{Command as PolicyCommand}
 use Rattle.rbac_core.specs.declared.command.Outcome.{Outcome}
@@ -177,28 +179,28 @@ unfolding thaw_refusal freeze_guard
 thaw_same s b c vehicle n a = agreeing s b c a (λ x. thaw_refusal s x vehicle n) refl
 
 -- what a call on pins changes
-pub pins_call : (s : Setting) (held : HeldState) (state : BoardState) (call : Call) (judged : Result PinChange Refusal) (reply : Reply) (change : Change) (old next : PinState) → Holds s held state
+pub pins_call : (s : Setting) (held : HeldState) (state : BoardState) (call : Call) (judged : Result PinChange HoldRefusal) (reply : Reply) (change : Change) (old next : PinState) → Holds s held state
     → after state call Done ≡ record state { pins = next } → ((e : Refusal) → after state call (Refused e) ≡ state)
-    → reply ≡ refused_by (result_err judged) → MatchResult judged (λ made. change ≡ Pins made) (λ e. change ≡ Nothing)
+    → reply ≡ refused_by (option_map refusal_for (result_err judged)) → MatchResult judged (λ made. change ≡ Pins made) (λ e. change ≡ Nothing)
     → IfOk judged (λ made. PinsWillBe held made old) → old ≡ next → WillHold s held change (after state call reply)
 pins_call s held state call (Ok made) reply change old next holds done none said is will same =
     subst (λ (x : Change). WillHold s held x (after state call reply)) (sym is)
     (subst (λ (b : BoardState). WillHold s held (Pins made) b) (sym (ap (after state call) said ∙ done)) (pins_will s held state holds made old next will same))
 pins_call s held state call (Err e) reply change old next holds done none said is will same =
     subst (λ (x : Change). WillHold s held x (after state call reply)) (sym is)
-    (subst (λ (b : BoardState). WillHold s held Nothing b) (sym (ap (after state call) said ∙ none e)) (stays s held state holds))
+    (subst (λ (b : BoardState). WillHold s held Nothing b) (sym (ap (after state call) said ∙ none (refusal_for e))) (stays s held state holds))
 
 -- the same, said of the judged change itself
-pub pins_made : (s : Setting) (held : HeldState) (state : BoardState) (call : Call) (judged : Result PinChange Refusal) (reply : Reply) (old next : PinState) → Holds s held state
+pub pins_made : (s : Setting) (held : HeldState) (state : BoardState) (call : Call) (judged : Result PinChange HoldRefusal) (reply : Reply) (old next : PinState) → Holds s held state
     → after state call Done ≡ record state { pins = next } → ((e : Refusal) → after state call (Refused e) ≡ state)
-    → reply ≡ refused_by (result_err judged) → IfOk judged (λ made. PinsWillBe held made old) → old ≡ next
+    → reply ≡ refused_by (option_map refusal_for (result_err judged)) → IfOk judged (λ made. PinsWillBe held made old) → old ≡ next
     → MatchResult judged (λ made. WillHold s held (Pins made) (after state call reply)) (λ e. Holds s held (after state call reply))
 pins_made s held state call (Ok made) reply old next holds done none said will same =
     subst (λ (b : BoardState). WillHold s held (Pins made) b) (sym (ap (after state call) said ∙ done)) (pins_will s held state holds made old next will same)
 pins_made s held state call (Err e) reply old next holds done none said will same =
-    subst (λ (b : BoardState). Holds s held b) (sym (ap (after state call) said ∙ none e)) holds
+    subst (λ (b : BoardState). Holds s held b) (sym (ap (after state call) said ∙ none (refusal_for e))) holds
 
-pub pins_ready : (held : HeldState) (judged : Result PinChange Refusal) (next : PinState) → IfOk judged (λ made. PinsWillBe held made next) → IfOk judged (λ made. IsSettleable held (Pins made))
+pub pins_ready : (held : HeldState) (judged : Result PinChange HoldRefusal) (next : PinState) → IfOk judged (λ made. PinsWillBe held made next) → IfOk judged (λ made. IsSettleable held (Pins made))
 pins_ready held (Ok made) next will = will.ready
 pins_ready held (Err e) next will = tt
 
@@ -254,3 +256,18 @@ policy_call s old new state call session command (Ok r) is holds kept said will 
     let reply : r.0 ≡ policy_reply state.policy session command = said ∙ ap (λ (p : PolicyState). policy_reply p session command) holds.policy in
     subst (λ (x : Call). WillHold s new r.1 (after state x r.0)) (sym is)
     (subst (λ (b : BoardState). WillHold s new r.1 b) (sym (ap (after state (Policy session command)) reply ∙ after_policy state session command)) made)
+
+-- what is held once a command got its right reply and its policy is in place
+pub policy_kept : {E : Type 0} (s : Setting) (old new : HeldState) (state : BoardState) (call : Call) (session : ℕ) (command : PolicyCommand) (result : Result Reply E) → call ≡ Policy session command
+    → Holds s old state → new ≡ record old { policy = new.policy; tables = new.tables } → IfOk result (λ reply. reply ≡ policy_reply old.policy.now session command)
+    → IfOk result (λ _. PolicyWillBe new.policy new.tables Nothing (policy_after old.policy.now session command))
+    → IfOk result (λ reply. Holds s new (after state call reply))
+policy_kept s old new state call session command (Err e) is holds kept said will = tt
+policy_kept s old new state call session command (Ok reply) is holds kept said will =
+    let made = policy_will s old new state Nothing (policy_after state.policy session command) holds kept
+    (subst (λ (p : PolicyState). PolicyWillBe new.policy new.tables Nothing (policy_after p session command)) holds.policy will) in
+    let right : reply ≡ policy_reply state.policy session command = said ∙ ap (λ (p : PolicyState). policy_reply p session command) holds.policy in
+    let next = record state { policy = policy_after state.policy session command } in
+    subst (λ (x : Call). Holds s new (after state x reply)) (sym is)
+    (subst (λ (b : BoardState). Holds s new b) (sym (ap (after state (Policy session command)) right ∙ after_policy state session command))
+    (record { policy = made.policy; compiled = made.compiled; sizes = made.sizes; customers = made.customers; routes = made.routes; stamps = made.stamps; pins = made.pins; cache = made.cache }))

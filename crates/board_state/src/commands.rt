@@ -1,10 +1,10 @@
 //! Policy commands: tried on the spare policy, with the rows of the sessions whose access they change.
-ghost use Rattle.std.specs.Prelude.{◌≡◌, ℕ, Option, None, Some, Ok, IfOk, MatchResult};
+ghost use Rattle.std.specs.Prelude.{◌≡◌, ℕ, Option, None, Some, Ok, IfOk, OnErr, MatchResult};
 ghost use Rattle.policy_core.specs.Commands.{Says};
 ghost use Rattle.policy_core.specs.declared.refusal.Refusal.{Refusal as PolicyRefusal};
 ghost use Rattle.rbac_core.specs.Step.{guard, guard_by, refusal_of, after};
 ghost use Rattle.permission_table.specs.Tables.{allows};
-ghost use Rattle.permission_table.specs.Compiled.{AreCompiled, HasSizes};
+ghost use Rattle.permission_table.specs.Compiled.{AreCompiled, WillBeCompiled, HasSizes};
 ghost use Rattle.permission_core.specs.declared.objects.Operation.TheVariants as operations;
 ghost use Rattle.permission_core.specs.declared.objects.Object.TheVariants as objects;
 ghost use Rattle.board_rules.specs.Policies.{board_refusal, reply_of, policy_reply, policy_after};
@@ -17,7 +17,7 @@ use crate::change::Change;
 use crate::state::State;
 use board_rules::{Refusal, Reply};
 use callback_store::Meter;
-use permission_table::Tables;
+use permission_table::{Rows, Tables};
 use policy_core::Refusal as PolicyRefusal;
 use rbac_core::{
     Command, Object, Operation, Outcome, Twin, access_stays, affected, guard_by, sizes_stay,
@@ -65,6 +65,61 @@ impl State {
         }
         try_command(alloc, &mut self.policy, &mut self.tables, command)
     }
+
+    /// Judges a policy command by trying it on the spare policy, and keeps what was tried, with no copy of the command.
+    pub(crate) fn carry_out(
+        &mut self,
+        alloc: Global,
+        session: u32,
+        command: &Command,
+        meter: &mut Meter,
+    ) -> Result<Reply, AllocError>
+        requires compiled { ∥ AreCompiled self.old.tables self.old.policy.now ∥₁ }
+        requires sizes { HasSizes self.old.policy.now self.old.tables }
+        ensures others { self.new ≡ record self.old { policy = self.new.policy; tables = self.new.tables } }
+        ensures reply { IfOk result (λ reply. reply ≡ policy_reply self.old.policy.now session command.now) }
+        ensures made { IfOk result (λ _. PolicyWillBe self.new.policy self.new.tables Nothing (policy_after self.old.policy.now session command.now)) }
+        ensures err { OnErr result (Tries self.old self.new) }
+        ensures given_up { OnErr result (self.new.policy.tried ≡ self.new.policy.now) }
+        ensures work { WorksJust meter.old meter.new 0 1 }
+    {
+        if let Some(refusal) = self.command_guard(session, command, meter) {
+            self.policy.give_up();
+            return refused_by(refusal);
+        }
+        keep_command(alloc, &mut self.policy, &mut self.tables, command)
+    }
+}
+
+/// Tries a command that the session may give, and keeps what was tried. Where memory runs out for the rows of the sessions that it
+/// concerns, it is given up.
+fn keep_command(
+    alloc: Global,
+    policy: &mut Twin,
+    tables: &mut Tables,
+    command: &Command,
+) -> Result<Reply, AllocError>
+    requires compiled { ∥ AreCompiled tables.old policy.old.now ∥₁ }
+    requires sizes { HasSizes policy.old.now tables.old }
+    ensures reply { (session : ℕ) → guard policy.old.now session command.now ≡ None → IfOk result (λ reply. reply ≡ policy_reply policy.old.now session command.now) }
+    ensures made { (session : ℕ) → guard policy.old.now session command.now ≡ None → IfOk result (λ _. PolicyWillBe policy.new tables.new Nothing (policy_after policy.old.now session command.now)) }
+    ensures policy { OnErr result (policy.new ≡ record { now = policy.old.now; tried = policy.old.now }) }
+    ensures tables { OnErr result (tables.new ≡ record tables.old { room = tables.new.room }) }
+{
+    match policy.prepare(command) {
+        Ok(outcome) => match new_rows(alloc, policy, tables, command) {
+            Ok(rows) => {
+                policy.keep(command);
+                tables.put(rows);
+                Ok(reply_to(outcome))
+            }
+            Err(error) => {
+                policy.give_up();
+                Err(error)
+            }
+        },
+        Err(refusal) => refused_by(refusal),
+    }
 }
 
 /// Tries a command that the session may give. Where memory runs out for the rows of the sessions that it concerns, it is given up.
@@ -94,7 +149,7 @@ fn try_command(
     }
 }
 
-/// The rows of the sessions whose access the tried command changes.
+/// The change that the tried command makes.
 fn compile(
     alloc: Global,
     policy: &Twin,
@@ -109,25 +164,52 @@ fn compile(
     ensures change { IfOk result (λ change. PolicyWillBe policy.now tables.new change (after policy.now.now command.now)) }
     ensures kept { IfOk result (λ change. IsGivenUp change policy.now) }
 {
+    let rows = new_rows(alloc, policy, tables, command)?;
+    let command = command.copy()?;
+    Ok(Change::Command(rows, command))
+}
+
+/// The rows of the sessions whose access the tried command changes.
+fn new_rows(
+    alloc: Global,
+    policy: &Twin,
+    tables: &mut Tables,
+    command: &Command,
+) -> Result<Rows, AllocError>
+    requires compiled { ∥ AreCompiled tables.old policy.now.now ∥₁ }
+    requires sizes { HasSizes policy.now.now tables.old }
+    requires tried { policy.now.tried ≡ after policy.now.now command.now }
+    ensures tables { tables.new ≡ record tables.old { room = tables.new.room } }
+    ensures of { IfOk result (λ rows. rows.of ≡ tables.new) }
+    ensures compiled { IfOk result (λ rows. ∥ WillBeCompiled rows (after policy.now.now command.now) ∥₁) }
+    ensures sizes { IfOk result (λ _. HasSizes (after policy.now.now command.now) tables.new) }
+{
     sizes_stay();
     let old = policy.policy();
     let new = policy.tried();
     access_stays(old, command, new);
     let sessions = affected(alloc, old, command, new)?;
-    let rows = tables.rebuild(new, &sessions)?;
-    let command = command.copy()?;
-    Ok(Change::Command(rows, command))
+    tables.rebuild(new, &sessions)
 }
 
-/// The answer to a refusal of the policy, unless that is running out of memory.
-#[tactic(auto, using(crate::proofs::Commanding::says_other))]
+/// The answer to a refusal of the policy, with no change, unless that is running out of memory.
 fn refused(refusal: PolicyRefusal) -> Result<(Reply, Change), AllocError>
     ensures due { IfOk result (λ _. (o : Option PolicyRefusal) → Says refusal o → o ≡ Some refusal) }
     ensures reply { IfOk result (λ r. r.0 ≡ Refused (board_refusal refusal)) }
     ensures change { IfOk result (λ r. r.1 ≡ Nothing) }
 {
+    let reply = refused_by(refusal)?;
+    Ok((reply, Change::Nothing))
+}
+
+/// The answer to a refusal of the policy, unless that is running out of memory.
+#[tactic(auto, using(crate::proofs::Commanding::says_other))]
+fn refused_by(refusal: PolicyRefusal) -> Result<Reply, AllocError>
+    ensures due { IfOk result (λ _. (o : Option PolicyRefusal) → Says refusal o → o ≡ Some refusal) }
+    ensures reply { IfOk result (λ reply. reply ≡ Refused (board_refusal refusal)) }
+{
     match Refusal::of_policy(refusal) {
-        Ok(due) => Ok((Reply::Refused(due), Change::Nothing)),
+        Ok(due) => Ok(Reply::Refused(due)),
         Err(error) => Err(error),
     }
 }

@@ -1,10 +1,12 @@
 //! Pins and freezes: why a call on them is refused.
 ghost use Rattle.std.specs.Prelude.{◌≡◌, ◌≤◌, ℕ, length, IfOk, IfNone, None, Some};
+ghost use Rattle.std.specs.Option.{option_map};
 ghost use Rattle.std.specs.Result.{result_err};
 ghost use Rattle.dimension_core.specs.Setup.{setting};
 ghost use Rattle.pin_core.specs.Pins.{with_pin, with_front};
 ghost use Rattle.permission_table.specs.Compiled.{AreCompiled};
 ghost use Rattle.board_rules.specs.Pinning.{vehicle_of, pinned, pin_guard, freeze_guard, pin_refusal, unpin_refusal, freeze_refusal, thaw_refusal};
+ghost use Rattle.board_rules.specs.Holds.{refusal_for};
 ghost use Rattle.board_rules.specs.Rules.{is_one_of};
 ghost use Rattle.board_state.specs.Held.{held_basis};
 ghost use Rattle.board_state.specs.Changes.{PinsWillBe};
@@ -13,7 +15,7 @@ ghost use Rattle.board_state.specs.Work.{WorksJust};
 use crate::change::PinChange;
 use crate::named::is_one_of;
 use crate::state::State;
-use board_rules::{Refusal, customers_have_one_spot};
+use board_rules::{HoldRefusal, customers_have_one_spot};
 use callback_store::Meter;
 use dimension_core::Setup;
 use rbac_core::{Object, Operation};
@@ -26,22 +28,22 @@ impl State {
         session: u32,
         customer: u32,
         meter: &mut Meter,
-    ) -> Option<Refusal>
+    ) -> Option<HoldRefusal>
         requires { ∥ AreCompiled self.now.tables self.now.policy.now ∥₁ }
-        ensures refused { result ≡ pin_guard (setting setup.now) (held_basis self.now session) customer }
+        ensures refused { option_map refusal_for result ≡ pin_guard (setting setup.now) (held_basis self.now session) customer }
         ensures low { IfNone result (1 ≤ customer) }
         ensures high { IfNone result (customer ≤ (setting setup.now).customers) }
         ensures work { WorksJust meter.old meter.new 0 1 }
     {
         let may = self.may(session, Operation::Pin, Object::Customer(customer), meter);
         if !self.is_open(session, may) {
-            return Some(Refusal::NoSession);
+            return Some(HoldRefusal::NoSession);
         }
         if !is_one_of(setup.customers(), customer) {
-            return Some(Refusal::BadCustomer);
+            return Some(HoldRefusal::BadCustomer);
         }
         if !may {
-            return Some(Refusal::NoAccess);
+            return Some(HoldRefusal::NoAccess);
         }
         None
     }
@@ -53,22 +55,22 @@ impl State {
         session: u32,
         vehicle: u32,
         meter: &mut Meter,
-    ) -> Option<Refusal>
+    ) -> Option<HoldRefusal>
         requires { ∥ AreCompiled self.now.tables self.now.policy.now ∥₁ }
-        ensures refused { result ≡ freeze_guard (setting setup.now) (held_basis self.now session) vehicle }
+        ensures refused { option_map refusal_for result ≡ freeze_guard (setting setup.now) (held_basis self.now session) vehicle }
         ensures low { IfNone result (1 ≤ vehicle) }
         ensures high { IfNone result (vehicle ≤ (setting setup.now).vehicles) }
         ensures work { WorksJust meter.old meter.new 0 1 }
     {
         let may = self.may(session, Operation::Freeze, Object::Vehicle(vehicle), meter);
         if !self.is_open(session, may) {
-            return Some(Refusal::NoSession);
+            return Some(HoldRefusal::NoSession);
         }
         if !is_one_of(setup.vehicles(), vehicle) {
-            return Some(Refusal::BadVehicle);
+            return Some(HoldRefusal::BadVehicle);
         }
         if !may {
-            return Some(Refusal::NoAccess);
+            return Some(HoldRefusal::NoAccess);
         }
         None
     }
@@ -92,10 +94,10 @@ impl State {
         session: u32,
         customer: u32,
         meter: &mut Meter,
-    ) -> Result<PinChange, Refusal>
+    ) -> Result<PinChange, HoldRefusal>
         requires compiled { ∥ AreCompiled self.now.tables self.now.policy.now ∥₁ }
         requires pins { length self.now.pins.pins ≡ (setting setup.now).customers }
-        ensures refused { result_err result ≡ pin_refusal (setting setup.now) (held_basis self.now session) customer }
+        ensures refused { option_map refusal_for (result_err result) ≡ pin_refusal (setting setup.now) (held_basis self.now session) customer }
         ensures change { IfOk result (λ change. PinsWillBe self.now change (pinned self.now.plan.routes customer self.now.pins)) }
         ensures work { WorksJust meter.old meter.new 0 1 }
     {
@@ -103,10 +105,10 @@ impl State {
             return Err(refusal);
         }
         let Some(vehicle) = self.vehicle_of(customer) else {
-            return Err(Refusal::NotPlaced);
+            return Err(HoldRefusal::NotPlaced);
         };
         if self.pins.pinned(customer).is_some() {
-            return Err(Refusal::Already);
+            return Err(HoldRefusal::Already);
         }
         Ok(PinChange::Pin(customer, vehicle))
     }
@@ -119,10 +121,10 @@ impl State {
         session: u32,
         customer: u32,
         meter: &mut Meter,
-    ) -> Result<PinChange, Refusal>
+    ) -> Result<PinChange, HoldRefusal>
         requires compiled { ∥ AreCompiled self.now.tables self.now.policy.now ∥₁ }
         requires pins { length self.now.pins.pins ≡ (setting setup.now).customers }
-        ensures refused { result_err result ≡ unpin_refusal (setting setup.now) (held_basis self.now session) customer }
+        ensures refused { option_map refusal_for (result_err result) ≡ unpin_refusal (setting setup.now) (held_basis self.now session) customer }
         ensures change { IfOk result (λ change. PinsWillBe self.now change (with_pin customer None self.now.pins)) }
         ensures work { WorksJust meter.old meter.new 0 1 }
     {
@@ -130,7 +132,7 @@ impl State {
             return Err(refusal);
         }
         if self.pins.pinned(customer).is_none() {
-            return Err(Refusal::NotThere);
+            return Err(HoldRefusal::NotThere);
         }
         Ok(PinChange::Unpin(customer))
     }
@@ -144,11 +146,11 @@ impl State {
         vehicle: u32,
         frozen: u32,
         meter: &mut Meter,
-    ) -> Result<PinChange, Refusal>
+    ) -> Result<PinChange, HoldRefusal>
         requires compiled { ∥ AreCompiled self.now.tables self.now.policy.now ∥₁ }
         requires routes { length self.now.plan.routes ≡ (setting setup.now).vehicles }
         requires fronts { length self.now.pins.fronts ≡ (setting setup.now).vehicles }
-        ensures refused { result_err result ≡ freeze_refusal (setting setup.now) (held_basis self.now session) vehicle frozen }
+        ensures refused { option_map refusal_for (result_err result) ≡ freeze_refusal (setting setup.now) (held_basis self.now session) vehicle frozen }
         ensures change { IfOk result (λ change. PinsWillBe self.now change (with_front vehicle frozen self.now.pins)) }
         ensures work { WorksJust meter.old meter.new 0 1 }
     {
@@ -156,7 +158,7 @@ impl State {
             return Err(refusal);
         }
         if self.pins.frozen(vehicle) >= frozen || frozen as usize > self.plan.route(vehicle).len() {
-            return Err(Refusal::Length);
+            return Err(HoldRefusal::Length);
         }
         Ok(PinChange::Front(vehicle, frozen))
     }
@@ -170,10 +172,10 @@ impl State {
         vehicle: u32,
         left: u32,
         meter: &mut Meter,
-    ) -> Result<PinChange, Refusal>
+    ) -> Result<PinChange, HoldRefusal>
         requires compiled { ∥ AreCompiled self.now.tables self.now.policy.now ∥₁ }
         requires fronts { length self.now.pins.fronts ≡ (setting setup.now).vehicles }
-        ensures refused { result_err result ≡ thaw_refusal (setting setup.now) (held_basis self.now session) vehicle left }
+        ensures refused { option_map refusal_for (result_err result) ≡ thaw_refusal (setting setup.now) (held_basis self.now session) vehicle left }
         ensures change { IfOk result (λ change. PinsWillBe self.now change (with_front vehicle left self.now.pins)) }
         ensures work { WorksJust meter.old meter.new 0 1 }
     {
@@ -181,7 +183,7 @@ impl State {
             return Err(refusal);
         }
         if self.pins.frozen(vehicle) <= left {
-            return Err(Refusal::Length);
+            return Err(HoldRefusal::Length);
         }
         Ok(PinChange::Front(vehicle, left))
     }

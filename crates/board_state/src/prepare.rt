@@ -1,11 +1,13 @@
 //! Calls: judged, with what they change.
 ghost use Rattle.std.specs.Prelude.{◌≡◌, ◌+◌, ◌≤◌, ℕ, length, Some, IfOk, OnOk, MatchResult};
+ghost use Rattle.std.specs.Option.{option_map};
 ghost use Rattle.std.specs.Result.{result_err};
 ghost use Rattle.dimension_core.specs.Setup.{setting};
 ghost use Rattle.move_core.specs.declared.moves.Move.{Move};
 ghost use Rattle.board_rules.specs.State.{BoardState};
 ghost use Rattle.dimension_core.specs.Setting.{Setting};
 ghost use Rattle.board_rules.specs.Rules.{Agree, basis_of};
+ghost use Rattle.board_rules.specs.Holds.{refusal_for};
 ghost use Rattle.board_rules.specs.Step.{IsReply, after, refused_by};
 ghost use Rattle.board_rules.specs.declared.call.Call.TheVariants.{Propose, Policy};
 ghost use Rattle.rbac_core.specs.declared.command.Command.{Command};
@@ -16,7 +18,7 @@ ghost use Rattle.board_state.specs.Work.{WorksAtMost, IsWorkOf, call_asks, call_
 use crate::change::{Change, Commit, Judged, PinChange};
 use crate::state::State;
 use crate::stop::Stop;
-use board_rules::{Call, Refusal, Reply, changes_by_stamps, verdicts_by_agreeing_facts};
+use board_rules::{Call, HoldRefusal, Reply, changes_by_stamps, verdicts_by_agreeing_facts};
 use callback_store::Meter;
 use dimension_core::Setup;
 use move_core::{Move, moves_name_vehicles};
@@ -147,12 +149,12 @@ impl State {
 }
 
 /// The reply to a judged call on pins, and what it changes.
-fn answered(judged: Result<PinChange, Refusal>) -> (Reply, Change)
-    ensures reply { result.0 ≡ refused_by (result_err judged) }
+fn answered(judged: Result<PinChange, HoldRefusal>) -> (Reply, Change)
+    ensures reply { result.0 ≡ refused_by (option_map refusal_for (result_err judged)) }
     ensures change { MatchResult judged (λ change. result.1 ≡ Change.Pins change) (λ refusal. result.1 ≡ Change.Nothing) }
 {
     match judged {
         Ok(change) => (Reply::Done, Change::Pins(change)),
-        Err(refusal) => (Reply::Refused(refusal), Change::Nothing),
+        Err(refusal) => (Reply::Refused(refusal.refusal()), Change::Nothing),
     }
 }

@@ -17,3 +17,4 @@ mod ReviewLaws
 mod SetLaws
 mod SlotLaws
 mod WiderLaws
+pub mod Inserted

@@ -1,6 +1,7 @@
 //! Users and the roles that they are assigned to.
 ghost use Rattle.std.specs.Prelude.{◌≡◌, ℕ, ◌<◌, ◌≤◌, [], ◌∷◌, List, None, Some, OnOk, OnErr, IfErr, IfOk, IfNone, IfSome, ◌↔◌, ◌+◌, ◌-◌, true, false, bytes_eq, nat_eq, is_some, is_none, map, unwrap_or, length, filter, not};
 ghost use Rattle.std.specs.Map.{lookup};
+ghost use Rattle.indexmap.specs.IndexMap.{insert_entry};
 ghost use Rattle.std.specs.Result.{result_err};
 ghost use Rattle.role_hierarchy.specs.Roles.{with_role, without};
 ghost use Rattle.policy_core.specs.State.{AreThere, is_user, held_by, slot_of, with_roles, broken_ssd};
@@ -12,37 +13,38 @@ use crate::session::Session;
 use indexmap::IndexMap;
 use role_hierarchy::RoleSet;
 use separation_core::Name;
+use std::alloc::AllocError;
 
 impl Policy {
     /// AddUser. In this order `Already`, `Full`; `NoMemory` may come in place of any answer.
+    #[tactic(auto, unfolding(crate::specs::Commands::add_user_refusal))]
     pub fn add_user(&mut self, user: Name) -> Result<(), Refusal>
         ensures ok { OnOk result (self.new ≡ user_added self.old user) }
         ensures allowed { OnOk result (add_user_refusal self.old user ≡ None) }
         ensures err { OnErr result (self.new ≡ self.old) }
         ensures refused { IfErr result (λ e. Says e (add_user_refusal self.old user)) }
     {
-        if let Some(refusal) = self.refusal_of_add_user(user) {
-            return Err(refusal);
+        if self.users.len() >= 1024 {
+            return Err(self.refusal_of_one_more(user));
         }
         self.ssd.are_sets();
-        let Ok(_) = self.users.insert(user, RoleSet::new()) else {
-            return Err(Refusal::NoMemory);
-        };
-        Ok(())
+        match add_new(&mut self.users, user) {
+            Ok(true) => Ok(()),
+            Ok(false) => Err(Refusal::Already),
+            Err(_) => Err(Refusal::NoMemory),
+        }
     }
 
+    /// Why a user is not added where there are as many as there may be.
     #[tactic(auto, unfolding(crate::specs::Commands::add_user_refusal))]
-    fn refusal_of_add_user(&self, user: Name) -> Option<Refusal>
-        ensures value { result ≡ add_user_refusal self.now user }
-        ensures room { IfNone result (length self.now.users < 1024) }
+    fn refusal_of_one_more(&self, user: Name) -> Refusal
+        requires { 1024 ≤ length self.now.users }
+        ensures { add_user_refusal self.now user ≡ Some result }
     {
         if self.users.contains_key(&user) {
-            return Some(Refusal::Already);
+            return Refusal::Already;
         }
-        if self.users.len() >= 1024 {
-            return Some(Refusal::Full);
-        }
-        None
+        Refusal::Full
     }
 
     /// DeleteUser: its assignments and its sessions go with it. `NoUser` where there is no such user.
@@ -182,4 +184,23 @@ fn drop_sessions_of(sessions: &mut IndexMap<u32, Session>, user: Name)
     ensures { sessions.new.entries ≡ filter (λ e. not (bytes_eq e.1.user user)) sessions.old.entries }
 {
     sessions.retain(|_, session| session.user != user);
+}
+
+/// Adds a user without roles, and tells whether it is new: one that is there keeps its roles. A new user is looked up once.
+fn add_new(users: &mut IndexMap<Name, RoleSet>, user: Name) -> Result<bool, AllocError>
+    ensures is_new { IfOk result (λ is_new. is_some (lookup (bytes_eq user) users.old.entries) ≡ not is_new) }
+    ensures added { IfOk result (λ is_new. is_new ≡ true → users.new.entries ≡ insert_entry bytes_eq users.old.entries user 0) }
+    ensures kept { IfOk result (λ is_new. is_new ≡ false → users.new.entries ≡ users.old.entries) }
+    ensures err { OnErr result (users.new.entries ≡ users.old.entries) }
+{
+    match users.insert(user, RoleSet::new()) {
+        Ok(None) => Ok(true),
+        Ok(Some(roles)) => {
+            let Ok(_) = users.insert(user, roles) else {
+                unreachable!()
+            };
+            Ok(false)
+        }
+        Err(_) => Err(AllocError),
+    }
 }

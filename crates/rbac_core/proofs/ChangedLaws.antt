@@ -1,5 +1,5 @@
 -- What a command does not change.
-use Rattle.std.proofs.Common.{ℕ, Option, Some, None, true, sym, refl}
+use Rattle.std.proofs.Common.{◌≡◌, ℕ, Option, Some, None, true, sym, refl}
 use Rattle.std.specs.Option.{option_map_or}
 use Rattle.std.proofs.lemmas.Bool.{false≢true}
 use Rattle.role_hierarchy.specs.Roles.{first_free}
@@ -9,7 +9,7 @@ use Rattle.policy_core.specs.State.{PolicyState, slot_of}
 use Rattle.policy_core.specs.Commands.{role_at}
 use Rattle.rbac_core.specs.declared.command.Command.{Command}
 use Rattle.rbac_core.specs.declared.command.Command.TheVariants.{AddUser, DeleteUser, AddRole, DeleteRole, AssignUser, DeassignUser, GrantPermission, RevokePermission, AddInheritance, DeleteInheritance, CreateSsdSet, AddSsdRoleMember, DeleteSsdRoleMember, DeleteSsdSet, SetSsdSetCardinality, CreateDsdSet, AddDsdRoleMember, DeleteDsdRoleMember, DeleteDsdSet, SetDsdSetCardinality, CreateSession, DeleteSession, AddActiveRole, DropActiveRole, Migrate}
-use Rattle.rbac_core.specs.Step.{after}
+use Rattle.rbac_core.specs.Step.{after, takes_memory}
 use Rattle.rbac_core.specs.Changed.{parts_of}
 
 pub differs : (p : PolicyState) (command : Command) → DifferIn (parts_of command) (after p command) p
@@ -42,3 +42,35 @@ differs p (DeleteSession session) = record { users = λ same. refl; roles = λ s
 differs p (AddActiveRole session role) = record { users = λ same. refl; roles = λ same. refl; order = λ same. refl; grants = refl; ssd = λ same. refl; dsd = λ same. refl; sessions = λ marked. absurd (false≢true (sym marked)) }
 differs p (DropActiveRole session role) = record { users = λ same. refl; roles = λ same. refl; order = λ same. refl; grants = refl; ssd = λ same. refl; dsd = λ same. refl; sessions = λ marked. absurd (false≢true (sym marked)) }
 differs p Migrate = record { users = λ same. refl; roles = λ same. refl; order = λ same. refl; grants = refl; ssd = λ same. refl; dsd = λ same. refl; sessions = λ marked. absurd (false≢true (sym marked)) }
+
+-- What the policy before a command lacks, where the command takes memory.
+pub lacks : (p : PolicyState) (command : Command) → takes_memory command ≡ true → DifferIn (parts_of command) p (after p command)
+lacks p (AddUser user) takes = record { users = λ marked. absurd (false≢true (sym marked)); roles = λ same. refl; order = λ same. refl; grants = refl; ssd = λ same. refl; dsd = λ same. refl; sessions = λ same. refl }
+lacks p (AddRole role) takes = by (first_free p.order.roles)
+  where
+    by : (slot : Option ℕ) → DifferIn (record no_parts { roles = true; order = true }) p (option_map_or (role_at p role) slot p)
+    by None = record { users = λ same. refl; roles = λ same. refl; order = λ same. refl; grants = refl; ssd = λ same. refl; dsd = λ same. refl; sessions = λ same. refl }
+    by (Some slot) = record { users = λ same. refl; roles = λ marked. absurd (false≢true (sym marked)); order = λ marked. absurd (false≢true (sym marked)); grants = refl; ssd = λ same. refl; dsd = λ same. refl; sessions = λ same. refl }
+lacks p (AddInheritance senior junior) takes = record { users = λ same. refl; roles = λ same. refl; order = λ marked. absurd (false≢true (sym marked)); grants = refl; ssd = λ same. refl; dsd = λ same. refl; sessions = λ same. refl }
+lacks p (CreateSsdSet name number roles) takes = record { users = λ same. refl; roles = λ same. refl; order = λ same. refl; grants = refl; ssd = λ marked. absurd (false≢true (sym marked)); dsd = λ same. refl; sessions = λ same. refl }
+lacks p (CreateDsdSet name number roles) takes = record { users = λ same. refl; roles = λ same. refl; order = λ same. refl; grants = refl; ssd = λ same. refl; dsd = λ marked. absurd (false≢true (sym marked)); sessions = λ same. refl }
+lacks p (CreateSession user roles) takes = record { users = λ same. refl; roles = λ same. refl; order = λ same. refl; grants = refl; ssd = λ same. refl; dsd = λ same. refl; sessions = λ marked. absurd (false≢true (sym marked)) }
+lacks p (DeleteUser user) takes = absurd (false≢true takes)
+lacks p (DeleteRole role) takes = absurd (false≢true takes)
+lacks p (AssignUser user role) takes = absurd (false≢true takes)
+lacks p (DeassignUser user role) takes = absurd (false≢true takes)
+lacks p (GrantPermission role operation range) takes = absurd (false≢true takes)
+lacks p (RevokePermission role operation range) takes = absurd (false≢true takes)
+lacks p (DeleteInheritance senior junior) takes = absurd (false≢true takes)
+lacks p (AddSsdRoleMember name role) takes = absurd (false≢true takes)
+lacks p (DeleteSsdRoleMember name role) takes = absurd (false≢true takes)
+lacks p (DeleteSsdSet name) takes = absurd (false≢true takes)
+lacks p (SetSsdSetCardinality name number) takes = absurd (false≢true takes)
+lacks p (AddDsdRoleMember name role) takes = absurd (false≢true takes)
+lacks p (DeleteDsdRoleMember name role) takes = absurd (false≢true takes)
+lacks p (DeleteDsdSet name) takes = absurd (false≢true takes)
+lacks p (SetDsdSetCardinality name number) takes = absurd (false≢true takes)
+lacks p (DeleteSession session) takes = absurd (false≢true takes)
+lacks p (AddActiveRole session role) takes = absurd (false≢true takes)
+lacks p (DropActiveRole session role) takes = absurd (false≢true takes)
+lacks p Migrate takes = absurd (false≢true takes)

@@ -1,12 +1,13 @@
 //! The parts of a policy that a command may change.
-ghost use Rattle.std.specs.Prelude.{◌≡◌};
+ghost use Rattle.std.specs.Prelude.{◌≡◌, true, Some};
 ghost use Rattle.policy_core.specs.State.{PolicyState};
-ghost use Rattle.policy_core.specs.Parts.{DifferIn};
-ghost use Rattle.rbac_core.specs.Step.{after};
+ghost use Rattle.policy_core.specs.Parts.{DifferIn, no_parts};
+ghost use Rattle.rbac_core.specs.Step.{after, takes_memory};
 ghost use Rattle.rbac_core.specs.Changed.{parts_of};
 
 use crate::command::Command;
 use policy_core::Parts;
+use separation_core::Name;
 
 /// The parts in which a policy after the command may differ from the one before it.
 pub(crate) fn changed(command: &Command) -> Parts
@@ -15,71 +16,132 @@ pub(crate) fn changed(command: &Command) -> Parts
     parts_of(command)
 }
 
-/// The parts, kind by kind.
+/// The parts in which a policy before the command may differ from the one after it. Of the commands that take memory alone: a role that
+/// is deleted has no slot afterwards.
+pub(crate) fn lacking(command: &Command) -> Parts
+    ensures { (p : PolicyState) → takes_memory command.now ≡ true → DifferIn result p (after p command.now) }
+{
+    parts_of(command)
+}
+
+/// The parts, kind by kind. Each kind makes its own parts, so that no other's are made before.
 fn parts_of(command: &Command) -> Parts
     ensures { result ≡ parts_of command.now }
 {
-    let none = Parts::none();
-    let users = Parts {
-        users: true,
-        ..none
-    };
-    let left = Parts {
-        sessions: true,
-        ..users
-    };
-    let order = Parts {
-        order: true,
-        ..none
-    };
-    let sessions = Parts {
-        sessions: true,
-        ..none
-    };
-    let ssd = Parts { ssd: true, ..none };
-    let dsd = Parts { dsd: true, ..none };
     match command {
-        Command::AddUser { .. } => users,
-        Command::DeleteUser { .. } => left,
+        Command::AddUser { .. } => users(),
+        Command::DeleteUser { .. } => held(),
         Command::AddRole { .. } => Parts {
             roles: true,
-            ..order
+            ..order()
         },
         Command::DeleteRole { role } => Parts {
             roles: true,
             order: true,
             grants: Some(*role),
-            ..left
+            ..held()
         },
-        Command::AssignUser { .. } => users,
-        Command::DeassignUser { .. } => left,
-        Command::GrantPermission { role, .. } => Parts {
-            grants: Some(*role),
-            ..none
-        },
-        Command::RevokePermission { role, .. } => Parts {
-            grants: Some(*role),
-            ..none
-        },
-        Command::AddInheritance { .. } => order,
+        Command::AssignUser { .. } => users(),
+        Command::DeassignUser { .. } => held(),
+        Command::GrantPermission { role, .. } => grants(*role),
+        Command::RevokePermission { role, .. } => grants(*role),
+        Command::AddInheritance { .. } => order(),
         Command::DeleteInheritance { .. } => Parts {
             sessions: true,
-            ..order
+            ..order()
         },
-        Command::CreateSsdSet { .. } => ssd,
-        Command::AddSsdRoleMember { .. } => ssd,
-        Command::DeleteSsdRoleMember { .. } => ssd,
-        Command::DeleteSsdSet { .. } => ssd,
-        Command::SetSsdSetCardinality { .. } => ssd,
-        Command::CreateDsdSet { .. } => dsd,
-        Command::AddDsdRoleMember { .. } => dsd,
-        Command::DeleteDsdRoleMember { .. } => dsd,
-        Command::DeleteDsdSet { .. } => dsd,
-        Command::SetDsdSetCardinality { .. } => dsd,
-        Command::CreateSession { .. } => sessions,
-        Command::DeleteSession { .. } => sessions,
-        Command::AddActiveRole { .. } => sessions,
-        Command::DropActiveRole { .. } => sessions,
-        Command::Migrate => sessions,
+        Command::CreateSsdSet { .. } => ssd(),
+        Command::AddSsdRoleMember { .. } => ssd(),
+        Command::DeleteSsdRoleMember { .. } => ssd(),
+        Command::DeleteSsdSet { .. } => ssd(),
+        Command::SetSsdSetCardinality { .. } => ssd(),
+        Command::CreateDsdSet { .. } => dsd(),
+        Command::AddDsdRoleMember { .. } => dsd(),
+        Command::DeleteDsdRoleMember { .. } => dsd(),
+        Command::DeleteDsdSet { .. } => dsd(),
+        Command::SetDsdSetCardinality { .. } => dsd(),
+        Command::CreateSession { .. } => sessions(),
+        Command::DeleteSession { .. } => sessions(),
+        Command::AddActiveRole { .. } => sessions(),
+        Command::DropActiveRole { .. } => sessions(),
+        Command::Migrate => sessions(),
+    }
+}
+
+/// The users.
+#[inline(always)]
+fn users() -> Parts
+    ensures { result ≡ record no_parts { users = true } }
+{
+    Parts {
+        users: true,
+        ..Parts::none()
+    }
+}
+
+/// The users and the sessions.
+#[inline(always)]
+fn held() -> Parts
+    ensures { result ≡ record no_parts { users = true; sessions = true } }
+{
+    Parts {
+        users: true,
+        sessions: true,
+        ..Parts::none()
+    }
+}
+
+/// The slots and pairs of roles.
+#[inline(always)]
+fn order() -> Parts
+    ensures { result ≡ record no_parts { order = true } }
+{
+    Parts {
+        order: true,
+        ..Parts::none()
+    }
+}
+
+/// The SSD sets.
+#[inline(always)]
+fn ssd() -> Parts
+    ensures { result ≡ record no_parts { ssd = true } }
+{
+    Parts {
+        ssd: true,
+        ..Parts::none()
+    }
+}
+
+/// The DSD sets.
+#[inline(always)]
+fn dsd() -> Parts
+    ensures { result ≡ record no_parts { dsd = true } }
+{
+    Parts {
+        dsd: true,
+        ..Parts::none()
+    }
+}
+
+/// The sessions.
+#[inline(always)]
+fn sessions() -> Parts
+    ensures { result ≡ record no_parts { sessions = true } }
+{
+    Parts {
+        sessions: true,
+        ..Parts::none()
+    }
+}
+
+/// The permissions of this role.
+#[inline(always)]
+fn grants(role: Name) -> Parts
+    ensures { result ≡ record no_parts { grants = Some role } }
+{
+    Parts {
+        grants: Some(role),
+        ..Parts::none()
     }
 }

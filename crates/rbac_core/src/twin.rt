@@ -4,7 +4,7 @@ ghost use Rattle.policy_core.specs.Commands.{Says};
 ghost use Rattle.rbac_core.specs.Step.{refusal_of, after, outcome_of, guard, guard_by};
 ghost use Rattle.rbac_core.specs.Twins.{Follows, tried_of};
 
-use crate::changed::changed;
+use crate::changed::{changed, lacking};
 use crate::command::{Command, Outcome};
 use crate::steps::{carry_out, change, guard};
 use policy_core::{Parts, Policy, Refusal};
@@ -130,6 +130,31 @@ impl Twin {
             mem::swap(&mut self.policy, &mut self.spare);
             self.lag = Lag::Behind(command);
         }
+    }
+
+    /// As `settle`, but the spare policy gets the command at once, so that no copy of the command is kept. Where memory runs out for that,
+    /// the next command that is tried first copies what the spare one lacks.
+    pub fn keep(&mut self, command: &Command)
+        requires allowed { refusal_of self.old.now command.now ≡ None }
+        requires tried { self.old.tried ≡ after self.old.now command.now }
+        ensures { self.new ≡ record { now = self.old.tried; tried = self.old.tried } }
+    {
+        if let Lag::Ahead(_) = self.lag {
+            mem::swap(&mut self.policy, &mut self.spare);
+            self.lag = follow(&mut self.spare, command);
+        }
+    }
+}
+
+/// Gives the spare policy the command that the other already has. How it then compares with the other.
+fn follow(spare: &mut Policy, command: &Command) -> Lag
+    requires { refusal_of spare.old command.now ≡ None }
+    ensures follows { Follows result spare.new (after spare.old command.now) }
+    ensures nothing { tried_of result spare.new (after spare.old command.now) ≡ after spare.old command.now }
+{
+    match change(spare, command) {
+        Ok(()) => Lag::Even,
+        Err(_) => Lag::Apart(lacking(command)),
     }
 }
 

@@ -3,22 +3,36 @@ use Rattle.std.specs.Prelude.{slice_set}
 use Rattle.dimension_core.specs.Setup.{setting}
 use Rattle.board_rules.specs.declared.call.Entry.{Entry}
 use Rattle.board_rules.specs.History.{state_after, IsNext}
+use Rattle.board_journal.specs.Entries.{commanded}
+use Rattle.policy_core.specs.State.{PolicyState}
+use Rattle.permission_table.specs.Compiled.{AreCompiled, HasSizes}
 use Rattle.board_state.specs.Changes.{Tries}
 use Rattle.board_state.specs.Held.{Holds, IsReady}
-use Rattle.board_core.specs.Kept.{CoreState, history_of, entry_of}
+use Rattle.board_core.specs.Kept.{CoreState, history_of}
 use Rattle.board_core.proofs.Keeping.{ready, kept_same, kept_after, turn_due}
-use Rattle.board_core.proofs.body.Core.carry_out.Goals as goal
+use Rattle.board_core.proofs.body.Core.command.Goals as goal
 
-pub apply-requires : goal.apply-requires
-apply-requires g c =
+pub command-requires-clause-compiled : goal.command-requires-clause-compiled
+command-requires-clause-compiled g c =
     let s = setting c.args.setup.now in
     let core = c.args.self.now in
     let kept = c.requires.kept in
     let good = c.legal_histories_leave_good_states.ensures.good (history_of s core) kept.legal in
     let few = c.legal_histories_leave_good_states.ensures.commits (history_of s core) kept.legal in
     let most = c.max_events-most.ensures.sound.few_events in
-    subst (λ (x : CoreState). IsReady s x.held) (sym c.self.view_is)
-    (ready s core.held (state_after s core.journal) kept.held good (omega (arith, few, most, c.requires.taken.space)))
+    subst (λ (x : CoreState). ∥ AreCompiled x.held.tables x.held.policy.now ∥₁) (sym c.self.view_is)
+    (ready s core.held (state_after s core.journal) kept.held good (omega (arith, few, most, c.requires.taken.space))).compiled
+
+pub command-requires-clause-sizes : goal.command-requires-clause-sizes
+command-requires-clause-sizes g c =
+    let s = setting c.args.setup.now in
+    let core = c.args.self.now in
+    let kept = c.requires.kept in
+    let good = c.legal_histories_leave_good_states.ensures.good (history_of s core) kept.legal in
+    let few = c.legal_histories_leave_good_states.ensures.commits (history_of s core) kept.legal in
+    let most = c.max_events-most.ensures.sound.few_events in
+    subst (λ (x : CoreState). HasSizes x.held.policy.now x.held.tables) (sym c.self.view_is)
+    (ready s core.held (state_after s core.journal) kept.held good (omega (arith, few, most, c.requires.taken.space))).sizes
 
 pub returns-in_err-make_room-clause-kept : goal.returns-in_err-make_room-clause-kept
 returns-in_err-make_room-clause-kept g c =
@@ -32,22 +46,23 @@ returns-in_err-reply-clause-kept g c =
     let s = setting c.args.setup.now in
     kept_same s c.args.self.now _ c.requires.kept
     (c.make_room.ensures.entries ∙ ap (λ (x : CoreState). x.journal) c.self.view_is) (ap (λ (x : CoreState). x.turns) c.self.view_is)
-    (subst (λ (x : CoreState). Tries x.held c.apply.new.self) c.self.view_is c.in_err-reply.ensures.err)
+    (subst (λ (x : CoreState). Tries x.held c.command.new.self) c.self.view_is c.in_err-reply.ensures.err)
 
 pub returns-clause-kept : goal.returns-clause-kept
 returns-clause-kept g c =
     let s = setting c.args.setup.now in
     let core = c.args.self.now in
-    let event = c.args.event in
+    let desk = c.args.desk in
+    let turn = c.args.turn in
     let kept = c.requires.kept in
     let taken = c.requires.taken in
     let state = state_after s core.journal in
-    let e : Entry = entry_of event c.in_ok-reply.reply in
-    let due = turn_due (length core.turns) core.journal event.desk event.turn taken.due in
+    let e : Entry = commanded desk turn c.args.session c.args.command c.in_ok-reply.reply in
+    let due = turn_due (length core.turns) core.journal desk turn taken.due in
     let holds = subst (λ (x : CoreState). Holds s x.held state) (sym c.self.view_is) kept.held in
     kept_after s core _ e c.histories_grow_by_entries.ensures.legal c.histories_grow_by_entries.ensures.state c.histories_grow_by_entries.ensures.turns kept
     taken.space
-    (record { desk_low = taken.low; desk_high = taken.high; turn = due.2; reply = c.in_ok-reply.ensures.reply state holds })
-    (c.push.ensures.entries ∙ ap (λ es. es ++ e ∷ []) (c.make_room.ensures.entries ∙ ap (λ (x : CoreState). x.journal) c.self.view_is))
-    (ap (λ (x : CoreState). slice_set x.turns (event.desk - 1) event.turn) c.self.view_is)
-    (c.in_ok-reply.ensures.holds state holds)
+    (record { desk_low = taken.low; desk_high = taken.high; turn = due.2; reply = c.in_ok-reply.ensures.reply s state holds })
+    (c.push_command.ensures.entries ∙ ap (λ es. es ++ e ∷ []) (c.make_room.ensures.entries ∙ ap (λ (x : CoreState). x.journal) c.self.view_is))
+    (ap (λ (x : CoreState). slice_set x.turns (desk - 1) turn) c.self.view_is)
+    (c.in_ok-reply.ensures.holds s state holds)

@@ -1,8 +1,9 @@
 //! Calls on pins and frozen fronts, and their replies, in few bytes.
 ghost use Rattle.std.specs.Prelude.{◌≡◌, false, MatchOption};
-ghost use Rattle.board_journal.specs.Packed.{is_hold, is_ruling};
+ghost use Rattle.board_rules.specs.Holds.{call_of, refusal_for, reply_to, is_hold, is_hold_refusal, is_ruling};
 
-use board_rules::{Call, Refusal, Reply};
+use crate::call::Call;
+use crate::reply::{Refusal, Reply};
 
 /// A call on a pin or on the frozen front of a vehicle, with the variants of `Call`.
 #[derive(Clone, Copy, Debug, PartialEq, Eq)]
@@ -28,11 +29,9 @@ pub enum Hold {
 }
 
 impl Hold {
-    ghost use Rattle.board_journal.specs.Records.{call_of};
-
     /// The call as one of these, where it is one.
     #[inline]
-    pub(crate) fn of(call: &Call) -> Option<Hold>
+    pub fn of(call: &Call) -> Option<Hold>
         ensures { MatchOption result (is_hold call.now ≡ false) (λ hold. call_of hold ≡ call.now) }
     {
         match call {
@@ -95,10 +94,9 @@ impl Hold {
     }
 }
 
-/// The reply to such a call: that it is done, or why it is refused, with the variants of `Refusal` that it may have.
+/// Why such a call is refused: those of the variants of `Refusal` that it may have.
 #[derive(Clone, Copy, Debug, PartialEq, Eq)]
-pub enum Ruling {
-    Done,
+pub enum HoldRefusal {
     NoSession,
     NoAccess,
     BadVehicle,
@@ -109,42 +107,74 @@ pub enum Ruling {
     Length,
 }
 
-impl Ruling {
-    ghost use Rattle.board_journal.specs.Records.{reply_to};
+impl HoldRefusal {
+    /// The refusal as one of these, where it is one.
+    #[inline]
+    pub(crate) fn of(refusal: &Refusal) -> Option<HoldRefusal>
+        ensures { MatchOption result (is_hold_refusal refusal.now ≡ false) (λ due. refusal_for due ≡ refusal.now) }
+    {
+        match refusal {
+            Refusal::NoSession => Some(HoldRefusal::NoSession),
+            Refusal::NoAccess => Some(HoldRefusal::NoAccess),
+            Refusal::BadVehicle => Some(HoldRefusal::BadVehicle),
+            Refusal::BadCustomer => Some(HoldRefusal::BadCustomer),
+            Refusal::Already => Some(HoldRefusal::Already),
+            Refusal::NotThere => Some(HoldRefusal::NotThere),
+            Refusal::NotPlaced => Some(HoldRefusal::NotPlaced),
+            Refusal::Length => Some(HoldRefusal::Length),
+            _ => None,
+        }
+    }
 
+    /// The refusal for which it stands.
+    #[inline]
+    pub fn refusal(self) -> Refusal
+        ensures { result ≡ refusal_for self }
+    {
+        match self {
+            HoldRefusal::NoSession => Refusal::NoSession,
+            HoldRefusal::NoAccess => Refusal::NoAccess,
+            HoldRefusal::BadVehicle => Refusal::BadVehicle,
+            HoldRefusal::BadCustomer => Refusal::BadCustomer,
+            HoldRefusal::Already => Refusal::Already,
+            HoldRefusal::NotThere => Refusal::NotThere,
+            HoldRefusal::NotPlaced => Refusal::NotPlaced,
+            HoldRefusal::Length => Refusal::Length,
+        }
+    }
+}
+
+/// The reply to such a call.
+#[derive(Clone, Copy, Debug, PartialEq, Eq)]
+pub enum Ruling {
+    Done,
+    Refused(HoldRefusal),
+}
+
+impl Ruling {
     /// The reply as one of these, where it is one.
     #[inline]
-    pub(crate) fn of(reply: &Reply) -> Option<Ruling>
+    pub fn of(reply: &Reply) -> Option<Ruling>
         ensures { MatchOption result (is_ruling reply.now ≡ false) (λ ruling. reply_to ruling ≡ reply.now) }
     {
         match reply {
             Reply::Done => Some(Ruling::Done),
-            Reply::Refused(Refusal::NoSession) => Some(Ruling::NoSession),
-            Reply::Refused(Refusal::NoAccess) => Some(Ruling::NoAccess),
-            Reply::Refused(Refusal::BadVehicle) => Some(Ruling::BadVehicle),
-            Reply::Refused(Refusal::BadCustomer) => Some(Ruling::BadCustomer),
-            Reply::Refused(Refusal::Already) => Some(Ruling::Already),
-            Reply::Refused(Refusal::NotThere) => Some(Ruling::NotThere),
-            Reply::Refused(Refusal::NotPlaced) => Some(Ruling::NotPlaced),
-            Reply::Refused(Refusal::Length) => Some(Ruling::Length),
+            Reply::Refused(refusal) => match HoldRefusal::of(refusal) {
+                Some(due) => Some(Ruling::Refused(due)),
+                None => None,
+            },
             _ => None,
         }
     }
 
     /// The reply for which it stands.
+    #[inline]
     pub fn reply(self) -> Reply
         ensures { result ≡ reply_to self }
     {
         match self {
             Ruling::Done => Reply::Done,
-            Ruling::NoSession => Reply::Refused(Refusal::NoSession),
-            Ruling::NoAccess => Reply::Refused(Refusal::NoAccess),
-            Ruling::BadVehicle => Reply::Refused(Refusal::BadVehicle),
-            Ruling::BadCustomer => Reply::Refused(Refusal::BadCustomer),
-            Ruling::Already => Reply::Refused(Refusal::Already),
-            Ruling::NotThere => Reply::Refused(Refusal::NotThere),
-            Ruling::NotPlaced => Reply::Refused(Refusal::NotPlaced),
-            Ruling::Length => Reply::Refused(Refusal::Length),
+            Ruling::Refused(refusal) => Reply::Refused(refusal.refusal()),
         }
     }
 }
