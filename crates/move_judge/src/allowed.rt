@@ -624,7 +624,7 @@ fn allows_cross(
 }
 
 /// Whether a move near two vehicles, or near one, that has an effect is allowed; where `bounded` is false, with the dimensions left out.
-/// What is kept for each vehicle is what `kept_between`, `kept_alone` or `nothing_kept` gives.
+/// What is kept for each vehicle is what `Kept::keep_between` or `Kept::keep_alone` kept last, or nothing.
 pub fn allows(
     view: &View,
     setup: &Setup,

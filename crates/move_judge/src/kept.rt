@@ -33,6 +33,7 @@ impl Model for Spans {
 
 impl Spans {
     /// No spans.
+    #[inline(always)]
     pub(crate) fn none(alloc: Global) -> Spans
         ensures { result.width ≡ 0 }
     {
@@ -40,6 +41,14 @@ impl Spans {
             width: 0,
             cells: Vec::new(alloc),
         }
+    }
+
+    /// Forgets the spans. Their memory is kept.
+    #[inline(always)]
+    pub(crate) fn forget(&mut self)
+        ensures { self.new.width ≡ 0 }
+    {
+        self.width = 0;
     }
 
     /// Whether there are spans.
@@ -142,23 +151,24 @@ fn span_before(
     }
 }
 
-/// The spans after each number of the first customers of a route, as the vehicle drives it.
-fn spans_ahead(
-    alloc: Global,
+/// Puts the spans after each number of the first customers of a route, as the vehicle drives it, in place of what `cells` held.
+fn fill_ahead(
     setup: &Setup,
     vehicle: u32,
     route: &[u32],
+    cells: &mut Vec<Option<Range>>,
     meter: &mut Meter,
-) -> Result<Spans, AllocError>
+) -> Result<(), AllocError>
     requires laws { Laws }
     requires known { All (λ c. c ≤ (setting setup.now).customers) route.now }
     requires short { length route.now ≤ 1000 }
     requires low { 1 ≤ vehicle }
     requires high { vehicle ≤ (setting setup.now).vehicles }
-    ensures { IfOk result (λ spans. AreAhead (setting setup.now) vehicle route.now spans) }
+    ensures { IfOk result (λ _. AreAhead (setting setup.now) vehicle route.now (record { width = length route.now + 1; cells = cells.new.items })) }
 {
     let width = route.len() + 1;
-    let mut cells = Vec::with_capacity(alloc, setup.dimensions().len() * width)?;
+    cells.clear();
+    cells.reserve(setup.dimensions().len() * width)?;
     for dimension in setup.dimensions() {
         let mut span = dimension.start(vehicle);
         let mut from = 0;
@@ -177,26 +187,27 @@ fn spans_ahead(
             cells.push(span)?;
         }
     }
-    Ok(Spans { width, cells })
+    Ok(())
 }
 
-/// The spans before each number of the last customers of a route, as the vehicle drives it.
-fn spans_behind(
-    alloc: Global,
+/// Puts the spans before each number of the last customers of a route, as the vehicle drives it, in place of what `cells` held.
+fn fill_behind(
     setup: &Setup,
     vehicle: u32,
     route: &[u32],
+    cells: &mut Vec<Option<Range>>,
     meter: &mut Meter,
-) -> Result<Spans, AllocError>
+) -> Result<(), AllocError>
     requires laws { Laws }
     requires known { All (λ c. c ≤ (setting setup.now).customers) route.now }
     requires short { length route.now ≤ 1000 }
     requires low { 1 ≤ vehicle }
     requires high { vehicle ≤ (setting setup.now).vehicles }
-    ensures { IfOk result (λ spans. AreBehind (setting setup.now) vehicle route.now spans) }
+    ensures { IfOk result (λ _. AreBehind (setting setup.now) vehicle route.now (record { width = length route.now + 1; cells = cells.new.items })) }
 {
     let width = route.len() + 1;
-    let mut cells = Vec::with_capacity(alloc, setup.dimensions().len() * width)?;
+    cells.clear();
+    cells.reserve(setup.dimensions().len() * width)?;
     for dimension in setup.dimensions() {
         let mut span = span_home(dimension, vehicle);
         let mut next = 0;
@@ -216,62 +227,114 @@ fn spans_behind(
             cells.push(span)?;
         }
     }
-    Ok(Spans { width, cells })
+    Ok(())
 }
 
-/// Nothing kept: a new route is then judged by its whole way.
-pub fn nothing_kept(alloc: Global) -> Kept
-    ensures { (s : Setting) (routes : List (List ℕ)) (v w : ℕ) → AreKept s routes v w result }
-{
-    Kept {
-        ahead: Spans::none(alloc),
-        behind: Spans::none(alloc),
-        over: Spans::none(alloc),
+impl Spans {
+    /// Keeps the spans after each number of the first customers of a route, as the vehicle drives it.
+    fn keep_ahead(
+        &mut self,
+        setup: &Setup,
+        vehicle: u32,
+        route: &[u32],
+        meter: &mut Meter,
+    ) -> Result<(), AllocError>
+        requires laws { Laws }
+        requires known { All (λ c. c ≤ (setting setup.now).customers) route.now }
+        requires short { length route.now ≤ 1000 }
+        requires low { 1 ≤ vehicle }
+        requires high { vehicle ≤ (setting setup.now).vehicles }
+        ensures { IfOk result (λ _. AreAhead (setting setup.now) vehicle route.now self.new) }
+    {
+        fill_ahead(setup, vehicle, route, &mut self.cells, meter)?;
+        self.width = route.len() + 1;
+        Ok(())
+    }
+
+    /// Keeps the spans before each number of the last customers of a route, as the vehicle drives it.
+    fn keep_behind(
+        &mut self,
+        setup: &Setup,
+        vehicle: u32,
+        route: &[u32],
+        meter: &mut Meter,
+    ) -> Result<(), AllocError>
+        requires laws { Laws }
+        requires known { All (λ c. c ≤ (setting setup.now).customers) route.now }
+        requires short { length route.now ≤ 1000 }
+        requires low { 1 ≤ vehicle }
+        requires high { vehicle ≤ (setting setup.now).vehicles }
+        ensures { IfOk result (λ _. AreBehind (setting setup.now) vehicle route.now self.new) }
+    {
+        fill_behind(setup, vehicle, route, &mut self.cells, meter)?;
+        self.width = route.len() + 1;
+        Ok(())
     }
 }
 
-/// What is kept for a vehicle beside another one, by which moves between both are judged. Vehicles count from 1.
-pub fn kept_between(
-    alloc: Global,
-    view: &View,
-    setup: &Setup,
-    v: u32,
-    w: u32,
-    meter: &mut Meter,
-) -> Result<Kept, AllocError>
-    requires view { IsViewOf (setting setup.now) view.now }
-    requires v { (1 ≤ v) × (v ≤ (setting setup.now).vehicles) }
-    requires w { (1 ≤ w) × (w ≤ (setting setup.now).vehicles) }
-    ensures kept { IfOk result (λ kept. AreKept (setting setup.now) view.now.routes v w kept) }
-    ensures some { IfOk result (λ kept. (0 < kept.ahead.width) × (0 < kept.behind.width) × (0 < kept.over.width)) }
-{
-    laws_below();
-    let _customers = setup.customers();
-    Ok(Kept {
-        ahead: spans_ahead(alloc, setup, v, view.customers(v), meter)?,
-        behind: spans_behind(alloc, setup, v, view.customers(v), meter)?,
-        over: spans_behind(alloc, setup, v, view.customers(w), meter)?,
-    })
-}
+impl Kept {
+    /// Nothing kept: a new route is then judged by its whole way.
+    #[inline(always)]
+    pub fn none(alloc: Global) -> Kept
+        ensures { (s : Setting) (routes : List (List ℕ)) (v w : ℕ) → AreKept s routes v w result }
+    {
+        Kept {
+            ahead: Spans::none(alloc),
+            behind: Spans::none(alloc),
+            over: Spans::none(alloc),
+        }
+    }
 
-/// What is kept for a vehicle alone, by which moves inside it are judged. Vehicles count from 1.
-pub fn kept_alone(
-    alloc: Global,
-    view: &View,
-    setup: &Setup,
-    v: u32,
-    meter: &mut Meter,
-) -> Result<Kept, AllocError>
-    requires view { IsViewOf (setting setup.now) view.now }
-    requires v { (1 ≤ v) × (v ≤ (setting setup.now).vehicles) }
-    ensures kept { IfOk result (λ kept. AreKept (setting setup.now) view.now.routes v v kept) }
-    ensures some { IfOk result (λ kept. (0 < kept.ahead.width) × (0 < kept.behind.width)) }
-{
-    laws_below();
-    let _customers = setup.customers();
-    Ok(Kept {
-        ahead: spans_ahead(alloc, setup, v, view.customers(v), meter)?,
-        behind: spans_behind(alloc, setup, v, view.customers(v), meter)?,
-        over: Spans::none(alloc),
-    })
+    /// Forgets what is kept, and keeps its memory.
+    #[inline(always)]
+    pub fn forget(&mut self)
+        ensures { (s : Setting) (routes : List (List ℕ)) (v w : ℕ) → AreKept s routes v w self.new }
+    {
+        self.ahead.forget();
+        self.behind.forget();
+        self.over.forget();
+    }
+
+    /// Keeps of a vehicle beside another one that by which moves between both are judged. Vehicles count from 1.
+    pub fn keep_between(
+        &mut self,
+        view: &View,
+        setup: &Setup,
+        v: u32,
+        w: u32,
+        meter: &mut Meter,
+    ) -> Result<(), AllocError>
+        requires view { IsViewOf (setting setup.now) view.now }
+        requires v { (1 ≤ v) × (v ≤ (setting setup.now).vehicles) }
+        requires w { (1 ≤ w) × (w ≤ (setting setup.now).vehicles) }
+        ensures kept { IfOk result (λ _. AreKept (setting setup.now) view.now.routes v w self.new) }
+        ensures some { IfOk result (λ _. (0 < self.new.ahead.width) × (0 < self.new.behind.width) × (0 < self.new.over.width)) }
+    {
+        laws_below();
+        let _customers = setup.customers();
+        let (own, other) = (view.customers(v), view.customers(w));
+        self.ahead.keep_ahead(setup, v, own, meter)?;
+        self.behind.keep_behind(setup, v, own, meter)?;
+        self.over.keep_behind(setup, v, other, meter)
+    }
+
+    /// Keeps of a vehicle alone that by which moves inside it are judged. Vehicles count from 1.
+    pub fn keep_alone(
+        &mut self,
+        view: &View,
+        setup: &Setup,
+        v: u32,
+        meter: &mut Meter,
+    ) -> Result<(), AllocError>
+        requires view { IsViewOf (setting setup.now) view.now }
+        requires v { (1 ≤ v) × (v ≤ (setting setup.now).vehicles) }
+        ensures kept { IfOk result (λ _. AreKept (setting setup.now) view.now.routes v v self.new) }
+        ensures some { IfOk result (λ _. (0 < self.new.ahead.width) × (0 < self.new.behind.width)) }
+    {
+        laws_below();
+        let _customers = setup.customers();
+        let own = view.customers(v);
+        self.ahead.keep_ahead(setup, v, own, meter)?;
+        self.behind.keep_behind(setup, v, own, meter)
+    }
 }

@@ -8,5 +8,5 @@ mod kept;
 mod laws;
 
 pub use allowed::{allows, first_free, loose_from, may_leave, must_keep};
-pub use kept::{Kept, kept_alone, kept_between, nothing_kept};
+pub use kept::Kept;
 pub use laws::{allowed_moves_are_free, bounds_only_forbid};

@@ -9,4 +9,4 @@ mod search;
 mod shift;
 mod swap;
 
-pub use search::best_move;
+pub use search::{Searcher, best_move};

@@ -18,12 +18,10 @@ use crate::swap::{best_swap, best_swap_inside};
 use callback_store::Meter;
 use dimension_core::Setup;
 use move_core::Move;
-use move_judge::{Kept, allows, kept_alone, kept_between, nothing_kept};
+use move_judge::{Kept, allows};
 use pin_core::View;
 use std::alloc::{AllocError, Global};
-use way_costs::{
-    Along, Ways, along_of, most_of, parts_of, sides_of, stops_of, ways_among, ways_between,
-};
+use way_costs::{Along, Sides, Ways, fill_stops, most_of, parts_of};
 
 /// The best move inside a vehicle, by what is gathered of it.
 fn best_of_one(
@@ -92,38 +90,6 @@ fn holds_up(
     }
 }
 
-/// The best move inside a vehicle.
-fn best_inside(
-    alloc: Global,
-    view: &View,
-    setup: &Setup,
-    v: u32,
-    skip: &[Move],
-) -> Result<Option<(Move, u64)>, AllocError>
-    requires laws { Laws }
-    requires view { IsViewOf (setting setup.now) view.now }
-    requires v { (1 ≤ v) × (v ≤ (setting setup.now).vehicles) }
-    ensures { IfOk result (λ best. MatchOption best (IsIdle (setting setup.now) view.now skip.now v v) (λ p. IsBest (setting setup.now) view.now skip.now v v p.0 p.1)) }
-{
-    let mut meter = Meter::new();
-    let from = stops_of(alloc, view, setup, v)?;
-    let ways = ways_among(alloc, setup, &from, &mut meter)?;
-    let along = along_of(alloc, setup, &from, &ways.out)?;
-    if are_few(from.len(), 0) {
-        let none = nothing_kept(alloc);
-        let found = best_of_one(
-            view, setup, false, v, skip, &from, &ways, &along, &none, &mut meter,
-        );
-        if holds_up(view, setup, skip, v, v, &none, found, &mut meter) {
-            return Ok(found);
-        }
-    }
-    let kept = kept_alone(alloc, view, setup, v, &mut meter)?;
-    Ok(best_of_one(
-        view, setup, true, v, skip, &from, &ways, &along, &kept, &mut meter,
-    ))
-}
-
 /// The best move between two vehicles, by what is gathered of them.
 fn best_of_two(
     view: &View,
@@ -170,43 +136,154 @@ fn best_of_two(
     )
 }
 
-/// The best move between two vehicles.
-fn best_between(
-    alloc: Global,
-    view: &View,
-    setup: &Setup,
-    v: u32,
-    w: u32,
-    skip: &[Move],
-) -> Result<Option<(Move, u64)>, AllocError>
-    requires laws { Laws }
-    requires view { IsViewOf (setting setup.now) view.now }
-    requires v { (1 ≤ v) × (v ≤ (setting setup.now).vehicles) }
-    requires w { (1 ≤ w) × (w ≤ (setting setup.now).vehicles) }
-    requires apart { v ≢ w }
-    ensures { IfOk result (λ best. MatchOption best (IsIdle (setting setup.now) view.now skip.now v w) (λ p. IsBest (setting setup.now) view.now skip.now v w p.0 p.1)) }
-{
-    let mut meter = Meter::new();
-    let sides = sides_of(alloc, view, setup, v, w, &mut meter)?;
-    let (from, to, from_edges, to_edges) = parts_of(view, setup, v, w, &sides.stops, &sides.edges);
-    let most = most_of(to_edges);
-    let ways = ways_between(alloc, setup, from, to, &mut meter)?;
-    if are_few(from.len(), to.len()) {
-        let none = nothing_kept(alloc);
-        let found = best_of_two(
-            view, setup, false, v, w, skip, from, to, from_edges, to_edges, most, &ways, &none,
-            &none, &mut meter,
-        );
-        if holds_up(view, setup, skip, v, w, &none, found, &mut meter) {
-            return Ok(found);
+/// A search that keeps its memory from call to call: the tables of ways, and what it keeps of the bounds. It grows to what the longest
+/// routes so far needed, some 8 MB for one of a thousand customers. Each call is as of a new one.
+#[derive(Drop)]
+pub struct Searcher {
+    sides: Sides,
+    ways: Ways,
+    along: Along,
+    v_kept: Kept,
+    w_kept: Kept,
+}
+
+impl Searcher {
+    /// A search that has no memory yet.
+    #[inline(always)]
+    pub fn new(alloc: Global) -> Searcher {
+        Searcher {
+            sides: Sides::new(alloc),
+            ways: Ways::new(alloc),
+            along: Along::new(alloc),
+            v_kept: Kept::none(alloc),
+            w_kept: Kept::none(alloc),
         }
     }
-    let v_kept = kept_between(alloc, view, setup, v, w, &mut meter)?;
-    let w_kept = kept_between(alloc, view, setup, w, v, &mut meter)?;
-    Ok(best_of_two(
-        view, setup, true, v, w, skip, from, to, from_edges, to_edges, most, &ways, &v_kept,
-        &w_kept, &mut meter,
-    ))
+
+    /// The best move inside a vehicle.
+    fn best_inside(
+        &mut self,
+        view: &View,
+        setup: &Setup,
+        v: u32,
+        skip: &[Move],
+    ) -> Result<Option<(Move, u64)>, AllocError>
+        requires laws { Laws }
+        requires view { IsViewOf (setting setup.now) view.now }
+        requires v { (1 ≤ v) × (v ≤ (setting setup.now).vehicles) }
+        ensures { IfOk result (λ best. MatchOption best (IsIdle (setting setup.now) view.now skip.now v v) (λ p. IsBest (setting setup.now) view.now skip.now v v p.0 p.1)) }
+    {
+        let mut meter = Meter::new();
+        fill_stops(view, setup, v, &mut self.sides.stops)?;
+        let sides = &self.sides;
+        let from = sides.stops.as_slice();
+        self.ways.gather_among(setup, from, &mut meter)?;
+        let ways = &self.ways;
+        self.along.gather(setup, from, &ways.out)?;
+        let along = &self.along;
+        if are_few(from.len(), 0) {
+            self.v_kept.forget();
+            let none = &self.v_kept;
+            let found = best_of_one(
+                view, setup, false, v, skip, from, ways, along, none, &mut meter,
+            );
+            if holds_up(view, setup, skip, v, v, none, found, &mut meter) {
+                return Ok(found);
+            }
+        }
+        self.v_kept.keep_alone(view, setup, v, &mut meter)?;
+        Ok(best_of_one(
+            view,
+            setup,
+            true,
+            v,
+            skip,
+            from,
+            ways,
+            along,
+            &self.v_kept,
+            &mut meter,
+        ))
+    }
+
+    /// The best move between two vehicles.
+    fn best_between(
+        &mut self,
+        view: &View,
+        setup: &Setup,
+        v: u32,
+        w: u32,
+        skip: &[Move],
+    ) -> Result<Option<(Move, u64)>, AllocError>
+        requires laws { Laws }
+        requires view { IsViewOf (setting setup.now) view.now }
+        requires v { (1 ≤ v) × (v ≤ (setting setup.now).vehicles) }
+        requires w { (1 ≤ w) × (w ≤ (setting setup.now).vehicles) }
+        requires apart { v ≢ w }
+        ensures { IfOk result (λ best. MatchOption best (IsIdle (setting setup.now) view.now skip.now v w) (λ p. IsBest (setting setup.now) view.now skip.now v w p.0 p.1)) }
+    {
+        let mut meter = Meter::new();
+        self.sides.gather(view, setup, v, w, &mut meter)?;
+        let sides = &self.sides;
+        let (stops, edges) = (sides.stops.as_slice(), sides.edges.as_slice());
+        let (from, to, from_edges, to_edges) = parts_of(view, setup, v, w, stops, edges);
+        let most = most_of(to_edges);
+        self.ways.gather_between(setup, from, to, &mut meter)?;
+        let ways = &self.ways;
+        if are_few(from.len(), to.len()) {
+            self.v_kept.forget();
+            let none = &self.v_kept;
+            let found = best_of_two(
+                view, setup, false, v, w, skip, from, to, from_edges, to_edges, most, ways, none,
+                none, &mut meter,
+            );
+            if holds_up(view, setup, skip, v, w, none, found, &mut meter) {
+                return Ok(found);
+            }
+        }
+        self.v_kept.keep_between(view, setup, v, w, &mut meter)?;
+        self.w_kept.keep_between(view, setup, w, v, &mut meter)?;
+        Ok(best_of_two(
+            view,
+            setup,
+            true,
+            v,
+            w,
+            skip,
+            from,
+            to,
+            from_edges,
+            to_edges,
+            most,
+            ways,
+            &self.v_kept,
+            &self.w_kept,
+            &mut meter,
+        ))
+    }
+
+    /// The best move near two vehicles, or inside one, and what it saves, as `best_move` says it. No memory is asked for once the searcher
+    /// has searched routes that are as long. After `AllocError` the searcher may be used again.
+    pub fn best_move(
+        &mut self,
+        view: &View,
+        setup: &Setup,
+        v: u32,
+        w: u32,
+        skip: &[Move],
+    ) -> Result<Option<(Move, u64)>, AllocError>
+        requires view { IsViewOf (setting setup.now) view.now }
+        requires v { (1 ≤ v) × (v ≤ (setting setup.now).vehicles) }
+        requires w { (1 ≤ w) × (w ≤ (setting setup.now).vehicles) }
+        ensures { IfOk result (λ best. MatchOption best (IsIdle (setting setup.now) view.now skip.now v w) (λ p. IsBest (setting setup.now) view.now skip.now v w p.0 p.1)) }
+    {
+        laws_below();
+        if v == w {
+            self.best_inside(view, setup, v, skip)
+        } else {
+            self.best_between(view, setup, v, w, skip)
+        }
+    }
 }
 
 /// The best move near two vehicles, or inside one, and what it saves; none where no move counts: of the shifts of at most three
@@ -227,10 +304,5 @@ pub fn best_move(
     requires w { (1 ≤ w) × (w ≤ (setting setup.now).vehicles) }
     ensures { IfOk result (λ best. MatchOption best (IsIdle (setting setup.now) view.now skip.now v w) (λ p. IsBest (setting setup.now) view.now skip.now v w p.0 p.1)) }
 {
-    laws_below();
-    if v == w {
-        best_inside(alloc, view, setup, v, skip)
-    } else {
-        best_between(alloc, view, setup, v, w, skip)
-    }
+    Searcher::new(alloc).best_move(view, setup, v, w, skip)
 }

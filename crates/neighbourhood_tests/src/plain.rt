@@ -171,9 +171,10 @@ fn best_of_kind(
     meter: &mut Meter,
 ) -> Result<(Option<Move>, u64), AllocError> {
     let (mut found, mut least) = best;
-    for first in 0..10u32 {
+    let end = plan.customers() + 3;
+    for first in 0..end {
         for length in 0..5u32 {
-            for second in 0..10u32 {
+            for second in 0..end {
                 if let Some(mv) = near(kind, v, w, first, length, second) {
                     let cost = cost_by(alloc, setup, plan, view, skip, mv, meter)?;
                     let cost = cost.unwrap_or(least);
@@ -188,7 +189,7 @@ fn best_of_kind(
     Ok((found, least))
 }
 
-/// The best move near two vehicles, or near one, of a plan with fewer than ten customers, and what it saves.
+/// The best move near two vehicles, or near one, of a plan, and what it saves.
 pub(crate) fn plain_best(
     alloc: Global,
     setup: &Setup,

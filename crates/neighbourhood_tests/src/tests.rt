@@ -6,7 +6,7 @@ use crate::plain::plain_best;
 use crate::views::{below, is_view, some_dimensions, some_plan, some_view};
 use callback_store::{Meter, Registry, Transit, Unary};
 use dimension_core::Setup;
-use neighbourhood::best_move;
+use neighbourhood::{Searcher, best_move};
 use pin_core::View;
 use plan_core::Plan;
 use rand_pcg::Lcg64Xsh32;
@@ -14,9 +14,10 @@ use std::alloc::Global;
 use std::process::Abort;
 use std::test::Fail;
 
-/// How many answers were compared, how many of them name a move, and how many differ.
+/// A searcher that is kept, how many answers were compared with its own, how many of them name a move, and how many differ.
 #[derive(Drop)]
 struct Tally {
+    searcher: Searcher,
     answers: u32,
     moves: u32,
     differ: u32,
@@ -29,20 +30,22 @@ fn compare_near(
     setup: &Setup,
     plan: &Plan,
     view: &View,
-    v: u32,
-    w: u32,
+    near: (u32, u32),
     tally: &mut Tally,
 )
     requires view { IsViewOf (setting setup.now) view.now }
-    requires v { (1 ≤ v) × (v ≤ (setting setup.now).vehicles) }
-    requires w { (1 ≤ w) × (w ≤ (setting setup.now).vehicles) }
+    requires v { (1 ≤ near.0) × (near.0 ≤ (setting setup.now).vehicles) }
+    requires w { (1 ≤ near.1) × (near.1 ≤ (setting setup.now).vehicles) }
 {
+    let (v, w) = near;
     let mut skip = Vec::new(alloc);
     for _ in 0..4 {
         let found = best_move(alloc, view, setup, v, w, &skip).expect(rt, "memory");
+        let again = tally.searcher.best_move(view, setup, v, w, &skip);
+        let again = again.expect(rt, "memory");
         let wanted = plain_best(alloc, setup, plan, view, v, w, &skip).expect(rt, "memory");
         tally.answers = tally.answers.wrapping_add(1);
-        if found != wanted {
+        if found != wanted || again != wanted {
             tally.differ = tally.differ.wrapping_add(1);
         }
         match found {
@@ -55,30 +58,42 @@ fn compare_near(
     }
 }
 
-/// Compares the answers near all vehicles of a random view of seven customers and three vehicles.
+/// Compares the answers near all vehicles of a random view of three vehicles.
 fn compare_view(
     rt: &impl Abort,
     alloc: Global,
     setup: &Setup,
+    customers: u32,
     rng: &mut Lcg64Xsh32,
     tally: &mut Tally,
 )
-    requires customers { (setting setup.now).customers ≡ 7 }
+    requires some { (1 ≤ customers) × (customers ≤ 1000) }
+    requires customers { (setting setup.now).customers ≡ customers }
     requires vehicles { (setting setup.now).vehicles ≡ 3 }
 {
-    let plan = some_plan(rt, alloc, setup, rng);
+    let plan = some_plan(rt, alloc, setup, customers, rng);
     let view = some_view(rt, alloc, &plan, rng);
     if is_view(setup, &plan, &view) {
         for v in 1..4u32 {
             for w in 1..4u32 {
-                compare_near(rt, alloc, setup, &plan, &view, v, w, tally);
+                compare_near(rt, alloc, setup, &plan, &view, (v, w), tally);
             }
         }
     }
 }
 
-/// Compares the answers on some views of a random setup, whose callbacks are not the same both ways.
-fn compare_setup(rt: &impl Abort, alloc: Global, rng: &mut Lcg64Xsh32, tally: &mut Tally) {
+/// Compares the answers on some views of a random setup of `rooms` times seven customers, whose callbacks are not the same both ways.
+fn compare_setup(
+    rt: &impl Abort,
+    alloc: Global,
+    rooms: u32,
+    views: u32,
+    rng: &mut Lcg64Xsh32,
+    tally: &mut Tally,
+)
+    requires { (1 ≤ rooms) × (rooms ≤ 140) }
+{
+    let customers = 7 * rooms;
     let (first, second, third) = (below(rng, 1000), below(rng, 1000), below(rng, 1000));
     let cost = Box::new(
         alloc,
@@ -98,17 +113,27 @@ fn compare_setup(rt: &impl Abort, alloc: Global, rng: &mut Lcg64Xsh32, tally: &m
             ensures { result ≡ (3 * i + third % 1000) % 5 }
         { (3 * u64::from(i) + u64::from(third % 1000)) % 5 },
     );
-    let ways = Transit::new(8, cost.expect(rt, "memory"));
-    let drives = Transit::new(8, time.expect(rt, "memory"));
-    let wants = Unary::new(8, load.expect(rt, "memory"));
+    let ways = Transit::new(customers + 1, cost.expect(rt, "memory"));
+    let drives = Transit::new(customers + 1, time.expect(rt, "memory"));
+    let wants = Unary::new(customers + 1, load.expect(rt, "memory"));
     let mut registry = Registry::new(alloc);
     let cost = registry.register(ways).expect(rt, "room");
     let time = registry.register(drives).expect(rt, "room");
     let load = registry.register_unary(wants).expect(rt, "room");
-    let dimensions = some_dimensions(rt, alloc, &registry, load, time, rng);
-    let setup = Setup::new(7, 3, registry, dimensions, cost, 9).expect(rt, "setup");
-    for _ in 0..4 {
-        compare_view(rt, alloc, &setup, rng, tally);
+    let dimensions = some_dimensions(rt, alloc, &registry, load, time, rooms, rng);
+    let setup = Setup::new(customers, 3, registry, dimensions, cost, 9).expect(rt, "setup");
+    for _ in 0..views {
+        compare_view(rt, alloc, &setup, customers, rng, tally);
+    }
+}
+
+/// Nothing is compared yet.
+fn no_tally(alloc: Global) -> Tally {
+    Tally {
+        searcher: Searcher::new(alloc),
+        answers: 0,
+        moves: 0,
+        differ: 0,
     }
 }
 
@@ -116,13 +141,9 @@ fn compare_setup(rt: &impl Abort, alloc: Global, rng: &mut Lcg64Xsh32, tally: &m
 #[test]
 fn answers_as_a_plain_search(rt: HostRuntime) -> Result<(), Fail> {
     let mut rng = Lcg64Xsh32::new(2026, 11);
-    let mut tally = Tally {
-        answers: 0,
-        moves: 0,
-        differ: 0,
-    };
+    let mut tally = no_tally(rt.alloc());
     for _ in 0..80 {
-        compare_setup(&rt, rt.alloc(), &mut rng, &mut tally);
+        compare_setup(&rt, rt.alloc(), 1, 4, &mut rng, &mut tally);
     }
     assert_eq!(&rt; (tally.answers, tally.moves, tally.differ), (4863, 2370, 0));
     Ok(())

@@ -1,4 +1,4 @@
-//! Random views of three vehicles and seven customers: some empty routes, a load and a time dimension, callbacks that are not the same
+//! Random views of three vehicles and some customers: some empty routes, a load and a time dimension, callbacks that are not the same
 //! both ways, pins and frozen fronts.
 ghost use Rattle.std.specs.Prelude.{◌≡◌, ℕ, ◌+◌, ◌*◌, ◌%◌, ◌<◌, ◌≤◌, length, IsTrue};
 ghost use Rattle.dimension_core.specs.Feasible.{IsFeasible};
@@ -38,14 +38,21 @@ fn caps(rt: &impl Abort, alloc: Global, least: u32, rng: &mut Lcg64Xsh32) -> Vec
     caps
 }
 
-/// A range for each of eight nodes: the whole day for the depot, and for each customer a part of it that begins before `late`.
-fn ranges(rt: &impl Abort, alloc: Global, late: u32, part: u32, rng: &mut Lcg64Xsh32) -> Vec<Range>
+/// A range for each node: the whole day for the depot, and for each customer a part of it that begins before `late`.
+fn ranges(
+    rt: &impl Abort,
+    alloc: Global,
+    customers: u32,
+    late: u32,
+    part: u32,
+    rng: &mut Lcg64Xsh32,
+) -> Vec<Range>
     requires { 1 ≤ late }
 {
     let mut ranges = Vec::new(alloc);
-    let day = Range { lo: 0, hi: 1000 };
+    let day = Range { lo: 0, hi: 10_000 };
     ranges.push(day).expect(rt, "memory");
-    for _ in 0..7 {
+    for _ in 0..customers {
         let lo = u64::from(below(rng, late));
         let hi = lo + u64::from(part);
         ranges.push(Range { lo, hi }).expect(rt, "memory");
@@ -53,27 +60,26 @@ fn ranges(rt: &impl Abort, alloc: Global, late: u32, part: u32, rng: &mut Lcg64X
     ranges
 }
 
-/// A dimension of loads and one of times.
+/// A dimension of loads and one of times, in which there is room for `rooms` times seven customers.
 pub(crate) fn some_dimensions(
     rt: &impl Abort,
     alloc: Global,
     registry: &Registry,
     load: TransitId,
     time: TransitId,
+    rooms: u32,
     rng: &mut Lcg64Xsh32,
-) -> Vec<Dimension> {
-    let parts = ranges(rt, alloc, 1, 900, rng);
-    let loads = Dimension::new(registry, load, 0, caps(rt, alloc, 8, rng), true, parts);
-    let parts = ranges(rt, alloc, 150, 250, rng);
+) -> Vec<Dimension>
+    requires { (1 ≤ rooms) × (rooms ≤ 140) }
+{
+    let customers = 7 * rooms;
+    let parts = ranges(rt, alloc, customers, 1, 900, rng);
+    let room = caps(rt, alloc, 8 * rooms, rng);
+    let loads = Dimension::new(registry, load, 0, room, true, parts);
+    let parts = ranges(rt, alloc, customers, 150 * rooms, 250 * rooms, rng);
     let slack = u64::from(below(rng, 100));
-    let times = Dimension::new(
-        registry,
-        time,
-        slack,
-        caps(rt, alloc, 400, rng),
-        false,
-        parts,
-    );
+    let room = caps(rt, alloc, 400 * rooms, rng);
+    let times = Dimension::new(registry, time, slack, room, false, parts);
     let mut dimensions = Vec::new(alloc);
     dimensions
         .push(loads.expect(rt, "bounds"))
@@ -114,12 +120,19 @@ pub(crate) fn put(rt: &impl Abort, alloc: Global, setup: &Setup, plan: &mut Plan
 }
 
 /// A plan of a setup, of routes that are in bounds.
-pub(crate) fn some_plan(rt: &impl Abort, alloc: Global, setup: &Setup, rng: &mut Lcg64Xsh32) -> Plan
-    ensures { (result.customers ≡ 7) × (length result.routes ≡ 3) }
+pub(crate) fn some_plan(
+    rt: &impl Abort,
+    alloc: Global,
+    setup: &Setup,
+    customers: u32,
+    rng: &mut Lcg64Xsh32,
+) -> Plan
+    requires { (1 ≤ customers) × (customers ≤ 1000) }
+    ensures { (result.customers ≡ customers) × (length result.routes ≡ 3) }
 {
-    let mut plan = Plan::new(alloc, 7, 3).expect(rt, "memory");
+    let mut plan = Plan::new(alloc, customers, 3).expect(rt, "memory");
     let share = below(rng, 3) + 1;
-    for step in 0..28u32 {
+    for step in 0..4 * customers {
         let mv = Move::Insert {
             customer: step / 4 + 1,
             vehicle: below(rng, share) + 1,
@@ -150,7 +163,8 @@ fn some_pins(
     rng: &mut Lcg64Xsh32,
 ) -> Vec<Option<u32>> {
     let mut pinned = Vec::new(alloc);
-    for customer in 1..8u32 {
+    for before in 0..plan.customers() {
+        let customer = before + 1;
         let home = plan.place_of(customer).map(|at| at.0);
         let pin = if below(rng, 5) == 0 { home } else { None };
         pinned.push(pin).expect(rt, "memory");

@@ -10,7 +10,7 @@ use callback_store::Meter;
 use dimension_core::Setup;
 use pin_core::View;
 use plan_core::routes_are_known;
-use std::alloc::{AllocError, Global};
+use std::alloc::AllocError;
 
 /// What the way from a stop to the next one costs, in the unit of the cost callback. Stop 0 is the depot; a vehicle that stays there drives
 /// no way.
@@ -28,47 +28,51 @@ pub fn hop(setup: &Setup, i: u32, j: u32, meter: &mut Meter) -> u64
     setup.registry().ask(setup.cost(), meter, i, j)
 }
 
-/// The stops of a vehicle, which count from 1: the depot, its customers, the depot. The caller owes a view of a plan of the setup.
-pub fn stops_of(alloc: Global, view: &View, setup: &Setup, v: u32) -> Result<Vec<u32>, AllocError>
+/// Puts the stops of a vehicle, which count from 1, in place of what `all` held: the depot, its customers, the depot. The caller owes a
+/// view of a plan of the setup. On `AllocError` `all` may hold a part of them.
+pub fn fill_stops(view: &View, setup: &Setup, v: u32, all: &mut Vec<u32>) -> Result<(), AllocError>
     requires plan { IsPlan (setting setup.now).customers view.now.routes }
     requires vehicles { length view.now.routes ≡ (setting setup.now).vehicles }
     requires low { 1 ≤ v }
     requires high { v ≤ (setting setup.now).vehicles }
-    ensures { IfOk result (λ all. AreStops (setting setup.now).customers view.now.routes v all.items) }
+    ensures { IfOk result (λ _. AreStops (setting setup.now).customers view.now.routes v all.new.items) }
 {
     routes_are_known();
     let _customers = setup.customers();
     let customers = view.customers(v);
-    let mut all = Vec::with_capacity(alloc, customers.len() + 2)?;
+    all.clear();
+    all.reserve(customers.len() + 2)?;
     all.push(0)?;
     all.extend_from_slice(customers)?;
     all.push(0)?;
-    Ok(all)
+    Ok(())
 }
 
-/// The stops of two vehicles, one after the other: the depot, the customers of one, the depot, those of the other, the depot.
-pub(crate) fn stops_of_both(
-    alloc: Global,
+/// Puts the stops of two vehicles, one after the other, in place of what `all` held: the depot, the customers of one, the depot, those of
+/// the other, the depot.
+pub(crate) fn fill_stops_of_both(
     view: &View,
     setup: &Setup,
     v: u32,
     w: u32,
-) -> Result<Vec<u32>, AllocError>
+    all: &mut Vec<u32>,
+) -> Result<(), AllocError>
     requires plan { IsPlan (setting setup.now).customers view.now.routes }
     requires vehicles { length view.now.routes ≡ (setting setup.now).vehicles }
     requires v { (1 ≤ v) × (v ≤ (setting setup.now).vehicles) }
     requires w { (1 ≤ w) × (w ≤ (setting setup.now).vehicles) }
-    ensures stops { IfOk result (λ all. all.items ≡ stops_of_both (route_at view.now.routes v) (route_at view.now.routes w)) }
-    ensures known { IfOk result (λ all. All (λ c. c ≤ (setting setup.now).customers) all.items) }
+    ensures stops { IfOk result (λ _. all.new.items ≡ stops_of_both (route_at view.now.routes v) (route_at view.now.routes w)) }
+    ensures known { IfOk result (λ _. All (λ c. c ≤ (setting setup.now).customers) all.new.items) }
 {
     routes_are_known();
     let _customers = setup.customers();
     let (first, second) = (view.customers(v), view.customers(w));
-    let mut all = Vec::with_capacity(alloc, first.len() + second.len() + 3)?;
+    all.clear();
+    all.reserve(first.len() + second.len() + 3)?;
     all.push(0)?;
     all.extend_from_slice(first)?;
     all.push(0)?;
     all.extend_from_slice(second)?;
     all.push(0)?;
-    Ok(all)
+    Ok(())
 }

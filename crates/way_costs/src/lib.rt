@@ -10,7 +10,7 @@ mod table;
 pub use gains::{
     first_gain, first_reverse_gain, first_swap_gain, may_gain, may_reverse_gain, may_swap_gain,
 };
-pub use hops::{hop, stops_of};
+pub use hops::{fill_stops, hop};
 pub use laws::moves_save;
-pub use sides::{Along, Sides, Ways, along_of, parts_of, sides_of, ways_among, ways_between};
+pub use sides::{Along, Sides, Ways, parts_of};
 pub use table::{most_of, row};

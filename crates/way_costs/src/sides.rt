@@ -7,8 +7,8 @@ ghost use Rattle.plan_core.specs.Plan.{IsPlan, route_at};
 ghost use Rattle.way_costs.specs.Sides.{AreSides, AreWaysBetween, IsAlong, stops_of_both};
 ghost use Rattle.way_costs.specs.Ways.{AreStops, AreEdges, AreHopsFrom};
 
-use crate::hops::stops_of_both;
-use crate::table::{edges_in, edges_of, most_of, sums_in, turned_of, ways_from};
+use crate::hops::fill_stops_of_both;
+use crate::table::{fill_edges, fill_sums, fill_turned, fill_ways, most_of, pick_edges};
 use callback_store::Meter;
 use dimension_core::Setup;
 use pin_core::View;
@@ -63,24 +63,34 @@ impl Model for Along {
     ghost view = { λ a. record { edges = a.edges.items; most = a.most; sums = a.sums.items } };
 }
 
-/// The stops of two vehicles, which count from 1, and the ways from each stop to the next.
-pub fn sides_of(
-    alloc: Global,
-    view: &View,
-    setup: &Setup,
-    v: u32,
-    w: u32,
-    meter: &mut Meter,
-) -> Result<Sides, AllocError>
-    requires plan { IsPlan (setting setup.now).customers view.now.routes }
-    requires vehicles { length view.now.routes ≡ (setting setup.now).vehicles }
-    requires v { (1 ≤ v) × (v ≤ (setting setup.now).vehicles) }
-    requires w { (1 ≤ w) × (w ≤ (setting setup.now).vehicles) }
-    ensures { IfOk result (λ sides. AreSides (setting setup.now) view.now.routes v w sides) }
-{
-    let stops = stops_of_both(alloc, view, setup, v, w)?;
-    let edges = edges_of(alloc, setup, &stops, meter)?;
-    Ok(Sides { stops, edges })
+impl Sides {
+    /// Nothing is gathered.
+    #[inline(always)]
+    pub fn new(alloc: Global) -> Sides {
+        Sides {
+            stops: Vec::new(alloc),
+            edges: Vec::new(alloc),
+        }
+    }
+
+    /// Gathers the stops of two vehicles, which count from 1, and the ways from each stop to the next, in place of what was gathered.
+    pub fn gather(
+        &mut self,
+        view: &View,
+        setup: &Setup,
+        v: u32,
+        w: u32,
+        meter: &mut Meter,
+    ) -> Result<(), AllocError>
+        requires plan { IsPlan (setting setup.now).customers view.now.routes }
+        requires vehicles { length view.now.routes ≡ (setting setup.now).vehicles }
+        requires v { (1 ≤ v) × (v ≤ (setting setup.now).vehicles) }
+        requires w { (1 ≤ w) × (w ≤ (setting setup.now).vehicles) }
+        ensures { IfOk result (λ _. AreSides (setting setup.now) view.now.routes v w self.new) }
+    {
+        fill_stops_of_both(view, setup, v, w, &mut self.stops)?;
+        fill_edges(setup, &self.stops, &mut self.edges, meter)
+    }
 }
 
 /// The stops of each of two vehicles, and the ways along each, as parts of what is gathered of both.
@@ -113,57 +123,72 @@ pub fn parts_of<'a>(
     (from, to, from_edges, to_edges)
 }
 
-/// The ways from some stops to others, and back, that moves between two vehicles go.
-pub fn ways_between(
-    alloc: Global,
-    setup: &Setup,
-    from: &[u32],
-    to: &[u32],
-    meter: &mut Meter,
-) -> Result<Ways, AllocError>
-    requires from { All (λ c. c ≤ (setting setup.now).customers) from.now }
-    requires to { All (λ c. c ≤ (setting setup.now).customers) to.now }
-    requires some { (1 ≤ length from.now) × (1 ≤ length to.now) }
-    requires short { (length from.now ≤ 1002) × (length to.now ≤ 1002) }
-    ensures { IfOk result (λ ways. AreWaysBetween (table_at (setting setup.now).tables (setting setup.now).cost) from.now to.now ways) }
-{
-    let out = ways_from(alloc, setup, false, from, to, 0, 1, meter)?;
-    let into = ways_from(alloc, setup, true, from, to, 1, 0, meter)?;
-    Ok(Ways { out, into })
+impl Ways {
+    /// Nothing is gathered.
+    #[inline(always)]
+    pub fn new(alloc: Global) -> Ways {
+        Ways {
+            out: Vec::new(alloc),
+            into: Vec::new(alloc),
+        }
+    }
+
+    /// Gathers the ways from some stops to others, and back, that moves between two vehicles go, in place of what was gathered.
+    pub fn gather_between(
+        &mut self,
+        setup: &Setup,
+        from: &[u32],
+        to: &[u32],
+        meter: &mut Meter,
+    ) -> Result<(), AllocError>
+        requires from { All (λ c. c ≤ (setting setup.now).customers) from.now }
+        requires to { All (λ c. c ≤ (setting setup.now).customers) to.now }
+        requires some { (1 ≤ length from.now) × (1 ≤ length to.now) }
+        requires short { (length from.now ≤ 1002) × (length to.now ≤ 1002) }
+        ensures { IfOk result (λ _. AreWaysBetween (table_at (setting setup.now).tables (setting setup.now).cost) from.now to.now self.new) }
+    {
+        fill_ways(setup, false, from, to, &mut self.out, meter)?;
+        fill_ways(setup, true, from, to, &mut self.into, meter)
+    }
+
+    /// Gathers the ways between some stops that a move inside their vehicle goes, each asked once, in place of what was gathered.
+    pub fn gather_among(
+        &mut self,
+        setup: &Setup,
+        stops: &[u32],
+        meter: &mut Meter,
+    ) -> Result<(), AllocError>
+        requires known { All (λ c. c ≤ (setting setup.now).customers) stops.now }
+        requires some { 1 ≤ length stops.now }
+        requires short { length stops.now ≤ 1002 }
+        ensures { IfOk result (λ _. AreWaysBetween (table_at (setting setup.now).tables (setting setup.now).cost) stops.now stops.now self.new) }
+    {
+        fill_ways(setup, false, stops, stops, &mut self.out, meter)?;
+        fill_turned(setup, stops, &self.out, &mut self.into)
+    }
 }
 
-/// The ways between some stops that a move inside their vehicle goes, each asked once.
-pub fn ways_among(
-    alloc: Global,
-    setup: &Setup,
-    stops: &[u32],
-    meter: &mut Meter,
-) -> Result<Ways, AllocError>
-    requires known { All (λ c. c ≤ (setting setup.now).customers) stops.now }
-    requires some { 1 ≤ length stops.now }
-    requires short { length stops.now ≤ 1002 }
-    ensures { IfOk result (λ ways. AreWaysBetween (table_at (setting setup.now).tables (setting setup.now).cost) stops.now stops.now ways) }
-{
-    let out = ways_from(alloc, setup, false, stops, stops, 0, 1, meter)?;
-    let into = turned_of(alloc, setup, stops, &out)?;
-    Ok(Ways { out, into })
-}
+impl Along {
+    /// Nothing is gathered.
+    #[inline(always)]
+    pub fn new(alloc: Global) -> Along {
+        Along {
+            edges: Vec::new(alloc),
+            most: 0,
+            sums: Vec::new(alloc),
+        }
+    }
 
-/// The ways along some stops, by the ways between them all.
-pub fn along_of(
-    alloc: Global,
-    setup: &Setup,
-    stops: &[u32],
-    cells: &[u32],
-) -> Result<Along, AllocError>
-    requires cells { AreHopsFrom false (table_at (setting setup.now).tables (setting setup.now).cost) stops.now stops.now 0 1 cells.now }
-    requires depot { (rest : List ℕ) × (stops.now ≡ 0 ∷ rest) }
-    requires long { 2 ≤ length stops.now }
-    requires short { length stops.now ≤ 1002 }
-    ensures { IfOk result (λ along. IsAlong (table_at (setting setup.now).tables (setting setup.now).cost) stops.now along) }
-{
-    let edges = edges_in(alloc, setup, stops, cells)?;
-    let most = most_of(&edges);
-    let sums = sums_in(alloc, setup, stops, cells)?;
-    Ok(Along { edges, most, sums })
+    /// Gathers the ways along some stops, by the ways between them all, in place of what was gathered.
+    pub fn gather(&mut self, setup: &Setup, stops: &[u32], cells: &[u32]) -> Result<(), AllocError>
+        requires cells { AreHopsFrom false (table_at (setting setup.now).tables (setting setup.now).cost) stops.now stops.now 0 1 cells.now }
+        requires depot { (rest : List ℕ) × (stops.now ≡ 0 ∷ rest) }
+        requires long { 2 ≤ length stops.now }
+        requires short { length stops.now ≤ 1002 }
+        ensures { IfOk result (λ _. IsAlong (table_at (setting setup.now).tables (setting setup.now).cost) stops.now self.new) }
+    {
+        pick_edges(setup, stops, cells, &mut self.edges)?;
+        self.most = most_of(&self.edges);
+        fill_sums(setup, stops, cells, &mut self.sums)
+    }
 }

@@ -7,7 +7,7 @@ ghost use Rattle.way_costs.specs.Ways.{entry_by, hop_by, AreHopsFrom, AreEdges, 
 use crate::hops::hop;
 use callback_store::Meter;
 use dimension_core::Setup;
-use std::alloc::{AllocError, Global};
+use std::alloc::AllocError;
 
 /// What a way costs, as it is driven or driven back.
 #[inline(always)]
@@ -103,29 +103,45 @@ fn all_but_one(stops: &[u32], begin: usize) -> &[u32]
     &stops[begin..begin + stops.len() - 1]
 }
 
-/// What the ways from each of some stops to each of others cost, row by row, as they are driven or driven back, without one row and one
-/// column: rows from `first` on and columns from `column` on are filled in, each of which is 0 or 1, one fewer than there are.
+/// The first row of a table that is filled: no way back begins at the first stop.
+fn first_row(turned: bool) -> usize
+    ensures value { result ≡ (if turned then 1 else 0) }
+    ensures small { result ≤ 1 }
+{
+    if turned { 1 } else { 0 }
+}
+
+/// The first column that is filled: no way goes to the first stop.
+fn first_column(turned: bool) -> usize
+    ensures value { result ≡ (if turned then 0 else 1) }
+    ensures small { result ≤ 1 }
+{
+    if turned { 0 } else { 1 }
+}
+
+/// Fills a table with what the ways from each of some stops to each of others cost, row by row, as they are driven or driven back. What
+/// it held is given up. No way goes from the last of the first stops or to the first of the others, or back: there the table has any
+/// numbers.
 #[inline(always)]
-pub(crate) fn ways_from(
-    alloc: Global,
+pub(crate) fn fill_ways(
     setup: &Setup,
     turned: bool,
     from: &[u32],
     to: &[u32],
-    first: usize,
-    column: usize,
+    cells: &mut Vec<u32>,
     meter: &mut Meter,
-) -> Result<Vec<u32>, AllocError>
+) -> Result<(), AllocError>
     requires from { All (λ c. c ≤ (setting setup.now).customers) from.now }
     requires to { All (λ c. c ≤ (setting setup.now).customers) to.now }
     requires some { (1 ≤ length from.now) × (1 ≤ length to.now) }
     requires short { (length from.now ≤ 1002) × (length to.now ≤ 1002) }
-    requires begin { (first ≤ 1) × (column ≤ 1) }
-    ensures { IfOk result (λ cells. AreHopsFrom turned (table_at (setting setup.now).tables (setting setup.now).cost) from.now to.now first column cells.items) }
+    ensures { IfOk result (λ _. AreHopsFrom turned (table_at (setting setup.now).tables (setting setup.now).cost) from.now to.now (if turned then 1 else 0) (if turned then 0 else 1) cells.new.items) }
 {
     let width = to.len();
+    let first = first_row(turned);
+    let column = first_column(turned);
     let asked = all_but_one(to, column);
-    let mut cells = vec![in alloc; UNFILLED; from.len() * width]?;
+    cells.resize(from.len() * width, UNFILLED)?;
     for i in first..first + from.len() - 1 {
         fill_at(
             setup,
@@ -137,26 +153,27 @@ pub(crate) fn ways_from(
             meter,
         );
     }
-    Ok(cells)
+    Ok(())
 }
 
-/// What the way from each stop to the next one costs.
-pub(crate) fn edges_of(
-    alloc: Global,
+/// Puts what the way from each stop to the next one costs in place of what `edges` held.
+pub(crate) fn fill_edges(
     setup: &Setup,
     stops: &[u32],
+    edges: &mut Vec<u32>,
     meter: &mut Meter,
-) -> Result<Vec<u32>, AllocError>
+) -> Result<(), AllocError>
     requires known { All (λ c. c ≤ (setting setup.now).customers) stops.now }
     requires some { 1 ≤ length stops.now }
-    ensures { IfOk result (λ edges. AreEdges (table_at (setting setup.now).tables (setting setup.now).cost) stops.now edges.items) }
+    ensures { IfOk result (λ _. AreEdges (table_at (setting setup.now).tables (setting setup.now).cost) stops.now edges.new.items) }
 {
     let last = stops.len() - 1;
-    let mut edges = Vec::with_capacity(alloc, last)?;
+    edges.clear();
+    edges.reserve(last)?;
     for k in 0..last {
         edges.push(hop_by(setup, false, stops[k], stops[k + 1], meter))?;
     }
-    Ok(edges)
+    Ok(())
 }
 
 /// The greatest of some numbers, and 0 where there are none.
@@ -182,45 +199,46 @@ fn cell(cells: &[u32], width: usize, from: usize, to: usize) -> u32
     row(cells, width, from)[to]
 }
 
-/// What the ways between some stops cost, driven back, by those as they are driven.
+/// Fills a table with what the ways between some stops cost, driven back, by those as they are driven. What it held is given up.
 #[inline(never)]
-pub(crate) fn turned_of(
-    alloc: Global,
+pub(crate) fn fill_turned(
     setup: &Setup,
     stops: &[u32],
     cells: &[u32],
-) -> Result<Vec<u32>, AllocError>
+    back: &mut Vec<u32>,
+) -> Result<(), AllocError>
     requires cells { AreHopsFrom false (table_at (setting setup.now).tables (setting setup.now).cost) stops.now stops.now 0 1 cells.now }
     requires short { length stops.now ≤ 1002 }
-    ensures { IfOk result (λ back. AreHopsFrom true (table_at (setting setup.now).tables (setting setup.now).cost) stops.now stops.now 1 0 back.items) }
+    ensures { IfOk result (λ _. AreHopsFrom true (table_at (setting setup.now).tables (setting setup.now).cost) stops.now stops.now 1 0 back.new.items) }
 {
     let width = stops.len();
-    let mut back = vec![in alloc; UNFILLED; width * width]?;
+    back.resize(width * width, UNFILLED)?;
     for i in 1..width {
         for j in 0..width - 1 {
             back[i * width + j] = cell(cells, width, j, i);
         }
     }
-    Ok(back)
+    Ok(())
 }
 
-/// What the way from each stop to the next one costs, by the ways between them all.
-pub(crate) fn edges_in(
-    alloc: Global,
+/// Puts what the way from each stop to the next one costs, by the ways between them all, in place of what `edges` held.
+pub(crate) fn pick_edges(
     setup: &Setup,
     stops: &[u32],
     cells: &[u32],
-) -> Result<Vec<u32>, AllocError>
+    edges: &mut Vec<u32>,
+) -> Result<(), AllocError>
     requires cells { AreHopsFrom false (table_at (setting setup.now).tables (setting setup.now).cost) stops.now stops.now 0 1 cells.now }
     requires some { 1 ≤ length stops.now }
-    ensures { IfOk result (λ edges. AreEdges (table_at (setting setup.now).tables (setting setup.now).cost) stops.now edges.items) }
+    ensures { IfOk result (λ _. AreEdges (table_at (setting setup.now).tables (setting setup.now).cost) stops.now edges.new.items) }
 {
     let last = stops.len() - 1;
-    let mut edges = Vec::with_capacity(alloc, last)?;
+    edges.clear();
+    edges.reserve(last)?;
     for k in 0..last {
         edges.push(cell(cells, stops.len(), k, k + 1))?;
     }
-    Ok(edges)
+    Ok(())
 }
 
 /// What the way between two stops that follow one another costs, as it is driven or driven back, by the ways between all.
@@ -262,23 +280,24 @@ fn add_sums(
     Ok(())
 }
 
-/// These sums as the ways are driven, and behind them as they are driven back.
-pub(crate) fn sums_in(
-    alloc: Global,
+/// Puts these sums as the ways are driven, and behind them as they are driven back, in place of what `sums` held.
+pub(crate) fn fill_sums(
     setup: &Setup,
     stops: &[u32],
     cells: &[u32],
-) -> Result<Vec<u64>, AllocError>
+    sums: &mut Vec<u64>,
+) -> Result<(), AllocError>
     requires cells { AreHopsFrom false (table_at (setting setup.now).tables (setting setup.now).cost) stops.now stops.now 0 1 cells.now }
     requires depot { (rest : List ℕ) × (stops.now ≡ 0 ∷ rest) }
     requires long { 2 ≤ length stops.now }
     requires short { length stops.now ≤ 1002 }
-    ensures { IfOk result (λ sums. AreBothSums (table_at (setting setup.now).tables (setting setup.now).cost) stops.now sums.items) }
+    ensures { IfOk result (λ _. AreBothSums (table_at (setting setup.now).tables (setting setup.now).cost) stops.now sums.new.items) }
 {
-    let mut sums = Vec::with_capacity(alloc, 2 * stops.len())?;
-    add_sums(setup, false, stops, cells, &mut sums)?;
-    add_sums(setup, true, stops, cells, &mut sums)?;
-    Ok(sums)
+    sums.clear();
+    sums.reserve(2 * stops.len())?;
+    add_sums(setup, false, stops, cells, sums)?;
+    add_sums(setup, true, stops, cells, sums)?;
+    Ok(())
 }
 
 /// One row of a table of `width` numbers a row; rows count from 0.

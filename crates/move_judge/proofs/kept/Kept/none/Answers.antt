@@ -1,5 +1,5 @@
 use Rattle.std.proofs.Common.{arith}
-use Rattle.move_judge.proofs.kept.nothing_kept.Goals as goal
+use Rattle.move_judge.proofs.kept.Kept.none.Goals as goal
 
 pub returns : goal.returns
 returns g = λ s routes v w. record {

@@ -2,7 +2,7 @@ use Rattle.std.proofs.Common.{◌≡◌, ◌+◌, ◌*◌, ◌<◌, length, take
 use Rattle.dimension_core.specs.Cumuls.{IsSpan, Reaches, table_of, last_of}
 use Rattle.dimension_core.specs.Setup.{setting}
 use Rattle.move_judge.specs.Kept.{AreCells, IsAhead}
-use Rattle.move_judge.proofs.kept.spans_ahead.Given as goal
+use Rattle.move_judge.proofs.kept.fill_ahead.Given as goal
 
 -- the spans of the dimensions so far
 abbrev pub invariant-loop-dimension : goal.invariant-loop-dimension

@@ -3,7 +3,7 @@ use Rattle.dimension_core.specs.Cumuls.{table_of}
 use Rattle.dimension_core.specs.Setup.{setting}
 use Rattle.move_judge.specs.Kept.{AreCells, IsBehind}
 use Rattle.move_judge.proofs.Keeping.{IsTail}
-use Rattle.move_judge.proofs.kept.spans_behind.Given as goal
+use Rattle.move_judge.proofs.kept.fill_behind.Given as goal
 
 -- the spans of the dimensions so far
 abbrev pub invariant-loop-dimension : goal.invariant-loop-dimension

@@ -5,7 +5,7 @@ use Rattle.dimension_core.specs.Cumuls.{table_of}
 use Rattle.dimension_core.specs.Setup.{setting}
 use Rattle.move_judge.specs.Kept.{IsAhead}
 use Rattle.move_judge.proofs.Keeping.{cells_at, cells_row, at_place, node_known, vehicle_known, served_here, AheadCells, ahead_first, ahead_more, span_on}
-use Rattle.move_judge.proofs.kept.spans_ahead.Goals as goal
+use Rattle.move_judge.proofs.kept.fill_ahead.Goals as goal
 
 pub loop-customer-init : goal.loop-customer-init
 loop-customer-init g c =

@@ -1,7 +1,7 @@
 use Rattle.callback_store.specs.Tables.{table_at}
 use Rattle.dimension_core.specs.Setup.{setting}
 use Rattle.way_costs.proofs.Cells.{AreFilledFrom}
-use Rattle.way_costs.proofs.table.ways_from.Given as goal
+use Rattle.way_costs.proofs.table.fill_ways.Given as goal
 
 -- the rows so far
 abbrev pub invariant-loop-i : goal.invariant-loop-i

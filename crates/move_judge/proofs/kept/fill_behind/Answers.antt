@@ -5,7 +5,7 @@ use Rattle.dimension_core.specs.Cumuls.{table_of}
 use Rattle.dimension_core.specs.Setup.{setting}
 use Rattle.move_judge.specs.Kept.{IsBehind}
 use Rattle.move_judge.proofs.Keeping.{cells_at, cells_row, at_place, node_known, vehicle_known, served_here, BehindCells, behind_first, behind_more, tail_none, tail_on}
-use Rattle.move_judge.proofs.kept.spans_behind.Goals as goal
+use Rattle.move_judge.proofs.kept.fill_behind.Goals as goal
 
 pub loop-k-init : goal.loop-k-init
 loop-k-init g c =

@@ -4,7 +4,7 @@ use Rattle.callback_store.specs.Tables.{table_at}
 use Rattle.dimension_core.specs.Setup.{setting}
 use Rattle.way_costs.specs.Ways.{hop}
 use Rattle.way_costs.proofs.Cells.{row_fits, edges_more}
-use Rattle.way_costs.proofs.table.edges_in.Goals as goal
+use Rattle.way_costs.proofs.table.pick_edges.Goals as goal
 
 pub loop-k-preserved : goal.loop-k-preserved
 loop-k-preserved g c =

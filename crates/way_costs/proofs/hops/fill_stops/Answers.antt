@@ -2,7 +2,7 @@ use Rattle.std.proofs.Common.{arith}
 use Rattle.std.proofs.lemmas.Grind.{common_steps}
 use Rattle.dimension_core.specs.Setup.{setting}
 use Rattle.way_costs.proofs.Stops.{made_stops}
-use Rattle.way_costs.proofs.hops.stops_of.Goals as goal
+use Rattle.way_costs.proofs.hops.fill_stops.Goals as goal
 
 pub returns : goal.returns
 returns g c =

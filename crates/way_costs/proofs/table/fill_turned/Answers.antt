@@ -2,7 +2,7 @@ use Rattle.std.proofs.Common.{◌∙◌, arith}
 use Rattle.callback_store.specs.Tables.{table_at}
 use Rattle.dimension_core.specs.Setup.{setting}
 use Rattle.way_costs.proofs.Cells.{turned_begin, turned_more, turned_row, turned_all}
-use Rattle.way_costs.proofs.table.turned_of.Goals as goal
+use Rattle.way_costs.proofs.table.fill_turned.Goals as goal
 
 pub loop-j-init : goal.loop-j-init
 loop-j-init g c = turned_begin _ _ _ _ c.loop-i.invariant

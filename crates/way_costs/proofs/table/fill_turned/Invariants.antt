@@ -2,7 +2,7 @@ use Rattle.std.proofs.Common.{true}
 use Rattle.callback_store.specs.Tables.{table_at}
 use Rattle.dimension_core.specs.Setup.{setting}
 use Rattle.way_costs.proofs.Cells.{AreFilledFrom, AreTurned}
-use Rattle.way_costs.proofs.table.turned_of.Given as goal
+use Rattle.way_costs.proofs.table.fill_turned.Given as goal
 
 -- the rows so far
 abbrev pub invariant-loop-i : goal.invariant-loop-i

@@ -2,7 +2,7 @@ use Rattle.std.proofs.Common.{◌≡◌, ◌+◌, ◌<◌, ℕ, length, slice_in
 use Rattle.callback_store.specs.Tables.{table_at}
 use Rattle.dimension_core.specs.Setup.{setting}
 use Rattle.way_costs.specs.Ways.{hop}
-use Rattle.way_costs.proofs.table.edges_in.Given as goal
+use Rattle.way_costs.proofs.table.pick_edges.Given as goal
 
 -- the edges so far
 abbrev pub invariant-loop-k : goal.invariant-loop-k
