@@ -1,8 +1,7 @@
 -- A desk, as contracts see it.
-use Rattle.std.specs.Prelude.{ℕ, zero, suc, ◌+◌, List, [], ◌∷◌, ◌++◌, Option, Some, None}
+use Rattle.std.specs.Prelude.{ℕ, zero, suc, ◌+◌, List, [], ◌∷◌, ◌++◌, Option, None}
 use Rattle.board_rules.specs.declared.call.Entry.{Entry}
 use Rattle.board_rules.specs.History.{turns_of}
-use Rattle.published_board.specs.Kepts.{EyeState}
 
 -- its number, how many turns it has had, the entries that it has seen, and those of which the view that it keeps tells
 pub record Watch : Type 0 where
@@ -10,10 +9,6 @@ pub record Watch : Type 0 where
   pub own : ℕ
   pub seen : List Entry
   pub viewed : Option (List Entry)
-
-abbrev pub eye_in : Option EyeState → EyeState
-eye_in None = record { seen = []; viewed = None }
-eye_in (Some eye) = eye
 
 -- a desk of a board, with its turns there, with its journal seen and without a view
 abbrev pub watch_at : List Entry → ℕ → Watch

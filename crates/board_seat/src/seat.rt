@@ -6,6 +6,7 @@ ghost use Rattle.board_rules.specs.declared.reply.AskFault.{AskFault};
 ghost use Rattle.board_rules.specs.History.{state_after, turns_of};
 ghost use Rattle.board_rules.specs.Listing.{IsListing};
 ghost use Rattle.board_rules.specs.Questions.{MayAsk, list_fault, audit_fault, review_fault, review_of, check_of};
+ghost use Rattle.published_board.specs.declared.eye.SnapFault.{SnapFault};
 ghost use Rattle.published_board.specs.Shelves.{view_of};
 ghost use Rattle.locked_board.specs.Commits.{Submitted, Looked, Faulted, Legal};
 
@@ -26,8 +27,7 @@ use std::sync::{Arc, Mutex, Wait};
 #[derive(Drop)]
 pub struct SeatOf<N: Naming, L: Drop> {
     shared: Arc<Mutex<L>>,
-    // It is there between any two calls.
-    eye: Option<Eye<N>>,
+    eye: Eye<N>,
     number: u32,
     own: u32,
     alloc: Global,
@@ -37,15 +37,15 @@ pub struct SeatOf<N: Naming, L: Drop> {
 pub type Seat<N, R> = SeatOf<N, Held<N, R>>;
 
 impl<N: Naming, L: Drop> Model for SeatOf<N, L> {
-    ghost use Rattle.std.specs.Prelude.{◌≤◌, IsSome};
+    ghost use Rattle.std.specs.Prelude.{◌≤◌};
     ghost use Rattle.board_rules.specs.History.{turns_of};
-    ghost use Rattle.board_seat.specs.Watches.{Watch, eye_in};
+    ghost use Rattle.board_seat.specs.Watches.{Watch};
 
     ghost Value = { Watch };
 
-    ghost view = { λ d. record { number = d.number; own = d.own; seen = (eye_in d.eye).seen; viewed = (eye_in d.eye).viewed } };
+    ghost view = { λ d. record { number = d.number; own = d.own; seen = d.eye.seen; viewed = d.eye.viewed } };
 
-    ghost invariant = { λ d. IsSome d.eye × (1 ≤ d.number) × (d.number ≤ N.opening.desks) × (d.own ≤ turns_of d.number (eye_in d.eye).seen) × (d.own ≤ 16777216) };
+    ghost invariant = { λ d. (1 ≤ d.number) × (d.number ≤ N.opening.desks) × (d.own ≤ turns_of d.number d.eye.seen) × (d.own ≤ 16777216) };
 }
 
 impl<N: Naming, L: Drop> SeatOf<N, L> {
@@ -65,7 +65,7 @@ impl<N: Naming, L: Drop> SeatOf<N, L> {
     {
         SeatOf {
             shared,
-            eye: Some(eye),
+            eye,
             number,
             own,
             alloc,
@@ -79,23 +79,17 @@ impl<N: Naming, L: Drop> SeatOf<N, L> {
         ensures grows { IsPrefix self.old.seen self.new.seen }
         ensures legal { Legal N.opening self.new.seen }
         ensures ok { OnOk result (self.new.viewed ≡ Some self.new.seen) }
+        ensures no_memory { IsErrOf result SnapFault.NoMemory → self.new.viewed ≡ None }
+        ensures closed { IsErrOf result SnapFault.Closed → self.new ≡ self.old }
     {
-        let Some(eye) = self.eye.take() else {
-            unreachable!()
-        };
-        let (eye, answer) = eye.refresh(self.alloc);
-        self.eye = Some(eye);
-        answer
+        self.eye.refresh(self.alloc)
     }
 
     /// The view as it was brought up last, if there is one: the plan, its pins and freezes, and the version.
     pub fn view(&self) -> Option<&View>
         ensures { MatchOption result (self.now.viewed ≡ None) (λ v. MatchOption self.now.viewed ⊥ (λ es. v.now ≡ view_of (state_after N.opening.setting es))) }
     {
-        match &self.eye {
-            Some(eye) => eye.view(),
-            None => None,
-        }
+        self.eye.view()
     }
 
     /// A copy of the plan that is published, with its pins and freezes. The routes are shared. It waits for nobody.
@@ -104,13 +98,9 @@ impl<N: Naming, L: Drop> SeatOf<N, L> {
         ensures grows { IsPrefix self.old.seen self.new.seen }
         ensures legal { Legal N.opening self.new.seen }
         ensures view { IfOk result (λ v. v ≡ view_of (state_after N.opening.setting self.new.seen)) }
+        ensures closed { IsErrOf result SnapFault.Closed → self.new ≡ self.old }
     {
-        let Some(eye) = self.eye.take() else {
-            unreachable!()
-        };
-        let (eye, answer) = eye.snapshot(self.alloc);
-        self.eye = Some(eye);
-        answer
+        self.eye.snapshot(self.alloc)
     }
 
     /// The desk's next turn.
@@ -118,6 +108,13 @@ impl<N: Naming, L: Drop> SeatOf<N, L> {
         ensures { result ≡ self.now.own + 1 }
     {
         self.own + 1
+    }
+
+    /// A law: the turns that the desk has had are among the entries that it has seen. It does nothing.
+    pub fn turns_are_seen(&self)
+        ensures { self.now.own ≤ turns_of self.now.number self.now.seen }
+    {
+        let _own = self.own;
     }
 }
 
@@ -130,17 +127,16 @@ impl<N: Naming, R: Wait + Drop> SeatOf<N, Held<N, R>> {
         ensures ok { IfOk result (λ r. Submitted N.opening self.old.number self.old.own call r self.old.seen self.new.seen × (self.new.own ≡ self.old.own + 1)) }
         ensures err { IfErr result (λ f. Faulted N.opening self.old.number self.old.own f self.old.seen self.new.seen × (self.new.own ≡ self.old.own)) }
     {
-        let Some(eye) = self.eye.take() else {
-            unreachable!()
-        };
         let mut held = self.shared.lock(rt);
-        let (eye, answer) = held.submit(setup, eye, self.number, self.own, call);
+        let answer = held.submit(setup, &mut self.eye, self.number, self.own, call);
         drop(held);
-        self.eye = Some(eye);
-        if answer.is_ok() {
-            self.own += 1;
+        match answer {
+            Ok(reply) => {
+                self.own += 1;
+                Ok(reply)
+            }
+            Err(fault) => Err(fault),
         }
-        answer
     }
 
     /// The rows that a session may read. Faults, in order: `NoSession`, `NoMemory`.
@@ -158,13 +154,9 @@ impl<N: Naming, R: Wait + Drop> SeatOf<N, Held<N, R>> {
         ensures fault { IfErr result (MayAsk (list_fault (state_after N.opening.setting self.new.seen) session)) }
         ensures no_session { IsErrOf result AskFault.NoSession ↔ (list_fault (state_after N.opening.setting self.new.seen) session ≡ Some AskFault.NoSession) }
     {
-        let Some(eye) = self.eye.take() else {
-            unreachable!()
-        };
         let held = self.shared.lock(rt);
-        let (eye, answer) = held.list(setup, eye, self.number, self.own, session);
+        let answer = held.list(setup, &mut self.eye, self.number, self.own, session);
         drop(held);
-        self.eye = Some(eye);
         answer
     }
 
@@ -178,13 +170,9 @@ impl<N: Naming, R: Wait + Drop> SeatOf<N, Held<N, R>> {
         ensures fault { IfErr result (MayAsk (audit_fault (state_after N.opening.setting self.new.seen) session)) }
         ensures barred { (f : AskFault) → audit_fault (state_after N.opening.setting self.new.seen) session ≡ Some f → IsErrOf result f }
     {
-        let Some(eye) = self.eye.take() else {
-            unreachable!()
-        };
         let held = self.shared.lock(rt);
-        let (eye, answer) = held.audit(self.alloc, eye, self.number, self.own, session);
+        let answer = held.audit(self.alloc, &mut self.eye, self.number, self.own, session);
         drop(held);
-        self.eye = Some(eye);
         answer
     }
 
@@ -203,13 +191,9 @@ impl<N: Naming, R: Wait + Drop> SeatOf<N, Held<N, R>> {
         ensures fault { IfErr result (MayAsk (review_fault (state_after N.opening.setting self.new.seen) session which)) }
         ensures barred { (f : AskFault) → audit_fault (state_after N.opening.setting self.new.seen) session ≡ Some f → IsErrOf result f }
     {
-        let Some(eye) = self.eye.take() else {
-            unreachable!()
-        };
         let held = self.shared.lock(rt);
-        let (eye, answer) = held.review(eye, self.number, self.own, session, which);
+        let answer = held.review(&mut self.eye, self.number, self.own, session, which);
         drop(held);
-        self.eye = Some(eye);
         answer
     }
 
@@ -225,13 +209,16 @@ impl<N: Naming, R: Wait + Drop> SeatOf<N, Held<N, R>> {
         ensures looked { Looked N.opening self.old.number self.old.own self.old.seen self.new.seen }
         ensures answer { result ≡ check_of (state_after N.opening.setting self.new.seen) session operation object }
     {
-        let Some(eye) = self.eye.take() else {
-            unreachable!()
-        };
         let held = self.shared.lock(rt);
-        let (eye, answer) = held.check(eye, self.number, self.own, session, operation, object);
+        let answer = held.check(
+            &mut self.eye,
+            self.number,
+            self.own,
+            session,
+            operation,
+            object,
+        );
         drop(held);
-        self.eye = Some(eye);
         answer
     }
 
@@ -243,16 +230,15 @@ impl<N: Naming, R: Wait + Drop> SeatOf<N, Held<N, R>> {
         ensures looked { Looked N.opening self.old.number self.old.own self.old.seen self.new.seen }
         ensures other_looked { Looked N.opening other.old.number other.old.own other.old.seen other.new.seen }
     {
-        let Some(eye) = self.eye.take() else {
-            unreachable!()
-        };
-        let Some(second) = other.eye.take() else {
-            unreachable!()
-        };
         let held = self.shared.lock(rt);
-        let (eye, second) = held.meet(eye, self.number, self.own, second, other.number, other.own);
+        held.meet(
+            &mut self.eye,
+            self.number,
+            self.own,
+            &mut other.eye,
+            other.number,
+            other.own,
+        );
         drop(held);
-        self.eye = Some(eye);
-        other.eye = Some(second);
     }
 }

@@ -1,4 +1,4 @@
-//! The place of the locked value. Between any two calls the value is there.
+//! What a desk calls under the lock.
 ghost use Rattle.std.specs.Prelude.{◌≡◌, ◌↔◌, ◌+◌, ◌≤◌, Some, None, IfOk, IfErr, OnOk, IsErrOf};
 ghost use Rattle.dimension_core.specs.Setup.{setting};
 ghost use Rattle.board_rules.specs.declared.reply.AskFault.{AskFault};
@@ -18,178 +18,149 @@ use std::alloc::Global;
 use std::marker::Model;
 use std::sync::Wait;
 
-/// A locked value. Contracts see nothing of it but that it is there: a desk learns from its own eye what the board has come to.
+/// A locked value. Contracts see nothing of it: a desk learns from its own eye what the board has come to.
 #[derive(Drop)]
 pub struct Held<N: Naming, R: Wait + Drop> {
-    locked: Option<Locked<N, R>>,
+    locked: Locked<N, R>,
 }
 
 impl<N: Naming, R: Wait + Drop> Model for Held<N, R> {
-    ghost use Rattle.std.specs.Prelude.{IsSome};
-
     ghost Value = { Unit {0} };
 
     ghost view = { λ h. tt };
-
-    ghost invariant = { λ h. IsSome h.locked };
 }
 
 impl<N: Naming, R: Wait + Drop> Held<N, R> {
     pub fn over(locked: Locked<N, R>) -> Held<N, R> {
-        Held {
-            locked: Some(locked),
-        }
-    }
-
-    fn locked(&self) -> &Locked<N, R> {
-        match &self.locked {
-            Some(locked) => locked,
-            None => unreachable!(),
-        }
+        Held { locked }
     }
 
     /// A call of a desk, which has seen a beginning of the journal and has had so many turns.
     pub fn submit(
         &mut self,
         setup: &Setup,
-        eye: Eye<N>,
+        eye: &mut Eye<N>,
         number: u32,
         own: u32,
         call: Call,
-    ) -> (Eye<N>, Result<Reply, Fault>)
+    ) -> Result<Reply, Fault>
         requires setting { setting setup.now ≡ N.opening.setting }
         requires low { 1 ≤ number }
         requires high { number ≤ N.opening.desks }
         requires few { own ≤ 16777216 }
-        ensures ok { IfOk result.1 (λ r. Submitted N.opening number own call r eye.seen result.0.seen) }
-        ensures few { OnOk result.1 (own + 1 ≤ 16777216) }
-        ensures err { IfErr result.1 (λ f. Faulted N.opening number own f eye.seen result.0.seen) }
-        ensures viewed { result.0.viewed ≡ eye.viewed }
+        ensures ok { IfOk result (λ r. Submitted N.opening number own call r eye.old.seen eye.new.seen) }
+        ensures few { OnOk result (own + 1 ≤ 16777216) }
+        ensures err { IfErr result (λ f. Faulted N.opening number own f eye.old.seen eye.new.seen) }
+        ensures viewed { eye.new.viewed ≡ eye.old.viewed }
     {
-        let Some(locked) = self.locked.take() else {
-            unreachable!()
-        };
-        let (locked, eye, answer) = locked.submit(setup, eye, number, own, call);
-        self.locked = Some(locked);
-        (eye, answer)
+        self.locked.submit(setup, eye, number, own, call)
     }
 
     /// Brings the eyes of two desks up to the journal.
     pub fn meet(
         &self,
-        eye: Eye<N>,
+        eye: &mut Eye<N>,
         number: u32,
         own: u32,
-        other: Eye<N>,
+        other: &mut Eye<N>,
         other_number: u32,
         other_own: u32,
-    ) -> (Eye<N>, Eye<N>)
+    )
         requires low { (1 ≤ number) × (1 ≤ other_number) }
         requires high { (number ≤ N.opening.desks) × (other_number ≤ N.opening.desks) }
-        ensures one { result.0.seen ≡ result.1.seen }
-        ensures looked { Looked N.opening number own eye.seen result.0.seen }
-        ensures other_looked { Looked N.opening other_number other_own other.seen result.1.seen }
-        ensures viewed { (result.0.viewed ≡ eye.viewed) × (result.1.viewed ≡ other.viewed) }
+        ensures one { eye.new.seen ≡ other.new.seen }
+        ensures looked { Looked N.opening number own eye.old.seen eye.new.seen }
+        ensures other_looked { Looked N.opening other_number other_own other.old.seen other.new.seen }
+        ensures viewed { (eye.new.viewed ≡ eye.old.viewed) × (other.new.viewed ≡ other.old.viewed) }
     {
-        let locked = self.locked();
-        (
-            locked.catch_up(eye, number, own),
-            locked.catch_up(other, other_number, other_own),
-        )
+        self.locked.catch_up(eye, number, own);
+        self.locked.catch_up(other, other_number, other_own);
     }
 
     /// The rows that a session may read.
     pub fn list(
         &self,
         setup: &Setup,
-        eye: Eye<N>,
+        eye: &mut Eye<N>,
         number: u32,
         own: u32,
         session: u32,
-    ) -> (Eye<N>, Result<Vec<Row>, AskFault>)
+    ) -> Result<Vec<Row>, AskFault>
         requires setting { setting setup.now ≡ N.opening.setting }
         requires low { 1 ≤ number }
         requires high { number ≤ N.opening.desks }
-        ensures looked { Looked N.opening number own eye.seen result.0.seen }
-        ensures viewed { result.0.viewed ≡ eye.viewed }
-        ensures rows { IfOk result.1 (λ rows. IsListing N.opening.setting (state_after N.opening.setting result.0.seen) session rows.items) }
-        ensures asked { OnOk result.1 (list_fault (state_after N.opening.setting result.0.seen) session ≡ None) }
-        ensures fault { IfErr result.1 (MayAsk (list_fault (state_after N.opening.setting result.0.seen) session)) }
-        ensures no_session { IsErrOf result.1 AskFault.NoSession ↔ (list_fault (state_after N.opening.setting result.0.seen) session ≡ Some AskFault.NoSession) }
+        ensures looked { Looked N.opening number own eye.old.seen eye.new.seen }
+        ensures viewed { eye.new.viewed ≡ eye.old.viewed }
+        ensures rows { IfOk result (λ rows. IsListing N.opening.setting (state_after N.opening.setting eye.new.seen) session rows.items) }
+        ensures asked { OnOk result (list_fault (state_after N.opening.setting eye.new.seen) session ≡ None) }
+        ensures fault { IfErr result (MayAsk (list_fault (state_after N.opening.setting eye.new.seen) session)) }
+        ensures no_session { IsErrOf result AskFault.NoSession ↔ (list_fault (state_after N.opening.setting eye.new.seen) session ≡ Some AskFault.NoSession) }
     {
-        let locked = self.locked();
-        let eye = locked.catch_up(eye, number, own);
-        let answer = locked.list(setup, session);
-        (eye, answer)
+        self.locked.catch_up(eye, number, own);
+        self.locked.list(setup, session)
     }
 
     /// The journal.
     pub fn audit(
         &self,
         alloc: Global,
-        eye: Eye<N>,
+        eye: &mut Eye<N>,
         number: u32,
         own: u32,
         session: u32,
-    ) -> (Eye<N>, Result<Journal, AskFault>)
+    ) -> Result<Journal, AskFault>
         requires low { 1 ≤ number }
         requires high { number ≤ N.opening.desks }
-        ensures looked { Looked N.opening number own eye.seen result.0.seen }
-        ensures viewed { result.0.viewed ≡ eye.viewed }
-        ensures entries { IfOk result.1 (λ journal. journal.entries ≡ result.0.seen) }
-        ensures asked { OnOk result.1 (audit_fault (state_after N.opening.setting result.0.seen) session ≡ None) }
-        ensures fault { IfErr result.1 (MayAsk (audit_fault (state_after N.opening.setting result.0.seen) session)) }
-        ensures barred { (f : AskFault) → audit_fault (state_after N.opening.setting result.0.seen) session ≡ Some f → IsErrOf result.1 f }
+        ensures looked { Looked N.opening number own eye.old.seen eye.new.seen }
+        ensures viewed { eye.new.viewed ≡ eye.old.viewed }
+        ensures entries { IfOk result (λ journal. journal.entries ≡ eye.new.seen) }
+        ensures asked { OnOk result (audit_fault (state_after N.opening.setting eye.new.seen) session ≡ None) }
+        ensures fault { IfErr result (MayAsk (audit_fault (state_after N.opening.setting eye.new.seen) session)) }
+        ensures barred { (f : AskFault) → audit_fault (state_after N.opening.setting eye.new.seen) session ≡ Some f → IsErrOf result f }
     {
-        let locked = self.locked();
-        let eye = locked.catch_up(eye, number, own);
-        let answer = locked.audit(alloc, session);
-        (eye, answer)
+        self.locked.catch_up(eye, number, own);
+        self.locked.audit(alloc, session)
     }
 
     /// The names that a review shows.
     pub fn review(
         &self,
-        eye: Eye<N>,
+        eye: &mut Eye<N>,
         number: u32,
         own: u32,
         session: u32,
         which: Review,
-    ) -> (Eye<N>, Result<Vec<Name>, AskFault>)
+    ) -> Result<Vec<Name>, AskFault>
         requires low { 1 ≤ number }
         requires high { number ≤ N.opening.desks }
-        ensures looked { Looked N.opening number own eye.seen result.0.seen }
-        ensures viewed { result.0.viewed ≡ eye.viewed }
-        ensures names { IfOk result.1 (λ names. names.items ≡ review_of (state_after N.opening.setting result.0.seen).policy which) }
-        ensures asked { OnOk result.1 (review_fault (state_after N.opening.setting result.0.seen) session which ≡ None) }
-        ensures fault { IfErr result.1 (MayAsk (review_fault (state_after N.opening.setting result.0.seen) session which)) }
-        ensures barred { (f : AskFault) → audit_fault (state_after N.opening.setting result.0.seen) session ≡ Some f → IsErrOf result.1 f }
+        ensures looked { Looked N.opening number own eye.old.seen eye.new.seen }
+        ensures viewed { eye.new.viewed ≡ eye.old.viewed }
+        ensures names { IfOk result (λ names. names.items ≡ review_of (state_after N.opening.setting eye.new.seen).policy which) }
+        ensures asked { OnOk result (review_fault (state_after N.opening.setting eye.new.seen) session which ≡ None) }
+        ensures fault { IfErr result (MayAsk (review_fault (state_after N.opening.setting eye.new.seen) session which)) }
+        ensures barred { (f : AskFault) → audit_fault (state_after N.opening.setting eye.new.seen) session ≡ Some f → IsErrOf result f }
     {
-        let locked = self.locked();
-        let eye = locked.catch_up(eye, number, own);
-        let answer = locked.review(session, which);
-        (eye, answer)
+        self.locked.catch_up(eye, number, own);
+        self.locked.review(session, which)
     }
 
     /// CheckAccess.
     pub fn check(
         &self,
-        eye: Eye<N>,
+        eye: &mut Eye<N>,
         number: u32,
         own: u32,
         session: u32,
         operation: Operation,
         object: Object,
-    ) -> (Eye<N>, bool)
+    ) -> bool
         requires low { 1 ≤ number }
         requires high { number ≤ N.opening.desks }
-        ensures looked { Looked N.opening number own eye.seen result.0.seen }
-        ensures viewed { result.0.viewed ≡ eye.viewed }
-        ensures answer { result.1 ≡ check_of (state_after N.opening.setting result.0.seen) session operation object }
+        ensures looked { Looked N.opening number own eye.old.seen eye.new.seen }
+        ensures viewed { eye.new.viewed ≡ eye.old.viewed }
+        ensures answer { result ≡ check_of (state_after N.opening.setting eye.new.seen) session operation object }
     {
-        let locked = self.locked();
-        let eye = locked.catch_up(eye, number, own);
-        let answer = locked.check(session, operation, object);
-        (eye, answer)
+        self.locked.catch_up(eye, number, own);
+        self.locked.check(session, operation, object)
     }
 }

@@ -26,25 +26,28 @@ use rbac_core::{Object, Operation};
 use separation_core::Name;
 use std::alloc::{AllocError, Global};
 use std::marker::{Model, PhantomData};
+use std::mem::replace;
 use std::sync::Wait;
 
 /// The core of a board and what is published of it. Contracts see it as the core.
 pub struct Locked<N: Naming, R: Wait + Drop> {
     core: Core,
-    publication: Publication,
+    // It is there between any two calls. The core stays where it is, and is never moved.
+    publication: Option<Publication>,
     rt: R,
     of: PhantomData<N>,
 }
 
 impl<N: Naming, R: Wait + Drop> Model for Locked<N, R> {
+    ghost use Rattle.std.specs.Prelude.{IsSome};
     ghost use Rattle.board_core.specs.Kept.{CoreState};
-    ghost use Rattle.locked_board.specs.Ties.{IsTied};
+    ghost use Rattle.locked_board.specs.Ties.{IsTied, published_in};
 
     ghost Value = { CoreState };
 
     ghost view = { λ d. d.core };
 
-    ghost invariant = { λ d. IsTied N.book N.opening d.core d.publication };
+    ghost invariant = { λ d. IsSome d.publication × IsTied N.book N.opening d.core (published_in d.publication) };
 }
 
 impl<N: Naming, R: Wait + Drop> Drop for Locked<N, R> {
@@ -55,7 +58,21 @@ impl<N: Naming, R: Wait + Drop> Drop for Locked<N, R> {
             rt,
             of: _,
         } = self;
-        publication.close(&rt);
+        match publication {
+            Some(publication) => publication.close(&rt),
+            None => {}
+        }
+    }
+}
+
+/// Puts a publication into its place, which is empty.
+fn put_back(place: &mut Option<Publication>, publication: Publication)
+    requires { place.old ≡ None }
+    ensures { place.new ≡ Some publication }
+{
+    match replace(place, Some(publication)) {
+        None => {}
+        Some(_) => unreachable!(),
     }
 }
 
@@ -67,30 +84,28 @@ impl<N: Naming, R: Wait + Drop> Locked<N, R> {
     {
         Locked {
             core,
-            publication,
+            publication: Some(publication),
             rt,
             of: PhantomData,
         }
     }
 
     /// Judges a call, journals it and publishes it.
-    pub(crate) fn commit(self, setup: &Setup, event: Event) -> (Locked<N, R>, Result<Reply, Fault>)
+    fn commit(&mut self, setup: &Setup, event: Event) -> Result<Reply, Fault>
         requires { setting setup.now ≡ N.opening.setting }
-        ensures ok { IfOk result.1 (λ r. IsCommitted N.opening self.journal (entry_of event r) result.0.journal) }
-        ensures err { IfErr result.1 (λ f. (result.0.journal ≡ self.journal) × IsFault N.opening self.journal event.desk event.turn f) }
+        ensures ok { IfOk result (λ r. IsCommitted N.opening self.old.journal (entry_of event r) self.new.journal) }
+        ensures err { IfErr result (λ f. (self.new.journal ≡ self.old.journal) × IsFault N.opening self.old.journal event.desk event.turn f) }
     {
-        let mut locked = self;
-        let prepared = match locked.judge(setup, event) {
+        let prepared = match self.judge(setup, event) {
             Ok(prepared) => prepared,
-            Err(fault) => return (locked, Err(fault)),
+            Err(fault) => return Err(fault),
         };
         let Ok(change) = Change::of(&prepared) else {
-            return (locked, Err(Fault::NoMemory));
+            return Err(Fault::NoMemory);
         };
-        let (locked, answer) = locked.publish(prepared, change);
-        match answer {
-            Ok(reply) => (locked, Ok(reply)),
-            Err(_) => (locked, Err(Fault::NoMemory)),
+        match self.publish(prepared, change) {
+            Ok(reply) => Ok(reply),
+            Err(_) => Err(Fault::NoMemory),
         }
     }
 
@@ -109,74 +124,60 @@ impl<N: Naming, R: Wait + Drop> Locked<N, R> {
     }
 
     /// Puts a judged call in place and publishes it, or nothing where there is no memory for it.
-    fn publish(
-        self,
-        prepared: Prepared,
-        change: Change,
-    ) -> (Locked<N, R>, Result<Reply, AllocError>)
-        requires of { prepared.of ≡ self }
+    fn publish(&mut self, prepared: Prepared, change: Change) -> Result<Reply, AllocError>
+        requires of { prepared.of ≡ self.old }
         requires makes { Makes N.opening.setting prepared }
-        requires routes { AreRoutesOf (state_after N.opening.setting self.journal) (after (state_after N.opening.setting self.journal) prepared.entry.call prepared.entry.reply) (changes_of change.routes.items) }
-        requires delta { IsDeltaOf N.opening.setting (state_after N.opening.setting self.journal) prepared.entry change.delta }
-        ensures journal { OnOk result.1 (result.0.journal ≡ self.journal ++ prepared.entry ∷ []) }
-        ensures kept { IsKept N.opening.setting result.0 }
-        ensures desks { length result.0.turns ≡ N.opening.desks }
-        ensures reply { IfOk result.1 (λ r. r ≡ prepared.entry.reply) }
-        ensures err { OnErr result.1 (result.0 ≡ self) }
+        requires routes { AreRoutesOf (state_after N.opening.setting self.old.journal) (after (state_after N.opening.setting self.old.journal) prepared.entry.call prepared.entry.reply) (changes_of change.routes.items) }
+        requires delta { IsDeltaOf N.opening.setting (state_after N.opening.setting self.old.journal) prepared.entry change.delta }
+        ensures journal { OnOk result (self.new.journal ≡ self.old.journal ++ prepared.entry ∷ []) }
+        ensures kept { IsKept N.opening.setting self.new }
+        ensures desks { length self.new.turns ≡ N.opening.desks }
+        ensures reply { IfOk result (λ r. r ≡ prepared.entry.reply) }
+        ensures err { OnErr result (self.new ≡ self.old) }
     {
-        let Locked {
-            mut core,
-            publication,
-            rt,
-            of,
-        } = self;
-        let entries = core.events() as u64 + 1;
+        let Some(publication) = self.publication.take() else {
+            unreachable!()
+        };
+        let entries = self.core.events() as u64 + 1;
         let Change { routes, delta } = change;
-        match publication.stage::<Prepared, Settles, R>(&rt, &prepared, routes, delta, entries) {
+        match publication.stage::<Prepared, Settles, R>(
+            &self.rt, &prepared, routes, delta, entries,
+        ) {
             Ok(staged) => {
-                let reply = core.settle(prepared);
-                let publication = staged.show(&rt);
-                let locked = Locked {
-                    core,
-                    publication,
-                    rt,
-                    of,
-                };
-                (locked, Ok(reply))
+                let reply = self.core.settle(prepared);
+                let publication = staged.show(&self.rt);
+                put_back(&mut self.publication, publication);
+                Ok(reply)
             }
             Err(publication) => {
-                let locked = Locked {
-                    core,
-                    publication,
-                    rt,
-                    of,
-                };
-                (locked, Err(AllocError))
+                drop(prepared);
+                put_back(&mut self.publication, publication);
+                Err(AllocError)
             }
         }
     }
 
     /// A call of a desk, which has seen a beginning of the journal and has had so many turns.
     pub(crate) fn submit(
-        self,
+        &mut self,
         setup: &Setup,
-        eye: Eye<N>,
+        eye: &mut Eye<N>,
         number: u32,
         own: u32,
         call: Call,
-    ) -> (Locked<N, R>, Eye<N>, Result<Reply, Fault>)
+    ) -> Result<Reply, Fault>
         requires setting { setting setup.now ≡ N.opening.setting }
         requires low { 1 ≤ number }
         requires high { number ≤ N.opening.desks }
         requires few { own ≤ 16777216 }
-        ensures ok { IfOk result.2 (λ r. Submitted N.opening number own call r eye.seen result.1.seen) }
-        ensures few { OnOk result.2 (own + 1 ≤ 16777216) }
-        ensures err { IfErr result.2 (λ f. Faulted N.opening number own f eye.seen result.1.seen) }
-        ensures viewed { result.1.viewed ≡ eye.viewed }
+        ensures ok { IfOk result (λ r. Submitted N.opening number own call r eye.old.seen eye.new.seen) }
+        ensures few { OnOk result (own + 1 ≤ 16777216) }
+        ensures err { IfErr result (λ f. Faulted N.opening number own f eye.old.seen eye.new.seen) }
+        ensures viewed { eye.new.viewed ≡ eye.old.viewed }
     {
         histories_grow_by_entries();
-        let eye = self.catch_up(eye, number, own);
-        let (locked, answer) = self.commit(
+        self.catch_up(eye, number, own);
+        let answer = self.commit(
             setup,
             Event {
                 desk: number,
@@ -184,39 +185,39 @@ impl<N: Naming, R: Wait + Drop> Locked<N, R> {
                 call,
             },
         );
-        let eye = locked.show(eye);
-        let _last = locked.turns(number);
-        (locked, eye, answer)
+        self.show(eye);
+        let _last = self.turns(number);
+        answer
     }
 
     /// Brings a desk's eye up to the journal, in which the desk has so many turns.
-    pub(crate) fn catch_up(&self, eye: Eye<N>, number: u32, own: u32) -> Eye<N>
+    pub(crate) fn catch_up(&self, eye: &mut Eye<N>, number: u32, own: u32)
         requires low { 1 ≤ number }
         requires high { number ≤ N.opening.desks }
-        ensures seen { result.seen ≡ self.now.journal }
+        ensures seen { eye.new.seen ≡ self.now.journal }
         ensures own { turns_of number self.now.journal ≡ own }
-        ensures looked { Looked N.opening number own eye.seen result.seen }
-        ensures viewed { result.viewed ≡ eye.viewed }
+        ensures looked { Looked N.opening number own eye.old.seen eye.new.seen }
+        ensures viewed { eye.new.viewed ≡ eye.old.viewed }
     {
-        let eye = self.show(eye);
+        self.show(eye);
         if self.turns(number) != own {
             never(&self.rt);
         }
-        eye
     }
 
     /// Brings an eye up to the journal.
-    pub(crate) fn show(&self, eye: Eye<N>) -> Eye<N>
-        ensures seen { result.seen ≡ self.now.journal }
-        ensures grows { IsPrefix eye.seen self.now.journal }
-        ensures viewed { result.viewed ≡ eye.viewed }
+    fn show(&self, eye: &mut Eye<N>)
+        ensures seen { eye.new.seen ≡ self.now.journal }
+        ensures grows { IsPrefix eye.old.seen self.now.journal }
+        ensures viewed { eye.new.viewed ≡ eye.old.viewed }
         ensures legal { IsLegal (record { opening = N.opening; entries = self.now.journal }) }
     {
-        let (eye, same) = self.publication.show(eye);
-        if !same {
-            never(&self.rt);
+        match &self.publication {
+            Some(publication) => if !publication.show(eye) {
+                never(&self.rt);
+            },
+            None => unreachable!(),
         }
-        eye
     }
 
     /// An eye that has seen the journal, which is one reader more. It fails where there is no place for a reader.
@@ -230,10 +231,13 @@ impl<N: Naming, R: Wait + Drop> Locked<N, R> {
             rt,
             of,
         } = self;
+        let Some(publication) = publication else {
+            unreachable!()
+        };
         let (publication, answer) = publication.eye::<N>();
         let locked = Locked {
             core,
-            publication,
+            publication: Some(publication),
             rt,
             of,
         };

@@ -1,11 +1,12 @@
 //! A reader of one hall, with what it has seen and the view that it keeps.
-ghost use Rattle.std.specs.Prelude.{◌≡◌, List, Some, None, IfOk, OnOk};
+ghost use Rattle.std.specs.Prelude.{◌≡◌, List, Some, None, IfOk, IfErr, OnOk, IsErrOf};
 ghost use Rattle.std.specs.Bool.{OnTrue};
 ghost use mathlib.Core.List.{IsPrefix};
 ghost use Rattle.logbook.specs.Pages.{Book};
 ghost use Rattle.board_rules.specs.declared.call.Entry.{Entry};
 ghost use Rattle.board_rules.specs.History.{Opening, state_after, IsLegal};
 ghost use Rattle.plan_core.specs.Plan.{routes_of};
+ghost use Rattle.published_board.specs.declared.eye.SnapFault.{SnapFault};
 ghost use Rattle.published_board.specs.Reached.{entries_of, opening_of};
 ghost use Rattle.published_board.specs.Shelves.{cells_of, Shows, view_of};
 ghost use Rattle.published_board.specs.Pictures.{picture_of};
@@ -37,21 +38,23 @@ pub struct Kept {
 /// Contracts see it as the entries that it has seen, and those of which its view tells.
 #[derive(Drop)]
 pub struct Eye<N: Naming> {
-    pub reader: CopyReader,
+    // It is there between any two calls.
+    pub reader: Option<CopyReader>,
     pub kept: Option<Kept>,
     pub of: PhantomData<N>,
 }
 
 impl<N: Naming> Model for Eye<N> {
+    ghost use Rattle.std.specs.Option.{option_and_then};
     ghost use Rattle.left_right.specs.Sides.{view as place_view};
     ghost use Rattle.published_board.specs.Sights.{IsOf, entries_in};
     ghost use Rattle.published_board.specs.Kepts.{EyeState, viewed_in, AreKeptFor};
 
     ghost Value = { EyeState };
 
-    ghost view = { λ e. record { seen = entries_in (place_view e.reader.place); viewed = viewed_in e.kept } };
+    ghost view = { λ e. record { seen = entries_in (option_and_then (λ r. place_view r.place) e.reader); viewed = viewed_in e.kept } };
 
-    ghost invariant = { λ e. IsOf N.opening N.book (place_view e.reader.place) × AreKeptFor N.opening N.book (entries_in (place_view e.reader.place)) e.kept };
+    ghost invariant = { λ e. let saw = option_and_then (λ r. place_view r.place) e.reader in IsOf N.opening N.book saw × AreKeptFor N.opening N.book (entries_in saw) e.kept };
 }
 
 /// Why there is no snapshot, in the order in which the faults are tried.
@@ -119,26 +122,30 @@ impl<N: Naming> Eye<N> {
 
     /// Brings the view up to what is published: only what changed since is read. It waits for nobody. Where memory runs out, the view is
     /// lost, and the next call makes it anew.
-    pub fn refresh(self, alloc: Global) -> (Eye<N>, Result<(), SnapFault>)
-        ensures grows { IsPrefix self.seen result.0.seen }
-        ensures legal { IsLegal (record { opening = N.opening; entries = result.0.seen }) }
-        ensures ok { OnOk result.1 (result.0.viewed ≡ Some result.0.seen) }
+    pub fn refresh(&mut self, alloc: Global) -> Result<(), SnapFault>
+        ensures grows { IsPrefix self.old.seen self.new.seen }
+        ensures legal { IsLegal (record { opening = N.opening; entries = self.new.seen }) }
+        ensures ok { OnOk result (self.new.viewed ≡ Some self.new.seen) }
+        ensures no_memory { IsErrOf result SnapFault.NoMemory → self.new.viewed ≡ None }
+        ensures closed { IsErrOf result SnapFault.Closed → self.new ≡ self.old }
     {
-        let Eye { reader, kept, of } = self;
+        let Some(reader) = self.reader.take() else {
+            unreachable!()
+        };
         match reader.enter_as::<Sees>() {
-            Err(reader) => (Eye { reader, kept, of }, Err(SnapFault::Closed)),
+            Err(reader) => {
+                self.reader = Some(reader);
+                Err(SnapFault::Closed)
+            }
             Ok(reading) => {
-                let renewed = renewed(alloc, kept, reading.get());
-                let reader = reading.leave();
+                let renewed = renewed(alloc, self.kept.take(), reading.get());
+                self.reader = Some(reading.leave());
                 match renewed {
                     Ok(kept) => {
-                        let kept = Some(kept);
-                        (Eye { reader, kept, of }, Ok(()))
+                        self.kept = Some(kept);
+                        Ok(())
                     }
-                    Err(_) => {
-                        let kept = None;
-                        (Eye { reader, kept, of }, Err(SnapFault::NoMemory))
-                    }
+                    Err(_) => Err(SnapFault::NoMemory),
                 }
             }
         }
@@ -155,24 +162,22 @@ impl<N: Naming> Eye<N> {
     }
 
     /// A copy of the view, brought up to what is published. It waits for nobody.
-    pub fn snapshot(self, alloc: Global) -> (Eye<N>, Result<View, SnapFault>)
-        ensures grows { IsPrefix self.seen result.0.seen }
-        ensures legal { IsLegal (record { opening = N.opening; entries = result.0.seen }) }
-        ensures view { IfOk result.1 (λ v. v ≡ view_of (state_after N.opening.setting result.0.seen)) }
+    pub fn snapshot(&mut self, alloc: Global) -> Result<View, SnapFault>
+        ensures grows { IsPrefix self.old.seen self.new.seen }
+        ensures legal { IsLegal (record { opening = N.opening; entries = self.new.seen }) }
+        ensures view { IfOk result (λ v. v ≡ view_of (state_after N.opening.setting self.new.seen)) }
+        ensures closed { IsErrOf result SnapFault.Closed → self.new ≡ self.old }
     {
-        let (eye, brought) = self.refresh(alloc);
-        match brought {
-            Err(fault) => (eye, Err(fault)),
-            Ok(()) => {
-                let copy = eye.copy(alloc);
-                (eye, copy)
-            }
+        match self.refresh(alloc) {
+            Err(fault) => Err(fault),
+            Ok(()) => self.copy(alloc),
         }
     }
 
     /// A copy of the view as it was brought up last.
     fn copy(&self, alloc: Global) -> Result<View, SnapFault>
-        ensures { (es : List Entry) → self.now.viewed ≡ Some es → IfOk result (λ v. v ≡ view_of (state_after N.opening.setting es)) }
+        ensures fault { IfErr result (λ f. f ≡ SnapFault.NoMemory) }
+        ensures view { (es : List Entry) → self.now.viewed ≡ Some es → IfOk result (λ v. v ≡ view_of (state_after N.opening.setting es)) }
     {
         match self.view() {
             Some(view) => match copy_of(alloc, view) {
@@ -184,20 +189,25 @@ impl<N: Naming> Eye<N> {
     }
 
     /// Sees what is published, and tells whether that is what this copy shows. The view stays as it is.
-    pub fn meet(self, published: &Shown) -> (Eye<N>, bool)
+    pub fn meet(&mut self, published: &Shown) -> bool
         requires { published.now.base.book ≡ N.book }
-        ensures grows { IsPrefix self.seen result.0.seen }
-        ensures legal { IsLegal (record { opening = N.opening; entries = result.0.seen }) }
-        ensures seen { OnTrue result.1 (result.0.seen ≡ entries_of published.now.base.pages) }
-        ensures viewed { result.0.viewed ≡ self.viewed }
+        ensures grows { IsPrefix self.old.seen self.new.seen }
+        ensures legal { IsLegal (record { opening = N.opening; entries = self.new.seen }) }
+        ensures seen { OnTrue result (self.new.seen ≡ entries_of published.now.base.pages) }
+        ensures viewed { self.new.viewed ≡ self.old.viewed }
     {
-        let Eye { reader, kept, of } = self;
+        let Some(reader) = self.reader.take() else {
+            unreachable!()
+        };
         match reader.enter_as::<Sees>() {
-            Err(reader) => (Eye { reader, kept, of }, false),
+            Err(reader) => {
+                self.reader = Some(reader);
+                false
+            }
             Ok(reading) => {
                 let same = reading.get().shows_same(published);
-                let reader = reading.leave();
-                (Eye { reader, kept, of }, same)
+                self.reader = Some(reading.leave());
+                same
             }
         }
     }

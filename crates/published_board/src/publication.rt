@@ -216,7 +216,7 @@ impl Publication {
             Ok(mut reader) => {
                 reader.learn::<Learns>(writer.tell::<Tells>());
                 Ok(Eye {
-                    reader,
+                    reader: Some(reader),
                     kept: None,
                     of: PhantomData,
                 })
@@ -231,12 +231,12 @@ impl Publication {
     }
 
     /// Brings a reader up to what is published. The answer tells whether this is what it has seen; nothing else can come.
-    pub fn show<N: Naming>(&self, eye: Eye<N>) -> (Eye<N>, bool)
+    pub fn show<N: Naming>(&self, eye: &mut Eye<N>) -> bool
         requires book { self.now.book ≡ N.book }
-        ensures grows { IsPrefix eye.seen result.0.seen }
-        ensures legal { IsLegal (record { opening = N.opening; entries = result.0.seen }) }
-        ensures seen { OnTrue result.1 (result.0.seen ≡ self.now.entries) }
-        ensures viewed { result.0.viewed ≡ eye.viewed }
+        ensures grows { IsPrefix eye.old.seen eye.new.seen }
+        ensures legal { IsLegal (record { opening = N.opening; entries = eye.new.seen }) }
+        ensures seen { OnTrue result (eye.new.seen ≡ self.now.entries) }
+        ensures viewed { eye.new.viewed ≡ eye.old.viewed }
     {
         eye.meet(self.writer.published())
     }

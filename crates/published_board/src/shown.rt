@@ -1,6 +1,5 @@
 //! The copy that desks read, and what changes it.
-ghost use Rattle.std.specs.Prelude.{◌≡◌, ◌-◌, slice_set, IfOk, All};
-ghost use Rattle.std.specs.Bool.{OnTrue};
+ghost use Rattle.std.specs.Prelude.{◌≡◌, ◌↔◌, ◌-◌, slice_set, IfOk, All, IsTrue};
 ghost use Rattle.plan_core.specs.Plan.{route_at};
 ghost use Rattle.published_board.specs.Told.{told};
 ghost use Rattle.published_board.specs.Written.{written};
@@ -113,16 +112,25 @@ impl Absorb<Step> for Shown {
     fn absorb_first(&mut self, operation: &Step, _other: &Shown) -> Result<(), AllocError> {
         let entries = operation.entries;
         let routes = operation.routes.as_slice();
-        let delta = &operation.delta;
         put_all(&mut self.cells.lanes, routes, &operation.base, entries);
-        write_all(&mut self.cells.pins, delta.pins());
-        write_all(&mut self.cells.frozen, delta.frozen());
-        self.cells.version = delta.version();
-        self.cells.entries = entries;
         self.cells.moved = since(self.cells.moved, entries, routes);
-        let turned = since(self.cells.turned, entries, delta.pins());
-        self.cells.turned = since(turned, entries, delta.frozen());
+        self.cells.write(&operation.delta, entries);
         self.base = operation.base.again();
+        Ok(())
+    }
+
+    /// The routes go from the step into the lanes, so that none has one owner more for a moment.
+    fn absorb_second(&mut self, operation: Step, _other: &Shown) -> Result<(), Step> {
+        let Step {
+            routes,
+            delta,
+            entries,
+            base,
+        } = operation;
+        self.cells.moved = since(self.cells.moved, entries, routes.as_slice());
+        give_all(&mut self.cells.lanes, routes, &base, entries);
+        self.cells.write(&delta, entries);
+        self.base = base;
         Ok(())
     }
 }
@@ -143,6 +151,19 @@ impl Lane {
         Lane {
             vehicle,
             route: Arc::try_clone(route).ok(),
+            since: since.again(),
+            entry,
+        }
+    }
+
+    /// The same of a route that is given away.
+    fn with(vehicle: u32, route: Arc<Route>, since: &Trail, entry: u64) -> Lane
+        requires { route.value ≡ route_at (told since.now).routes vehicle }
+        ensures { result ≡ record { vehicle = vehicle; since = since.now; entry = entry } }
+    {
+        Lane {
+            vehicle,
+            route: Some(route),
             since: since.again(),
             entry,
         }
@@ -203,6 +224,18 @@ fn put_all(lanes: &mut Vec<Lane>, routes: &[(u32, Arc<Route>)], base: &Trail, en
     }
 }
 
+/// The same of routes that are given away.
+fn give_all(lanes: &mut Vec<Lane>, routes: Vec<(u32, Arc<Route>)>, base: &Trail, entry: u64)
+    requires { All (λ c. c.1.value ≡ route_at (told base.now).routes c.0) routes.items }
+    ensures { lanes.new.items ≡ lanes_after base.now entry lanes.old.items routes.items }
+{
+    for change in routes {
+        let (vehicle, route) = change;
+        let lane = Lane::with(vehicle, route, base, entry);
+        put(lanes, vehicle, lane);
+    }
+}
+
 /// Writes the cell of a number, counted from 1, where it is there.
 pub(crate) fn put<V: Drop>(cells: &mut Vec<V>, key: u32, value: V)
     ensures { cells.new.items ≡ slice_set cells.old.items (key - 1) value }
@@ -247,6 +280,18 @@ fn again(alloc: Global, lanes: &[Lane]) -> Result<Vec<Lane>, AllocError>
 impl Cells {
     ghost use Rattle.published_board.specs.Shelves.{cells_of};
 
+    /// Writes the pins and frozen lengths that an entry of this number changes, and the version after it.
+    fn write(&mut self, delta: &Delta, entries: u64)
+        ensures { cells_of self.new ≡ record (cells_of self.old) { pins = written self.old.pins.items delta.now.pins; frozen = written self.old.frozen.items delta.now.frozen; version = delta.now.version; entries = entries; turned = since_after (since_after self.old.turned entries delta.now.pins) entries delta.now.frozen } }
+    {
+        write_all(&mut self.pins, delta.pins());
+        write_all(&mut self.frozen, delta.frozen());
+        self.version = delta.version();
+        self.entries = entries;
+        let turned = since(self.turned, entries, delta.pins());
+        self.turned = since(turned, entries, delta.frozen());
+    }
+
     /// The same cells once more.
     fn copy(&self, alloc: Global) -> Result<Cells, AllocError>
         ensures { IfOk result (λ x. cells_of x ≡ cells_of self.now) }
@@ -279,7 +324,7 @@ impl Shown {
     /// Whether two copies of one log show the same journal: whether they know as many pages of it.
     pub fn shows_same(&self, other: &Shown) -> bool
         requires { other.now.base.book ≡ self.now.base.book }
-        ensures { OnTrue result (self.now.base.pages ≡ other.now.base.pages) }
+        ensures { IsTrue result ↔ (self.now.base.pages ≡ other.now.base.pages) }
     {
         self.base.agrees(&other.base)
     }

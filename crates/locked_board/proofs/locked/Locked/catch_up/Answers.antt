@@ -7,9 +7,9 @@ use Rattle.locked_board.proofs.locked.Locked.catch_up.Goals as goal
 
 pub returns-else-turns-own-clause-looked : goal.returns-else-turns-own-clause-looked
 returns-else-turns-own-clause-looked g c =
-    let back = sym c.show-eye.ensures.seen in
+    let back = sym c.show.ensures.seen in
     record {
-      legal = subst (λ (es : List Entry). Legal g.N.Naming.opening es) back c.show-eye.ensures.legal;
-      grows = subst (λ (es : List Entry). IsPrefix c.args.eye.seen es) back c.show-eye.ensures.grows;
-      turns_are = ap (turns_of c.args.number) c.show-eye.ensures.seen ∙ (sym c.turns.ensures.turns ∙ c.if-turns-own.false);
+      legal = subst (λ (es : List Entry). Legal g.N.Naming.opening es) back c.show.ensures.legal;
+      grows = subst (λ (es : List Entry). IsPrefix c.args.eye.now.seen es) back c.show.ensures.grows;
+      turns_are = ap (turns_of c.args.number) c.show.ensures.seen ∙ (sym c.turns.ensures.turns ∙ c.if-turns-own.false);
     }

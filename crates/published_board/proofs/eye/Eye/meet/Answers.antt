@@ -1,4 +1,5 @@
-use Rattle.std.proofs.Common.{◌≡◌, sym, ◌∙◌, subst, Option}
+use Rattle.std.proofs.Common.{◌≡◌, ap, sym, ◌∙◌, subst, Option}
+use Rattle.std.specs.Option.{option_and_then}
 use Rattle.left_right.specs.Sides.{view}
 use Rattle.published_board.specs.Reached.{Reached}
 use Rattle.published_board.specs.Sights.{IsOf, entries_in}
@@ -12,25 +13,31 @@ use Rattle.published_board.proofs.eye.Eye.meet.Goals as goal
 pub enter_as-requires : goal.enter_as-requires
 enter_as-requires g c x = sees _ _ x x (λ h. h) (goes_self (picture_of x).base)
 
-pub invariant_of-result-in-Ok : goal.invariant_of-result-in-Ok
-invariant_of-result-in-Ok g c =
+pub invariant_of-self-in-Ok : goal.invariant_of-self-in-Ok
+invariant_of-self-in-Ok g c =
     let o = g.N.Naming.opening in
     let b = g.N.Naming.book in
+    let had = ap (option_and_then (λ r. view r.place)) (sym c.take.ensures.value ∙ c.in-Some.is) in
+    let of : IsOf o b (view c.in-Some.reader.place) = subst (λ (v : Option Reached). IsOf o b v) had c.self.invariant.0 in
+    let kept = subst (λ (v : Option Reached). AreKeptFor o b (entries_in v) c.self.inside.kept) had c.self.invariant.1 in
     let saw = c.in-Ok.ensures.1 in
-    let is : view c.leave-reader.result.place ≡ _ = c.leave-reader.ensures.1 ∙ saw.now in (
-      subst (λ (v : Option Reached). IsOf o b v) (sym is) (sees_of o b _ _ _ c.self.invariant.0 saw),
-      subst (λ (v : Option Reached). AreKeptFor o b (entries_in v) c.self.inside.kept) (sym is) (kept_on o b _ _ c.self.inside.kept (grows_in o b _ _ _ c.self.invariant.0 saw) c.self.invariant.1),
+    let is : view c.leave.result.place ≡ _ = c.leave.ensures.1 ∙ saw.now in (
+      subst (λ (v : Option Reached). IsOf o b v) (sym is) (sees_of o b _ _ _ of saw),
+      subst (λ (v : Option Reached). AreKeptFor o b (entries_in v) c.self.inside.kept) (sym is) (kept_on o b _ _ c.self.inside.kept (grows_in o b _ _ _ of saw) kept),
     )
 
 pub returns-in-Err-clause-legal : goal.returns-in-Err-clause-legal
 returns-in-Err-clause-legal g c =
     let o = g.N.Naming.opening in
     let b = g.N.Naming.book in
-    legal_in o b (view c.in-Err.reader.place) (subst (λ (v : Option Reached). IsOf o b v) (sym c.in-Err.ensures.1) c.self.invariant.0)
+    let had = ap (option_and_then (λ r. view r.place)) (sym c.take.ensures.value ∙ c.in-Some.is) in
+    legal_in o b (view c.in-Err.reader.place) (subst (λ (v : Option Reached). IsOf o b v) (had ∙ sym c.in-Err.ensures.1) c.self.invariant.0)
 
 pub returns-in-Ok-clause-legal : goal.returns-in-Ok-clause-legal
 returns-in-Ok-clause-legal g c =
     let o = g.N.Naming.opening in
     let b = g.N.Naming.book in
+    let had = ap (option_and_then (λ r. view r.place)) (sym c.take.ensures.value ∙ c.in-Some.is) in
+    let of : IsOf o b (view c.in-Some.reader.place) = subst (λ (v : Option Reached). IsOf o b v) had c.self.invariant.0 in
     let saw = c.in-Ok.ensures.1 in
-    legal_in o b (view c.leave-reader.result.place) (subst (λ (v : Option Reached). IsOf o b v) (sym saw.now ∙ sym c.leave-reader.ensures.1) (sees_of o b _ _ _ c.self.invariant.0 saw))
+    legal_in o b (view c.leave.result.place) (subst (λ (v : Option Reached). IsOf o b v) (sym saw.now ∙ sym c.leave.ensures.1) (sees_of o b _ _ _ of saw))

@@ -1,11 +1,12 @@
 use Rattle.std.proofs.Common.{◌≡◌, ap, sym, ◌∙◌, subst, List, Option, Some}
 use mathlib.Core.List.{IsPrefix}
+use Rattle.std.specs.Option.{option_and_then}
 use Rattle.left_right.specs.Sides.{view}
 use Rattle.board_rules.specs.declared.call.Entry.{Entry}
 use Rattle.published_board.specs.declared.shown.Shown.{Shown}
 use Rattle.published_board.specs.Reached.{Reached, entries_of, opening_of}
 use Rattle.published_board.specs.Sights.{IsOf, IsPicture, entries_in}
-use Rattle.published_board.specs.Kepts.{IsKeptFor}
+use Rattle.published_board.specs.Kepts.{AreKeptFor, IsKeptFor}
 use Rattle.published_board.specs.Pictures.{picture_of}
 use Rattle.published_board.proofs.Rules.{sees, goes_self}
 use Rattle.published_board.proofs.Publishing.{legal_in, sees_of, grows_in}
@@ -14,20 +15,24 @@ use Rattle.published_board.proofs.eye.Eye.refresh.Goals as goal
 pub enter_as-requires : goal.enter_as-requires
 enter_as-requires g c x = sees _ _ x x (λ h. h) (goes_self (picture_of x).base)
 
-pub invariant_of-result-in-Ok-renewed : goal.invariant_of-result-in-Ok-renewed
-invariant_of-result-in-Ok-renewed g c =
+pub invariant_of-self-in-Ok-renewed : goal.invariant_of-self-in-Ok-renewed
+invariant_of-self-in-Ok-renewed g c =
     let o = g.N.Naming.opening in
     let b = g.N.Naming.book in
+    let had_is = ap (option_and_then (λ r. view r.place)) (sym c.take.ensures.value ∙ c.in-Some.is) in
+    let was : IsOf o b (view c.in-Some.reader.place) = subst (λ (v : Option Reached). IsOf o b v) had_is c.self.invariant.0 in
+    let kept_was = subst (λ (v : Option Reached). AreKeptFor o b (entries_in v) c.self.inside.kept) had_is c.self.invariant.1 in
     let saw = c.in-Ok.ensures.1 in
-    let of = sees_of o b _ _ _ c.self.invariant.0 saw in
-    let is : view c.leave-reader.result.place ≡ Some (picture_of c.in-Ok.reading.part.value).base = c.leave-reader.ensures.1 ∙ saw.now in
+    let of = sees_of o b _ _ _ was saw in
+    let is : view c.leave.result.place ≡ Some (picture_of c.in-Ok.reading.part.value).base = c.leave.ensures.1 ∙ saw.now in
     let shown : c.get.result.now ≡ c.in-Ok.reading.part.value = c.get.ensures in
     let picture : IsPicture (picture_of c.get.result.now) = subst (λ (x : Shown). IsPicture (picture_of x)) (sym shown) saw.picture in
     let book = ap (λ (x : Shown). x.base.book) shown ∙ of.1 in
     let opening = ap (λ (x : Shown). opening_of x.base.pages) shown ∙ of.0 in
-    let had : List Entry = entries_in (view c.self.inside.reader.place) in
-    let pre : IsPrefix had (entries_of c.get.result.now.base.pages) = subst (λ (x : Shown). IsPrefix had (entries_of x.base.pages)) (sym shown) (grows_in o b _ _ _ c.self.invariant.0 saw) in
-    let kept = (c.in-Ok-renewed.ensures o b had c.self.invariant.1 picture book opening pre).0 in (
+    let had : List Entry = entries_in (view c.in-Some.reader.place) in
+    let pre : IsPrefix had (entries_of c.get.result.now.base.pages) = subst (λ (x : Shown). IsPrefix had (entries_of x.base.pages)) (sym shown) (grows_in o b _ _ _ was saw) in
+    let lent = subst (λ k. AreKeptFor o b had k) (sym c.take-in-Ok.ensures.value) kept_was in
+    let kept = (c.in-Ok-renewed.ensures o b had lent picture book opening pre).0 in (
       subst (λ (v : Option Reached). IsOf o b v) (sym is) of,
       subst (λ (es : List Entry). IsKeptFor o b es c.in-Ok-renewed.kept) (ap (λ (x : Shown). entries_of x.base.pages) shown ∙ sym (ap entries_in is)) kept,
     )
@@ -36,18 +41,43 @@ pub returns-in-Err-clause-legal : goal.returns-in-Err-clause-legal
 returns-in-Err-clause-legal g c =
     let o = g.N.Naming.opening in
     let b = g.N.Naming.book in
-    legal_in o b (view c.in-Err.reader.place) (subst (λ (v : Option Reached). IsOf o b v) (sym c.in-Err.ensures.1) c.self.invariant.0)
+    let had_is = ap (option_and_then (λ r. view r.place)) (sym c.take.ensures.value ∙ c.in-Some.is) in
+    legal_in o b (view c.in-Err.reader.place) (subst (λ (v : Option Reached). IsOf o b v) (had_is ∙ sym c.in-Err.ensures.1) c.self.invariant.0)
 
 pub returns-in-Ok-renewed-clause-legal : goal.returns-in-Ok-renewed-clause-legal
 returns-in-Ok-renewed-clause-legal g c =
     let o = g.N.Naming.opening in
     let b = g.N.Naming.book in
+    let had_is = ap (option_and_then (λ r. view r.place)) (sym c.take.ensures.value ∙ c.in-Some.is) in
+    let was : IsOf o b (view c.in-Some.reader.place) = subst (λ (v : Option Reached). IsOf o b v) had_is c.self.invariant.0 in
     let saw = c.in-Ok.ensures.1 in
-    legal_in o b (view c.leave-reader.result.place) (subst (λ (v : Option Reached). IsOf o b v) (sym saw.now ∙ sym c.leave-reader.ensures.1) (sees_of o b _ _ _ c.self.invariant.0 saw))
+    legal_in o b (view c.leave.result.place) (subst (λ (v : Option Reached). IsOf o b v) (sym saw.now ∙ sym c.leave.ensures.1) (sees_of o b _ _ _ was saw))
+
+pub returns-in-Ok-renewed-clause-ok : goal.returns-in-Ok-renewed-clause-ok
+returns-in-Ok-renewed-clause-ok g c =
+    let o = g.N.Naming.opening in
+    let b = g.N.Naming.book in
+    let had_is = ap (option_and_then (λ r. view r.place)) (sym c.take.ensures.value ∙ c.in-Some.is) in
+    let was : IsOf o b (view c.in-Some.reader.place) = subst (λ (v : Option Reached). IsOf o b v) had_is c.self.invariant.0 in
+    let kept_was = subst (λ (v : Option Reached). AreKeptFor o b (entries_in v) c.self.inside.kept) had_is c.self.invariant.1 in
+    let saw = c.in-Ok.ensures.1 in
+    let of = sees_of o b _ _ _ was saw in
+    let is : view c.leave.result.place ≡ Some (picture_of c.in-Ok.reading.part.value).base = c.leave.ensures.1 ∙ saw.now in
+    let shown : c.get.result.now ≡ c.in-Ok.reading.part.value = c.get.ensures in
+    let picture : IsPicture (picture_of c.get.result.now) = subst (λ (x : Shown). IsPicture (picture_of x)) (sym shown) saw.picture in
+    let book = ap (λ (x : Shown). x.base.book) shown ∙ of.1 in
+    let opening = ap (λ (x : Shown). opening_of x.base.pages) shown ∙ of.0 in
+    let had : List Entry = entries_in (view c.in-Some.reader.place) in
+    let pre : IsPrefix had (entries_of c.get.result.now.base.pages) = subst (λ (x : Shown). IsPrefix had (entries_of x.base.pages)) (sym shown) (grows_in o b _ _ _ was saw) in
+    let lent = subst (λ k. AreKeptFor o b had k) (sym c.take-in-Ok.ensures.value) kept_was in
+    let base = (c.in-Ok-renewed.ensures o b had lent picture book opening pre).1 in
+    ap (λ (es : List Entry). Some es) (ap (λ (r : Reached). entries_of r.pages) base ∙ (ap (λ (x : Shown). entries_of x.base.pages) shown ∙ sym (ap entries_in is)))
 
 pub returns-in-Err-renewed-clause-legal : goal.returns-in-Err-renewed-clause-legal
 returns-in-Err-renewed-clause-legal g c =
     let o = g.N.Naming.opening in
     let b = g.N.Naming.book in
+    let had_is = ap (option_and_then (λ r. view r.place)) (sym c.take.ensures.value ∙ c.in-Some.is) in
+    let was : IsOf o b (view c.in-Some.reader.place) = subst (λ (v : Option Reached). IsOf o b v) had_is c.self.invariant.0 in
     let saw = c.in-Ok.ensures.1 in
-    legal_in o b (view c.leave-reader.result.place) (subst (λ (v : Option Reached). IsOf o b v) (sym saw.now ∙ sym c.leave-reader.ensures.1) (sees_of o b _ _ _ c.self.invariant.0 saw))
+    legal_in o b (view c.leave.result.place) (subst (λ (v : Option Reached). IsOf o b v) (sym saw.now ∙ sym c.leave.ensures.1) (sees_of o b _ _ _ was saw))

@@ -8,4 +8,4 @@ on_ok (Err y) P x e h = absurd (cc e)
 
 pub returns-in-Ok-clause-view : goal.returns-in-Ok-clause-view
 returns-in-Ok-clause-view g c =
-    c.copy-copy.ensures c.refresh-eye.result.0.seen (on_ok c.refresh-eye.result.1 _ c.in-Ok.field-0 c.in-Ok.is c.refresh-eye.ensures.ok)
+    c.copy.ensures.view c.refresh.new.self.seen (on_ok c.refresh.result _ c.in-Ok.field-0 c.in-Ok.is c.refresh.ensures.ok)
