@@ -6,6 +6,7 @@ ghost use Rattle.board_rules.specs.declared.reply.AskFault.{AskFault};
 ghost use Rattle.board_rules.specs.History.{state_after};
 ghost use Rattle.board_rules.specs.Listing.{IsListing};
 ghost use Rattle.board_rules.specs.Questions.{MayAsk, list_fault, audit_fault, review_fault, review_of, check_of};
+ghost use Rattle.published_board.specs.declared.eye.SnapFault.{SnapFault};
 ghost use Rattle.published_board.specs.Shelves.{view_of};
 ghost use Rattle.locked_board.specs.Commits.{Submitted, Looked, Faulted, Legal};
 ghost use Rattle.board_seat.specs.Watches.{watches};
@@ -154,6 +155,8 @@ impl<N: Naming, L: Drop> DeskOf<N, L> {
         ensures grows { IsPrefix self.old.seat.seen self.new.seat.seen }
         ensures legal { Legal N.opening self.new.seat.seen }
         ensures ok { OnOk result (self.new.seat.viewed ≡ Some self.new.seat.seen) }
+        ensures no_memory { IsErrOf result SnapFault.NoMemory → self.new.seat.viewed ≡ None }
+        ensures closed { IsErrOf result SnapFault.Closed → self.new.seat ≡ self.old.seat }
     {
         self.seat.refresh()
     }
@@ -172,6 +175,7 @@ impl<N: Naming, L: Drop> DeskOf<N, L> {
         ensures grows { IsPrefix self.old.seat.seen self.new.seat.seen }
         ensures legal { Legal N.opening self.new.seat.seen }
         ensures view { IfOk result (λ v. v ≡ view_of (state_after N.opening.setting self.new.seat.seen)) }
+        ensures closed { IsErrOf result SnapFault.Closed → self.new.seat ≡ self.old.seat }
     {
         self.seat.snapshot()
     }

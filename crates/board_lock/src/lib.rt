@@ -2,6 +2,7 @@
 #![tactic(auto)]
 
 mod desk;
+mod desk_front;
 mod hall;
 mod laws;
 mod ready;

@@ -6,11 +6,11 @@ use Rattle.std.specs.Fmt.{option_append}
 use Rattle.solomon_reader.specs.Checks.{Fault, fault}
 use Rattle.solomon_reader.specs.Instances.{Plain}
 use Rattle.solomon_reader.specs.Reading.{read_of}
-use Rattle.line_engine.specs.Answers.{is_refusal}
+use Rattle.line_engine.specs.Outcomes.{is_refusal}
 use Rattle.line_engine.specs.Running.{AppendsFront}
 use Rattle.line_engine.specs.TextLines.{lines_of}
-use Rattle.board_text.specs.BoardRuns.{AreOutcomes, EndsAt}
-use Rattle.board_text.specs.BoardSteps.{DeskState}
+use Rattle.line_engine.specs.WholeRuns.{AreOutcomes, EndsAt}
+use Rattle.board_text.specs.BoardSteps.{DeskState, IsBoardStep, LacksMemory}
 use Rattle.line_engine.specs.declared.run_fault.Counts.{Counts}
 use Rattle.line_engine.specs.declared.run_fault.RunFault.{RunFault}
 use Rattle.line_engine.specs.declared.run_fault.RunFault.TheVariants as runs
@@ -59,7 +59,7 @@ done i script left now_left was now counts known h =
     let given = subst (λ (k : Option (List ℕ)). Consumes k now_left a.bytes) known a.given in
     let all : script ≡ a.bytes = all_given script now_left a.bytes given a.at_end in (
       a.outcomes,
-      record { sites = h.sites; of = h.of; new = h.new; run = subst (λ (l : List ℕ). AreOutcomes (opened h.sites) l a.outcomes h.new) (sym all) a.run },
+      record { sites = h.sites; of = h.of; new = h.new; run = subst (λ (l : List ℕ). AreOutcomes IsBoardStep (opened h.sites) l a.outcomes h.new) (sym all) a.run },
       a.text,
       status_by counts.refused (count_by is_refusal a.outcomes) a.refused,
       subst (λ (l : List ℕ). length (lines_of l) ≤ 4294967296) (sym all) a.few,
@@ -68,7 +68,7 @@ done i script left now_left was now counts known h =
 -- ---- what was answered before the run ended early
 
 -- why the run ended, by all that comes next
-cause_of : (fault : RunFault) (mid new : DeskState) (used more behind all : List ℕ) (left : Option (List ℕ)) → all ≡ more ++ behind → EndsAt fault mid new used more left → IsCause fault all
+cause_of : (fault : RunFault) (mid new : DeskState) (used more behind all : List ℕ) (left : Option (List ℕ)) → all ≡ more ++ behind → EndsAt IsBoardStep LacksMemory fault mid new used more left → IsCause fault all
 cause_of runs.Read mid new used more behind all left e h = tt
 cause_of runs.NoMemory mid new used more behind all left e h = tt
 cause_of runs.Write mid new used more behind all left e h = tt

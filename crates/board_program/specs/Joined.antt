@@ -6,9 +6,9 @@ use Rattle.solomon_reader.specs.Checks.{Fault, fault}
 use Rattle.solomon_reader.specs.Instances.{Plain}
 use Rattle.solomon_reader.specs.Reading.{read_of}
 use Rattle.board_lines.specs.Replies.{ended}
-use Rattle.line_engine.specs.Answers.{Outcome, written, is_refusal}
-use Rattle.board_text.specs.BoardRuns.{AreOutcomes, IsAnswered, IsStopped}
-use Rattle.board_text.specs.BoardSteps.{DeskState}
+use Rattle.line_engine.specs.Outcomes.{Outcome, written, is_refusal}
+use Rattle.line_engine.specs.WholeRuns.{AreOutcomes, IsAnswered, IsStopped}
+use Rattle.board_text.specs.BoardSteps.{DeskState, IsBoardStep, LacksMemory}
 use Rattle.line_engine.specs.Running.{Reaches, IsTooLong}
 use Rattle.line_engine.specs.TextLines.{lines_of}
 use Rattle.line_engine.specs.declared.run_fault.Counts.{Counts}
@@ -29,14 +29,14 @@ pub record IsRun (i : Plain) (left_old left_new was now : Option (List ℕ)) (co
   pub sites : Sites
   pub of : AreSitesOf i sites
   pub new : DeskState
-  pub answered : IsAnswered (opened sites) new left_old left_new was now counts.lines counts.refused
+  pub answered : IsAnswered IsBoardStep (opened sites) new left_old left_new was now counts.lines counts.refused
 
 -- the board was opened, and the run on it ended early
 pub record IsCutOff (i : Plain) (left_old left_new was now : Option (List ℕ)) (fault : RunFault) : Type 0 where
   pub sites : Sites
   pub of : AreSitesOf i sites
   pub new : DeskState
-  pub stopped : IsStopped fault (opened sites) new left_old left_new was now
+  pub stopped : IsStopped IsBoardStep LacksMemory fault (opened sites) new left_old left_new was now
 
 -- Why no more came of a board: it was not opened, and nothing was read or written, or the run on it ended early.
 abbrev pub IsUnfinished : Plain → Option (List ℕ) → Option (List ℕ) → Option (List ℕ) → Option (List ℕ) → Stop → Type 0
@@ -51,7 +51,7 @@ pub record Replies (i : Plain) (script : List ℕ) (outcomes : List Outcome) : T
   pub sites : Sites
   pub of : AreSitesOf i sites
   pub new : DeskState
-  pub run : AreOutcomes (opened sites) script outcomes new
+  pub run : AreOutcomes IsBoardStep (opened sites) script outcomes new
 
 -- 1 where a line counted as refused
 abbrev pub status_of : List Outcome → ℕ

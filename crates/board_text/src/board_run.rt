@@ -2,11 +2,11 @@
 
 ghost use Rattle.std.specs.Prelude.{IfOk, IfErr};
 ghost use Rattle.board_core.specs.Boards.{history};
-ghost use Rattle.board_text.specs.BoardSteps.{desk_state};
-ghost use Rattle.board_text.specs.BoardRuns.{IsAnswered, IsStopped};
+ghost use Rattle.line_engine.specs.WholeRuns.{IsAnswered, IsStopped};
+ghost use Rattle.board_text.specs.BoardSteps.{desk_state, IsBoardStep, LacksMemory};
 
 use crate::board_front::BoardFront;
-use line_engine::{Counts, RunFault, run_lines, texts_have_their_lines};
+use line_engine::{Counts, RunFault, run_lines};
 use std::alloc::Global;
 use std::io::{Read, Write};
 
@@ -22,13 +22,12 @@ pub fn run_board_lines<R, I: Read, W: Write>(
     reader: &mut I,
     writer: &mut W,
 ) -> Result<Counts, RunFault>
-    ensures ok { IfOk result (λ counts. IsAnswered (desk_state (history front.old.board) front.old.desk front.old.turn)
+    ensures ok { IfOk result (λ counts. IsAnswered IsBoardStep (desk_state (history front.old.board) front.old.desk front.old.turn)
         (desk_state (history front.new.board) front.new.desk front.new.turn) (I.remaining reader.old)
         (I.remaining reader.new) (W.contents writer.old) (W.contents writer.new) counts.lines counts.refused) }
-    ensures err { IfErr result (λ e. IsStopped e (desk_state (history front.old.board) front.old.desk front.old.turn)
+    ensures err { IfErr result (λ e. IsStopped IsBoardStep LacksMemory e (desk_state (history front.old.board) front.old.desk front.old.turn)
         (desk_state (history front.new.board) front.new.desk front.new.turn) (I.remaining reader.old)
         (I.remaining reader.new) (W.contents writer.old) (W.contents writer.new)) }
 {
-    texts_have_their_lines();
     run_lines(rt, alloc, front, reader, writer)
 }

@@ -1,13 +1,14 @@
 -- Answers of a front as outcomes of a line.
-use Rattle.std.proofs.Common.{◌≡◌, ℕ, List, inl, inr, refl, sym, subst, Result, Ok, Err, IfOk, OnErr}
+use Rattle.std.proofs.Common.{◌≡◌, ℕ, List, inl, inr, refl, sym, ap, subst, ◌∙◌, Result, Ok, Err, IfOk, OnErr}
 use Rattle.board_lines.specs.declared.command.Command.{Command}
 use Rattle.board_lines.specs.declared.command.Command.TheVariants as commands
 use Rattle.board_lines.specs.declared.command.LineFault.{LineFault}
 use Rattle.board_lines.specs.declared.command.ReadFault.{ReadFault}
 use Rattle.board_lines.specs.declared.command.ReadFault.TheVariants.{Line, NoMemory}
 use Rattle.board_lines.specs.Reading.{Says}
-use Rattle.line_engine.specs.Answers.{Answer, Said, Bad}
-use Rattle.line_engine.specs.Fronts.{Does, Gives, Fails, Drops, Loses, as_json}
+use Rattle.line_front.specs.Answers.{Answer}
+use Rattle.line_engine.specs.Outcomes.{Said, Bad}
+use Rattle.line_engine.specs.Leaving.{Does, Gives, Fails, Drops, Loses, RunsOut, as_json, asked}
 use Rattle.line_engine.specs.declared.mark.Mark.{Mark}
 use Rattle.line_engine.specs.declared.mark.Mark.TheVariants as marks
 use Rattle.line_engine.specs.Marks.{Marks, Obeys, Tells, TellsJson, IsUnread}
@@ -16,19 +17,19 @@ use Rattle.line_engine.specs.Marks.{Marks, Obeys, Tells, TellsJson, IsUnread}
 abbrev pub IsPlain : {S : Type 0} → (S → Command → Answer → S → Type 0) → S → Command → S → Type 0
 IsPlain step old command new = (answer : Answer) → step old command answer new → Does step old command (Said answer) new
 
-module _ {S E : Type 0} (step : S → Command → Answer → S → Type 0) (refuses : S → S → Type 0) (old new : S) (command : Command) where
-  pub obeyed : (asked : Command) → command ≡ asked → IsPlain step old asked new → (text : List ℕ) (r : Result Mark E)
-      → IfOk r (Tells step old asked new text) → IfOk r (Obeys step old command new text)
-  obeyed asked is plain text (Ok mark) t =
+module _ {S E : Type 0} (step : S → Command → Answer → S → Type 0) (refuses : S → Command → S → Type 0) (old new : S) (command : Command) where
+  pub obeyed : (given : Command) → command ≡ given → IsPlain step old given new → (text : List ℕ) (r : Result Mark E)
+      → IfOk r (Tells step old given new text) → IfOk r (Obeys step old command new text)
+  obeyed given is plain text (Ok mark) t =
       subst (λ (x : Command). Obeys step old x new text mark) (sym is)
       (record { outcome = Said t.0; holds = plain t.0 t.1; told = t.2; replied = t.3; refused = t.4 })
-  obeyed asked is plain text (Err e) t = tt
+  obeyed given is plain text (Err e) t = tt
 
-  pub failed : (asked : Command) → command ≡ asked → IsPlain step old asked new → (r : Result Mark E)
-      → OnErr r (Loses step refuses old asked new) → OnErr r (Fails step refuses old command new)
-  failed asked is plain (Ok mark) h = tt
-  failed asked is plain (Err e) h = elim h [
-    | inl r ↦ inl r
+  pub failed : (given : Command) → command ≡ given → asked given ≡ given → IsPlain step old given new → (r : Result Mark E)
+      → OnErr r (Loses step refuses old given new) → OnErr r (Fails step refuses old command new)
+  failed given is same plain (Ok mark) h = tt
+  failed given is same plain (Err e) h = elim h [
+    | inl r ↦ inl (subst (λ (x : Command). refuses old x new) (sym (ap asked is ∙ same)) r)
     | inr t ↦ inr (Said t.0, subst (λ (x : Command). Does step old x (Said t.0) new) (sym is) (plain t.0 t.1))
   ]
 
@@ -43,16 +44,16 @@ module _ {S E : Type 0} (step : S → Command → Answer → S → Type 0) (refu
       → OnErr r (Loses step refuses old (commands.List session) new) → OnErr r (Fails step refuses old command new)
   failed_json session is (Ok mark) h = tt
   failed_json session is (Err e) h = elim h [
-    | inl r ↦ inl r
+    | inl r ↦ inl (subst (λ (x : Command). refuses old x new) (sym (ap asked is)) r)
     | inr t ↦ inr (Said (as_json t.0), subst (λ (x : Command). Does step old x (Said (as_json t.0)) new) (sym is) (t.0, refl, t.1))
   ]
 
 -- a line that was read
-pub dropped : {S E : Type 0} (step : S → Command → Answer → S → Type 0) (refuses : S → S → Type 0) (old new : S) (read : Result Command LineFault) (command : Command) → read ≡ Ok command
+pub dropped : {S E : Type 0} (step : S → Command → Answer → S → Type 0) (refuses : S → Command → S → Type 0) (old new : S) (read : Result Command LineFault) (command : Command) → read ≡ Ok command
     → (r : Result Mark E) → OnErr r (Fails step refuses old command new) → OnErr r (Drops step refuses old read new)
 dropped step refuses old new read command is (Ok mark) h = tt
 dropped step refuses old new read command is (Err e) h = elim h [
-  | inl r ↦ inr (inl r)
+  | inl r ↦ inr (inl (subst (λ (x : Result Command LineFault). RunsOut refuses old x new) (sym is) r))
   | inr o ↦ inr (inr (o.0, subst (λ (x : Result Command LineFault). Gives step old x o.0 new) (sym is) o.1))
 ]
 

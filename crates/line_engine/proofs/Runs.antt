@@ -9,10 +9,10 @@ use Rattle.std.proofs.lemmas.List.Elements.{All-append}
 use Rattle.std.proofs.lemmas.Grind.{flat_map-append}
 use Rattle.std.proofs.lemmas.List.Sums.{sum_by-append}
 use Rattle.board_lines.specs.Replies.{ended}
-use Rattle.line_engine.specs.Answers.{outcome_text, written, has_reply, is_refusal}
+use Rattle.line_engine.specs.Outcomes.{outcome_text, written, has_reply, is_refusal}
 use Rattle.board_lines.specs.declared.command.Command.{Command}
-use Rattle.line_engine.specs.Answers.{Answer}
-use Rattle.line_engine.specs.Answers.{Outcome}
+use Rattle.line_front.specs.Answers.{Answer}
+use Rattle.line_engine.specs.Outcomes.{Outcome}
 use Rattle.line_engine.specs.declared.run_fault.RunFault.{RunFault}
 use Rattle.line_engine.specs.declared.run_fault.RunFault.TheVariants as runs
 use Rattle.line_engine.specs.Running.{HasNoEnd, IsLine, Runs, Progress, NextLine, Ends, Broken, Served, ServeBroken, BrokenWithin, EndsLast, Finished, last_line}
@@ -68,7 +68,7 @@ line_done step old new out line s0 s1 n0 n1 r0 r1 h s = record {
   refusals = omega (arith, s.refusals);
 }
 
-pub is_full : {S : Type 0} (step : S → Command → Answer → S → Type 0) (refuses : S → S → Type 0) (s : S) (left : List ℕ) (s0 : ℕ) → s0 ≡ 4294967296 → Broken step refuses runs.Read s s [] s0 left
+pub is_full : {S : Type 0} (step : S → Command → Answer → S → Type 0) (refuses : S → Command → S → Type 0) (s : S) (left : List ℕ) (s0 : ℕ) → s0 ≡ 4294967296 → Broken step refuses runs.Read s s [] s0 left
 is_full step refuses s left s0 e = record {
   lines = [];
   outcomes = [];
@@ -81,7 +81,7 @@ is_full step refuses s left s0 e = record {
   end = (refl, omega (arith, e));
 }
 
-pub no_memory : {S : Type 0} (step : S → Command → Answer → S → Type 0) (refuses : S → S → Type 0) (s : S) (left : List ℕ) (s0 : ℕ) → Broken step refuses runs.NoMemory s s [] s0 left
+pub no_memory : {S : Type 0} (step : S → Command → Answer → S → Type 0) (refuses : S → Command → S → Type 0) (s : S) (left : List ℕ) (s0 : ℕ) → Broken step refuses runs.NoMemory s s [] s0 left
 no_memory step refuses s left s0 = record {
   lines = [];
   outcomes = [];
@@ -94,7 +94,7 @@ no_memory step refuses s left s0 = record {
   end = inl refl;
 }
 
-pub line_broken : {S : Type 0} (step : S → Command → Answer → S → Type 0) (refuses : S → S → Type 0) (fault : RunFault) (old new : S) (line left : List ℕ) (s0 : ℕ) → NextLine left line → ServeBroken step refuses fault old new line → Broken step refuses fault old new [] s0 left
+pub line_broken : {S : Type 0} (step : S → Command → Answer → S → Type 0) (refuses : S → Command → S → Type 0) (fault : RunFault) (old new : S) (line left : List ℕ) (s0 : ℕ) → NextLine left line → ServeBroken step refuses fault old new line → Broken step refuses fault old new [] s0 left
 line_broken step refuses runs.Read old new line left s0 next h = absurd h
 line_broken step refuses runs.LongLine old new line left s0 next h = absurd h
 line_broken step refuses runs.Write old new line left s0 next h = absurd h
@@ -107,7 +107,7 @@ line_broken step refuses runs.NoMemory old new line left s0 next h = record {
   each = tt;
   run = refl;
   text = refl;
-  end = elim h [ inl e ↦ inl e | inr r ↦ elim r [ inl q ↦ inr (inl q) | inr o ↦ inr (inr (line, o.0, next, o.1)) ] ];
+  end = elim h [ inl e ↦ inl e | inr l ↦ inr (line, next, l) ];
 }
 
 pub take_done : {S : Type 0} (step : S → Command → Answer → S → Type 0) (old new : S) (out partial more given rest : List ℕ) (s0 s1 n0 n1 r0 r1 : ℕ) → IsLine given → given ≡ partial ++ more → rest ≡ [] → Served step old new out given s0 s1 n0 n1 r0 r1 → Progress step old new out (partial ++ (more ++ 10 ∷ [])) rest s0 s1 n0 n1 r0 r1
@@ -117,7 +117,7 @@ take_done step old new out partial more given rest s0 s1 n0 n1 r0 r1 h e f s =
     let q = subst (λ (l : List ℕ). Progress step old new out l [] s0 s1 n0 n1 r0 r1) whole p in
     subst (λ (l : List ℕ). Progress step old new out (partial ++ (more ++ 10 ∷ [])) l s0 s1 n0 n1 r0 r1) (sym f) q
 
-pub take_broken : {S : Type 0} (step : S → Command → Answer → S → Type 0) (refuses : S → S → Type 0) (fault : RunFault) (old new : S) (partial more given : List ℕ) (s0 : ℕ) → IsLine given → given ≡ partial ++ more → ServeBroken step refuses fault old new given → Broken step refuses fault old new [] s0 (partial ++ (more ++ 10 ∷ []))
+pub take_broken : {S : Type 0} (step : S → Command → Answer → S → Type 0) (refuses : S → Command → S → Type 0) (fault : RunFault) (old new : S) (partial more given : List ℕ) (s0 : ℕ) → IsLine given → given ≡ partial ++ more → ServeBroken step refuses fault old new given → Broken step refuses fault old new [] s0 (partial ++ (more ++ 10 ∷ []))
 take_broken step refuses fault old new partial more given s0 h e s =
     let b = line_broken step refuses fault old new given (given ++ 10 ∷ []) s0 (h, [], sym (append-nil (ended given))) s in
     let whole : given ++ 10 ∷ [] ≡ partial ++ (more ++ 10 ∷ []) = ap (λ (l : List ℕ). l ++ 10 ∷ []) e ∙ append_assoc partial more (10 ∷ []) in
@@ -127,7 +127,7 @@ pub short_line : (more : List ℕ) → HasNoEnd more → length more ≤ 4096 �
 short_line more h k = record { plain = h; short = k }
 
 -- the bytes of a line could not be kept
-pub keep_broken : {S : Type 0} (step : S → Command → Answer → S → Type 0) (refuses : S → S → Type 0) (fault : RunFault) (s : S) (partial more tail : List ℕ) (s0 : ℕ) → IsLine partial → HasNoEnd more → (fault ≡ runs.NoMemory) ⊎ ((fault ≡ runs.LongLine) × (4096 < length (partial ++ more))) → Broken step refuses fault s s [] s0 (partial ++ (more ++ tail))
+pub keep_broken : {S : Type 0} (step : S → Command → Answer → S → Type 0) (refuses : S → Command → S → Type 0) (fault : RunFault) (s : S) (partial more tail : List ℕ) (s0 : ℕ) → IsLine partial → HasNoEnd more → (fault ≡ runs.NoMemory) ⊎ ((fault ≡ runs.LongLine) × (4096 < length (partial ++ more))) → Broken step refuses fault s s [] s0 (partial ++ (more ++ tail))
 keep_broken step refuses fault s partial more tail s0 h plain cause = elim cause [
   | inl e ↦ rw e (no_memory step refuses s (partial ++ (more ++ tail)) s0)
   | inr q ↦ rw q.0 record {
@@ -178,7 +178,7 @@ Progress-then step a b c x y bytes rest more end s0 s1 s2 n0 n1 n2 r0 r1 r2 p q 
   refusals = omega (arith, p.refusals, q.refusals, count_then is_refusal p.outcomes q.outcomes);
 }
 
-pub Broken-then : {S : Type 0} (step : S → Command → Answer → S → Type 0) (refuses : S → S → Type 0) (fault : RunFault) (a b c : S) (x y bytes rest more : List ℕ) (s0 s1 n0 n1 r0 r1 : ℕ) → Progress step a b x bytes rest s0 s1 n0 n1 r0 r1 → Broken step refuses fault b c y s1 (rest ++ more) → Broken step refuses fault a c (x ++ y) s0 (bytes ++ more)
+pub Broken-then : {S : Type 0} (step : S → Command → Answer → S → Type 0) (refuses : S → Command → S → Type 0) (fault : RunFault) (a b c : S) (x y bytes rest more : List ℕ) (s0 s1 n0 n1 r0 r1 : ℕ) → Progress step a b x bytes rest s0 s1 n0 n1 r0 r1 → Broken step refuses fault b c y s1 (rest ++ more) → Broken step refuses fault a c (x ++ y) s0 (bytes ++ more)
 Broken-then step refuses fault a b c x y bytes rest more s0 s1 n0 n1 r0 r1 p q = record {
   lines = p.lines ++ q.lines;
   outcomes = p.outcomes ++ q.outcomes;
@@ -209,29 +209,29 @@ pub feed_line : {S : Type 0} (step : S → Command → Answer → S → Type 0) 
 feed_line step a b c x y partial done line rest end s0 s1 s2 n0 n1 n2 r0 r1 r2 p q =
     subst (λ (l : List ℕ). Progress step a c (x ++ y) l end s0 s2 n0 n2 r0 r2) (append_assoc partial done line) (Progress-then step a b c x y (partial ++ done) rest line end s0 s1 s2 n0 n1 n2 r0 r1 r2 p q)
 
-pub feed_broken_line : {S : Type 0} (step : S → Command → Answer → S → Type 0) (refuses : S → S → Type 0) (fault : RunFault) (a b c : S) (x y partial piece done line more rest : List ℕ) (s0 s1 n0 n1 r0 r1 : ℕ) → piece ≡ done ++ (line ++ more) → Progress step a b x (partial ++ done) rest s0 s1 n0 n1 r0 r1 → Broken step refuses fault b c y s1 (rest ++ line) → BrokenWithin step refuses fault a c (x ++ y) s0 partial piece
+pub feed_broken_line : {S : Type 0} (step : S → Command → Answer → S → Type 0) (refuses : S → Command → S → Type 0) (fault : RunFault) (a b c : S) (x y partial piece done line more rest : List ℕ) (s0 s1 n0 n1 r0 r1 : ℕ) → piece ≡ done ++ (line ++ more) → Progress step a b x (partial ++ done) rest s0 s1 n0 n1 r0 r1 → Broken step refuses fault b c y s1 (rest ++ line) → BrokenWithin step refuses fault a c (x ++ y) s0 partial piece
 feed_broken_line step refuses fault a b c x y partial piece done line more rest s0 s1 n0 n1 r0 r1 e p q =
     let whole = Broken-then step refuses fault a b c x y (partial ++ done) rest line s0 s1 n0 n1 r0 r1 p q in
     (done ++ line, more, e ∙ sym (append_assoc done line more), subst (λ (l : List ℕ). Broken step refuses fault a c (x ++ y) s0 l) (append_assoc partial done line) whole)
 
-pub no_memory_within : {S : Type 0} (step : S → Command → Answer → S → Type 0) (refuses : S → S → Type 0) (s : S) (partial piece : List ℕ) (s0 : ℕ) → BrokenWithin step refuses runs.NoMemory s s [] s0 partial piece
+pub no_memory_within : {S : Type 0} (step : S → Command → Answer → S → Type 0) (refuses : S → Command → S → Type 0) (s : S) (partial piece : List ℕ) (s0 : ℕ) → BrokenWithin step refuses runs.NoMemory s s [] s0 partial piece
 no_memory_within step refuses s partial piece s0 = ([], piece, refl, no_memory step refuses s (partial ++ []) s0)
 
 -- a part of a piece stopped in the middle
-pub part_broken : {S : Type 0} (step : S → Command → Answer → S → Type 0) (refuses : S → S → Type 0) (fault : RunFault) (a b c : S) (x y partial piece done left rest : List ℕ) (s0 s1 n0 n1 r0 r1 : ℕ) → piece ≡ done ++ left → Progress step a b x (partial ++ done) rest s0 s1 n0 n1 r0 r1 → BrokenWithin step refuses fault b c y s1 rest left → BrokenWithin step refuses fault a c (x ++ y) s0 partial piece
+pub part_broken : {S : Type 0} (step : S → Command → Answer → S → Type 0) (refuses : S → Command → S → Type 0) (fault : RunFault) (a b c : S) (x y partial piece done left rest : List ℕ) (s0 s1 n0 n1 r0 r1 : ℕ) → piece ≡ done ++ left → Progress step a b x (partial ++ done) rest s0 s1 n0 n1 r0 r1 → BrokenWithin step refuses fault b c y s1 rest left → BrokenWithin step refuses fault a c (x ++ y) s0 partial piece
 part_broken step refuses fault a b c x y partial piece done left rest s0 s1 n0 n1 r0 r1 e p q =
     feed_broken_line step refuses fault a b c x y partial piece done q.0 q.1 rest s0 s1 n0 n1 r0 r1 (e ∙ ap (λ (l : List ℕ). done ++ l) q.2) p q.3
 
 -- ---- the writer fails
 
-Ends-write : {S : Type 0} (step : S → Command → Answer → S → Type 0) (refuses : S → S → Type 0) (fault : RunFault) (mid new : S) (seen : ℕ) (left : List ℕ) → Ends step refuses fault mid new seen left → Ends step refuses runs.Write mid new seen left
+Ends-write : {S : Type 0} (step : S → Command → Answer → S → Type 0) (refuses : S → Command → S → Type 0) (fault : RunFault) (mid new : S) (seen : ℕ) (left : List ℕ) → Ends step refuses fault mid new seen left → Ends step refuses runs.Write mid new seen left
 Ends-write step refuses runs.Read mid new seen left e = inl e.0
 Ends-write step refuses runs.LongLine mid new seen left e = inl e.0
 Ends-write step refuses runs.NoMemory mid new seen left e = e
 Ends-write step refuses runs.Write mid new seen left e = e
 
 -- another fault, and then that of the writer
-pub Broken-write : {S : Type 0} (step : S → Command → Answer → S → Type 0) (refuses : S → S → Type 0) (fault : RunFault) (old new : S) (out : List ℕ) (s0 : ℕ) (bytes : List ℕ) → Broken step refuses fault old new out s0 bytes → Broken step refuses runs.Write old new out s0 bytes
+pub Broken-write : {S : Type 0} (step : S → Command → Answer → S → Type 0) (refuses : S → Command → S → Type 0) (fault : RunFault) (old new : S) (out : List ℕ) (s0 : ℕ) (bytes : List ℕ) → Broken step refuses fault old new out s0 bytes → Broken step refuses runs.Write old new out s0 bytes
 Broken-write step refuses fault old new out s0 bytes b = record {
   lines = b.lines;
   outcomes = b.outcomes;
@@ -245,7 +245,7 @@ Broken-write step refuses fault old new out s0 bytes b = record {
 }
 
 -- the writer fails between two lines
-pub Progress-broken : {S : Type 0} (step : S → Command → Answer → S → Type 0) (refuses : S → S → Type 0) (old new : S) (out bytes rest : List ℕ) (s0 s1 n0 n1 r0 r1 : ℕ) → Progress step old new out bytes rest s0 s1 n0 n1 r0 r1 → Broken step refuses runs.Write old new out s0 bytes
+pub Progress-broken : {S : Type 0} (step : S → Command → Answer → S → Type 0) (refuses : S → Command → S → Type 0) (old new : S) (out bytes rest : List ℕ) (s0 s1 n0 n1 r0 r1 : ℕ) → Progress step old new out bytes rest s0 s1 n0 n1 r0 r1 → Broken step refuses runs.Write old new out s0 bytes
 Progress-broken step refuses old new out bytes rest s0 s1 n0 n1 r0 r1 p = record {
   lines = p.lines;
   outcomes = p.outcomes;
@@ -260,14 +260,14 @@ Progress-broken step refuses old new out bytes rest s0 s1 n0 n1 r0 r1 p = record
 
 -- ---- the last line
 
-pub last_broken : {S : Type 0} (step : S → Command → Answer → S → Type 0) (refuses : S → S → Type 0) (fault : RunFault) (old new : S) (line : List ℕ) (seen : ℕ) → ServeBroken step refuses fault old new line → EndsLast step refuses fault old new seen line
+pub last_broken : {S : Type 0} (step : S → Command → Answer → S → Type 0) (refuses : S → Command → S → Type 0) (fault : RunFault) (old new : S) (line : List ℕ) (seen : ℕ) → ServeBroken step refuses fault old new line → EndsLast step refuses fault old new seen line
 last_broken step refuses runs.Read old new line seen h = absurd h
 last_broken step refuses runs.LongLine old new line seen h = absurd h
 last_broken step refuses runs.NoMemory old new line seen h = h
 last_broken step refuses runs.Write old new line seen h = absurd h
 
 -- a fault at the last line, and then that of the writer
-pub last_write : {S : Type 0} (step : S → Command → Answer → S → Type 0) (refuses : S → S → Type 0) (fault : RunFault) (old new : S) (seen : ℕ) (line : List ℕ) → EndsLast step refuses fault old new seen line → EndsLast step refuses runs.Write old new seen line
+pub last_write : {S : Type 0} (step : S → Command → Answer → S → Type 0) (refuses : S → Command → S → Type 0) (fault : RunFault) (old new : S) (seen : ℕ) (line : List ℕ) → EndsLast step refuses fault old new seen line → EndsLast step refuses runs.Write old new seen line
 last_write step refuses runs.Read old new seen line h = inl h.0
 last_write step refuses runs.LongLine old new seen line h = absurd h
 last_write step refuses runs.NoMemory old new seen line h = h

@@ -3,7 +3,7 @@ use Rattle.std.proofs.Common.{◌≡◌, ℕ, inl, inr, List, [], ◌++◌, leng
 use Rattle.std.specs.Io.KnownBytes.{Appends}
 use Rattle.std.proofs.lemmas.List.{append-nil}
 use Rattle.board_lines.specs.declared.command.Command.{Command}
-use Rattle.line_engine.specs.Answers.{Answer}
+use Rattle.line_front.specs.Answers.{Answer}
 use Rattle.line_engine.specs.declared.run_fault.RunFault.{RunFault}
 use Rattle.line_engine.specs.declared.run_fault.RunFault.TheVariants as runs
 use Rattle.line_engine.specs.Running.{AppendsFront, Reaches, MayBeWrite, Grows, Progress, BrokenWithin}
@@ -34,7 +34,7 @@ part_taken step a b c sent was held partial done rest used end s0 s1 s2 n0 n1 n2
     subst (λ (l : List ℕ). Progress step a c l (partial ++ (done ++ used)) end s0 s2 n0 n2 r0 r2) (sent_more sent was held q.0 q.1)
     (feed_line step a b c (sent ++ was) q.0 partial done used rest end s0 s1 s2 n0 n1 n2 r0 r1 r2 p q.2)
 
-pub part_stopped : {S : Type 0} (step : S → Command → Answer → S → Type 0) (refuses : S → S → Type 0) (fault last : RunFault) (a b c : S) (sent was held partial piece done left rest : List ℕ) (s0 s1 n0 n1 r0 r1 : ℕ)
+pub part_stopped : {S : Type 0} (step : S → Command → Answer → S → Type 0) (refuses : S → Command → S → Type 0) (fault last : RunFault) (a b c : S) (sent was held partial piece done left rest : List ℕ) (s0 s1 n0 n1 r0 r1 : ℕ)
     → piece ≡ done ++ left → Progress step a b (sent ++ was) (partial ++ done) rest s0 s1 n0 n1 r0 r1 → Grows was held (λ out. BrokenWithin step refuses fault b c out s1 rest left) → MayBeWrite fault last
     → BrokenWithin step refuses last a c (sent ++ held) s0 partial piece
 part_stopped step refuses fault last a b c sent was held partial piece done left rest s0 s1 n0 n1 r0 r1 e p q m =
@@ -45,7 +45,7 @@ part_stopped step refuses fault last a b c sent was held partial piece done left
       | inr write ↦ subst (λ (f : RunFault). BrokenWithin step refuses f a c (sent ++ held) s0 partial piece) (sym write) (whole.0, whole.1, whole.2, Broken-write step refuses fault a c (sent ++ held) s0 (partial ++ whole.0) whole.3)
     ]
 
-pub part_unwritten : {S : Type 0} (step : S → Command → Answer → S → Type 0) (refuses : S → S → Type 0) (a b : S) (out partial piece done left rest : List ℕ) (s0 s1 n0 n1 r0 r1 : ℕ)
+pub part_unwritten : {S : Type 0} (step : S → Command → Answer → S → Type 0) (refuses : S → Command → S → Type 0) (a b : S) (out partial piece done left rest : List ℕ) (s0 s1 n0 n1 r0 r1 : ℕ)
     → piece ≡ done ++ left → Progress step a b out (partial ++ done) rest s0 s1 n0 n1 r0 r1 → BrokenWithin step refuses runs.Write a b out s0 partial piece
 part_unwritten step refuses a b out partial piece done left rest s0 s1 n0 n1 r0 r1 e p =
     (done, left, e, Progress-broken step refuses a b out (partial ++ done) rest s0 s1 n0 n1 r0 r1 p)

@@ -1,5 +1,8 @@
-pub mod Answers
-pub mod Fronts
+pub use Rattle.line_front.specs.Answers
+pub use Rattle.line_front.specs.Fronts
+pub mod Outcomes
+pub mod Leaving
 pub mod Marks
 pub mod Running
 pub mod TextLines
+pub mod WholeRuns

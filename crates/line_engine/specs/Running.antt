@@ -5,11 +5,11 @@ use Rattle.std.specs.Io.BufRead.{strip_last}
 use Rattle.std.specs.Io.KnownBytes.{Appends, Consumes, IsAtEnd}
 use Rattle.board_lines.specs.Reading.{read_of}
 use Rattle.board_lines.specs.Replies.{ended}
-use Rattle.line_engine.specs.Answers.{outcome_text, written, has_reply, is_refusal}
-use Rattle.line_engine.specs.Fronts.{Gives}
+use Rattle.line_engine.specs.Outcomes.{outcome_text, written, has_reply, is_refusal}
+use Rattle.line_engine.specs.Leaving.{Gives, Leaves, Drops}
 use Rattle.board_lines.specs.declared.command.Command.{Command}
-use Rattle.line_engine.specs.Answers.{Answer}
-use Rattle.line_engine.specs.Answers.{Outcome}
+use Rattle.line_front.specs.Answers.{Answer}
+use Rattle.line_engine.specs.Outcomes.{Outcome}
 use Rattle.line_engine.specs.declared.run_fault.RunFault.{RunFault}
 use Rattle.line_engine.specs.declared.run_fault.RunFault.TheVariants as runs
 
@@ -71,20 +71,19 @@ NextLine left line = IsLine line × (more : List ℕ) × (left ≡ ended line ++
 abbrev pub IsTooLong : List ℕ → Type 0
 IsTooLong left = (long : List ℕ) × (more : List ℕ) × (left ≡ long ++ more) × HasNoEnd long × (4096 < length long)
 
--- Where the front stands, which answered the lines before and left mid: there, or where running out of memory at the next line leaves it,
--- or after the call of that line.
-abbrev pub StandsAt : {S : Type 0} → (S → Command → Answer → S → Type 0) → (S → S → Type 0) → S → S → List ℕ → Type 0
-StandsAt step refuses mid new left = (new ≡ mid) ⊎ (refuses mid new ⊎ ((line : List ℕ) × (outcome : Outcome) × NextLine left line × Gives step mid (read_of (body line)) outcome new))
+-- Where the front stands, which answered the lines before and left mid: there, or where the next line leaves it.
+abbrev pub StandsAt : {S : Type 0} → (S → Command → Answer → S → Type 0) → (S → Command → S → Type 0) → S → S → List ℕ → Type 0
+StandsAt step refuses mid new left = (new ≡ mid) ⊎ ((line : List ℕ) × NextLine left line × Leaves step refuses mid (read_of (body line)) new)
 
 -- how a run ended, with this many lines seen, after the lines that it answered, where left is what comes next
-abbrev pub Ends : {S : Type 0} → (S → Command → Answer → S → Type 0) → (S → S → Type 0) → RunFault → S → S → ℕ → List ℕ → Type 0
+abbrev pub Ends : {S : Type 0} → (S → Command → Answer → S → Type 0) → (S → Command → S → Type 0) → RunFault → S → S → ℕ → List ℕ → Type 0
 Ends step refuses runs.Read mid new seen left = (new ≡ mid) × (seen ≡ 4294967296)
 Ends step refuses runs.LongLine mid new seen left = (new ≡ mid) × IsTooLong left
 Ends step refuses runs.NoMemory mid new seen left = StandsAt step refuses mid new left
 Ends step refuses runs.Write mid new seen left = StandsAt step refuses mid new left
 
 -- Since old the bytes were taken, and the fault came: all earlier lines were answered.
-pub record Broken {S : Type 0} (step : S → Command → Answer → S → Type 0) (refuses : S → S → Type 0) (fault : RunFault) (old new : S) (out : List ℕ) (seen_old : ℕ) (bytes : List ℕ) : Type 0 where
+pub record Broken {S : Type 0} (step : S → Command → Answer → S → Type 0) (refuses : S → Command → S → Type 0) (fault : RunFault) (old new : S) (out : List ℕ) (seen_old : ℕ) (bytes : List ℕ) : Type 0 where
   pub lines : List (List ℕ)
   pub outcomes : List Outcome
   pub mid : S
@@ -105,19 +104,19 @@ pub record Served {S : Type 0} (step : S → Command → Answer → S → Type 0
   pub refusals : refused_new ≡ refused_old + (if is_refusal outcome then 1 else 0)
 
 -- memory ran out at a line, and its reply is not held
-abbrev pub ServeBroken : {S : Type 0} → (S → Command → Answer → S → Type 0) → (S → S → Type 0) → RunFault → S → S → List ℕ → Type 0
-ServeBroken step refuses runs.NoMemory old new line = (new ≡ old) ⊎ (refuses old new ⊎ ((outcome : Outcome) × Gives step old (read_of (body line)) outcome new))
+abbrev pub ServeBroken : {S : Type 0} → (S → Command → Answer → S → Type 0) → (S → Command → S → Type 0) → RunFault → S → S → List ℕ → Type 0
+ServeBroken step refuses runs.NoMemory old new line = Drops step refuses old (read_of (body line)) new
 ServeBroken step refuses _ old new line = ⊥
 
 -- A fault came at the last line, which has no line end, with this many lines seen before.
-abbrev pub EndsLast : {S : Type 0} → (S → Command → Answer → S → Type 0) → (S → S → Type 0) → RunFault → S → S → ℕ → List ℕ → Type 0
+abbrev pub EndsLast : {S : Type 0} → (S → Command → Answer → S → Type 0) → (S → Command → S → Type 0) → RunFault → S → S → ℕ → List ℕ → Type 0
 EndsLast step refuses runs.Read old new seen line = (new ≡ old) × (seen ≡ 4294967296)
 EndsLast step refuses runs.LongLine old new seen line = ⊥
 EndsLast step refuses runs.NoMemory old new seen line = ServeBroken step refuses runs.NoMemory old new line
 EndsLast step refuses runs.Write old new seen line = ServeBroken step refuses runs.NoMemory old new line
 
 -- A fault came within a prefix of the next bytes.
-abbrev pub BrokenWithin : {S : Type 0} → (S → Command → Answer → S → Type 0) → (S → S → Type 0) → RunFault → S → S → List ℕ → ℕ → List ℕ → List ℕ → Type 0
+abbrev pub BrokenWithin : {S : Type 0} → (S → Command → Answer → S → Type 0) → (S → Command → S → Type 0) → RunFault → S → S → List ℕ → ℕ → List ℕ → List ℕ → Type 0
 BrokenWithin step refuses fault old new out seen partial piece = (used : List ℕ) × (more : List ℕ) × (piece ≡ used ++ more) × Broken step refuses fault old new out seen (partial ++ used)
 
 -- what follows the last line end is a line, unless it is empty
@@ -133,22 +132,7 @@ pub record Finished {S : Type 0} (step : S → Command → Answer → S → Type
   pub answers : lines_new ≡ lines_old + count_by has_reply outcomes
   pub refusals : refused_new ≡ refused_old + count_by is_refusal outcomes
 
--- ---- whole runs
-
--- All that the reader had was answered: each line in order, of at most 4,294,967,296, and nothing else was written.
-pub record Answered {S : Type 0} (step : S → Command → Answer → S → Type 0) (old new : S) (left_old left_new was now : Option (List ℕ)) (answers refusals : ℕ) : Type 0 where
-  pub bytes : List ℕ
-  pub given : Consumes left_old left_new bytes
-  pub at_end : IsAtEnd left_new
-  pub lines : List (List ℕ)
-  pub rest : List ℕ
-  pub cut : Cut bytes lines rest
-  pub outcomes : List Outcome
-  pub few : length (lines ++ last_line rest) ≤ 4294967296
-  pub run : Runs step old (lines ++ last_line rest) outcomes new
-  pub text : Appends was now (written outcomes)
-  pub answered : answers ≡ count_by has_reply outcomes
-  pub refused : refusals ≡ count_by is_refusal outcomes
+-- ---- what was written as a run ended
 
 -- The replies were written in full, or only a prefix of them where the writer failed.
 abbrev pub Reaches : RunFault → Option (List ℕ) → Option (List ℕ) → List ℕ → Type 0
@@ -158,23 +142,3 @@ Reaches _ was now out = Appends was now out
 -- the fault of a run, or that of its writer at the end
 abbrev pub MayBeWrite : RunFault → RunFault → Type 0
 MayBeWrite fault last = (last ≡ fault) ⊎ (last ≡ runs.Write)
-
--- The reader failed after these bytes, and each whole line of them was answered.
-abbrev pub IsHalted : {S : Type 0} → (S → Command → Answer → S → Type 0) → RunFault → S → S → List ℕ → List ℕ → List ℕ → Type 0
-IsHalted step fault old new out bytes more = (fault ≡ runs.Read) × (more ≡ []) × (rest : List ℕ) × (s : ℕ) × (n : ℕ) × (r : ℕ) × Progress step old new out bytes rest 0 s 0 n 0 r
-
--- The writer failed after all lines were answered, the last with them.
-abbrev pub IsUnwritten : {S : Type 0} → (S → Command → Answer → S → Type 0) → RunFault → S → S → Option (List ℕ) → List ℕ → List ℕ → List ℕ → Type 0
-IsUnwritten step fault old new left out bytes more = (fault ≡ runs.Write) × (more ≡ []) × IsAtEnd left × (lines : List (List ℕ)) × (rest : List ℕ) × (outcomes : List Outcome)
-    × Cut bytes lines rest × Runs step old (lines ++ last_line rest) outcomes new × (out ≡ written outcomes)
-
--- The fault came at the last line, after all bytes, and each whole line of them was answered.
-abbrev pub IsLastBroken : {S : Type 0} → (S → Command → Answer → S → Type 0) → (S → S → Type 0) → RunFault → S → S → Option (List ℕ) → List ℕ → List ℕ → List ℕ → Type 0
-IsLastBroken {S} step refuses fault old new left out bytes more = (more ≡ []) × IsAtEnd left × (mid : S) × (rest : List ℕ) × (s : ℕ) × (n : ℕ) × (r : ℕ)
-    × Progress step old mid out bytes rest 0 s 0 n 0 r × EndsLast step refuses fault mid new s rest
-
--- The run ended with a fault, after a prefix of the bytes that the reader gave.
-abbrev pub Stopped : {S : Type 0} → (S → Command → Answer → S → Type 0) → (S → S → Type 0) → RunFault → S → S → Option (List ℕ) → Option (List ℕ) → Option (List ℕ) → Option (List ℕ) → Type 0
-Stopped step refuses fault old new left_old left_new was now = (bytes : List ℕ) × (more : List ℕ) × (out : List ℕ) × Consumes left_old left_new (bytes ++ more) × Reaches fault was now out
-    × (IsHalted step fault old new out bytes more ⊎ (IsUnwritten step fault old new left_new out bytes more
-    ⊎ (IsLastBroken step refuses fault old new left_new out bytes more ⊎ Broken step refuses fault old new out 0 bytes)))

@@ -3,19 +3,19 @@
 ghost use Rattle.std.specs.Prelude.{◌≡◌, ◌++◌, [], ℕ, List, IfOk, OnOk, OnErr, string_bytes};
 ghost use Rattle.board_lines.specs.Replies.{ended, reply_text, fault_text, ask_fault_text};
 ghost use Rattle.board_lines.specs.declared.command.Command.{Command};
-ghost use Rattle.line_engine.specs.Answers.{Outcome, is_reply_refusal};
-ghost use Rattle.line_engine.specs.Fronts.{Fails, Loses};
+ghost use Rattle.line_engine.specs.Outcomes.{Outcome, is_reply_refusal};
+ghost use Rattle.line_engine.specs.Leaving.{Fails, Loses};
 ghost use Rattle.line_engine.specs.Marks.{Obeys, Tells, TellsJson, IsUnread};
 ghost use Rattle.board_rules.specs.declared.reply.Fault.TheVariants as faults;
 ghost use Rattle.board_rules.specs.declared.reply.AskFault.TheVariants as asks;
 ghost use Rattle.std.specs.Prelude.{◌≢◌};
 
-use crate::front::Front;
 use crate::mark::Mark;
 use board_lines::{
     Command, ReadFault, push_ask_fault, push_fault, push_json, push_list, push_reply, push_review,
 };
 use board_rules::{AskFault, Call, Denial, Fault, Reply, Review};
+use line_front::Front;
 use rbac_core::{Object, Operation};
 use std::alloc::AllocError;
 
@@ -83,8 +83,8 @@ fn submit<R, F: Front<R>>(
     requires ready { F.ready front.old }
     requires none { string_bytes text.old ≡ [] }
     ensures ready { F.ready front.new }
-    ensures ok { IfOk result (Tells F.step front.old (Command.Submit call) front.new (string_bytes text.new)) }
-    ensures err { OnErr result (Loses F.step F.refuses front.old (Command.Submit call) front.new) }
+    ensures ok { IfOk result (Tells F.step (F.seen front.old) (Command.Submit call) (F.seen front.new) (string_bytes text.new)) }
+    ensures err { OnErr result (Loses F.step F.refuses (F.seen front.old) (Command.Submit call) (F.seen front.new)) }
 {
     match front.submit(rt, call) {
         Ok(Reply::Done) => Ok(Mark::Done),
@@ -115,8 +115,8 @@ fn list<R, F: Front<R>>(
     requires ready { F.ready front.old }
     requires none { string_bytes text.old ≡ [] }
     ensures ready { F.ready front.new }
-    ensures ok { IfOk result (Tells F.step front.old (Command.List session) front.new (string_bytes text.new)) }
-    ensures err { OnErr result (Loses F.step F.refuses front.old (Command.List session) front.new) }
+    ensures ok { IfOk result (Tells F.step (F.seen front.old) (Command.List session) (F.seen front.new) (string_bytes text.new)) }
+    ensures err { OnErr result (Loses F.step F.refuses (F.seen front.old) (Command.List session) (F.seen front.new)) }
 {
     match front.list(rt, session) {
         Ok(rows) => {
@@ -140,8 +140,8 @@ fn audit<R, F: Front<R>>(
     requires ready { F.ready front.old }
     requires none { string_bytes text.old ≡ [] }
     ensures ready { F.ready front.new }
-    ensures ok { IfOk result (Tells F.step front.old (Command.Audit session) front.new (string_bytes text.new)) }
-    ensures err { OnErr result (Loses F.step F.refuses front.old (Command.Audit session) front.new) }
+    ensures ok { IfOk result (Tells F.step (F.seen front.old) (Command.Audit session) (F.seen front.new) (string_bytes text.new)) }
+    ensures err { OnErr result (Loses F.step F.refuses (F.seen front.old) (Command.Audit session) (F.seen front.new)) }
 {
     match front.audit(rt, session, text) {
         Ok(()) => Ok(Mark::Text(false)),
@@ -164,8 +164,8 @@ fn review<R, F: Front<R>>(
     requires ready { F.ready front.old }
     requires none { string_bytes text.old ≡ [] }
     ensures ready { F.ready front.new }
-    ensures ok { IfOk result (Tells F.step front.old (Command.Review session which) front.new (string_bytes text.new)) }
-    ensures err { OnErr result (Loses F.step F.refuses front.old (Command.Review session which) front.new) }
+    ensures ok { IfOk result (Tells F.step (F.seen front.old) (Command.Review session which) (F.seen front.new) (string_bytes text.new)) }
+    ensures err { OnErr result (Loses F.step F.refuses (F.seen front.old) (Command.Review session which) (F.seen front.new)) }
 {
     match front.review(rt, session, which) {
         Ok(names) => {
@@ -191,8 +191,8 @@ fn check<R, F: Front<R>>(
     requires ready { F.ready front.old }
     requires none { string_bytes text.old ≡ [] }
     ensures ready { F.ready front.new }
-    ensures ok { IfOk result (Tells F.step front.old (Command.Check session operation object) front.new (string_bytes text.new)) }
-    ensures err { OnErr result (Loses F.step F.refuses front.old (Command.Check session operation object) front.new) }
+    ensures ok { IfOk result (Tells F.step (F.seen front.old) (Command.Check session operation object) (F.seen front.new) (string_bytes text.new)) }
+    ensures err { OnErr result (Loses F.step F.refuses (F.seen front.old) (Command.Check session operation object) (F.seen front.new)) }
 {
     Ok(Mark::Checked(front.check(rt, session, operation, object)))
 }
@@ -206,8 +206,8 @@ fn json<R, F: Front<R>>(
     requires ready { F.ready front.old }
     requires none { string_bytes text.old ≡ [] }
     ensures ready { F.ready front.new }
-    ensures ok { IfOk result (TellsJson F.step front.old session front.new (string_bytes text.new)) }
-    ensures err { OnErr result (Loses F.step F.refuses front.old (Command.List session) front.new) }
+    ensures ok { IfOk result (TellsJson F.step (F.seen front.old) session (F.seen front.new) (string_bytes text.new)) }
+    ensures err { OnErr result (Loses F.step F.refuses (F.seen front.old) (Command.List session) (F.seen front.new)) }
 {
     match front.list(rt, session) {
         Ok(rows) => {
@@ -237,8 +237,8 @@ pub(crate) fn obey<R, F: Front<R>>(
     requires ready { F.ready front.old }
     requires none { string_bytes text.old ≡ [] }
     ensures ready { F.ready front.new }
-    ensures ok { IfOk result (Obeys F.step front.old command front.new (string_bytes text.new)) }
-    ensures err { OnErr result (Fails F.step F.refuses front.old command front.new) }
+    ensures ok { IfOk result (Obeys F.step (F.seen front.old) command (F.seen front.new) (string_bytes text.new)) }
+    ensures err { OnErr result (Fails F.step F.refuses (F.seen front.old) command (F.seen front.new)) }
 {
     match command {
         Command::Skip => Ok(Mark::Nothing),

@@ -4,16 +4,17 @@ ghost use Rattle.std.specs.Prelude.{◌≡◌, ◌+◌, ◌<◌, ◌≤◌, ◌�
 ghost use Rattle.std.specs.Io.KnownBytes.{Appends};
 ghost use Rattle.text_words.specs.Words.{words as line_words};
 ghost use Rattle.board_lines.specs.Reading.{after_word, read_of, words_read};
-ghost use Rattle.line_engine.specs.Fronts.{Gives, Drops};
+ghost use Rattle.line_engine.specs.Leaving.{Gives, Drops};
 ghost use Rattle.line_engine.specs.Marks.{Marks};
-ghost use Rattle.line_engine.specs.Running.{body, Grows, Served, ServeBroken, Progress, Broken, IsLine, HasNoEnd, BrokenWithin, EndsLast, Finished, Reaches, Answered, Stopped, last_line};
+ghost use Rattle.line_engine.specs.Running.{body, Grows, Served, ServeBroken, Progress, Broken, IsLine, HasNoEnd, BrokenWithin, EndsLast, Finished, Reaches, last_line};
+ghost use Rattle.line_engine.specs.WholeRuns.{IsAnswered, IsStopped};
 
 use crate::answer::{OutOfMemory, obey, unread};
-use crate::front::Front;
 use crate::mark::Mark;
 use crate::outbox::Outbox;
 use crate::run_fault::{Counts, RunFault};
 use board_lines::{Head, Word, read_command, read_head};
+use line_front::Front;
 use std::alloc::Global;
 use std::io::{Read, Write};
 use text_words::{keep_all_words, keep_line};
@@ -32,8 +33,8 @@ fn ask<R, F: Front<R>>(
 ) -> Result<Mark, OutOfMemory>
     requires ready { F.ready front.old }
     ensures ready { F.ready front.new }
-    ensures ok { IfOk result (Marks (λ outcome. Gives F.step front.old (after_word session word (map (λ w. w.now) arguments.now)) outcome front.new) (string_bytes text.new)) }
-    ensures err { OnErr result (Drops F.step F.refuses front.old (after_word session word (map (λ w. w.now) arguments.now)) front.new) }
+    ensures ok { IfOk result (Marks (λ outcome. Gives F.step (F.seen front.old) (after_word session word (map (λ w. w.now) arguments.now)) outcome (F.seen front.new)) (string_bytes text.new)) }
+    ensures err { OnErr result (Drops F.step F.refuses (F.seen front.old) (after_word session word (map (λ w. w.now) arguments.now)) (F.seen front.new)) }
 {
     text.clear();
     match read_command(alloc, session, word, arguments) {
@@ -53,8 +54,8 @@ fn answer_words<R, F: Front<R>>(
 ) -> Result<Mark, OutOfMemory>
     requires ready { F.ready front.old }
     ensures ready { F.ready front.new }
-    ensures ok { IfOk result (Marks (λ outcome. Gives F.step front.old (words_read (map (λ w. w.now) words.now)) outcome front.new) (string_bytes text.new)) }
-    ensures err { OnErr result (Drops F.step F.refuses front.old (words_read (map (λ w. w.now) words.now)) front.new) }
+    ensures ok { IfOk result (Marks (λ outcome. Gives F.step (F.seen front.old) (words_read (map (λ w. w.now) words.now)) outcome (F.seen front.new)) (string_bytes text.new)) }
+    ensures err { OnErr result (Drops F.step F.refuses (F.seen front.old) (words_read (map (λ w. w.now) words.now)) (F.seen front.new)) }
 {
     match read_head(words) {
         Ok(Head::Skip) => Ok(Mark::Nothing),
@@ -81,8 +82,8 @@ fn answer_returned<R, F: Front<R>>(
 ) -> Result<Mark, OutOfMemory>
     requires ready { F.ready front.old }
     ensures ready { F.ready front.new }
-    ensures ok { IfOk result (Marks (λ outcome. Gives F.step front.old (read_of line.now) outcome front.new) (string_bytes text.new)) }
-    ensures err { OnErr result (Drops F.step F.refuses front.old (read_of line.now) front.new) }
+    ensures ok { IfOk result (Marks (λ outcome. Gives F.step (F.seen front.old) (read_of line.now) outcome (F.seen front.new)) (string_bytes text.new)) }
+    ensures err { OnErr result (Drops F.step F.refuses (F.seen front.old) (read_of line.now) (F.seen front.new)) }
 {
     let mut words = Vec::new(alloc);
     keep_all_words(&mut words, line)?;
@@ -102,8 +103,8 @@ fn answer<R, F: Front<R>>(
     requires ready { F.ready front.old }
     requires words { map (λ w. w.now) words.now ≡ line_words line.now }
     ensures ready { F.ready front.new }
-    ensures ok { IfOk result (Marks (λ outcome. Gives F.step front.old (read_of (body line.now)) outcome front.new) (string_bytes text.new)) }
-    ensures err { OnErr result (Drops F.step F.refuses front.old (read_of (body line.now)) front.new) }
+    ensures ok { IfOk result (Marks (λ outcome. Gives F.step (F.seen front.old) (read_of (body line.now)) outcome (F.seen front.new)) (string_bytes text.new)) }
+    ensures err { OnErr result (Drops F.step F.refuses (F.seen front.old) (read_of (body line.now)) (F.seen front.new)) }
 {
     match line.strip_suffix(b"\r".as_slice()) {
         Some(line) => answer_returned(rt, alloc, front, text, line),
@@ -124,11 +125,11 @@ fn serve<R, F: Front<R>>(
     requires ready { F.ready front.old }
     requires words { map (λ w. w.now) words.now ≡ line_words line.now }
     ensures ready { F.ready front.new }
-    ensures ok { OnOk result (Grows outbox.old.held.items outbox.new.held.items (λ out. Served F.step front.old front.new out line.now
+    ensures ok { OnOk result (Grows outbox.old.held.items outbox.new.held.items (λ out. Served F.step (F.seen front.old) (F.seen front.new) out line.now
         outbox.old.tally.seen outbox.new.tally.seen outbox.old.tally.lines outbox.new.tally.lines
         outbox.old.tally.refused outbox.new.tally.refused)) }
     ensures held { OnErr result (outbox.new.held.items ≡ outbox.old.held.items) }
-    ensures err { IfErr result (λ e. ServeBroken F.step F.refuses e front.old front.new line.now) }
+    ensures err { IfErr result (λ e. ServeBroken F.step F.refuses e (F.seen front.old) (F.seen front.new) line.now) }
 {
     let Ok(mark) = answer(rt, alloc, front, &mut outbox.text, words, line) else {
         return Err(RunFault::NoMemory);
@@ -149,11 +150,11 @@ fn serve_whole<R, F: Front<R>>(
     requires seen { outbox.old.tally.seen < 4294967296 }
     requires ready { F.ready front.old }
     ensures ready { F.ready front.new }
-    ensures ok { OnOk result (Grows outbox.old.held.items outbox.new.held.items (λ out. Served F.step front.old front.new out line.now
+    ensures ok { OnOk result (Grows outbox.old.held.items outbox.new.held.items (λ out. Served F.step (F.seen front.old) (F.seen front.new) out line.now
         outbox.old.tally.seen outbox.new.tally.seen outbox.old.tally.lines outbox.new.tally.lines
         outbox.old.tally.refused outbox.new.tally.refused)) }
     ensures held { OnErr result (outbox.new.held.items ≡ outbox.old.held.items) }
-    ensures err { IfErr result (λ e. ServeBroken F.step F.refuses e front.old front.new line.now) }
+    ensures err { IfErr result (λ e. ServeBroken F.step F.refuses e (F.seen front.old) (F.seen front.new) line.now) }
 {
     let mut words = Vec::new(alloc);
     if keep_all_words(&mut words, line).is_err() {
@@ -194,10 +195,10 @@ fn take_line<R, F: Front<R>>(
     requires ready { F.ready front.old }
     requires words { map (λ w. w.now) words.now ≡ line_words more.now }
     ensures ready { F.ready front.new }
-    ensures ok { OnOk result (Grows outbox.old.held.items outbox.new.held.items (λ out. Progress F.step front.old front.new out
+    ensures ok { OnOk result (Grows outbox.old.held.items outbox.new.held.items (λ out. Progress F.step (F.seen front.old) (F.seen front.new) out
         (partial.old.items ++ (more.now ++ 10 ∷ [])) partial.new.items outbox.old.tally.seen outbox.new.tally.seen
         outbox.old.tally.lines outbox.new.tally.lines outbox.old.tally.refused outbox.new.tally.refused)) }
-    ensures err { IfErr result (λ e. Grows outbox.old.held.items outbox.new.held.items (λ out. Broken F.step F.refuses e front.old front.new
+    ensures err { IfErr result (λ e. Grows outbox.old.held.items outbox.new.held.items (λ out. Broken F.step F.refuses e (F.seen front.old) (F.seen front.new)
         out outbox.old.tally.seen (partial.old.items ++ (more.now ++ 10 ∷ [])))) }
 {
     if outbox.tally.is_full() {
@@ -227,12 +228,12 @@ fn feed<'a, R, F: Front<R>>(
     requires ready { F.ready front.old }
     ensures ready { F.ready front.new }
     ensures ok { IfOk result (λ left. (used : List ℕ) × (piece.now ≡ used ++ left.now)
-        × Grows outbox.old.held.items outbox.new.held.items (λ out. Progress F.step front.old front.new out
+        × Grows outbox.old.held.items outbox.new.held.items (λ out. Progress F.step (F.seen front.old) (F.seen front.new) out
         (partial.old.items ++ used) partial.new.items outbox.old.tally.seen outbox.new.tally.seen
         outbox.old.tally.lines outbox.new.tally.lines outbox.old.tally.refused outbox.new.tally.refused)) }
     ensures shorter { 0 < length piece.now → IfOk result (λ left. length left.now < length piece.now) }
     ensures err { IfErr result (λ e. Grows outbox.old.held.items outbox.new.held.items (λ out. BrokenWithin F.step F.refuses e
-        front.old front.new out outbox.old.tally.seen partial.old.items piece.now)) }
+        (F.seen front.old) (F.seen front.new) out outbox.old.tally.seen partial.old.items piece.now)) }
 {
     let mut words = Vec::with_capacity(alloc, MANY_WORDS)?;
     let mut left = piece;
@@ -274,11 +275,11 @@ fn take_piece<R, F: Front<R>, W: Write>(
     requires ready { F.ready front.old }
     requires none { outbox.old.held.items ≡ [] }
     ensures ready { F.ready front.new }
-    ensures ok { OnOk result ((sent : List ℕ) × Appends (W.contents writer.old) (W.contents writer.new) sent × Progress F.step front.old front.new
+    ensures ok { OnOk result ((sent : List ℕ) × Appends (W.contents writer.old) (W.contents writer.new) sent × Progress F.step (F.seen front.old) (F.seen front.new)
         (sent ++ outbox.new.held.items) (partial.old.items ++ piece.now) partial.new.items outbox.old.tally.seen outbox.new.tally.seen
         outbox.old.tally.lines outbox.new.tally.lines outbox.old.tally.refused outbox.new.tally.refused) }
     ensures err { IfErr result (λ e. (out : List ℕ) × Reaches e (W.contents writer.old) (W.contents writer.new) out
-        × BrokenWithin F.step F.refuses e front.old front.new out outbox.old.tally.seen partial.old.items piece.now) }
+        × BrokenWithin F.step F.refuses e (F.seen front.old) (F.seen front.new) out outbox.old.tally.seen partial.old.items piece.now) }
 {
     let mut left = piece;
     'parts: while !left.is_empty() {
@@ -304,11 +305,11 @@ fn finish<R, F: Front<R>>(
     requires line { IsLine partial.now }
     requires ready { F.ready front.old }
     ensures ready { F.ready front.new }
-    ensures ok { OnOk result (Grows outbox.old.held.items outbox.new.held.items (λ out. Finished F.step front.old front.new out
+    ensures ok { OnOk result (Grows outbox.old.held.items outbox.new.held.items (λ out. Finished F.step (F.seen front.old) (F.seen front.new) out
         partial.now outbox.old.tally.lines outbox.new.tally.lines outbox.old.tally.refused outbox.new.tally.refused)) }
     ensures few { OnOk result (outbox.old.tally.seen + length (last_line partial.now) ≤ 4294967296) }
     ensures held { OnErr result (outbox.new.held.items ≡ outbox.old.held.items) }
-    ensures err { IfErr result (λ e. EndsLast F.step F.refuses e front.old front.new outbox.old.tally.seen partial.now) }
+    ensures err { IfErr result (λ e. EndsLast F.step F.refuses e (F.seen front.old) (F.seen front.new) outbox.old.tally.seen partial.now) }
 {
     if partial.is_empty() {
         return Ok(());
@@ -341,9 +342,9 @@ pub fn run_lines<R, F: Front<R>, I: Read, W: Write>(
 ) -> Result<Counts, RunFault>
     requires { F.ready front.old }
     ensures ready { F.ready front.new }
-    ensures ok { IfOk result (λ counts. Answered F.step front.old front.new (I.remaining reader.old)
+    ensures ok { IfOk result (λ counts. IsAnswered F.step (F.seen front.old) (F.seen front.new) (I.remaining reader.old)
         (I.remaining reader.new) (W.contents writer.old) (W.contents writer.new) counts.lines counts.refused) }
-    ensures err { IfErr result (λ e. Stopped F.step F.refuses e front.old front.new (I.remaining reader.old)
+    ensures err { IfErr result (λ e. IsStopped F.step F.refuses e (F.seen front.old) (F.seen front.new) (I.remaining reader.old)
         (I.remaining reader.new) (W.contents writer.old) (W.contents writer.new)) }
 {
     let mut partial = Vec::new(alloc);

@@ -3,7 +3,6 @@
 
 mod answer;
 mod engine;
-mod front;
 mod laws;
 mod mark;
 mod outbox;
@@ -12,7 +11,7 @@ mod tally;
 mod write;
 
 pub use engine::run_lines;
-pub use front::Front;
 pub use laws::texts_have_their_lines;
+pub use line_front::Front;
 pub use run_fault::{Counts, RunFault};
 pub use write::write_whole;

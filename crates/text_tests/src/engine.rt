@@ -128,13 +128,15 @@ impl Small {
 }
 
 impl<R> Front<R> for Small {
+    ghost State = { Unit {0} };
+
+    ghost seen = { λ front. tt };
+
     ghost ready = { λ front. Unit {0} };
 
     ghost step = { λ old command answer new. Unit {0} };
 
-    ghost refuses = { λ old new. Unit {0} };
-
-    ghost takes = { λ front. Unit {0} };
+    ghost refuses = { λ old command new. Unit {0} };
 
     fn submit(&mut self, _rt: &R, call: Call) -> Result<Reply, Fault> {
         match call {

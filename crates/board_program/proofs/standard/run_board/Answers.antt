@@ -8,8 +8,8 @@ use Rattle.dimension_core.specs.Setting.{Setting}
 use Rattle.dimension_core.specs.Setup.{setting}
 use Rattle.board_core.specs.Boards.{history}
 use Rattle.board_rules.specs.History.{History}
-use Rattle.board_text.specs.BoardSteps.{desk_state}
-use Rattle.board_text.specs.BoardRuns.{IsAnswered, IsStopped}
+use Rattle.board_text.specs.BoardSteps.{desk_state, IsBoardStep, LacksMemory}
+use Rattle.line_engine.specs.WholeRuns.{IsAnswered, IsStopped}
 use Rattle.travel_table.specs.Travel.{travel_at}
 use Rattle.std.proofs.lemmas.Result.{err_from_is_err_and}
 use Rattle.solomon_reader.specs.Instances.{view}
@@ -121,7 +121,7 @@ returns-clause-ok g c =
       sites = s;
       of = of;
       new = desk_state (history c.run_board_lines.new.front.board) c.run_board_lines.new.front.desk c.run_board_lines.new.front.turn;
-      answered = subst (λ (h : History). IsAnswered (desk_state h 1 1) (desk_state (history c.run_board_lines.new.front.board) c.run_board_lines.new.front.desk c.run_board_lines.new.front.turn) (g.I.Read.remaining c.args.script.now) (g.I.Read.remaining c.run_board_lines.new.reader) (g.W.Write.contents c.args.writer.now) (g.W.Write.contents c.run_board_lines.new.writer) c.in_ok-run_board_lines.field-0.lines c.in_ok-run_board_lines.field-0.refused) opens
+      answered = subst (λ (h : History). IsAnswered IsBoardStep (desk_state h 1 1) (desk_state (history c.run_board_lines.new.front.board) c.run_board_lines.new.front.desk c.run_board_lines.new.front.turn) (g.I.Read.remaining c.args.script.now) (g.I.Read.remaining c.run_board_lines.new.reader) (g.W.Write.contents c.args.writer.now) (g.W.Write.contents c.run_board_lines.new.writer) c.in_ok-run_board_lines.field-0.lines c.in_ok-run_board_lines.field-0.refused) opens
           c.in_ok-run_board_lines.ensures.ok;
     }
 
@@ -178,7 +178,7 @@ returns-in_err-run_board_lines-clause-err g c =
       sites = s;
       of = of;
       new = desk_state (history c.run_board_lines.new.front.board) c.run_board_lines.new.front.desk c.run_board_lines.new.front.turn;
-      stopped = subst (λ (h : History). IsStopped c.in_err-run_board_lines.field-0.0 (desk_state h 1 1) (desk_state (history c.run_board_lines.new.front.board) c.run_board_lines.new.front.desk c.run_board_lines.new.front.turn) (g.I.Read.remaining c.args.script.now) (g.I.Read.remaining c.run_board_lines.new.reader) (g.W.Write.contents c.args.writer.now) (g.W.Write.contents c.run_board_lines.new.writer)) opens
+      stopped = subst (λ (h : History). IsStopped IsBoardStep LacksMemory c.in_err-run_board_lines.field-0.0 (desk_state h 1 1) (desk_state (history c.run_board_lines.new.front.board) c.run_board_lines.new.front.desk c.run_board_lines.new.front.turn) (g.I.Read.remaining c.args.script.now) (g.I.Read.remaining c.run_board_lines.new.reader) (g.W.Write.contents c.args.writer.now) (g.W.Write.contents c.run_board_lines.new.writer)) opens
           c.in_err-run_board_lines.ensures.err;
     } in
     rw (p.1, p.2) cut

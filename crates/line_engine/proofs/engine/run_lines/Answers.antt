@@ -3,7 +3,7 @@ use Rattle.std.proofs.lemmas.List.{append-nil}
 use Rattle.std.proofs.lemmas.Result.{err_from_is_err_and}
 use Rattle.line_engine.proofs.Bytes.{Appends-none, Consumes-none, Consumes-then, Appends-then}
 use Rattle.line_engine.proofs.Sending.{AppendsFront-then, Reaches-then, nil_first}
-use Rattle.line_engine.proofs.WholeRuns.{started, no_room, unflushed, unread, ended, last_stopped, last_unwritten, all_answered, piece_stopped, piece_done}
+use Rattle.line_engine.proofs.WholeRuns.{started, no_room, unflushed, unread, read_ended, last_stopped, last_unwritten, all_answered, piece_stopped, piece_done}
 use Rattle.line_engine.proofs.engine.run_lines.Goals as goal
 
 pub reads-init : goal.reads-init
@@ -84,4 +84,4 @@ pub returns-clause-err : goal.returns-clause-err
 returns-clause-err g c =
     let i = c.reads.invariant in
     let x = i.1 ++ c.reads.outbox.held.items in
-    ended g.F.Front.step g.F.Front.refuses c.close-2.result _ _ _ _ _ _ x i.0 _ _ _ _ i.2 c.close-2.ensures.fault (Reaches-then c.close-2.result _ _ _ i.1 c.reads.outbox.held.items i.3 c.close-2.ensures.bytes) i.4
+    read_ended g.F.Front.step g.F.Front.refuses c.close-2.result _ _ _ _ _ _ x i.0 _ _ _ _ i.2 c.close-2.ensures.fault (Reaches-then c.close-2.result _ _ _ i.1 c.reads.outbox.held.items i.3 c.close-2.ensures.bytes) i.4

@@ -7,8 +7,8 @@ use Rattle.board_rules.specs.Questions.{audit_fault}
 use Rattle.board_core.specs.Boards.{history}
 use Rattle.board_lines.specs.declared.command.Command.TheVariants as commands
 use Rattle.board_lines.specs.Listings.{audit_text}
-use Rattle.board_text.proofs.Asked.{refused, stays, due_may, same_front, audited}
-use Rattle.board_text.proofs.Seen.{seen}
+use Rattle.board_text.specs.BoardSteps.{desk_state}
+use Rattle.board_text.proofs.Asked.{refused, due_may, audited}
 use Rattle.board_text.proofs.board_front.BoardFrontFront.audit.Goals as goal
 
 pub returns-in-Ok-clause-ok : goal.returns-in-Ok-clause-ok
@@ -16,10 +16,10 @@ returns-in-Ok-clause-ok g c =
     let board = c.args.self.now.board in
     let asked = sym (c.audit.ensures.asked (setting board.setup.value) board.kept) ∙ ap result_err c.in-Ok.is in
     let same = c.in-Ok.ensures.entries in
-    audited seen c.args.self.now c.args.session board.core.journal _ _ _ c.put_journal.result asked refl (ap (λ (es : List Entry). string_bytes c.args.text.now ++ audit_text es) same) c.put_journal.ensures.ok
+    audited _ c.args.session board.core.journal _ _ _ c.append_journal.result asked refl (ap (λ (es : List Entry). string_bytes c.args.text.now ++ audit_text es) same) c.append_journal.ensures.ok
 
 pub returns-in-Err-clause-err : goal.returns-in-Err-clause-err
 returns-in-Err-clause-err g c =
     let board = c.args.self.now.board in
     let due = sym (c.audit.ensures.asked (setting board.setup.value) board.kept) ∙ ap result_err c.in-Err.is in
-    refused seen stays c.args.self.now (commands.Audit c.args.session) (audit_fault (state_of (history board)) c.args.session) _ (due_may _ _ due) (same_front c.args.self.now) (λ fault e. (e, refl))
+    refused (desk_state (history board) c.args.self.now.desk c.args.self.now.turn) (commands.Audit c.args.session) (audit_fault (state_of (history board)) c.args.session) _ (due_may _ _ due) refl (λ fault e. (e, refl))

@@ -1,34 +1,13 @@
--- What a front may answer to a command, what comes of a line, and what is written for it.
+-- What comes of a line, and what is written for it.
 use Rattle.std.specs.Prelude.{ℕ, List, [], Bool, true, false}
 use Rattle.std.specs.List.{flat_map}
-use Rattle.board_rules.specs.declared.call.Entry.{Entry}
 use Rattle.board_rules.specs.declared.reply.Reply.{Reply}
 use Rattle.board_rules.specs.declared.reply.Reply.TheVariants as replies
-use Rattle.board_rules.specs.declared.reply.Fault.{Fault}
-use Rattle.board_rules.specs.declared.reply.AskFault.{AskFault}
-use Rattle.board_rules.specs.Listing.{RowShown}
 use Rattle.board_lines.specs.declared.command.LineFault.{LineFault}
 use Rattle.board_lines.specs.Replies.{ended, reply_text, fault_text, ask_fault_text, line_fault_text}
 use Rattle.board_lines.specs.Listings.{list_text, audit_text, review_text, check_text}
 use Rattle.board_lines.specs.Json.{json_text}
-
--- The answer to a command.
-pub data Answer : Type 0 where
-  -- the reply to a call
-  Replied : Reply → Answer
-  -- a call that was not taken
-  Faulted : Fault → Answer
-  -- the rows that the session may view, as lines and as JSON
-  Listed : List RowShown → Answer
-  Rowed : List RowShown → Answer
-  -- the journal
-  Audited : List Entry → Answer
-  -- the names of a review
-  Reviewed : List (List ℕ) → Answer
-  -- whether CheckAccess holds
-  Checked : Bool → Answer
-  -- a question that was refused
-  Refused : AskFault → Answer
+use Rattle.line_front.specs.Answers.{Answer, Replied, Faulted, Listed, Rowed, Audited, Reviewed, Checked, Refused}
 
 -- What comes of a line: it is skipped, or the front answered, or the line is bad.
 pub data Outcome : Type 0 where
