@@ -39,28 +39,6 @@ impl Core {
             (call_asks (setting setup.now) (state_after (setting setup.now) self.old.journal).routes event.call)
             (call_probes (state_after (setting setup.now) self.old.journal).pins (state_after (setting setup.now) self.old.journal).routes event.call) }
     {
-        if let Some(fault) = self.due_fault(setup, event.desk, event.turn) {
-            return Err(fault);
-        }
-        self.take(setup, event, meter)
-    }
-
-    /// The same for an event that has its turn, where the journal is not full. What it answers is made in each arm, and moved no more: each move
-    /// of a reply is one of a name.
-    #[inline(always)]
-    fn take(&mut self, setup: &Setup, event: Event, meter: &mut Meter) -> Result<Reply, Fault>
-        requires kept { IsKept (setting setup.now) self.old }
-        requires taken { IsTaken (setting setup.now) self.old event.desk event.turn }
-        ensures kept { IsKept (setting setup.now) self.new }
-        ensures ok { IfOk result (λ reply. self.new.journal ≡ self.old.journal ++ entry_of event reply ∷ []) }
-        ensures desks { length self.new.turns ≡ length self.old.turns }
-        ensures err { OnErr result (self.new.journal ≡ self.old.journal) }
-        ensures fault { IfErr result (λ fault. fault ≡ Fault.NoMemory) }
-        ensures work { IfOk result (λ reply. IsWorkOf (setting setup.now) (state_after (setting setup.now) self.old.journal).pins (state_after (setting setup.now) self.old.journal).routes event.call reply meter.old meter.new) }
-        ensures most { WorksAtMost meter.old meter.new
-            (call_asks (setting setup.now) (state_after (setting setup.now) self.old.journal).routes event.call)
-            (call_probes (state_after (setting setup.now) self.old.journal).pins (state_after (setting setup.now) self.old.journal).routes event.call) }
-    {
         let Event { desk, turn, call } = event;
         match call {
             Call::Propose { session, base, mv } => {
@@ -74,7 +52,7 @@ impl Core {
                 match self.propose(setup, proposal, meter) {
                     Ok(Ok(version)) => Ok(Reply::Committed(version)),
                     Ok(Err(denial)) => Ok(Reply::Denied(denial)),
-                    Err(_) => Err(Fault::NoMemory),
+                    Err(fault) => Err(fault),
                 }
             }
             Call::Pin { session, customer } => {
@@ -115,9 +93,39 @@ impl Core {
         }
     }
 
-    /// The same for a proposal: the version that it commits, or why it is denied.
+    /// The same for a proposal: the version that it commits, or why it is denied. It has no reply to move, which has room for a name.
+    #[inline(never)]
+    pub fn propose(
+        &mut self,
+        setup: &Setup,
+        proposal: Proposal,
+        meter: &mut Meter,
+    ) -> Result<Result<u32, Denial>, Fault>
+        requires { IsKept (setting setup.now) self.old }
+        ensures kept { IsKept (setting setup.now) self.new }
+        ensures ok { IfOk result (λ verdict. self.new.journal ≡ self.old.journal ++ proposed proposal verdict ∷ []) }
+        ensures desks { length self.new.turns ≡ length self.old.turns }
+        ensures err { OnErr result (self.new.journal ≡ self.old.journal) }
+        ensures out_of_turn { IsErrOf result Fault.OutOfTurn ↔ (is_turn (length self.old.turns) self.old.journal proposal.desk proposal.turn ≡ false) }
+        ensures full { IsErrOf result Fault.Full ↔ ((is_turn (length self.old.turns) self.old.journal proposal.desk proposal.turn ≡ true) × (length self.old.journal ≡ (setting setup.now).max_events)) }
+        ensures untaken { IfErr result (λ fault. fault ≢ Fault.NoMemory → meter.new ≡ meter.old) }
+        ensures work { IfOk result (λ verdict. IsWorkOf (setting setup.now) (state_after (setting setup.now) self.old.journal).pins (state_after (setting setup.now) self.old.journal).routes (call_of proposal) (reply_by verdict) meter.old meter.new) }
+        ensures most { WorksAtMost meter.old meter.new
+            (call_asks (setting setup.now) (state_after (setting setup.now) self.old.journal).routes (call_of proposal))
+            (call_probes (state_after (setting setup.now) self.old.journal).pins (state_after (setting setup.now) self.old.journal).routes (call_of proposal)) }
+    {
+        if let Some(fault) = self.due_fault(setup, proposal.desk, proposal.turn) {
+            return Err(fault);
+        }
+        match self.take_proposal(setup, proposal, meter) {
+            Ok(verdict) => Ok(verdict),
+            Err(_) => Err(Fault::NoMemory),
+        }
+    }
+
+    /// The same for a proposal that has its turn, where the journal is not full.
     #[inline(always)]
-    fn propose(
+    fn take_proposal(
         &mut self,
         setup: &Setup,
         proposal: Proposal,
@@ -162,25 +170,29 @@ impl Core {
         hold: Hold,
         meter: &mut Meter,
     ) -> Result<Reply, Fault>
-        requires kept { IsKept (setting setup.now) self.old }
-        requires taken { IsTaken (setting setup.now) self.old desk turn }
+        requires { IsKept (setting setup.now) self.old }
         ensures kept { IsKept (setting setup.now) self.new }
         ensures ok { IfOk result (λ reply. self.new.journal ≡ self.old.journal ++ record { desk = desk; turn = turn; call = hold_call hold; reply = reply } ∷ []) }
         ensures desks { length self.new.turns ≡ length self.old.turns }
         ensures err { OnErr result (self.new.journal ≡ self.old.journal) }
-        ensures fault { IfErr result (λ fault. fault ≡ Fault.NoMemory) }
+        ensures out_of_turn { IsErrOf result Fault.OutOfTurn ↔ (is_turn (length self.old.turns) self.old.journal desk turn ≡ false) }
+        ensures full { IsErrOf result Fault.Full ↔ ((is_turn (length self.old.turns) self.old.journal desk turn ≡ true) × (length self.old.journal ≡ (setting setup.now).max_events)) }
+        ensures untaken { IfErr result (λ fault. fault ≢ Fault.NoMemory → meter.new ≡ meter.old) }
         ensures work { IfOk result (λ reply. IsWorkOf (setting setup.now) (state_after (setting setup.now) self.old.journal).pins (state_after (setting setup.now) self.old.journal).routes (hold_call hold) reply meter.old meter.new) }
         ensures most { WorksAtMost meter.old meter.new
             (call_asks (setting setup.now) (state_after (setting setup.now) self.old.journal).routes (hold_call hold))
             (call_probes (state_after (setting setup.now) self.old.journal).pins (state_after (setting setup.now) self.old.journal).routes (hold_call hold)) }
     {
+        if let Some(fault) = self.due_fault(setup, desk, turn) {
+            return Err(fault);
+        }
         match self.hold(setup, desk, turn, hold, meter) {
             Ok(ruling) => Ok(ruling.reply()),
             Err(_) => Err(Fault::NoMemory),
         }
     }
 
-    /// The ruling on such a call.
+    /// The ruling on such a call that has its turn, where the journal is not full.
     #[inline(always)]
     fn hold(
         &mut self,
@@ -222,23 +234,27 @@ impl Core {
         command: Command,
         meter: &mut Meter,
     ) -> Result<Reply, Fault>
-        requires kept { IsKept (setting setup.now) self.old }
-        requires taken { IsTaken (setting setup.now) self.old desk turn }
+        requires { IsKept (setting setup.now) self.old }
         ensures kept { IsKept (setting setup.now) self.new }
         ensures ok { IfOk result (λ reply. self.new.journal ≡ self.old.journal ++ commanded desk turn session command reply ∷ []) }
         ensures desks { length self.new.turns ≡ length self.old.turns }
         ensures err { OnErr result (self.new.journal ≡ self.old.journal) }
-        ensures fault { IfErr result (λ fault. fault ≡ Fault.NoMemory) }
+        ensures out_of_turn { IsErrOf result Fault.OutOfTurn ↔ (is_turn (length self.old.turns) self.old.journal desk turn ≡ false) }
+        ensures full { IsErrOf result Fault.Full ↔ ((is_turn (length self.old.turns) self.old.journal desk turn ≡ true) × (length self.old.journal ≡ (setting setup.now).max_events)) }
+        ensures untaken { IfErr result (λ fault. fault ≢ Fault.NoMemory → meter.new ≡ meter.old) }
         ensures work { OnOk result (WorksJust meter.old meter.new 0 1) }
         ensures most { WorksAtMost meter.old meter.new 0 1 }
     {
+        if let Some(fault) = self.due_fault(setup, desk, turn) {
+            return Err(fault);
+        }
         match self.command(setup, desk, turn, session, command, meter) {
             Ok(reply) => Ok(reply),
             Err(_) => Err(Fault::NoMemory),
         }
     }
 
-    /// The reply to such a command.
+    /// The reply to such a command that has its turn, where the journal is not full.
     #[inline(always)]
     fn command(
         &mut self,

@@ -15,5 +15,6 @@ pub use board_journal::{Answer, Journal, Kept};
 pub use board_rules::{
     AskFault, Call, Delta, Denial, Entry, Event, Fault, Refusal, Reply, Review, Row,
 };
+pub use board_state::Difference;
 pub use body::Core;
 pub use prepared::Prepared;

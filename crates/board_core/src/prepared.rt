@@ -5,12 +5,13 @@ ghost use Rattle.board_rules.specs.Delta.{IsDeltaOf, AreRoutesOf};
 ghost use Rattle.board_rules.specs.History.{state_after};
 ghost use Rattle.board_rules.specs.Step.{after};
 ghost use Rattle.plan_core.specs.Plan.{changes_of};
+ghost use Rattle.board_state.specs.Differences.{IsDifference};
 ghost use Rattle.board_core.specs.Kept.{IsKept};
 ghost use Rattle.board_core.specs.Prepared.{Makes};
 
 use crate::body::Core;
 use board_rules::{Call, Delta, legal_histories_leave_good_states};
-use board_state::Judged;
+use board_state::{Difference, Judged};
 use plan_core::Route;
 use std::alloc::AllocError;
 use std::marker::Model;
@@ -46,6 +47,16 @@ impl Prepared {
     {
         legal_histories_leave_good_states();
         self.judged.delta()
+    }
+
+    /// The same for who keeps the routes: new routes, shared with the judgement, in place of the places of customers. No route is walked or
+    /// copied, and memory is taken only where a pin differs.
+    pub fn difference(&self) -> Result<Difference, AllocError>
+        ensures { (s : Setting) → IsKept s self.now.of → Makes s self.now → IfOk result (IsDifference s (state_after s self.now.of.journal)
+            (after (state_after s self.now.of.journal) self.now.entry.call self.now.entry.reply)) }
+    {
+        legal_histories_leave_good_states();
+        self.judged.difference()
     }
 
     /// The new routes of the vehicles whose routes the entry changes, shared with the judgement: one or two where it is a commit, and none

@@ -1,10 +1,11 @@
 -- How many commits there are after entries.
-use Rattle.std.proofs.Common.{◌≡◌, ℕ, ◌+◌, ◌≤◌, List, [], ◌∷◌, ◌++◌, length, length-append, append_assoc, take, Option, Some, None, Result, Ok, Err, refl, sym, ap, ◌∙◌, subst, arith}
+use Rattle.std.proofs.Common.{◌≡◌, ℕ, ◌+◌, ◌≤◌, List, [], ◌∷◌, ◌++◌, true, length, length-append, append_assoc, take, Option, Some, None, Result, Ok, Err, refl, sym, ap, ◌∙◌, subst, arith}
 use Rattle.std.specs.Prelude.{slice_get}
 use Rattle.std.proofs.Math.Logic.{∥∥₁_elim}
 use Rattle.std.proofs.Props.{props}
 use mathlib.Core.List.{IsPrefix}
 use Rattle.dimension_core.specs.Setting.{Setting}
+use Rattle.move_core.specs.declared.moves.Move.{Move}
 use Rattle.move_core.specs.Moves.{named_by}
 use Rattle.policy_core.specs.declared.refusal.Refusal.{Refusal as PolicyRefusal}
 use Rattle.rbac_core.specs.declared.command.Outcome.{Outcome}
@@ -23,6 +24,7 @@ use Rattle.board_rules.specs.Pinning.{pin_refusal, unpin_refusal, freeze_refusal
 use Rattle.board_rules.specs.Step.{IsReply, after, refused_by}
 use Rattle.board_rules.specs.History.{Opening, IsNext, state_from, state_after}
 use Rattle.locked_board.specs.Commits.{Legal, Submitted, entry}
+use Rattle.board_lock.specs.Verdicts.{is_verdict}
 
 -- a call takes no commit away
 no_fewer : (state : BoardState) (call : Call) (reply : Reply) → length state.commits ≤ length (after state call reply).commits
@@ -107,3 +109,21 @@ module _ (go_on : (s : Setting) (es more : List Entry) → state_after s (es ++ 
   pub in_met : (o : Opening) (desk own n : ℕ) (call : Call) (before seen met later : List Entry) → Submitted o desk own call (Committed n) before seen → IsPrefix seen met → IsPrefix met later
       → n ≤ length (state_after o.setting later).commits
   in_met o desk own n call before seen met later done p q = in_later o desk own n call before seen later done (prefix_on seen met later p q)
+
+-- ---- replies to proposals
+
+verdict_at : (s : Setting) (state : BoardState) (session base : ℕ) (mv : Move) (reply : Reply) → IsReply s state (Propose session base mv) reply → is_verdict reply ≡ true
+verdict_at s state session base mv (Committed n) right = refl
+verdict_at s state session base mv (Denied denial) right = refl
+verdict_at s state session base mv Done right = absurd right
+verdict_at s state session base mv (Session n) right = absurd right
+verdict_at s state session base mv (Refused refusal) right = absurd right
+
+pub have_verdicts : (o : Opening) (desk own session base : ℕ) (mv : Move) (reply : Reply) (before seen : List Entry) → Submitted o desk own (Propose session base mv) reply before seen → is_verdict reply ≡ true
+have_verdicts o desk own session base mv reply before seen done =
+    let es : List Entry = before ++ done.between in
+    let e : Entry = entry desk (own + 1) (Propose session base mv) reply in
+    let legal : Legal o (es ++ e ∷ []) = subst (λ (xs : List Entry). Legal o xs) done.after_is done.legal in
+    let here = at_end es e in
+    let next : IsNext o es e = subst (λ (b : List Entry). IsNext o b e) here.1 (legal (length es) e here.0) in
+    ∥∥₁_elim next.reply (hlevel props) (λ right. verdict_at o.setting (state_after o.setting es) session base mv reply right)

@@ -1,9 +1,12 @@
 //! A desk as a front: what answers lines while other desks may submit calls.
 
 use crate::desk::DeskOf;
-use board_rules::{AskFault, Call, Fault, Reply, Review, Row};
+use crate::laws::proposals_have_verdicts;
+use crate::verdict::verdict_of;
+use board_rules::{AskFault, Call, Denial, Fault, Reply, Review, Row};
 use line_front::{Front, append_journal};
 use locked_board::Held;
+use move_core::Move;
 use published_board::Naming;
 use rbac_core::{Object, Operation};
 use separation_core::Name;
@@ -27,6 +30,21 @@ impl<N: Naming, D: Wait + Drop, R: Wait> Front<R> for DeskOf<N, Held<N, D>> {
 
     fn submit(&mut self, rt: &R, call: Call) -> Result<Reply, Fault> {
         self.seat.submit(rt, &self.setup, call)
+    }
+
+    fn propose(
+        &mut self,
+        rt: &R,
+        session: u32,
+        base: u32,
+        mv: Move,
+    ) -> Result<Result<u32, Denial>, Fault> {
+        proposals_have_verdicts();
+        let call = Call::Propose { session, base, mv };
+        match self.seat.submit(rt, &self.setup, call) {
+            Ok(reply) => Ok(verdict_of(reply)),
+            Err(fault) => Err(fault),
+        }
     }
 
     fn list(&mut self, rt: &R, session: u32) -> Result<Vec<Row>, AskFault> {

@@ -13,17 +13,17 @@ use std::sync::{Arc, Mutex, Wait};
 
 /// What a desk begins with.
 fn ready_one<N: Naming, R: Wait + Drop>(
-    locked: Locked<N, R>,
+    locked: &mut Locked<N, R>,
     number: u32,
-) -> Result<(Locked<N, R>, Ready<N>), OpenFault>
+) -> Result<Ready<N>, OpenFault>
     requires low { 1 ≤ number }
     requires high { number ≤ N.opening.desks }
-    ensures { IfOk result (λ t. (t.0 ≡ locked) × (watch_of t.1 ≡ watch_at locked.journal number)) }
+    ensures same { locked.new ≡ locked.old }
+    ensures ready { IfOk result (λ r. watch_of r ≡ watch_at locked.old.journal number) }
 {
     let own = locked.turns(number);
-    let (locked, eye) = locked.eye();
-    match eye {
-        Ok(eye) => Ok((locked, Ready { eye, number, own })),
+    match locked.eye() {
+        Ok(eye) => Ok(Ready { eye, number, own }),
         Err(_) => Err(OpenFault::Readers),
     }
 }
@@ -31,20 +31,18 @@ fn ready_one<N: Naming, R: Wait + Drop>(
 /// What each desk begins with, in their order.
 fn ready_all<N: Naming, R: Wait + Drop>(
     alloc: Global,
-    locked: Locked<N, R>,
-) -> Result<(Locked<N, R>, Vec<Ready<N>>), OpenFault>
-    ensures { IfOk result (λ t. (t.0 ≡ locked) × (map watch_of t.1.items ≡ watches locked.journal N.opening.desks)) }
+    locked: &mut Locked<N, R>,
+) -> Result<Vec<Ready<N>>, OpenFault>
+    ensures { IfOk result (λ v. map watch_of v.items ≡ watches locked.old.journal N.opening.desks) }
 {
-    let mut locked = locked;
     let mut readies = Vec::new(alloc);
     for before in 0..locked.desks() {
-        let (next, ready) = ready_one(locked, before + 1)?;
-        locked = next;
+        let ready = ready_one(locked, before + 1)?;
         let Ok(()) = readies.push(ready) else {
             return Err(OpenFault::NoMemory);
         };
     }
-    Ok((locked, readies))
+    Ok(readies)
 }
 
 /// A seat for each of them.
@@ -69,8 +67,8 @@ fn hand_out<N: Naming, R: Wait + Drop>(
     Ok(seats)
 }
 
-/// One seat for each desk of the board, in their order.
-pub(crate) fn open_seats<N: Naming, R: Wait + Drop>(
+/// One seat for each desk of the board, in their order: the desks of `open_hall` without their setup, for a caller that keeps that apart.
+pub fn open_seats<N: Naming, R: Wait + Drop>(
     alloc: Global,
     room: Anteroom<R>,
 ) -> Result<Vec<Seat<N, R>>, OpenFault>
@@ -78,7 +76,8 @@ pub(crate) fn open_seats<N: Naming, R: Wait + Drop>(
     requires book { room.book ≡ N.book }
     ensures { IfOk result (λ v. v.items ≡ watches room.entries N.opening.desks) }
 {
-    let (locked, readies) = ready_all(alloc, room.named::<N>())?;
+    let mut locked = room.named::<N>();
+    let readies = ready_all(alloc, &mut locked)?;
     let Ok(shared) = Arc::new(alloc, Mutex::new(Held::over(locked))) else {
         return Err(OpenFault::NoMemory);
     };

@@ -1,13 +1,17 @@
 //! Laws of what desks see, each the contract of a function that does nothing but cite the laws below it.
-ghost use Rattle.std.specs.Prelude.{◌≡◌, ℕ, ◌≤◌, List, [], ◌∷◌, ◌++◌};
+ghost use Rattle.std.specs.Prelude.{◌≡◌, ℕ, ◌≤◌, true, List, [], ◌∷◌, ◌++◌};
 ghost use mathlib.Core.List.{IsPrefix};
 ghost use Rattle.dimension_core.specs.Setting.{Setting};
+ghost use Rattle.move_core.specs.declared.moves.Move.{Move};
 ghost use Rattle.board_rules.specs.declared.call.Call.{Call};
+ghost use Rattle.board_rules.specs.declared.call.Call.TheVariants.{Propose};
 ghost use Rattle.board_rules.specs.declared.call.Entry.{Entry};
+ghost use Rattle.board_rules.specs.declared.reply.Reply.{Reply};
 ghost use Rattle.board_rules.specs.declared.reply.Reply.TheVariants.{Committed};
 ghost use Rattle.board_rules.specs.History.{Opening, state_after};
 ghost use Rattle.published_board.specs.Shelves.{view_of};
 ghost use Rattle.locked_board.specs.Commits.{Legal, Submitted};
+ghost use Rattle.board_lock.specs.Verdicts.{is_verdict};
 
 use board_rules::{histories_go_on, histories_grow_by_entries};
 
@@ -26,3 +30,8 @@ pub fn commits_stay_in_views()
     histories_grow_by_entries();
     histories_go_on();
 }
+
+/// A proposal that a desk submitted is committed or denied: it has no other reply.
+pub fn proposals_have_verdicts()
+    ensures { (o : Opening) (desk own session base : ℕ) (mv : Move) (reply : Reply) (before seen : List Entry) → Submitted o desk own (Propose session base mv) reply before seen → is_verdict reply ≡ true }
+{}

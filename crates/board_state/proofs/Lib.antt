@@ -11,3 +11,4 @@ pub mod Releases
 pub mod Deltas
 pub mod Naming
 pub mod NewRoutes
+pub mod Differences

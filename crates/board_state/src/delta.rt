@@ -7,18 +7,18 @@ ghost use Rattle.board_rules.specs.Delta.{IsDelta};
 ghost use Rattle.board_rules.specs.Good.{IsGood};
 ghost use Rattle.board_rules.specs.State.{BoardState};
 ghost use Rattle.board_state.specs.Held.{Holds};
-ghost use Rattle.board_state.specs.Changes.{WillHold, IsCommittable, IsSettleable, plan_after};
+ghost use Rattle.board_state.specs.Changes.{WillHold, IsCommittable};
 ghost use Rattle.board_state.specs.declared.change.Change.TheVariants.{Replace};
-ghost use Rattle.board_state.specs.Deltas.{changed_places, changed_pins, changed_fronts, new_spots, spots_behind, stood_there, kept_by, taken_off, released};
+ghost use Rattle.board_state.specs.Deltas.{changed_places, changed_fronts, new_spots, spots_behind, stood_there, kept_by, taken_off};
 
-use crate::change::{Change, Commit, Judged, PinChange};
+use crate::change::{Change, Commit, Judged};
 use board_rules::{Delta, customers_have_one_spot};
 use move_core::{
     Move, fronts_by_first_change, moves_are_possible, moves_between_carry_over,
     moves_inside_rearrange, moves_keep_plans, moves_keep_the_untouched, moves_name_vehicles,
 };
 use pin_core::pins_after_commits;
-use plan_core::{Touch, customers_stand_by_route, routes_replaced};
+use plan_core::{customers_stand_by_route, routes_replaced};
 use std::alloc::{AllocError, Global};
 
 /// Customers with the vehicle and place where they stand afterwards, or none.
@@ -47,17 +47,6 @@ impl Judged {
         Ok(Delta::new(places, pins, frozen, self.version_after()))
     }
 
-    /// How many commits there are once the change is in place.
-    fn version_after(&self) -> u32
-        ensures value { result ≡ (plan_after self.now.of.plan self.now.change).version }
-        ensures ready { IsSettleable self.now.of self.now.change }
-    {
-        match &self.change {
-            Change::Replace(_) => self.version + 1,
-            Change::Nothing | Change::Pins(_) | Change::Command(..) => self.version,
-        }
-    }
-
     /// The customers that stand elsewhere.
     fn places(&self) -> Result<Spots, AllocError>
         ensures { IfOk result (λ places. places.items ≡ changed_places self.now.of self.now.change) }
@@ -68,36 +57,13 @@ impl Judged {
         }
     }
 
-    /// The customers whose pin differs.
-    fn pins(&self) -> Result<Vec<(u32, Option<u32>)>, AllocError>
-        ensures { IfOk result (λ pins. pins.items ≡ changed_pins self.now.change) }
-    {
-        match &self.change {
-            Change::Replace(commit) => released(self.alloc, &commit.new.touched, &commit.new.freed),
-            Change::Pins(PinChange::Pin(customer, vehicle)) => {
-                Ok(vec![in self.alloc; (*customer, Some(*vehicle))]?)
-            }
-            Change::Pins(PinChange::Unpin(customer)) => {
-                Ok(vec![in self.alloc; (*customer, None)]?)
-            }
-            Change::Nothing | Change::Pins(PinChange::Front(..)) | Change::Command(..) => {
-                Ok(Vec::new(self.alloc))
-            }
-        }
-    }
-
-    /// The vehicle whose frozen length differs, if there is one.
+    /// The vehicle whose frozen length differs, as a list.
     fn frozen(&self) -> Result<Vec<(u32, u32)>, AllocError>
         ensures { IfOk result (λ frozen. frozen.items ≡ changed_fronts self.now.change) }
     {
-        match &self.change {
-            Change::Pins(PinChange::Front(vehicle, frozen)) => {
-                Ok(vec![in self.alloc; (*vehicle, *frozen)]?)
-            }
-            Change::Nothing
-            | Change::Replace(_)
-            | Change::Pins(PinChange::Pin(..) | PinChange::Unpin(_))
-            | Change::Command(..) => Ok(Vec::new(self.alloc)),
+        match self.front() {
+            Some(front) => Ok(vec![in self.alloc; front]?),
+            None => Ok(Vec::new(self.alloc)),
         }
     }
 
@@ -161,25 +127,6 @@ impl Judged {
             | Move::Cross { .. } => None,
         }
     }
-}
-
-/// The touched customers that are marked: their pin is gone.
-fn released(
-    alloc: Global,
-    touched: &[Touch],
-    freed: &[bool],
-) -> Result<Vec<(u32, Option<u32>)>, AllocError>
-    requires { length freed.now ≤ length touched.now }
-    ensures { IfOk result (λ pins. pins.items ≡ released touched.now freed.now) }
-{
-    let mut pins = Vec::new(alloc);
-    for k in 0..freed.len() {
-        let mark = freed[k];
-        if mark {
-            pins.push((touched[k].customer, None))?;
-        }
-    }
-    Ok(pins)
 }
 
 /// How many of the first customers of a named vehicle's route a move leaves as they are.

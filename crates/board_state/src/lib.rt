@@ -5,6 +5,7 @@ mod apply;
 mod change;
 mod commands;
 mod delta;
+mod difference;
 mod named;
 mod new_routes;
 mod pinning;
@@ -17,4 +18,5 @@ mod state;
 mod stop;
 
 pub use change::{Change, Commit, Judged};
+pub use difference::Difference;
 pub use state::State;

@@ -2,52 +2,47 @@
 ghost use Rattle.std.specs.Prelude.{◌≡◌, ◌↔◌, ◌+◌, ◌≤◌, ◌++◌, ◌∷◌, [], Some, None, length, IfOk, IfErr, OnOk, OnErr, IsErrOf};
 ghost use mathlib.Core.List.{IsPrefix};
 ghost use Rattle.dimension_core.specs.Setup.{setting};
-ghost use Rattle.plan_core.specs.Plan.{changes_of};
 ghost use Rattle.board_rules.specs.declared.reply.AskFault.{AskFault};
-ghost use Rattle.board_rules.specs.Delta.{IsDeltaOf, AreRoutesOf};
 ghost use Rattle.board_rules.specs.History.{state_after, turns_of, IsLegal};
-ghost use Rattle.board_rules.specs.Step.{after};
 ghost use Rattle.board_rules.specs.Listing.{IsListing};
 ghost use Rattle.board_rules.specs.Questions.{MayAsk, list_fault, audit_fault, review_fault, review_of, check_of};
 ghost use Rattle.board_core.specs.Kept.{IsKept, entry_of};
 ghost use Rattle.board_core.specs.Prepared.{Makes};
+ghost use Rattle.published_board.specs.Changed.{IsChangeBy};
 ghost use Rattle.locked_board.specs.Commits.{IsCommitted, IsFault, Submitted, Looked, Faulted};
 ghost use Rattle.locked_board.specs.Ties.{IsTied};
 
-use crate::change::Change;
+use crate::change::change_of;
 use crate::settles::Settles;
 use board_core::{Core, Prepared};
 use board_journal::Journal;
 use board_rules::{AskFault, Call, Event, Fault, Reply, Review, Row, histories_grow_by_entries};
 use callback_store::Meter;
 use dimension_core::Setup;
-use published_board::{Eye, Naming, Publication, never};
+use published_board::{Change, Eye, Naming, Publication, never};
 use rbac_core::{Object, Operation};
 use separation_core::Name;
 use std::alloc::{AllocError, Global};
 use std::marker::{Model, PhantomData};
-use std::mem::replace;
 use std::sync::Wait;
 
 /// The core of a board and what is published of it. Contracts see it as the core.
 pub struct Locked<N: Naming, R: Wait + Drop> {
     core: Core,
-    // It is there between any two calls. The core stays where it is, and is never moved.
-    publication: Option<Publication>,
+    publication: Publication,
     rt: R,
     of: PhantomData<N>,
 }
 
 impl<N: Naming, R: Wait + Drop> Model for Locked<N, R> {
-    ghost use Rattle.std.specs.Prelude.{IsSome};
     ghost use Rattle.board_core.specs.Kept.{CoreState};
-    ghost use Rattle.locked_board.specs.Ties.{IsTied, published_in};
+    ghost use Rattle.locked_board.specs.Ties.{IsTied};
 
     ghost Value = { CoreState };
 
     ghost view = { λ d. d.core };
 
-    ghost invariant = { λ d. IsSome d.publication × IsTied N.book N.opening d.core (published_in d.publication) };
+    ghost invariant = { λ d. IsTied N.book N.opening d.core d.publication };
 }
 
 impl<N: Naming, R: Wait + Drop> Drop for Locked<N, R> {
@@ -58,21 +53,7 @@ impl<N: Naming, R: Wait + Drop> Drop for Locked<N, R> {
             rt,
             of: _,
         } = self;
-        match publication {
-            Some(publication) => publication.close(&rt),
-            None => {}
-        }
-    }
-}
-
-/// Puts a publication into its place, which is empty.
-fn put_back(place: &mut Option<Publication>, publication: Publication)
-    requires { place.old ≡ None }
-    ensures { place.new ≡ Some publication }
-{
-    match replace(place, Some(publication)) {
-        None => {}
-        Some(_) => unreachable!(),
+        publication.close(&rt);
     }
 }
 
@@ -84,7 +65,7 @@ impl<N: Naming, R: Wait + Drop> Locked<N, R> {
     {
         Locked {
             core,
-            publication: Some(publication),
+            publication,
             rt,
             of: PhantomData,
         }
@@ -100,7 +81,7 @@ impl<N: Naming, R: Wait + Drop> Locked<N, R> {
             Ok(prepared) => prepared,
             Err(fault) => return Err(fault),
         };
-        let Ok(change) = Change::of(&prepared) else {
+        let Ok(change) = change_of(&prepared) else {
             return Err(Fault::NoMemory);
         };
         match self.publish(prepared, change) {
@@ -127,34 +108,19 @@ impl<N: Naming, R: Wait + Drop> Locked<N, R> {
     fn publish(&mut self, prepared: Prepared, change: Change) -> Result<Reply, AllocError>
         requires of { prepared.of ≡ self.old }
         requires makes { Makes N.opening.setting prepared }
-        requires routes { AreRoutesOf (state_after N.opening.setting self.old.journal) (after (state_after N.opening.setting self.old.journal) prepared.entry.call prepared.entry.reply) (changes_of change.routes.items) }
-        requires delta { IsDeltaOf N.opening.setting (state_after N.opening.setting self.old.journal) prepared.entry change.delta }
+        requires change { IsChangeBy N.opening.setting (state_after N.opening.setting self.old.journal) prepared.entry change }
         ensures journal { OnOk result (self.new.journal ≡ self.old.journal ++ prepared.entry ∷ []) }
         ensures kept { IsKept N.opening.setting self.new }
         ensures desks { length self.new.turns ≡ N.opening.desks }
         ensures reply { IfOk result (λ r. r ≡ prepared.entry.reply) }
         ensures err { OnErr result (self.new ≡ self.old) }
     {
-        let Some(publication) = self.publication.take() else {
-            unreachable!()
-        };
         let entries = self.core.events() as u64 + 1;
-        let Change { routes, delta } = change;
-        match publication.stage::<Prepared, Settles, R>(
-            &self.rt, &prepared, routes, delta, entries,
-        ) {
-            Ok(staged) => {
-                let reply = self.core.settle(prepared);
-                let publication = staged.show(&self.rt);
-                put_back(&mut self.publication, publication);
-                Ok(reply)
-            }
-            Err(publication) => {
-                drop(prepared);
-                put_back(&mut self.publication, publication);
-                Err(AllocError)
-            }
-        }
+        self.publication
+            .stage::<Prepared, Settles, R>(&self.rt, &prepared, change, entries)?;
+        let reply = self.core.settle(prepared);
+        self.publication.publish(&self.rt);
+        Ok(reply)
     }
 
     /// A call of a desk, which has seen a beginning of the journal and has had so many turns.
@@ -212,36 +178,17 @@ impl<N: Naming, R: Wait + Drop> Locked<N, R> {
         ensures viewed { eye.new.viewed ≡ eye.old.viewed }
         ensures legal { IsLegal (record { opening = N.opening; entries = self.now.journal }) }
     {
-        match &self.publication {
-            Some(publication) => if !publication.show(eye) {
-                never(&self.rt);
-            },
-            None => unreachable!(),
+        if !self.publication.show(eye) {
+            never(&self.rt);
         }
     }
 
     /// An eye that has seen the journal, which is one reader more. It fails where there is no place for a reader.
-    pub fn eye(self) -> (Locked<N, R>, Result<Eye<N>, AllocError>)
-        ensures same { result.0 ≡ self }
-        ensures seen { IfOk result.1 (λ e. (e.seen ≡ self.journal) × (e.viewed ≡ None)) }
+    pub fn eye(&mut self) -> Result<Eye<N>, AllocError>
+        ensures same { self.new ≡ self.old }
+        ensures seen { IfOk result (λ e. (e.seen ≡ self.old.journal) × (e.viewed ≡ None)) }
     {
-        let Locked {
-            core,
-            publication,
-            rt,
-            of,
-        } = self;
-        let Some(publication) = publication else {
-            unreachable!()
-        };
-        let (publication, answer) = publication.eye::<N>();
-        let locked = Locked {
-            core,
-            publication: Some(publication),
-            rt,
-            of,
-        };
-        (locked, answer)
+        self.publication.eye::<N>()
     }
 
     /// The last turn of a desk of the hall, from 1 on: how many entries the desk has.

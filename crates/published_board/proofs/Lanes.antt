@@ -1,10 +1,10 @@
 -- The lanes after new routes came.
-use Rattle.std.proofs.Common.{◌≡◌, ℕ, ◌-◌, ◌≤◌, ◌⊎◌, inl, inr, List, [], ◌∷◌, length, length-set, refl, sym, ap, ◌∙◌, arith}
-use Rattle.std.specs.Prelude.{slice_index_or, slice_set, All}
+use Rattle.std.proofs.Common.{◌≡◌, ℕ, ◌-◌, ◌≤◌, ◌⊎◌, inl, inr, List, [], ◌∷◌, ◌++◌, Option, Some, None, length, length-set, refl, sym, ap, ◌∙◌, arith}
+use Rattle.std.specs.Prelude.{slice_index_or, slice_set, option_to_list, All}
 use Rattle.std.specs.declared.sync.Arc.{Arc}
 use Rattle.std.proofs.lemmas.Bool.{cases_eq}
 use Rattle.std.proofs.lemmas.List.{get_or-set_same, get_or-set_other}
-use Rattle.std.proofs.lemmas.List.Elements.{All-nil, All-cons}
+use Rattle.std.proofs.lemmas.List.Elements.{All-nil, All-cons, All-head, All-tail}
 use Rattle.plan_core.specs.Plan.{Changes, changes_of, IsNamed, AreApart, route_at, with_routes}
 use Rattle.published_board.specs.declared.shown.Mark.{Mark}
 use Rattle.published_board.specs.Reached.{Reached}
@@ -15,6 +15,16 @@ sized_after base n [] lanes = refl
 sized_after base n (c ∷ cs) lanes =
     let mark : Mark = record { vehicle = c.0; since = base; entry = n } in
     sized_after base n cs (slice_set lanes (c.0 - 1) mark) ∙ length-set lanes (c.0 - 1) mark
+
+-- what holds of one new route and of another one, of each of which there may be none
+pub each_of : {X : Type 0} (P : X → Type 0) (a b : Option X) → All P (option_to_list a ++ option_to_list b) → All P (option_to_list a) × All P (option_to_list b)
+each_of P None b h = (All-nil P, h)
+each_of P (Some x) b h = (All-cons P x [] (All-head P x (option_to_list b) h) (All-nil P), All-tail P x (option_to_list b) h)
+
+-- the lanes after some new routes and then others
+pub lanes_both : {R : Type 0} (base : Reached) (n : ℕ) (lanes : List Mark) (a b : List (ℕ × R)) → lanes_after base n lanes (a ++ b) ≡ lanes_after base n (lanes_after base n lanes a) b
+lanes_both base n lanes [] b = refl
+lanes_both base n lanes (c ∷ cs) b = lanes_both base n (slice_set lanes (c.0 - 1) (record { vehicle = c.0; since = base; entry = n })) cs b
 
 -- the lane of a vehicle with a new route is new, and any other one is the old one
 pub lane_cases : {Z : Type 0} (base : Reached) (n most v : ℕ) (routes : List (ℕ × Arc (List ℕ) Z)) (lanes : List Mark) → AreApart most (changes_of routes) → 1 ≤ v → v ≤ length lanes

@@ -8,4 +8,5 @@ pub mod Renewed
 pub mod Pictures
 pub mod Rules
 pub mod Publishing
+pub mod Staging
 pub mod Kepts

@@ -11,7 +11,7 @@ use Rattle.board_rules.specs.declared.call.Entry.{Entry}
 use Rattle.board_rules.specs.State.{BoardState}
 use Rattle.board_rules.specs.Step.{after}
 use Rattle.board_rules.specs.Good.{IsGood, state_of}
-use Rattle.board_rules.specs.Delta.{IsDelta, IsDeltaOf, AreRoutesOf}
+use Rattle.board_rules.specs.Delta.{AreRoutesOf}
 use Rattle.board_rules.specs.History.{History, Opening, IsLegal, IsNext, state_after}
 use mathlib.Core.Option.{some}
 use lib.ListN.{get_elem?}
@@ -22,6 +22,7 @@ use Rattle.published_board.specs.declared.shown.Step.{Step}
 use Rattle.published_board.specs.declared.shown.Mark.{Mark}
 use Rattle.published_board.specs.declared.shown.Shelf.{Shelf}
 use Rattle.published_board.specs.Reached.{Reached, entries_of, opening_of, history_in}
+use Rattle.published_board.specs.Changed.{IsChange, IsChangeBy}
 use Rattle.published_board.specs.Told.{told}
 use Rattle.published_board.specs.Lanes.{no_mark, lane_at, lanes_of}
 use Rattle.published_board.specs.Pictures.{after_step}
@@ -71,17 +72,16 @@ pub advances : GoodLaw → (o : Opening) (es : List Entry) (e : Entry) (p : Pict
     → p.base.book ≡ st.base.book → opening_of p.base.pages ≡ o → opening_of st.base.pages ≡ o
     → entries_of p.base.pages ≡ es → entries_of st.base.pages ≡ es ++ e ∷ []
     → IsLegal (record { opening = o; entries = es }) → IsLegal (record { opening = o; entries = es ++ e ∷ [] })
-    → IsDelta o.setting (state_after o.setting es) (state_after o.setting (es ++ e ∷ [])) st.delta
-    → AreRoutesOf (state_after o.setting es) (state_after o.setting (es ++ e ∷ [])) (changes_of st.routes.items)
+    → IsChange o.setting (state_after o.setting es) (state_after o.setting (es ++ e ∷ [])) st.change
     → st.entries ≡ length es + 1
     → (IsPicture p → IsPicture (after_step p st)) × GoesOn p.base st.base
-advances good o es e p st book was now old new before legal delta routes count =
+advances good o es e p st book was now old new before legal change count =
     let more : List Entry = es ++ e ∷ [] in
     let tells : told st.base ≡ state_after o.setting more = (λ i. state_after (now i).setting (new i)) in (
       (λ picture.
           let shown : Shows o.setting es p.cells = subst (λ (xs : List Entry). Shows o.setting xs p.cells) old (subst (λ (q : Opening). Shows q.setting (entries_of p.base.pages) p.cells) was picture.shows) in
           let after_it : Shows o.setting more (after_step p st).cells =
-          shows_after o.setting es e st.base st.entries p.cells st.routes.items st.delta (good (record { opening = o; entries = es }) before) (good (record { opening = o; entries = more }) legal) shown delta routes tells count in
+          shows_after o.setting es e st.base st.entries p.cells st.change (good (record { opening = o; entries = es }) before) (good (record { opening = o; entries = more }) legal) shown change tells count in
           record {
             legal = subst (λ (h : History). IsLegal h) (λ i. record { opening = sym now i; entries = sym new i }) legal;
             shows = subst (λ (q : Setting). Shows q (entries_of st.base.pages) (after_step p st).cells) (ap (λ (q : Opening). q.setting) (sym now))
@@ -111,17 +111,15 @@ legal_next law trail more e legal opening entries next =
 pub step_right : LegalLaw → StateLaw → GoodLaw → (trail : Reached) (p : Picture) (st : Step) (e : Entry) → IsLegal (history_in trail.pages) → TellSame trail p.base
     → st.base.book ≡ trail.book → opening_of st.base.pages ≡ opening_of trail.pages → entries_of st.base.pages ≡ entries_of trail.pages ++ e ∷ []
     → IsNext (opening_of trail.pages) (entries_of trail.pages) e
-    → IsDeltaOf (opening_of trail.pages).setting (told trail) e st.delta
-    → AreRoutesOf (told trail) (after (told trail) e.call e.reply) (changes_of st.routes.items)
+    → IsChangeBy (opening_of trail.pages).setting (told trail) e st.change
     → st.entries ≡ length (entries_of trail.pages) + 1
     → (IsPicture p → IsPicture (after_step p st)) × GoesOn p.base st.base
-step_right legal_law state_law good_law trail p st e legal tells book opening entries next delta routes count =
+step_right legal_law state_law good_law trail p st e legal tells book opening entries next change count =
     let o : Opening = opening_of trail.pages in
     let es : List Entry = entries_of trail.pages in
     let leads = sym (state_law o.setting es e) in
     advances good_law o es e p st (tells.book ∙ sym book) tells.opening opening tells.entries entries legal (legal_law o es e legal next)
-    (subst (λ (x : BoardState). IsDelta o.setting (told trail) x st.delta) leads delta)
-    (subst (λ (x : BoardState). AreRoutesOf (told trail) x (changes_of st.routes.items)) leads routes)
+    (subst (λ (x : BoardState). IsChange o.setting (told trail) x st.change) leads change)
     count
 
 -- the new routes of an entry are those of the state of which a log with it tells

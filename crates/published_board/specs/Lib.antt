@@ -4,6 +4,7 @@ pub mod Told
 pub mod Written
 pub mod Lanes
 pub mod Staying
+pub mod Changed
 pub mod Shelves
 pub mod Pictures
 pub mod Sights

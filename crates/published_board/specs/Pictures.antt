@@ -8,4 +8,4 @@ abbrev pub picture_of : Shown → Picture
 picture_of x = record { base = x.base; cells = cells_of x.cells }
 
 abbrev pub after_step : Picture → Step → Picture
-after_step p o = record { base = o.base; cells = cells_after o.base o.entries p.cells o.routes.items o.delta }
+after_step p o = record { base = o.base; cells = cells_after o.base o.entries p.cells o.change }

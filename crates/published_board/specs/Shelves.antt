@@ -1,5 +1,5 @@
 -- Cells as lists, and which plan they are.
-use Rattle.std.specs.Prelude.{◌≡◌, ℕ, ◌≤◌, List, length, None}
+use Rattle.std.specs.Prelude.{◌≡◌, ℕ, ◌≤◌, List, length, None, option_to_list}
 use Rattle.dimension_core.specs.Setting.{Setting}
 use Rattle.plan_core.specs.Plan.{route_at}
 use Rattle.pin_core.specs.Pins.{pin_of, front_of}
@@ -7,7 +7,7 @@ use Rattle.pin_core.specs.View.{ViewState}
 use Rattle.board_rules.specs.declared.call.Entry.{Entry}
 use Rattle.board_rules.specs.State.{BoardState}
 use Rattle.board_rules.specs.History.{state_after}
-use Rattle.board_rules.specs.Delta.{DeltaShown}
+use Rattle.published_board.specs.declared.change.Change.{Change}
 use Rattle.published_board.specs.declared.shown.Cells.{Cells}
 use Rattle.published_board.specs.declared.shown.Shelf.{Shelf}
 use Rattle.published_board.specs.declared.shown.Mark.{Mark}
@@ -19,16 +19,16 @@ use Rattle.published_board.specs.Staying.{Stays}
 abbrev pub cells_of : Cells → Shelf
 cells_of x = record { lanes = x.lanes.items; pins = x.pins.items; frozen = x.frozen.items; version = x.version; entries = x.entries; moved = x.moved; turned = x.turned }
 
--- the cells once an entry of this number, of which the log tells, gave these new routes and made these changes
-abbrev pub cells_after : {R : Type 0} → Reached → ℕ → Shelf → List (ℕ × R) → DeltaShown → Shelf
-cells_after base n p routes d = record {
-  lanes = lanes_after base n p.lanes routes;
-  pins = written p.pins d.pins;
-  frozen = written p.frozen d.frozen;
-  version = d.version;
+-- the cells once an entry of this number, of which the log tells, made these changes
+abbrev pub cells_after : Reached → ℕ → Shelf → Change → Shelf
+cells_after base n p c = record {
+  lanes = lanes_after base n (lanes_after base n p.lanes (option_to_list c.first)) (option_to_list c.second);
+  pins = written p.pins c.pins.items;
+  frozen = written p.frozen (option_to_list c.front);
+  version = c.version;
   entries = n;
-  moved = since_after p.moved n routes;
-  turned = since_after (since_after p.turned n d.pins) n d.frozen;
+  moved = since_after (since_after p.moved n (option_to_list c.first)) n (option_to_list c.second);
+  turned = since_after (since_after p.turned n c.pins.items) n (option_to_list c.front);
 }
 
 -- the lane is the vehicle's, its route is the one that stands there after these entries, and it has stood there since

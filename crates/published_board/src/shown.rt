@@ -1,12 +1,12 @@
 //! The copy that desks read, and what changes it.
-ghost use Rattle.std.specs.Prelude.{◌≡◌, ◌↔◌, ◌-◌, slice_set, IfOk, All, IsTrue};
+ghost use Rattle.std.specs.Prelude.{◌≡◌, ◌↔◌, ◌-◌, slice_set, option_to_list, IfOk, All, IsTrue};
 ghost use Rattle.plan_core.specs.Plan.{route_at};
 ghost use Rattle.published_board.specs.Told.{told};
 ghost use Rattle.published_board.specs.Written.{written};
 ghost use Rattle.published_board.specs.Lanes.{lanes_after, since_after};
 
+use crate::change::Change;
 use crate::trail::Trail;
-use board_rules::Delta;
 use left_right::Absorb;
 use plan_core::Route;
 use std::alloc::{AllocError, Global};
@@ -88,14 +88,14 @@ pub struct Shown {
     pub base: Trail,
 }
 
-/// The new routes and the changes of one entry, its number, and the log with it.
+/// What one entry changes, its number, and the log with it.
 #[derive(Drop)]
 pub struct Step {
-    pub routes: Vec<(u32, Arc<Route>)>,
-    pub delta: Delta,
+    pub change: Change,
     pub entries: u64,
     pub base: Trail,
-    ghost are: { All (λ c. c.1.value ≡ route_at (told base).routes c.0) routes.items },
+    ghost first_is: { All (λ c. c.1.value ≡ route_at (told base).routes c.0) (option_to_list change.first) },
+    ghost second_is: { All (λ c. c.1.value ≡ route_at (told base).routes c.0) (option_to_list change.second) },
 }
 
 impl Absorb<Step> for Shown {
@@ -111,25 +111,31 @@ impl Absorb<Step> for Shown {
 
     fn absorb_first(&mut self, operation: &Step, _other: &Shown) -> Result<(), AllocError> {
         let entries = operation.entries;
-        let routes = operation.routes.as_slice();
-        put_all(&mut self.cells.lanes, routes, &operation.base, entries);
-        self.cells.moved = since(self.cells.moved, entries, routes);
-        self.cells.write(&operation.delta, entries);
-        self.base = operation.base.again();
+        let (change, base) = (&operation.change, &operation.base);
+        put_new(&mut self.cells.lanes, &change.first, base, entries);
+        put_new(&mut self.cells.lanes, &change.second, base, entries);
+        self.cells.note(change, entries);
+        self.base = base.again();
         Ok(())
     }
 
     /// The routes go from the step into the lanes, so that none has one owner more for a moment.
     fn absorb_second(&mut self, operation: Step, _other: &Shown) -> Result<(), Step> {
         let Step {
-            routes,
-            delta,
+            change,
             entries,
             base,
         } = operation;
-        self.cells.moved = since(self.cells.moved, entries, routes.as_slice());
-        give_all(&mut self.cells.lanes, routes, &base, entries);
-        self.cells.write(&delta, entries);
+        self.cells.note(&change, entries);
+        let Change {
+            first,
+            second,
+            pins: _pins,
+            front: _,
+            version: _,
+        } = change;
+        give_new(&mut self.cells.lanes, first, &base, entries);
+        give_new(&mut self.cells.lanes, second, &base, entries);
         self.base = base;
         Ok(())
     }
@@ -140,6 +146,13 @@ fn since<C>(old: u64, entries: u64, changes: &[C]) -> u64
     ensures { result ≡ since_after old entries changes.now }
 {
     if changes.is_empty() { old } else { entries }
+}
+
+/// The same, once an entry made this change, or none.
+fn since_one<C>(old: u64, entries: u64, change: &Option<C>) -> u64
+    ensures { result ≡ since_after old entries (option_to_list change.now) }
+{
+    if change.is_some() { entries } else { old }
 }
 
 impl Lane {
@@ -213,24 +226,23 @@ impl Lane {
     }
 }
 
-/// Writes the lanes of the routes that changed.
-fn put_all(lanes: &mut Vec<Lane>, routes: &[(u32, Arc<Route>)], base: &Trail, entry: u64)
-    requires { All (λ c. c.1.value ≡ route_at (told base.now).routes c.0) routes.now }
-    ensures { lanes.new.items ≡ lanes_after base.now entry lanes.old.items routes.now }
+/// Writes the lane of a vehicle that has a new route, if one has.
+fn put_new(lanes: &mut Vec<Lane>, new: &Option<(u32, Arc<Route>)>, base: &Trail, entry: u64)
+    requires { All (λ c. c.1.value ≡ route_at (told base.now).routes c.0) (option_to_list new.now) }
+    ensures { lanes.new.items ≡ lanes_after base.now entry lanes.old.items (option_to_list new.now) }
 {
-    for change in routes {
-        let lane = Lane::at(change.0, &change.1, base, entry);
-        put(lanes, change.0, lane);
+    if let Some((vehicle, route)) = new {
+        let lane = Lane::at(*vehicle, route, base, entry);
+        put(lanes, *vehicle, lane);
     }
 }
 
-/// The same of routes that are given away.
-fn give_all(lanes: &mut Vec<Lane>, routes: Vec<(u32, Arc<Route>)>, base: &Trail, entry: u64)
-    requires { All (λ c. c.1.value ≡ route_at (told base.now).routes c.0) routes.items }
-    ensures { lanes.new.items ≡ lanes_after base.now entry lanes.old.items routes.items }
+/// The same of a route that is given away.
+fn give_new(lanes: &mut Vec<Lane>, new: Option<(u32, Arc<Route>)>, base: &Trail, entry: u64)
+    requires { All (λ c. c.1.value ≡ route_at (told base.now).routes c.0) (option_to_list new) }
+    ensures { lanes.new.items ≡ lanes_after base.now entry lanes.old.items (option_to_list new) }
 {
-    for change in routes {
-        let (vehicle, route) = change;
+    if let Some((vehicle, route)) = new {
         let lane = Lane::with(vehicle, route, base, entry);
         put(lanes, vehicle, lane);
     }
@@ -280,16 +292,28 @@ fn again(alloc: Global, lanes: &[Lane]) -> Result<Vec<Lane>, AllocError>
 impl Cells {
     ghost use Rattle.published_board.specs.Shelves.{cells_of};
 
-    /// Writes the pins and frozen lengths that an entry of this number changes, and the version after it.
-    fn write(&mut self, delta: &Delta, entries: u64)
-        ensures { cells_of self.new ≡ record (cells_of self.old) { pins = written self.old.pins.items delta.now.pins; frozen = written self.old.frozen.items delta.now.frozen; version = delta.now.version; entries = entries; turned = since_after (since_after self.old.turned entries delta.now.pins) entries delta.now.frozen } }
+    /// Writes the pins and the frozen length that an entry of this number changes, the version after it, and what changed last with it. The
+    /// lanes are left.
+    fn note(&mut self, change: &Change, entries: u64)
+        ensures { cells_of self.new ≡ record (cells_of self.old) {
+          pins = written self.old.pins.items change.now.pins.items;
+          frozen = written self.old.frozen.items (option_to_list change.now.front);
+          version = change.now.version;
+          entries = entries;
+          moved = since_after (since_after self.old.moved entries (option_to_list change.now.first)) entries (option_to_list change.now.second);
+          turned = since_after (since_after self.old.turned entries change.now.pins.items) entries (option_to_list change.now.front);
+        } }
     {
-        write_all(&mut self.pins, delta.pins());
-        write_all(&mut self.frozen, delta.frozen());
-        self.version = delta.version();
+        write_all(&mut self.pins, change.pins.as_slice());
+        if let Some((vehicle, length)) = change.front {
+            write(&mut self.frozen, vehicle, length);
+        }
+        self.version = change.version;
         self.entries = entries;
-        let turned = since(self.turned, entries, delta.pins());
-        self.turned = since(turned, entries, delta.frozen());
+        let moved = since_one(self.moved, entries, &change.first);
+        self.moved = since_one(moved, entries, &change.second);
+        let turned = since(self.turned, entries, change.pins.as_slice());
+        self.turned = since_one(turned, entries, &change.front);
     }
 
     /// The same cells once more.

@@ -9,5 +9,5 @@ ok_map (Err e) P Q p f = tt
 
 pub returns : goal.returns
 returns g c =
-    let journal = ap (λ (es : List Entry). watches es g.N.Naming.opening.desks) c.named.ensures in
-    ok_map c.hand_out.result _ _ c.hand_out.ensures (λ seats is. is ∙ (c.in_ok-locked.ensures.1 ∙ journal))
+    let journal = ap (λ (es : List Entry). watches es g.N.Naming.opening.desks) c.named-locked.ensures in
+    ok_map c.hand_out.result _ _ c.hand_out.ensures (λ seats is. is ∙ (c.in_ok-readies.ensures ∙ journal))

@@ -1,28 +1,18 @@
 use Rattle.std.proofs.Common.{◌≡◌, ℕ, [], ◌∷◌, ◌++◌, ap, sym, ◌∙◌, subst}
 use Rattle.dimension_core.specs.Setting.{Setting}
 use Rattle.board_rules.specs.declared.call.Entry.{Entry}
-use Rattle.plan_core.specs.Plan.{changes_of}
-use Rattle.board_rules.specs.Step.{after}
-use Rattle.board_rules.specs.Delta.{IsDeltaOf, AreRoutesOf}
 use Rattle.board_rules.specs.History.{IsLegal, state_after}
 use Rattle.board_core.specs.Kept.{CoreState, IsKept, entry_of}
+use Rattle.published_board.specs.Changed.{IsChangeBy}
 use Rattle.locked_board.proofs.Results.{on_ok, if_ok}
 use Rattle.locked_board.proofs.locked.Locked.commit.Goals as goal
 
-pub publish-requires-clause-routes : goal.publish-requires-clause-routes
-publish-requires-clause-routes g c =
+pub publish-requires-clause-change : goal.publish-requires-clause-change
+publish-requires-clause-change g c =
     let s : Setting = g.N.Naming.opening.setting in
     let of : c.in-Ok.prepared.of ≡ c.judge.new.self = c.in-Ok.ensures.of in
-    let e : Entry = c.in-Ok.prepared.entry in
-    subst (λ (k : CoreState). AreRoutesOf (state_after s k.journal) (after (state_after s k.journal) e.call e.reply) (changes_of c.in-Ok-of.change.routes.items)) of
-    (c.in-Ok-of.ensures.routes s (subst (λ (k : CoreState). IsKept s k) (sym of) c.in-Ok.ensures.kept) c.in-Ok.ensures.makes)
-
-pub publish-requires-clause-delta : goal.publish-requires-clause-delta
-publish-requires-clause-delta g c =
-    let s : Setting = g.N.Naming.opening.setting in
-    let of : c.in-Ok.prepared.of ≡ c.judge.new.self = c.in-Ok.ensures.of in
-    subst (λ (k : CoreState). IsDeltaOf s (state_after s k.journal) c.in-Ok.prepared.entry c.in-Ok-of.change.delta) of
-    (c.in-Ok-of.ensures.delta s (subst (λ (k : CoreState). IsKept s k) (sym of) c.in-Ok.ensures.kept) c.in-Ok.ensures.makes)
+    subst (λ (k : CoreState). IsChangeBy s (state_after s k.journal) c.in-Ok.prepared.entry c.in-Ok-change_of.change) of
+    (c.in-Ok-change_of.ensures s (subst (λ (k : CoreState). IsKept s k) (sym of) c.in-Ok.ensures.kept) c.in-Ok.ensures.makes)
 
 pub returns-in-Ok-publish-clause-ok : goal.returns-in-Ok-publish-clause-ok
 returns-in-Ok-publish-clause-ok g c =

@@ -1,14 +1,12 @@
-use Rattle.std.proofs.Common.{◌≡◌, List, ap, ◌∙◌, sym, subst}
+use Rattle.std.proofs.Common.{◌≡◌, List, ap, ◌∙◌, subst}
 use Rattle.board_rules.specs.declared.call.Entry.{Entry}
 use Rattle.board_core.specs.Kept.{CoreState}
 use Rattle.locked_board.specs.Commits.{Legal}
-use Rattle.locked_board.specs.Ties.{published_in}
 use Rattle.locked_board.proofs.Results.{where_true}
 use Rattle.locked_board.proofs.locked.Locked.show.Goals as goal
 
 pub returns-else-not-show-clause-legal : goal.returns-else-not-show-clause-legal
 returns-else-not-show-clause-legal g c =
-    let told : c.in-Some.publication.entries ≡ (published_in c.self.inside.publication).entries = ap (λ o. (published_in o).entries) (sym c.in-Some.is) in
     let seen : c.show.new.eye.seen ≡ c.args.self.now.journal =
-    where_true c.show.result _ c.show.ensures.seen c.if-not-show.false ∙ (told ∙ (c.self.invariant.1.entries_are ∙ ap (λ (k : CoreState). k.journal) c.self.view_is)) in
+    where_true c.show.result _ c.show.ensures.seen c.if-not-show.false ∙ (c.self.invariant.shown_are ∙ ap (λ (k : CoreState). k.journal) c.self.view_is) in
     subst (λ (es : List Entry). Legal g.N.Naming.opening es) seen c.show.ensures.legal

@@ -15,6 +15,7 @@ use Rattle.published_board.specs.Sights.{IsPicture, GoesOn}
 use Rattle.published_board.specs.Reached.{Reached, history_in, opening_of, entries_of}
 use Rattle.published_board.proofs.Rules.{sees, goes_self}
 use Rattle.published_board.proofs.Publishing.{keeps_first, same_self, knows, shows_first}
+use Rattle.published_board.proofs.Staging.{at_rest}
 use Rattle.published_board.proofs.publication.Publication.open.Goals as goal
 
 where_ok : {A B X : Type 0} (Q : B → Type 0) (r : Result A B) → IsOk r → MatchResult r (λ _. X) Q → X
@@ -60,10 +61,5 @@ invariant_of-result g c =
     let stays : next ≡ picture_of now = values.0 ∙ ap (fold after_step (picture_of now)) c.in-Ok.ensures.1 in
     let base : next.base ≡ trail = ap (λ (p : Picture). p.base) stays ∙ (ap (λ (x : Shown). x.base) c.in-Ok.ensures.0 ∙ c.again.ensures) in
     let same = same_self trail next.base base in
-    record {
-      legal = subst (λ (ps : List Page). IsLegal (history_in ps)) (sym c.open-head.ensures.pages) c.requires.legal;
-      head_is = c.open-head.ensures.head;
-      published_tells = same;
-      pending_is = values.1;
-      known_tells = knows trail _ next _ rule same;
-    }
+    at_rest c.open-head.result.0 trail next _ _ (subst (λ (ps : List Page). IsLegal (history_in ps)) (sym c.open-head.ensures.pages) c.requires.legal) c.open-head.ensures.head
+    same values.1 (knows trail _ next _ rule same)
