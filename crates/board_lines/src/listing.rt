@@ -10,7 +10,7 @@ ghost use Rattle.board_rules.specs.declared.call.Call.TheVariants.{Propose};
 ghost use Rattle.board_lines.specs.Replies.{spaced};
 ghost use Rattle.board_lines.specs.Listings.{end_line, row_line, list_text, tag_of, answer_text, entry_text, entry_line, audit_text, name_line, review_text, check_text};
 
-use crate::digits::{push_ascii, push_spaced, push_text};
+use crate::digits::{push_ascii, push_number, push_spaced, push_text};
 use crate::replies::{push_reply, push_verdict};
 use crate::spelling::{push_event, push_proposal};
 use board_journal::{Answer, Journal, Kept};
@@ -78,8 +78,8 @@ fn push_tag(out: &mut String, n: u64, desk: u32, turn: u32) -> Result<(), AllocE
     ensures ok { OnOk result (string_bytes out.new ≡ string_bytes out.old ++ tag_of n desk turn) }
     ensures start { OnErr result (StartsWith (string_bytes out.new) (string_bytes out.old)) }
 {
-    push_text(out, "event")?;
-    push_spaced(out, n)?;
+    push_text(out, "event ")?;
+    push_number(out, n)?;
     push_spaced(out, u64::from(desk))?;
     push_spaced(out, u64::from(turn))
 }

@@ -2,27 +2,29 @@
 
 ghost use Rattle.std.specs.Prelude.{◌≡◌, ◌≢◌, ◌++◌, IfOk, OnOk, OnErr, string_bytes};
 ghost use Rattle.std.specs.Io.{StartsWith};
+ghost use Rattle.std.specs.Fmt.{decimal};
 ghost use Rattle.board_journal.specs.Records.{reply_of};
 ghost use Rattle.board_rules.specs.declared.reply.Fault.TheVariants as faults;
 ghost use Rattle.board_rules.specs.declared.reply.AskFault.TheVariants as asks;
 ghost use Rattle.board_lines.specs.Replies.{spaced, denial_text, refusal_text, reply_text, fault_text, ask_fault_text, line_fault_text};
 
 use crate::command::LineFault;
-use crate::digits::{push_spaced, push_text};
+use crate::digits::{push_number, push_spaced, push_text};
 use board_journal::Answer;
 use board_rules::{AskFault, Denial, Fault, Refusal, Reply};
 use std::alloc::{AllocError, Global};
 
+/// Appends a text and a number. The text ends with the space between them, which is cheaper than one that is appended alone.
 fn push_with(out: &mut String, text: &str, number: u32) -> Result<(), AllocError>
-    ensures ok { OnOk result (string_bytes out.new ≡ string_bytes out.old ++ (text.now ++ spaced number)) }
+    ensures ok { OnOk result (string_bytes out.new ≡ string_bytes out.old ++ (text.now ++ decimal number)) }
     ensures start { OnErr result (StartsWith (string_bytes out.new) (string_bytes out.old)) }
 {
     push_text(out, text)?;
-    push_spaced(out, u64::from(number))
+    push_number(out, u64::from(number))
 }
 
 fn push_with_two(out: &mut String, text: &str, first: u32, second: u32) -> Result<(), AllocError>
-    ensures ok { OnOk result (string_bytes out.new ≡ string_bytes out.old ++ (text.now ++ (spaced first ++ spaced second))) }
+    ensures ok { OnOk result (string_bytes out.new ≡ string_bytes out.old ++ (text.now ++ (decimal first ++ spaced second))) }
     ensures start { OnErr result (StartsWith (string_bytes out.new) (string_bytes out.old)) }
 {
     push_with(out, text, first)?;
@@ -36,16 +38,21 @@ fn push_denial(out: &mut String, denial: Denial) -> Result<(), AllocError>
     match denial {
         Denial::NoSession => push_text(out, "denied no-session"),
         Denial::BadVehicle => push_text(out, "denied bad-vehicle"),
-        Denial::AccessVehicle(vehicle) => push_with(out, "denied access vehicle", vehicle),
+        Denial::AccessVehicle(vehicle) => push_with(out, "denied access vehicle ", vehicle),
         Denial::Ahead => push_text(out, "denied ahead"),
-        Denial::Stale(vehicle) => push_with(out, "denied stale", vehicle),
+        Denial::Stale(vehicle) => push_with(out, "denied stale ", vehicle),
         Denial::BadPlace => push_text(out, "denied bad-place"),
         Denial::AccessCustomer(vehicle, place) => {
-            push_with_two(out, "denied access customer", vehicle, place)
+            push_with_two(out, "denied access customer ", vehicle, place)
         }
-        Denial::Frozen(vehicle) => push_with(out, "denied frozen", vehicle),
-        Denial::Pinned(vehicle, place) => push_with_two(out, "denied pinned", vehicle, place),
-        Denial::Bound(vehicle, dimension) => push_with_two(out, "denied bound", vehicle, dimension),
+        Denial::Frozen(vehicle) => push_with(out, "denied frozen ", vehicle),
+        Denial::Pinned(vehicle, place) => push_with_two(out, "denied pinned ", vehicle, place),
+        Denial::Bound(vehicle, dimension) => push_with_two(
+            out,
+            "denied bound ",
+            vehicle,
+            dimension,
+        ),
     }
 }
 
@@ -90,8 +97,8 @@ pub fn push_reply(out: &mut String, reply: Reply) -> Result<(), AllocError>
 {
     match reply {
         Reply::Done => push_text(out, "done"),
-        Reply::Session(number) => push_with(out, "session", number),
-        Reply::Committed(version) => push_with(out, "committed", version),
+        Reply::Session(number) => push_with(out, "session ", number),
+        Reply::Committed(version) => push_with(out, "committed ", version),
         Reply::Denied(denial) => push_denial(out, denial),
         Reply::Refused(refusal) => push_refusal(out, refusal),
     }
@@ -103,7 +110,7 @@ pub(crate) fn push_verdict(out: &mut String, answer: Answer) -> Result<(), Alloc
     ensures start { OnErr result (StartsWith (string_bytes out.new) (string_bytes out.old)) }
 {
     match answer.verdict() {
-        Ok(version) => push_with(out, "committed", version),
+        Ok(version) => push_with(out, "committed ", version),
         Err(denial) => push_denial(out, denial),
     }
 }

@@ -34,12 +34,17 @@ pub(crate) fn load_and_time(
 }
 
 /// A board of five customers and three vehicles without bounds, with one travel as its cost.
-pub(crate) fn free_board(alloc: Global, transit: Transit, desks: u32) -> Result<Board, Fail>
+pub(crate) fn free_board(
+    alloc: Global,
+    transit: Transit,
+    desks: u32,
+    max_events: u32,
+) -> Result<Board, Fail>
     requires { (0 < desks) × (desks < 65) }
 {
     let mut registry = Registry::new(alloc);
     let cost = registry.register(transit).map_err(|_| "room")?;
-    let setup = Setup::new(5, 3, registry, Vec::new(alloc), cost, 20000).map_err(|_| "setup")?;
+    let setup = Setup::new(5, 3, registry, Vec::new(alloc), cost, max_events).map_err(|_| "setup")?;
     let setup = Arc::new(alloc, setup).map_err(|_| "memory")?;
     Ok(Board::new(alloc, setup, desks)?)
 }

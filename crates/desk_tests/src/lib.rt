@@ -12,6 +12,8 @@ mod one_thread;
 #[cfg(test)]
 mod questions;
 #[cfg(test)]
+mod scripts;
+#[cfg(test)]
 mod tests;
 #[cfg(test)]
 mod threads;

@@ -25,7 +25,7 @@ pub trait Task<A, B, C> {
 }
 
 /// Does two tasks at once, the first one in another thread.
-fn beside<
+pub(crate) fn beside<
     A: Send + Drop,
     B: Send + Drop,
     C: Send + Drop,
@@ -74,9 +74,9 @@ impl<N: Naming, R: Wait + Drop> Task<Arc<Setup>, Seat<N, R>, (Seat<N, R>, Option
 
 /// Customer 2 goes in and out of vehicle 2, so many times. It tells how many commits there were, counted from a version on.
 #[derive(Drop)]
-struct Commit {
-    from: u32,
-    commits: u32,
+pub(crate) struct Commit {
+    pub from: u32,
+    pub commits: u32,
 }
 
 impl<N: Naming, R: Wait + Drop> Task<Arc<Setup>, Seat<N, R>, u32> for Commit {

@@ -3,7 +3,7 @@
 ghost use Rattle.std.specs.Prelude.{◌≡◌, ◌≤◌, length, IfOk, IfErr};
 ghost use Rattle.line_engine.specs.WholeRuns.{IsAnswered, IsStopped};
 ghost use Rattle.board_text.specs.BoardSteps.{IsBoardStep, LacksMemory};
-ghost use Rattle.desk_text.specs.DeskRuns.{HasSeenItsTurns, IsHeld, IsHeldAtStop, IsOnlyDesk, board_state};
+ghost use Rattle.desk_text.specs.DeskRuns.{IsHeld, IsHeldAtStop, IsOnlyDesk, board_state};
 
 use crate::seated::Seated;
 use crate::seating::Seating;
@@ -36,9 +36,9 @@ pub fn run_desk_lines<
 ) -> Result<Counts, RunFault>
     requires { S.is_hall front.old.setup }
     ensures hall { S.is_hall front.new.setup }
-    ensures ok { HasSeenItsTurns front.old.seat → IfOk result (λ counts. IsHeld N.opening front.old.seat front.new.seat
+    ensures ok { IfOk result (λ counts. IsHeld N.opening front.old.seat front.new.seat
         (I.remaining reader.old) (I.remaining reader.new) (W.contents writer.old) (W.contents writer.new) counts.lines counts.refused) }
-    ensures err { HasSeenItsTurns front.old.seat → IfErr result (λ e. IsHeldAtStop N.opening e front.old.seat front.new.seat
+    ensures err { IfErr result (λ e. IsHeldAtStop N.opening e front.old.seat front.new.seat
         (I.remaining reader.old) (I.remaining reader.new) (W.contents writer.old) (W.contents writer.new)) }
     ensures alone { N.opening.desks ≡ 1 → IsOnlyDesk front.old.seat → length front.new.seat.seen ≤ N.opening.setting.max_events
         → IfOk result (λ counts. IsAnswered IsBoardStep (board_state N.opening front.old.seat) (board_state N.opening front.new.seat)
@@ -47,5 +47,6 @@ pub fn run_desk_lines<
         → IfErr result (λ e. IsStopped IsBoardStep LacksMemory e (board_state N.opening front.old.seat) (board_state N.opening front.new.seat)
         (I.remaining reader.old) (I.remaining reader.new) (W.contents writer.old) (W.contents writer.new)) }
 {
+    front.seat.turns_are_seen();
     run_lines(rt, alloc, front, reader, writer)
 }

@@ -1,9 +1,10 @@
 //! A seat with the setup of its hall, as a front.
 
 use crate::seating::Seating;
-use board_lock::{Naming, Seat};
-use board_rules::{AskFault, Call, Fault, Reply, Review, Row};
+use board_lock::{Naming, Seat, proposals_have_verdicts, verdict_of};
+use board_rules::{AskFault, Call, Denial, Fault, Reply, Review, Row};
 use line_front::{Front, append_journal};
+use move_core::Move;
 use rbac_core::{Object, Operation};
 use separation_core::Name;
 use std::sync::Wait;
@@ -31,6 +32,21 @@ impl<N: Naming, D: Wait + Drop, S: Seating<N, D> + Drop, R: Wait> Front<R> for S
 
     fn submit(&mut self, rt: &R, call: Call) -> Result<Reply, Fault> {
         self.setup.submit(rt, &mut self.seat, call)
+    }
+
+    fn propose(
+        &mut self,
+        rt: &R,
+        session: u32,
+        base: u32,
+        mv: Move,
+    ) -> Result<Result<u32, Denial>, Fault> {
+        proposals_have_verdicts();
+        let call = Call::Propose { session, base, mv };
+        match self.setup.submit(rt, &mut self.seat, call) {
+            Ok(reply) => Ok(verdict_of(reply)),
+            Err(fault) => Err(fault),
+        }
     }
 
     fn list(&mut self, rt: &R, session: u32) -> Result<Vec<Row>, AskFault> {

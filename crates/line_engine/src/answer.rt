@@ -16,6 +16,7 @@ use board_lines::{
 };
 use board_rules::{AskFault, Call, Denial, Fault, Reply, Review};
 use line_front::Front;
+use move_core::Move;
 use rbac_core::{Object, Operation};
 use std::alloc::AllocError;
 
@@ -73,8 +74,7 @@ fn refused_line(text: &mut String, fault: AskFault) -> Result<(), AllocError>
 
 // ---- commands, each with an empty text before
 
-#[inline(always)]
-fn submit<R, F: Front<R>>(
+fn reply<R, F: Front<R>>(
     rt: &R,
     front: &mut F,
     text: &mut String,
@@ -103,6 +103,62 @@ fn submit<R, F: Front<R>>(
             fault_line(text, Fault::Full)?;
             Ok(Mark::Text(true))
         }
+    }
+}
+
+#[inline(always)]
+fn propose<R, F: Front<R>>(
+    rt: &R,
+    front: &mut F,
+    text: &mut String,
+    session: u32,
+    base: u32,
+    mv: Move,
+) -> Result<Mark, OutOfMemory>
+    requires ready { F.ready front.old }
+    requires none { string_bytes text.old ≡ [] }
+    ensures ready { F.ready front.new }
+    ensures ok { IfOk result (Tells F.step (F.seen front.old) (Command.Submit (Call.Propose session base mv)) (F.seen front.new) (string_bytes text.new)) }
+    ensures err { OnErr result (Loses F.step F.refuses (F.seen front.old) (Command.Submit (Call.Propose session base mv)) (F.seen front.new)) }
+{
+    match front.propose(rt, session, base, mv) {
+        Ok(Ok(version)) => {
+            reply_line(text, Reply::Committed(version))?;
+            Ok(Mark::Text(false))
+        }
+        Ok(Err(Denial::NoSession)) => Ok(Mark::NoSession),
+        Ok(Err(denial)) => {
+            reply_line(text, Reply::Denied(denial))?;
+            Ok(Mark::Text(true))
+        }
+        Err(Fault::NoMemory) => Err(OutOfMemory),
+        Err(Fault::OutOfTurn) => {
+            fault_line(text, Fault::OutOfTurn)?;
+            Ok(Mark::Text(true))
+        }
+        Err(Fault::Full) => {
+            fault_line(text, Fault::Full)?;
+            Ok(Mark::Text(true))
+        }
+    }
+}
+
+#[inline(always)]
+fn submit<R, F: Front<R>>(
+    rt: &R,
+    front: &mut F,
+    text: &mut String,
+    call: Call,
+) -> Result<Mark, OutOfMemory>
+    requires ready { F.ready front.old }
+    requires none { string_bytes text.old ≡ [] }
+    ensures ready { F.ready front.new }
+    ensures ok { IfOk result (Tells F.step (F.seen front.old) (Command.Submit call) (F.seen front.new) (string_bytes text.new)) }
+    ensures err { OnErr result (Loses F.step F.refuses (F.seen front.old) (Command.Submit call) (F.seen front.new)) }
+{
+    match call {
+        Call::Propose { session, base, mv } => propose(rt, front, text, session, base, mv),
+        call => reply(rt, front, text, call),
     }
 }
 

@@ -2,12 +2,14 @@
 
 ghost use Rattle.std.specs.Prelude.{◌≡◌, ◌≢◌, ◌++◌, List, IfOk, IfErr, OnOk, string_bytes};
 ghost use Rattle.board_rules.specs.declared.call.Entry.{Entry};
+ghost use Rattle.board_rules.specs.Step.{reply_by};
 ghost use Rattle.board_lines.specs.Listings.{audit_text};
 ghost use Rattle.board_lines.specs.declared.command.Command.{Command};
 ghost use Rattle.line_front.specs.Answers.{Answer, Replied, Listed, Audited, Reviewed, Checked};
 ghost use Rattle.line_front.specs.Fronts.{MayFault, MayRefuse};
 
-use board_rules::{AskFault, Call, Fault, Reply, Review, Row};
+use board_rules::{AskFault, Call, Denial, Fault, Reply, Review, Row};
+use move_core::Move;
 use rbac_core::{Object, Operation};
 use separation_core::Name;
 
@@ -33,6 +35,20 @@ pub trait Front<R> {
         ensures ready { ready self.new }
         ensures ok { IfOk result (λ reply. step (seen self.old) (Command.Submit call) (Replied reply) (seen self.new)) }
         ensures err { IfErr result (λ fault. MayFault step refuses (seen self.old) call fault (seen self.new)) };
+
+    /// Submits a proposal: the version that it commits, or why it is denied. It does what `submit` does; a verdict is shorter than a reply,
+    /// which has room for a name.
+    fn propose(
+        &mut self,
+        rt: &R,
+        session: u32,
+        base: u32,
+        mv: Move,
+    ) -> Result<Result<u32, Denial>, Fault>
+        requires { ready self.old }
+        ensures ready { ready self.new }
+        ensures ok { IfOk result (λ verdict. step (seen self.old) (Command.Submit (Call.Propose session base mv)) (Replied (reply_by verdict)) (seen self.new)) }
+        ensures err { IfErr result (λ fault. MayFault step refuses (seen self.old) (Call.Propose session base mv) fault (seen self.new)) };
 
     /// The rows that the session may view.
     fn list(&mut self, rt: &R, session: u32) -> Result<Vec<Row>, AskFault>

@@ -106,24 +106,24 @@ fn make_small(alloc: Global) -> Small {
 }
 
 impl Small {
-    fn commit(&mut self, base: u32, mv: Move) -> Reply {
+    fn commit(&mut self, base: u32, mv: Move) -> Result<u32, Denial> {
         let Move::Insert {
             customer,
             vehicle,
             place,
         } = mv
         else {
-            return Reply::Denied(Denial::BadPlace);
+            return Err(Denial::BadPlace);
         };
         if base > self.version {
-            return Reply::Denied(Denial::Ahead);
+            return Err(Denial::Ahead);
         }
         if base < self.version {
-            return Reply::Denied(Denial::Stale(vehicle));
+            return Err(Denial::Stale(vehicle));
         }
         self.version = self.version.saturating_add(1);
         self.last = (vehicle, place, customer);
-        Reply::Committed(self.version)
+        Ok(self.version)
     }
 }
 
@@ -144,10 +144,23 @@ impl<R> Front<R> for Small {
                 session: _,
                 base,
                 mv,
-            } => Ok(self.commit(base, mv)),
+            } => match self.commit(base, mv) {
+                Ok(version) => Ok(Reply::Committed(version)),
+                Err(denial) => Ok(Reply::Denied(denial)),
+            },
             Call::Policy { session, .. } if session == 1 => Ok(Reply::Done),
             _ => Ok(Reply::Refused(Refusal::NoSession)),
         }
+    }
+
+    fn propose(
+        &mut self,
+        _rt: &R,
+        _session: u32,
+        base: u32,
+        mv: Move,
+    ) -> Result<Result<u32, Denial>, Fault> {
+        Ok(self.commit(base, mv))
     }
 
     fn list(&mut self, _rt: &R, session: u32) -> Result<Vec<Row>, AskFault> {

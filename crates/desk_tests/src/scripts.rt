@@ -1,0 +1,316 @@
+//! Scripts through a desk: alone, and while another desk commits. What the audit then tells is judged again by a board of one thread.
+ghost use Rattle.std.specs.Prelude.{◌≡◌};
+ghost use Rattle.dimension_core.specs.Setup.{setting};
+
+use crate::calls::last;
+use crate::threads::{Commit, Task, beside};
+use board_core::Board;
+use board_lock::{DeskOf, Foyer, Naming, Seat, open_hall};
+use board_rules::{Event, Fault, Reply};
+use board_text::{Command, read_line, reply_text};
+use callback_store::Meter;
+use desk_text::{Seated, run_desk_lines};
+use dimension_core::Setup;
+use line_engine::{Counts, RunFault};
+use std::alloc::{AllocError, Global};
+use std::process::Abort;
+use std::sync::{Arc, Wait};
+use std::thread::Threads;
+
+/// The seat, what a run wrote, and what it counted.
+type Ran<N, R> = (Seat<N, R>, Vec<u8>, Result<Counts, RunFault>);
+
+/// The lines of a script.
+#[derive(Drop)]
+struct Script {
+    alloc: Global,
+    text: Vec<u8>,
+}
+
+impl<N: Naming, R: Wait + Drop> Task<Arc<Setup>, Seat<N, R>, Ran<N, R>> for Script {
+    ghost use Rattle.dimension_core.specs.Setup.{setting};
+
+    ghost may = { λ setup seat. setting setup.value ≡ N.opening.setting };
+
+    fn run<W: Wait>(self, rt: &W, first: Arc<Setup>, second: Seat<N, R>) -> Ran<N, R> {
+        let mut front = Seated {
+            setup: first,
+            seat: second,
+        };
+        let mut written = Vec::new(self.alloc);
+        let mut reader = self.text.as_slice();
+        let counts = run_desk_lines(rt, self.alloc, &mut front, &mut reader, &mut written);
+        (front.seat, written, counts)
+    }
+}
+
+/// A script that says a text so many times.
+fn repeated(alloc: Global, text: &str, times: u32) -> Result<Script, AllocError> {
+    let mut all = Vec::new(alloc);
+    for _time in 0..times {
+        all.extend_from_slice(text.as_bytes())?;
+    }
+    Ok(Script { alloc, text: all })
+}
+
+/// A script, what is written, the lines with a reply, and those of them that are refused.
+#[derive(Clone, Copy)]
+pub(crate) struct Case {
+    pub script: &'static str,
+    pub wanted: &'static str,
+    pub lines: u64,
+    pub refused: u64,
+}
+
+/// On desk 1 of the board of four customers and two vehicles: calls, listings of what may be read, bad lines, an audit and reviews. Customer
+/// 1 is left on vehicle 1.
+const ROWS: Case = Case {
+    script: "\
+1 grant root audit board\n\
+1 insert 1 1 1 0\n\
+1 audit\n\
+1 grant root move vehicle 1 2\n\
+1 grant root move customer 1 4\n\
+1 insert 1 1 1 0\n\
+1 insert 2 1 2 1\n\
+1 insert 3 1 3 2\n\
+1 list\n\
+1 json\n\
+1 grant root view vehicle 1 1\n\
+1 grant root view customer 1 1\n\
+1 grant root view customer 3 3\n\
+1 list\n\
+1 json\n\
+# a comment\n\
+1 fly\n\
+x list\n\
+1 insert 1 1 1\n\
+1 check move truck 1 2\n\
+1 add-user ann\n\
+1 add-role d\n\
+1 assign ann d\n\
+1 users d\n\
+1 roles ann\n\
+1 active 1\n\
+1 roles bob\n\
+1 check admin board\n\
+1 remove 1 3 3\n\
+1 remove 1 2 4\n",
+    wanted: "\
+done\n\
+denied access vehicle 1\n\
+event 1 1 1 | 1 grant root audit board | done\n\
+event 2 1 2 | 1 insert 1 1 1 0 | denied access vehicle 1\n\
+end\n\
+done\n\
+done\n\
+committed 1\n\
+committed 2\n\
+committed 3\n\
+end\n\
+{\"rows\":[]}\n\
+done\n\
+done\n\
+done\n\
+row 1 1 1 0 28\n\
+row 1 3 3 7 140\n\
+end\n\
+{\"rows\":[[1,1,1,0,28],[1,3,3,7,140]]}\n\
+bad word\n\
+bad number\n\
+bad count\n\
+bad object\n\
+done\n\
+done\n\
+done\n\
+name ann\n\
+end\n\
+name d\n\
+end\n\
+name root\n\
+end\n\
+refused no-user\n\
+yes\n\
+committed 4\n\
+committed 5\n",
+    lines: 29,
+    refused: 6,
+};
+
+/// On a board of three events.
+pub(crate) const FULL: Case = Case {
+    script: "1 add-user a\n1 add-user b\n1 add-user c\n1 add-user d\n1 list\n",
+    wanted: "done\ndone\ndone\nfault full\nend\n",
+    lines: 5,
+    refused: 1,
+};
+
+fn compare_run(rt: &impl Abort, written: &[u8], counts: Result<Counts, RunFault>, case: Case) {
+    let wanted = Counts {
+        lines: case.lines,
+        refused: case.refused,
+    };
+    assert_eq!(rt; written, case.wanted.as_bytes());
+    assert!(rt; counts == Ok(wanted));
+}
+
+/// Runs a script on the last desk of a hall.
+pub(crate) fn runs<N: Naming, R: Wait + Drop, W: Wait + Abort>(
+    rt: &W,
+    alloc: Global,
+    foyer: Foyer<R>,
+    case: Case,
+)
+    requires opening { foyer.room.opening ≡ N.opening }
+    requires book { foyer.room.book ≡ N.book }
+{
+    let Ok(desks) = open_hall::<N, R>(alloc, foyer) else {
+        return assert!(rt; false);
+    };
+    let Some((_desks, desk)) = last(desks) else {
+        return assert!(rt; false);
+    };
+    let DeskOf { setup, seat } = desk;
+    let Ok(script) = repeated(alloc, case.script, 1) else {
+        return assert!(rt; false);
+    };
+    let (_seat, written, counts) = script.run(rt, setup, seat);
+    compare_run(rt, &written, counts, case);
+}
+
+// ---- beside another desk
+
+/// What an audit's line says of an event: its desk and turn, its call and the text of its reply.
+fn event_of<'a>(alloc: Global, line: &'a str) -> Option<(Event, &'a str)> {
+    let (head, told) = line.split_once(" | ")?;
+    let (call, reply) = told.split_once(" | ")?;
+    let (_number, head) = head.split_once(" ")?;
+    let (desk, turn) = head.split_once(" ")?;
+    let desk = desk.parse::<u32>().ok()?;
+    let turn = turn.parse::<u32>().ok()?;
+    match read_line(alloc, call.as_bytes()) {
+        Ok(Command::Submit(call)) => Some((Event { desk, turn, call }, reply)),
+        _ => None,
+    }
+}
+
+/// Whether a reply has this text.
+fn says(alloc: Global, answer: Result<Reply, Fault>, told: &str) -> bool {
+    let Ok(reply) = answer else {
+        return false;
+    };
+    match reply_text(alloc, reply) {
+        Ok(text) => text.as_str() == told,
+        Err(_) => false,
+    }
+}
+
+/// Judges the events of an audit again on a board of two desks: how many there are of the first one, and how many are answered otherwise.
+pub(crate) fn judged_again(alloc: Global, setup: Arc<Setup>, audit: &str) -> Option<(u32, u32)> {
+    let mut board = Board::new(alloc, setup, 2).ok()?;
+    let mut meter = Meter::new();
+    let mut own = 0u32;
+    let mut differ = 0u32;
+    for line in audit.split('\n') {
+        let Some(line) = line.strip_prefix("event ") else {
+            continue;
+        };
+        let (event, told) = event_of(alloc, line)?;
+        if event.desk == 1 {
+            own = own.wrapping_add(1);
+        }
+        if !says(alloc, board.apply(event, &mut meter), told) {
+            differ = differ.wrapping_add(1);
+        }
+    }
+    Some((own, differ))
+}
+
+/// Calls of desk 1 while the other one commits on vehicle 2, and questions, one of which is refused.
+const CALLS: &str = "\
+1 insert 4 1 2 5\n\
+1 pin 1\n\
+1 check move vehicle 1\n\
+9 list\n\
+1 add-user bea\n\
+1 delete-user bea\n";
+
+/// Desk 1 had these many events: 15 of the rows, and four for each time that it says its calls.
+pub(crate) fn compare_replay(rt: &impl Abort, found: Option<(u32, u32)>) {
+    assert_eq!(rt; found, Some((815, 0)));
+}
+
+/// A desk reads a script. It gives the seat back with what was written and counted, where there is memory.
+fn reads<N: Naming, R: Wait + Drop, W: Wait>(
+    rt: &W,
+    alloc: Global,
+    setup: &Arc<Setup>,
+    seat: Seat<N, R>,
+    text: &str,
+) -> Option<Ran<N, R>>
+    requires { setting setup.now.value ≡ N.opening.setting }
+{
+    let setup = Arc::try_clone(setup).ok()?;
+    let script = repeated(alloc, text, 1).ok()?;
+    Some(script.run(rt, setup, seat))
+}
+
+/// Desk 1 reads a script while desk 2 commits two thousand times.
+fn reads_and_commits<
+    N: Naming + Send + Sync,
+    R: Wait + Drop + Send + Sync,
+    W: Threads + Wait + Sync,
+>(rt: &W, alloc: Global, setup: &Arc<Setup>, one: Seat<N, R>, two: Seat<N, R>) -> Option<Seat<N, R>>
+    requires { setting setup.now.value ≡ N.opening.setting }
+{
+    let first = Arc::try_clone(setup).ok()?;
+    let second = Arc::try_clone(setup).ok()?;
+    let script = repeated(alloc, CALLS, 200).ok()?;
+    let commit = Commit {
+        from: 5,
+        commits: 2000,
+    };
+    let (_version, ran) = beside(rt, commit, first, two, script, second, one);
+    Some(ran.0)
+}
+
+/// Desk 1 reads the rows, and then a script while desk 2 commits. It tells what it then reads as the audit.
+fn reads_on<
+    N: Naming + Send + Sync,
+    R: Wait + Drop + Send + Sync,
+    W: Threads + Wait + Abort + Sync,
+>(rt: &W, alloc: Global, setup: &Arc<Setup>, seats: (Seat<N, R>, Seat<N, R>)) -> Option<String>
+    requires { setting setup.now.value ≡ N.opening.setting }
+{
+    let (seat, written, counts) = reads(rt, alloc, setup, seats.0, ROWS.script)?;
+    compare_run(rt, &written, counts, ROWS);
+    let seat = reads_and_commits(rt, alloc, setup, seat, seats.1)?;
+    let (_seat, written, _counts) = reads(rt, alloc, setup, seat, "1 audit\n")?;
+    String::from_utf8(written).ok()
+}
+
+/// The two desks of a hall.
+pub(crate) fn reads_beside<
+    N: Naming + Send + Sync,
+    R: Wait + Drop + Send + Sync,
+    W: Threads + Wait + Abort + Sync,
+>(rt: &W, alloc: Global, foyer: Foyer<R>) -> Option<String>
+    requires opening { foyer.room.opening ≡ N.opening }
+    requires book { foyer.room.book ≡ N.book }
+{
+    let Ok(desks) = open_hall::<N, R>(alloc, foyer) else {
+        return None;
+    };
+    let Some((desks, two)) = last(desks) else {
+        return None;
+    };
+    let Some((_desks, one)) = last(desks) else {
+        return None;
+    };
+    let DeskOf { setup, seat } = one;
+    let DeskOf {
+        setup: _,
+        seat: other,
+    } = two;
+    reads_on(rt, alloc, &setup, (seat, other))
+}
