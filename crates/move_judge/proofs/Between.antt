@@ -1,4 +1,4 @@
-use Rattle.std.proofs.Common.{◌≡◌, ◌≢◌, ◌∙◌, ℕ, zero, ◌+◌, ◌-◌, ◌<◌, ◌≤◌, ◌⊎◌, ◌↔◌, inl, inr, refl, sym, ap, subst, arith, List, [], ◌∷◌, ◌++◌, length, take, drop, slice_get, slice_index_or, Some, None, true, Contains, All}
+use Rattle.std.proofs.Common.{◌≡◌, ◌≢◌, ◌∙◌, ℕ, zero, ◌+◌, ◌-◌, ◌<◌, ◌≤◌, ◌⊎◌, ◌↔◌, inl, inr, refl, sym, ap, subst, arith, List, [], ◌∷◌, ◌++◌, length, take, drop, slice_get, slice_index_or, Some, None, true, Bool, IsTrue, Contains, All}
 use Rattle.std.proofs.lemmas.Bool.{ne_eqb, eq-eqb}
 use Rattle.std.proofs.lemmas.List.Elements.{Contains-get_or}
 use Rattle.std.proofs.lemmas.Option.{slice_get_within, get_or_from_slice_get}
@@ -18,7 +18,7 @@ use Rattle.move_judge.specs.Allowed.{IsAllowed, AreLoose}
 use Rattle.move_judge.specs.Between.{IsBetween}
 use Rattle.move_judge.specs.Given.{Laws}
 use Rattle.move_judge.proofs.Stretches.{stretch_head, set_parts}
-use Rattle.move_judge.proofs.Allowing.{has_effect, freezes_two, loose_from_held, held_from_loose, touched_in, touched_two, touched_among, touched_left, touched_right, IsTouchedBy, AreKnown}
+use Rattle.move_judge.proofs.Allowing.{has_effect, freezes_two, loose_from_held, held_from_loose, touched_in, touched_two, touched_among, touched_left, touched_right, IsTouchedBy, AreKnown, at_most}
 
 -- what a view allows of a move between two vehicles
 pub record AllowsBetween (s : Setting) (view : ViewState) (skip : List Move) (mv : Move) (v w x y : ℕ) (over back r q : List ℕ) : Type 0 where
@@ -210,11 +210,25 @@ module _ (law : Laws) where
           (all k t (slice_get_within (touched_by view.routes mv) k t e)) in
           subst (λ (d : ℕ). (1 ≤ d) × (d ≤ s.customers)) f known
 
-  -- the same of equal lists
-  pub between_same : (routes : List (List ℕ)) (mv : Move) (v w x y : ℕ) (over back r q over' back' r' q' : List ℕ) → over' ≡ over → back' ≡ back → r' ≡ r → q' ≡ q
-      → IsBetween routes mv v w x y over back r q → IsBetween routes mv v w x y over' back' r' q'
-  between_same routes mv v w x y over back r q over' back' r' q' eo eb er eq b =
-      subst (λ (a : List ℕ). IsBetween routes mv v w x y a back' r' q') (sym eo)
-      (subst (λ (a : List ℕ). IsBetween routes mv v w x y over a r' q') (sym eb)
-      (subst (λ (a : List ℕ). IsBetween routes mv v w x y over back a q') (sym er)
-      (subst (λ (a : List ℕ). IsBetween routes mv v w x y over back r a) (sym eq) b)))
+  -- of lists that are the new routes: who is known, and when both are in bounds
+  pub first_known : (s : Setting) (view : ViewState) (mv : Move) (v w x y : ℕ) (over back r q r' : List ℕ) → IsViewOf s view
+      → is_possible s.customers view.routes mv ≡ true → IsBetween view.routes mv v w x y over back r q → r' ≡ r → All (λ c. c ≤ s.customers) r'
+  first_known s view mv v w x y over back r q r' sound can b e =
+      at_most law s.customers r' (subst (λ (a : List ℕ). AreKnown law s.customers a) (sym e) (known_new s view mv v w x y over back r q sound can b).0)
+
+  pub second_known : (s : Setting) (view : ViewState) (mv : Move) (v w x y : ℕ) (over back r q q' : List ℕ) → IsViewOf s view
+      → is_possible s.customers view.routes mv ≡ true → IsBetween view.routes mv v w x y over back r q → q' ≡ q → All (λ c. c ≤ s.customers) q'
+  second_known s view mv v w x y over back r q q' sound can b e =
+      at_most law s.customers q' (subst (λ (a : List ℕ). AreKnown law s.customers a) (sym e) (known_new s view mv v w x y over back r q sound can b).1)
+
+  pub fits_changed : (s : Setting) (routes : List (List ℕ)) (mv : Move) (v w x y : ℕ) (over back r q r' q' : List ℕ) (p : Bool)
+      → IsBetween routes mv v w x y over back r q → IsTrue p ↔ FitsAll s v r' × FitsAll s w q' → r' ≡ r → q' ≡ q → IsTrue p ↔ AllFit s (changes_by routes mv)
+  fits_changed s routes mv v w x y over back r q r' q' p b is er eq = (
+    λ t.
+        let both = is.0 t in
+        subst (λ (cs : Changes). AllFit s cs) (sym b.changes)
+        (subst (λ (a : List ℕ). FitsAll s v a) er both.0, (subst (λ (a : List ℕ). FitsAll s w a) eq both.1, tt)),
+    λ all.
+        let fit = subst (λ (cs : Changes). AllFit s cs) b.changes all in
+        is.1 (subst (λ (a : List ℕ). FitsAll s v a) (sym er) fit.0, subst (λ (a : List ℕ). FitsAll s w a) (sym eq) fit.1.0),
+  )

@@ -1,4 +1,4 @@
-use Rattle.std.proofs.Common.{◌≡◌, ◌∙◌, ℕ, zero, ◌+◌, ◌-◌, ◌<◌, ◌≤◌, ◌⊎◌, ◌↔◌, inl, inr, refl, sym, ap, subst, arith, min, List, [], ◌∷◌, ◌++◌, length, take, drop, reverse, slice_set, Some, true, Contains, append_assoc}
+use Rattle.std.proofs.Common.{◌≡◌, ◌∙◌, ℕ, zero, ◌+◌, ◌-◌, ◌<◌, ◌≤◌, ◌⊎◌, ◌↔◌, inl, inr, refl, sym, ap, subst, arith, min, List, [], ◌∷◌, ◌++◌, length, take, drop, reverse, slice_set, Some, true, Bool, IsTrue, Contains, append_assoc, All}
 use Rattle.std.proofs.lemmas.Bool.{cases_eq, eq-eqb}
 use Rattle.std.proofs.lemmas.List.{take-append-drop, take_at, drop-set-lt, length-set, length-append, length-take-le, length-drop}
 use Rattle.plan_core.specs.Plan.{Changes, IsPlan, IsNamed, AreApart, route_at, with_routes}
@@ -15,7 +15,7 @@ use Rattle.move_judge.specs.Allowed.{IsAllowed}
 use Rattle.move_judge.specs.Between.{IsInside}
 use Rattle.move_judge.specs.Given.{Laws}
 use Rattle.move_judge.proofs.Stretches.{set_parts, stretch_head}
-use Rattle.move_judge.proofs.Allowing.{has_effect, freezes_one, AreKnown}
+use Rattle.move_judge.proofs.Allowing.{has_effect, freezes_one, AreKnown, at_most}
 
 -- what a view allows of a move inside a vehicle
 pub record AllowsInside (s : Setting) (view : ViewState) (skip : List Move) (mv : Move) (v x : ℕ) (r : List ℕ) : Type 0 where
@@ -114,8 +114,20 @@ module _ (law : Laws) where
       let after : IsPlan n (with_routes changes routes) = subst (λ (cs : Changes). IsPlan n (with_routes cs routes)) b.changes (law.plans.plan n routes mv (changes_by routes mv) sound.plan has) in
       law.known.new_known n changes routes 0 (v, r) after apart refl
 
-  pub inside_same : (routes : List (List ℕ)) (mv : Move) (v x : ℕ) (r r' : List ℕ) → r' ≡ r → IsInside routes mv v x r → IsInside routes mv v x r'
-  inside_same routes mv v x r r' e b = subst (λ (a : List ℕ). IsInside routes mv v x a) (sym e) b
+  -- of a list that is the new route: who is known, and when it is in bounds
+  pub one_known : (s : Setting) (view : ViewState) (mv : Move) (v x : ℕ) (r r' : List ℕ) → IsViewOf s view
+      → is_possible s.customers view.routes mv ≡ true → IsInside view.routes mv v x r → r' ≡ r → All (λ c. c ≤ s.customers) r'
+  one_known s view mv v x r r' sound can b e =
+      at_most law s.customers r' (subst (λ (a : List ℕ). AreKnown law s.customers a) (sym e) (known_inside s view mv v x r sound can b))
+
+  pub fits_changed : (s : Setting) (routes : List (List ℕ)) (mv : Move) (v x : ℕ) (r r' : List ℕ) (p : Bool)
+      → IsInside routes mv v x r → IsTrue p ↔ FitsAll s v r' → r' ≡ r → IsTrue p ↔ AllFit s (changes_by routes mv)
+  fits_changed s routes mv v x r r' p b is e = (
+    λ t. subst (λ (cs : Changes). AllFit s cs) (sym b.changes) (subst (λ (a : List ℕ). FitsAll s v a) e (is.0 t), tt),
+    λ all.
+        let fit = subst (λ (cs : Changes). AllFit s cs) b.changes all in
+        is.1 (subst (λ (a : List ℕ). FitsAll s v a) (sym e) fit.0),
+  )
 
   -- a shift to the front, and to the back
   pub shift_forwards : (n : ℕ) (routes : List (List ℕ)) (v p m at : ℕ) → is_possible n routes (Shift v p m v at) ≡ true → at < p

@@ -7,3 +7,4 @@ pub mod Stretches
 pub mod Between
 pub mod Inside
 pub mod Still
+pub mod Free

@@ -1,12 +1,13 @@
 -- Laws of what is allowed, said of all views. The public functions of `laws.rt` have them as contracts.
 use Rattle.std.specs.Prelude.{◌≡◌, ◌≢◌, ℕ, ◌+◌, ◌<◌, true, false, Bool, List, drop}
 use Rattle.dimension_core.specs.Setting.{Setting}
+use Rattle.dimension_core.specs.NewRoutes.{AllFit}
 use Rattle.plan_core.specs.Plan.{route_at}
 use Rattle.pin_core.specs.Pins.{front_of}
 use Rattle.pin_core.specs.View.{ViewState, pins_of}
 use Rattle.move_core.specs.declared.moves.Move.{Move}
 use Rattle.move_core.specs.declared.moves.Move.TheVariants.{Shift, Swap, Reverse, Cross}
-use Rattle.move_core.specs.Moves.{is_possible, stretch}
+use Rattle.move_core.specs.Moves.{is_possible, changes_by, stretch}
 use Rattle.move_judge.specs.Allowed.{IsAllowed, AreLoose}
 use Rattle.move_judge.specs.Scope.{scope}
 use Rattle.move_judge.specs.View.{IsViewOf}
@@ -31,7 +32,10 @@ pub record AllowedMovesAreFree : Type 0 where
       → (front_of (pins_of view) v < k + 1) × (front_of (pins_of view) w < l + 1) × AreLoose (pins_of view) (drop k (route_at view.routes v))
       × AreLoose (pins_of view) (drop l (route_at view.routes w))
 
--- without the dimensions a view is still one of a feasible plan, and each move that is allowed with them is allowed
+-- without the dimensions a view is still one of a feasible plan, and each move that is allowed with them is allowed; one that is allowed
+-- without them and whose new routes are in bounds is allowed
 pub record BoundsOnlyForbid : Type 0 where
   pub views : (bounded : Bool) (s : Setting) (view : ViewState) → IsViewOf s view → IsViewOf (scope bounded s) view
   pub allowed : (s : Setting) (view : ViewState) (skip : List Move) (mv : Move) → IsAllowed s view skip mv → IsAllowed (scope false s) view skip mv
+  pub fitting : (s : Setting) (view : ViewState) (skip : List Move) (mv : Move) → IsAllowed (scope false s) view skip mv
+      → AllFit s (changes_by view.routes mv) → IsAllowed s view skip mv

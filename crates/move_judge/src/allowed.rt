@@ -1,8 +1,10 @@
 //! What a view allows: a move by the parts of its new routes, and where a move may begin at all.
-ghost use Rattle.std.specs.Prelude.{ℕ, ◌⊎◌, ◌≡◌, ◌≢◌, ◌≤◌, ◌<◌, ◌+◌, ◌-◌, ◌++◌, ◌↔◌, true, false, length, take, drop, IsTrue, All, Contains};
+ghost use Rattle.std.specs.Prelude.{ℕ, ◌⊎◌, ◌≡◌, ◌≢◌, ◌≤◌, ◌<◌, ◌+◌, ◌-◌, ◌++◌, ◌↔◌, [], true, false, length, take, drop, IsTrue, All, Contains};
+ghost use Rattle.dimension_core.specs.Feasible.{FitsAll};
+ghost use Rattle.dimension_core.specs.NewRoutes.{AllFit};
 ghost use Rattle.dimension_core.specs.Setup.{setting};
 ghost use Rattle.move_core.specs.declared.moves.Move.TheVariants.{Shift, Swap, Reverse, Cross};
-ghost use Rattle.move_core.specs.Moves.{is_possible, stretch};
+ghost use Rattle.move_core.specs.Moves.{is_possible, changes_by, stretch};
 ghost use Rattle.plan_core.specs.Plan.{route_at};
 ghost use Rattle.pin_core.specs.Pins.{front_of};
 ghost use Rattle.pin_core.specs.View.{pins_of};
@@ -10,15 +12,12 @@ ghost use Rattle.move_judge.specs.Scope.{scope};
 ghost use Rattle.move_judge.specs.View.{IsViewOf};
 ghost use Rattle.move_judge.specs.Near.{IsNear};
 ghost use Rattle.move_judge.specs.Allowed.{IsAllowed, AreLoose};
-ghost use Rattle.move_judge.specs.Between.{IsBetween, IsInside};
 ghost use Rattle.move_judge.specs.Kept.{AreKept, HasAhead, HasBehind};
 ghost use Rattle.move_judge.specs.Given.{Laws};
-ghost use Rattle.move_judge.specs.Parts.{way_of};
 
 use crate::fits::fits;
 use crate::kept::{Kept, Spans};
 use crate::laws::laws_below;
-use callback_store::Meter;
 use dimension_core::Setup;
 use move_core::Move;
 use pin_core::View;
@@ -145,63 +144,42 @@ pub fn must_keep(view: &View, setup: &Setup, v: u32) -> u32
 fn is_skipped(skip: &[Move], mv: &Move) -> bool
     ensures { IsTrue result ↔ Contains skip.now mv.now }
 {
+    if skip.is_empty() {
+        return false;
+    }
     skip.contains(mv)
 }
 
-/// Whether a move between two vehicles is allowed, by its new routes in parts.
+/// Whether the new routes of a move between two vehicles are in bounds, by their parts.
 #[inline(always)]
-fn allows_between(
-    view: &View,
+fn fits_between(
     setup: &Setup,
-    bounded: bool,
-    skip: &[Move],
-    mv: Move,
     v: u32,
-    w: u32,
-    x: u32,
-    y: u32,
-    over: &[u32],
-    back: &[u32],
     v_ahead: &Spans,
     v_front: &[u32],
     v_middle: &[u32],
     v_back: &[u32],
     v_behind: &Spans,
+    w: u32,
     w_ahead: &Spans,
     w_front: &[u32],
     w_middle: &[u32],
     w_back: &[u32],
     w_behind: &Spans,
-    meter: &mut Meter,
 ) -> bool
     requires laws { Laws }
-    requires view { IsViewOf (setting setup.now) view.now }
-    requires possible { is_possible (setting setup.now).customers view.now.routes mv ≡ true }
-    requires between { IsBetween view.now.routes mv v w x y over.now back.now (v_front.now ++ (v_middle.now ++ v_back.now)) (w_front.now ++ (w_middle.now ++ w_back.now)) }
+    requires v { (1 ≤ v) × (v ≤ (setting setup.now).vehicles) }
+    requires w { (1 ≤ w) × (w ≤ (setting setup.now).vehicles) }
+    requires v_known { All (λ c. c ≤ (setting setup.now).customers) (v_front.now ++ (v_middle.now ++ v_back.now)) }
+    requires w_known { All (λ c. c ≤ (setting setup.now).customers) (w_front.now ++ (w_middle.now ++ w_back.now)) }
     requires v_ahead { 0 < v_ahead.now.width → HasAhead (setting setup.now) v v_front.now v_ahead.now }
     requires v_behind { 0 < v_behind.now.width → HasBehind (setting setup.now) v v_back.now v_behind.now }
     requires w_ahead { 0 < w_ahead.now.width → HasAhead (setting setup.now) w w_front.now w_ahead.now }
     requires w_behind { 0 < w_behind.now.width → HasBehind (setting setup.now) w w_back.now w_behind.now }
-    ensures { IsTrue result ↔ IsAllowed (scope bounded (setting setup.now)) view.now skip.now mv }
+    ensures { IsTrue result ↔ FitsAll (setting setup.now) v (v_front.now ++ (v_middle.now ++ v_back.now)) × FitsAll (setting setup.now) w (w_front.now ++ (w_middle.now ++ w_back.now)) }
 {
-    if x <= view.front(v) {
-        return false;
-    }
-    if y <= view.front(w) {
-        return false;
-    }
-    if !are_loose(view, over) {
-        return false;
-    }
-    if !are_loose(view, back) {
-        return false;
-    }
-    if is_skipped(skip, &mv) {
-        return false;
-    }
     if !fits(
         setup,
-        bounded,
         v,
         v_ahead,
         v_front,
@@ -211,13 +189,11 @@ fn allows_between(
         &[],
         v_back,
         v_behind,
-        meter,
     ) {
         return false;
     }
     fits(
         setup,
-        bounded,
         w,
         w_ahead,
         w_front,
@@ -227,89 +203,34 @@ fn allows_between(
         &[],
         w_back,
         w_behind,
-        meter,
     )
 }
 
-/// Whether a move inside a vehicle is allowed, by its new route in parts.
-#[inline(always)]
-fn allows_inside(
+/// Whether the new route of a shift inside a vehicle is in bounds.
+fn shift_inside_fits(
     view: &View,
     setup: &Setup,
-    bounded: bool,
-    skip: &[Move],
-    mv: Move,
-    v: u32,
-    x: u32,
-    ahead: &Spans,
-    front: &[u32],
-    turned: bool,
-    first: &[u32],
-    second: &[u32],
-    third: &[u32],
-    back: &[u32],
-    behind: &Spans,
-    meter: &mut Meter,
-) -> bool
-    requires laws { Laws }
-    requires view { IsViewOf (setting setup.now) view.now }
-    requires possible { is_possible (setting setup.now).customers view.now.routes mv ≡ true }
-    requires ahead { 0 < ahead.now.width → HasAhead (setting setup.now) v front.now ahead.now }
-    requires behind { 0 < behind.now.width → HasBehind (setting setup.now) v back.now behind.now }
-    requires inside { IsInside view.now.routes mv v x (front.now ++ (way_of turned first.now ++ (second.now ++ (third.now ++ back.now)))) }
-    ensures { IsTrue result ↔ IsAllowed (scope bounded (setting setup.now)) view.now skip.now mv }
-{
-    if x <= view.front(v) {
-        return false;
-    }
-    if is_skipped(skip, &mv) {
-        return false;
-    }
-    fits(
-        setup, bounded, v, ahead, front, turned, first, second, third, back, behind, meter,
-    )
-}
-
-/// Whether a shift inside a vehicle is allowed.
-fn allows_shift_inside(
-    view: &View,
-    setup: &Setup,
-    bounded: bool,
-    skip: &[Move],
     v: u32,
     place: u32,
     length: u32,
     at: u32,
     kept: &Kept,
-    meter: &mut Meter,
 ) -> bool
     requires laws { Laws }
     requires kept { AreKept (setting setup.now) view.now.routes v v kept.now }
     requires view { IsViewOf (setting setup.now) view.now }
     requires possible { is_possible (setting setup.now).customers view.now.routes (Shift v place length v at) ≡ true }
-    ensures { IsTrue result ↔ IsAllowed (scope bounded (setting setup.now)) view.now skip.now (Shift v place length v at) }
+    ensures { IsTrue result ↔ AllFit (setting setup.now) (changes_by view.now.routes (Shift v place length v at)) }
 {
-    let mv = Move::Shift {
-        vehicle: v,
-        place,
-        length,
-        to: v,
-        at,
-    };
     let route = view.customers(v);
     let stretch = part(route, place, place + length);
     if at < place {
         let front = front_of(route, at);
         let between = part(route, at, place);
         let back = back_of(route, place as usize - 1 + length as usize);
-        return allows_inside(
-            view,
+        return fits(
             setup,
-            bounded,
-            skip,
-            mv,
             v,
-            at,
             &kept.ahead,
             front,
             false,
@@ -318,20 +239,14 @@ fn allows_shift_inside(
             &[],
             back,
             &kept.behind,
-            meter,
         );
     }
     let front = front_of(route, place);
     let between = part(route, place + length, at + length);
     let back = back_of(route, at as usize - 1 + length as usize);
-    allows_inside(
-        view,
+    fits(
         setup,
-        bounded,
-        skip,
-        mv,
         v,
-        place,
         &kept.ahead,
         front,
         false,
@@ -340,49 +255,27 @@ fn allows_shift_inside(
         &[],
         back,
         &kept.behind,
-        meter,
     )
 }
 
-/// Whether a swap inside a vehicle, named from its first place, is allowed.
-fn allows_swap_inside(
-    view: &View,
-    setup: &Setup,
-    bounded: bool,
-    skip: &[Move],
-    v: u32,
-    place: u32,
-    at: u32,
-    kept: &Kept,
-    meter: &mut Meter,
-) -> bool
+/// Whether the new route of a swap inside a vehicle, named from its first place, is in bounds.
+fn swap_inside_fits(view: &View, setup: &Setup, v: u32, place: u32, at: u32, kept: &Kept) -> bool
     requires laws { Laws }
     requires kept { AreKept (setting setup.now) view.now.routes v v kept.now }
     requires view { IsViewOf (setting setup.now) view.now }
     requires possible { is_possible (setting setup.now).customers view.now.routes (Swap v place v at) ≡ true }
     requires order { place < at }
-    ensures { IsTrue result ↔ IsAllowed (scope bounded (setting setup.now)) view.now skip.now (Swap v place v at) }
+    ensures { IsTrue result ↔ AllFit (setting setup.now) (changes_by view.now.routes (Swap v place v at)) }
 {
-    let mv = Move::Swap {
-        vehicle: v,
-        place,
-        other: v,
-        at,
-    };
     let route = view.customers(v);
     let front = front_of(route, place);
     let here = part(route, place, place + 1);
     let between = part(route, place + 1, at);
     let there = part(route, at, at + 1);
     let back = back_of(route, at as usize);
-    allows_inside(
-        view,
+    fits(
         setup,
-        bounded,
-        skip,
-        mv,
         v,
-        place,
         &kept.ahead,
         front,
         false,
@@ -391,45 +284,24 @@ fn allows_swap_inside(
         here,
         back,
         &kept.behind,
-        meter,
     )
 }
 
-/// Whether a reverse is allowed.
-fn allows_reverse(
-    view: &View,
-    setup: &Setup,
-    bounded: bool,
-    skip: &[Move],
-    v: u32,
-    first: u32,
-    last: u32,
-    kept: &Kept,
-    meter: &mut Meter,
-) -> bool
+/// Whether the new route of a reverse is in bounds.
+fn reverse_fits(view: &View, setup: &Setup, v: u32, first: u32, last: u32, kept: &Kept) -> bool
     requires laws { Laws }
     requires kept { AreKept (setting setup.now) view.now.routes v v kept.now }
     requires view { IsViewOf (setting setup.now) view.now }
     requires possible { is_possible (setting setup.now).customers view.now.routes (Reverse v first last) ≡ true }
-    ensures { IsTrue result ↔ IsAllowed (scope bounded (setting setup.now)) view.now skip.now (Reverse v first last) }
+    ensures { IsTrue result ↔ AllFit (setting setup.now) (changes_by view.now.routes (Reverse v first last)) }
 {
-    let mv = Move::Reverse {
-        vehicle: v,
-        first,
-        last,
-    };
     let route = view.customers(v);
     let front = front_of(route, first);
     let stretch = part(route, first, last + 1);
     let back = back_of(route, last as usize);
-    allows_inside(
-        view,
+    fits(
         setup,
-        bounded,
-        skip,
-        mv,
         v,
-        first,
         &kept.ahead,
         front,
         true,
@@ -438,16 +310,13 @@ fn allows_reverse(
         &[],
         back,
         &kept.behind,
-        meter,
     )
 }
 
-/// Whether a shift between two vehicles is allowed.
-fn allows_shift(
+/// Whether the new routes of a shift between two vehicles are in bounds.
+fn shift_fits(
     view: &View,
     setup: &Setup,
-    bounded: bool,
-    skip: &[Move],
     v: u32,
     place: u32,
     length: u32,
@@ -455,7 +324,6 @@ fn allows_shift(
     at: u32,
     v_kept: &Kept,
     w_kept: &Kept,
-    meter: &mut Meter,
 ) -> bool
     requires laws { Laws }
     requires v_kept { AreKept (setting setup.now) view.now.routes v w v_kept.now }
@@ -463,15 +331,8 @@ fn allows_shift(
     requires view { IsViewOf (setting setup.now) view.now }
     requires possible { is_possible (setting setup.now).customers view.now.routes (Shift v place length w at) ≡ true }
     requires apart { v ≢ w }
-    ensures { IsTrue result ↔ IsAllowed (scope bounded (setting setup.now)) view.now skip.now (Shift v place length w at) }
+    ensures { IsTrue result ↔ AllFit (setting setup.now) (changes_by view.now.routes (Shift v place length w at)) }
 {
-    let mv = Move::Shift {
-        vehicle: v,
-        place,
-        length,
-        to: w,
-        at,
-    };
     let route = view.customers(v);
     let front = front_of(route, place);
     let stretch = part(route, place, place + length);
@@ -479,45 +340,33 @@ fn allows_shift(
     let other = view.customers(w);
     let before = front_of(other, at);
     let after = back_of(other, at as usize - 1);
-    allows_between(
-        view,
+    fits_between(
         setup,
-        bounded,
-        skip,
-        mv,
         v,
-        w,
-        place,
-        at,
-        stretch,
-        &[],
         &v_kept.ahead,
         front,
         &[],
         rest,
         &v_kept.behind,
+        w,
         &w_kept.ahead,
         before,
         stretch,
         after,
         &w_kept.behind,
-        meter,
     )
 }
 
-/// Whether a swap between two vehicles is allowed.
-fn allows_swap(
+/// Whether the new routes of a swap between two vehicles are in bounds.
+fn swap_fits(
     view: &View,
     setup: &Setup,
-    bounded: bool,
-    skip: &[Move],
     v: u32,
     place: u32,
     w: u32,
     at: u32,
     v_kept: &Kept,
     w_kept: &Kept,
-    meter: &mut Meter,
 ) -> bool
     requires laws { Laws }
     requires v_kept { AreKept (setting setup.now) view.now.routes v w v_kept.now }
@@ -525,14 +374,8 @@ fn allows_swap(
     requires view { IsViewOf (setting setup.now) view.now }
     requires possible { is_possible (setting setup.now).customers view.now.routes (Swap v place w at) ≡ true }
     requires apart { v ≢ w }
-    ensures { IsTrue result ↔ IsAllowed (scope bounded (setting setup.now)) view.now skip.now (Swap v place w at) }
+    ensures { IsTrue result ↔ AllFit (setting setup.now) (changes_by view.now.routes (Swap v place w at)) }
 {
-    let mv = Move::Swap {
-        vehicle: v,
-        place,
-        other: w,
-        at,
-    };
     let route = view.customers(v);
     let front = front_of(route, place);
     let here = part(route, place, place + 1);
@@ -541,108 +384,252 @@ fn allows_swap(
     let before = front_of(other, at);
     let there = part(other, at, at + 1);
     let after = back_of(other, at as usize);
-    allows_between(
-        view,
+    fits_between(
         setup,
-        bounded,
-        skip,
-        mv,
         v,
-        w,
-        place,
-        at,
-        here,
-        there,
         &v_kept.ahead,
         front,
         there,
         rest,
         &v_kept.behind,
+        w,
         &w_kept.ahead,
         before,
         here,
         after,
         &w_kept.behind,
-        meter,
     )
 }
 
-/// Whether a cross is allowed.
-fn allows_cross(
+/// Whether the new routes of a cross are in bounds.
+fn cross_fits(
     view: &View,
     setup: &Setup,
-    bounded: bool,
-    skip: &[Move],
     v: u32,
     keep: u32,
     w: u32,
     keep_other: u32,
     v_kept: &Kept,
     w_kept: &Kept,
-    meter: &mut Meter,
 ) -> bool
     requires laws { Laws }
     requires v_kept { AreKept (setting setup.now) view.now.routes v w v_kept.now }
     requires w_kept { AreKept (setting setup.now) view.now.routes w v w_kept.now }
     requires view { IsViewOf (setting setup.now) view.now }
     requires possible { is_possible (setting setup.now).customers view.now.routes (Cross v keep w keep_other) ≡ true }
-    ensures { IsTrue result ↔ IsAllowed (scope bounded (setting setup.now)) view.now skip.now (Cross v keep w keep_other) }
+    ensures { IsTrue result ↔ AllFit (setting setup.now) (changes_by view.now.routes (Cross v keep w keep_other)) }
 {
-    let mv = Move::Cross {
-        vehicle: v,
-        keep,
-        other: w,
-        keep_other,
-    };
     let _customers = setup.customers();
     let (front, tail) = view.customers(v).split_at(keep as usize);
     let (before, end) = view.customers(w).split_at(keep_other as usize);
-    allows_between(
-        view,
+    fits_between(
         setup,
-        bounded,
-        skip,
-        mv,
         v,
-        w,
-        keep + 1,
-        keep_other + 1,
-        tail,
-        end,
         &v_kept.ahead,
         front,
         &[],
         end,
         &v_kept.over,
+        w,
         &w_kept.ahead,
         before,
         &[],
         tail,
         &w_kept.over,
-        meter,
     )
 }
 
-/// Whether a move near two vehicles, or near one, that has an effect is allowed; where `bounded` is false, with the dimensions left out.
-/// What is kept for each vehicle is what `Kept::keep_between` or `Kept::keep_alone` kept last, or nothing.
-pub fn allows(
+/// Whether a shift between two vehicles keeps the frozen fronts and the pins.
+#[inline(always)]
+fn may_shift(view: &View, setup: &Setup, v: u32, place: u32, length: u32, w: u32, at: u32) -> bool
+    requires laws { Laws }
+    requires view { IsViewOf (setting setup.now) view.now }
+    requires possible { is_possible (setting setup.now).customers view.now.routes (Shift v place length w at) ≡ true }
+    requires apart { v ≢ w }
+    ensures { IsTrue result ↔ IsAllowed (scope false (setting setup.now)) view.now [] (Shift v place length w at) }
+{
+    if at < first_free(view, setup, w) {
+        return false;
+    }
+    may_leave(view, setup, v, place, length)
+}
+
+/// Whether a shift inside a vehicle keeps its frozen front.
+#[inline(always)]
+fn may_shift_inside(view: &View, setup: &Setup, v: u32, place: u32, length: u32, at: u32) -> bool
+    requires laws { Laws }
+    requires view { IsViewOf (setting setup.now) view.now }
+    requires possible { is_possible (setting setup.now).customers view.now.routes (Shift v place length v at) ≡ true }
+    ensures { IsTrue result ↔ IsAllowed (scope false (setting setup.now)) view.now [] (Shift v place length v at) }
+{
+    let begin = first_free(view, setup, v);
+    if place < begin {
+        return false;
+    }
+    if at < begin {
+        return false;
+    }
+    true
+}
+
+/// Whether a swap between two vehicles keeps the frozen fronts and the pins.
+#[inline(always)]
+fn may_swap(view: &View, setup: &Setup, v: u32, place: u32, w: u32, at: u32) -> bool
+    requires laws { Laws }
+    requires view { IsViewOf (setting setup.now) view.now }
+    requires possible { is_possible (setting setup.now).customers view.now.routes (Swap v place w at) ≡ true }
+    requires apart { v ≢ w }
+    ensures { IsTrue result ↔ IsAllowed (scope false (setting setup.now)) view.now [] (Swap v place w at) }
+{
+    if !may_leave(view, setup, v, place, 1) {
+        return false;
+    }
+    may_leave(view, setup, w, at, 1)
+}
+
+/// Whether a swap inside a vehicle, named from its first place, keeps its frozen front.
+#[inline(always)]
+fn may_swap_inside(view: &View, setup: &Setup, v: u32, place: u32, at: u32) -> bool
+    requires laws { Laws }
+    requires view { IsViewOf (setting setup.now) view.now }
+    requires possible { is_possible (setting setup.now).customers view.now.routes (Swap v place v at) ≡ true }
+    requires order { place < at }
+    ensures { IsTrue result ↔ IsAllowed (scope false (setting setup.now)) view.now [] (Swap v place v at) }
+{
+    if place < first_free(view, setup, v) {
+        return false;
+    }
+    true
+}
+
+/// Whether a reverse keeps the frozen front.
+#[inline(always)]
+fn may_reverse(view: &View, setup: &Setup, v: u32, first: u32, last: u32) -> bool
+    requires laws { Laws }
+    requires view { IsViewOf (setting setup.now) view.now }
+    requires possible { is_possible (setting setup.now).customers view.now.routes (Reverse v first last) ≡ true }
+    ensures { IsTrue result ↔ IsAllowed (scope false (setting setup.now)) view.now [] (Reverse v first last) }
+{
+    if first < first_free(view, setup, v) {
+        return false;
+    }
+    true
+}
+
+/// Whether all customers of a vehicle but the first ones may leave it: these are its frozen front at least, and none of the others is
+/// pinned.
+#[inline(always)]
+fn may_part(view: &View, setup: &Setup, v: u32, keep: u32) -> bool
+    requires laws { Laws }
+    requires view { IsViewOf (setting setup.now) view.now }
+    requires v { (1 ≤ v) × (v ≤ length view.now.routes) }
+    requires keep { keep ≤ length (route_at view.now.routes v) }
+    ensures { IsTrue result ↔ (front_of (pins_of view.now) v < keep + 1) × AreLoose (pins_of view.now) (drop keep (route_at view.now.routes v)) }
+{
+    if keep < view.front(v) {
+        return false;
+    }
+    are_loose(view, back_of(view.customers(v), keep as usize))
+}
+
+/// Whether a cross keeps the frozen fronts and the pins.
+#[inline(always)]
+fn may_cross(view: &View, setup: &Setup, v: u32, keep: u32, w: u32, keep_other: u32) -> bool
+    requires laws { Laws }
+    requires view { IsViewOf (setting setup.now) view.now }
+    requires possible { is_possible (setting setup.now).customers view.now.routes (Cross v keep w keep_other) ≡ true }
+    ensures { IsTrue result ↔ IsAllowed (scope false (setting setup.now)) view.now [] (Cross v keep w keep_other) }
+{
+    if !may_part(view, setup, v, keep) {
+        return false;
+    }
+    may_part(view, setup, w, keep_other)
+}
+
+/// Whether a move near two vehicles, or near one, that has an effect keeps the frozen fronts and the pins.
+#[inline(always)]
+fn may_go(view: &View, setup: &Setup, v: u32, w: u32, mv: Move) -> bool
+    requires laws { Laws }
+    requires view { IsViewOf (setting setup.now) view.now }
+    requires possible { is_possible (setting setup.now).customers view.now.routes mv ≡ true }
+    requires near { IsNear v w mv }
+    ensures { IsTrue result ↔ IsAllowed (scope false (setting setup.now)) view.now [] mv }
+{
+    match mv {
+        Move::Shift {
+            vehicle,
+            place,
+            length,
+            to,
+            at,
+        } => {
+            if vehicle == to {
+                may_shift_inside(view, setup, vehicle, place, length, at)
+            } else {
+                may_shift(view, setup, vehicle, place, length, to, at)
+            }
+        }
+        Move::Swap {
+            vehicle,
+            place,
+            other,
+            at,
+        } => {
+            if vehicle == other {
+                may_swap_inside(view, setup, vehicle, place, at)
+            } else {
+                may_swap(view, setup, vehicle, place, other, at)
+            }
+        }
+        Move::Reverse {
+            vehicle,
+            first,
+            last,
+        } => may_reverse(view, setup, vehicle, first, last),
+        Move::Cross {
+            vehicle,
+            keep,
+            other,
+            keep_other,
+        } => may_cross(view, setup, vehicle, keep, other, keep_other),
+        Move::Insert { .. } | Move::Remove { .. } => false,
+    }
+}
+
+/// Whether a move near two vehicles, or near one, that has an effect keeps the frozen fronts and the pins and is not to be skipped: whether
+/// it is allowed, with the dimensions left out.
+#[inline(never)]
+pub fn is_free(view: &View, setup: &Setup, skip: &[Move], v: u32, w: u32, mv: Move) -> bool
+    requires view { IsViewOf (setting setup.now) view.now }
+    requires possible { is_possible (setting setup.now).customers view.now.routes mv ≡ true }
+    requires near { IsNear v w mv }
+    ensures { IsTrue result ↔ IsAllowed (scope false (setting setup.now)) view.now skip.now mv }
+{
+    laws_below();
+    if is_skipped(skip, &mv) {
+        return false;
+    }
+    may_go(view, setup, v, w, mv)
+}
+
+/// Whether the new routes of a move near two vehicles, or near one, that has an effect are in bounds. What is kept for each vehicle is what
+/// `Kept::keep_between` or `Kept::keep_alone` kept last, or nothing.
+#[inline(never)]
+pub fn fits_after(
     view: &View,
     setup: &Setup,
-    bounded: bool,
-    skip: &[Move],
     v: u32,
     w: u32,
     v_kept: &Kept,
     w_kept: &Kept,
     mv: Move,
-    meter: &mut Meter,
 ) -> bool
     requires v_kept { AreKept (setting setup.now) view.now.routes v w v_kept.now }
     requires w_kept { AreKept (setting setup.now) view.now.routes w v w_kept.now }
     requires view { IsViewOf (setting setup.now) view.now }
     requires possible { is_possible (setting setup.now).customers view.now.routes mv ≡ true }
     requires near { IsNear v w mv }
-    ensures { IsTrue result ↔ IsAllowed (scope bounded (setting setup.now)) view.now skip.now mv }
+    ensures { IsTrue result ↔ AllFit (setting setup.now) (changes_by view.now.routes mv) }
 {
     laws_below();
     match mv {
@@ -654,14 +641,9 @@ pub fn allows(
             at,
         } => {
             if vehicle == to {
-                allows_shift_inside(
-                    view, setup, bounded, skip, vehicle, place, length, at, v_kept, meter,
-                )
+                shift_inside_fits(view, setup, vehicle, place, length, at, v_kept)
             } else {
-                allows_shift(
-                    view, setup, bounded, skip, vehicle, place, length, to, at, v_kept, w_kept,
-                    meter,
-                )
+                shift_fits(view, setup, vehicle, place, length, to, at, v_kept, w_kept)
             }
         }
         Move::Swap {
@@ -671,30 +653,54 @@ pub fn allows(
             at,
         } => {
             if vehicle == other {
-                allows_swap_inside(
-                    view, setup, bounded, skip, vehicle, place, at, v_kept, meter,
-                )
+                swap_inside_fits(view, setup, vehicle, place, at, v_kept)
             } else {
-                allows_swap(
-                    view, setup, bounded, skip, vehicle, place, other, at, v_kept, w_kept, meter,
-                )
+                swap_fits(view, setup, vehicle, place, other, at, v_kept, w_kept)
             }
         }
         Move::Reverse {
             vehicle,
             first,
             last,
-        } => allows_reverse(
-            view, setup, bounded, skip, vehicle, first, last, v_kept, meter,
-        ),
+        } => reverse_fits(view, setup, vehicle, first, last, v_kept),
         Move::Cross {
             vehicle,
             keep,
             other,
             keep_other,
-        } => allows_cross(
-            view, setup, bounded, skip, vehicle, keep, other, keep_other, v_kept, w_kept, meter,
+        } => cross_fits(
+            view, setup, vehicle, keep, other, keep_other, v_kept, w_kept,
         ),
         Move::Insert { .. } | Move::Remove { .. } => false,
     }
+}
+
+/// Whether a move near two vehicles, or near one, that has an effect is allowed; where `bounded` is false, with the dimensions left out.
+/// What is kept is as `fits_after` says it.
+#[inline(always)]
+pub fn allows(
+    view: &View,
+    setup: &Setup,
+    bounded: bool,
+    skip: &[Move],
+    v: u32,
+    w: u32,
+    v_kept: &Kept,
+    w_kept: &Kept,
+    mv: Move,
+) -> bool
+    requires v_kept { AreKept (setting setup.now) view.now.routes v w v_kept.now }
+    requires w_kept { AreKept (setting setup.now) view.now.routes w v w_kept.now }
+    requires view { IsViewOf (setting setup.now) view.now }
+    requires possible { is_possible (setting setup.now).customers view.now.routes mv ≡ true }
+    requires near { IsNear v w mv }
+    ensures { IsTrue result ↔ IsAllowed (scope bounded (setting setup.now)) view.now skip.now mv }
+{
+    if !is_free(view, setup, skip, v, w, mv) {
+        return false;
+    }
+    if !bounded {
+        return true;
+    }
+    fits_after(view, setup, v, w, v_kept, w_kept, mv)
 }

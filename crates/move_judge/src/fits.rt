@@ -21,7 +21,6 @@ fn carry_back(
     from: u32,
     nodes: &[u32],
     vehicle: u32,
-    meter: &mut Meter,
 ) -> Option<(Range, u32)>
     requires laws { Laws }
     requires served { IsServed (tables registry.now) dimension.now }
@@ -43,7 +42,7 @@ fn carry_back(
     let mut from = from;
     for k in 0..nodes.len() {
         let node = nodes[nodes.len() - 1 - k];
-        let way = registry.ask(dimension.id(), meter, from, node);
+        let way = registry.ask(dimension.id(), &mut Meter::new(), from, node);
         range = dimension.after(range, way, node, vehicle)?;
         from = node;
     }
@@ -59,7 +58,6 @@ fn carry_on(
     from: u32,
     nodes: &[u32],
     vehicle: u32,
-    meter: &mut Meter,
 ) -> Option<(Range, u32)>
     requires laws { Laws }
     requires served { IsServed (tables registry.now) dimension.now }
@@ -80,7 +78,7 @@ fn carry_on(
     let mut range = range;
     let mut from = from;
     for node in nodes {
-        let way = registry.ask(dimension.id(), meter, from, *node);
+        let way = registry.ask(dimension.id(), &mut Meter::new(), from, *node);
         range = dimension.after(range, way, *node, vehicle)?;
         from = *node;
     }
@@ -97,7 +95,6 @@ fn carry_way(
     turned: bool,
     nodes: &[u32],
     vehicle: u32,
-    meter: &mut Meter,
 ) -> Option<(Range, u32)>
     requires laws { Laws }
     requires served { IsServed (tables registry.now) dimension.now }
@@ -116,9 +113,9 @@ fn carry_way(
     ensures known { IfSome result (λ r. r.1 < length dimension.now.ranges) }
 {
     if turned {
-        carry_back(dimension, registry, range, from, nodes, vehicle, meter)
+        carry_back(dimension, registry, range, from, nodes, vehicle)
     } else {
-        carry_on(dimension, registry, range, from, nodes, vehicle, meter)
+        carry_on(dimension, registry, range, from, nodes, vehicle)
     }
 }
 
@@ -153,7 +150,6 @@ fn arrival(
     second: &[u32],
     third: &[u32],
     next: u32,
-    meter: &mut Meter,
 ) -> Option<Range>
     requires laws { Laws }
     requires served { IsServed (tables registry.now) dimension.now }
@@ -167,12 +163,10 @@ fn arrival(
     let _nodes = dimension.nodes();
     dimension.spans_are_small();
     let from = last_stop(front);
-    let (range, from) = carry_way(
-        dimension, registry, here, from, turned, first, vehicle, meter,
-    )?;
-    let (range, from) = carry_on(dimension, registry, range, from, second, vehicle, meter)?;
-    let (range, from) = carry_on(dimension, registry, range, from, third, vehicle, meter)?;
-    let way = registry.ask(dimension.id(), meter, from, next);
+    let (range, from) = carry_way(dimension, registry, here, from, turned, first, vehicle)?;
+    let (range, from) = carry_on(dimension, registry, range, from, second, vehicle)?;
+    let (range, from) = carry_on(dimension, registry, range, from, third, vehicle)?;
+    let way = registry.ask(dimension.id(), &mut Meter::new(), from, next);
     dimension.after(range, way, next, vehicle)
 }
 
@@ -197,7 +191,6 @@ fn joins(
     third: &[u32],
     back: &[u32],
     there: Range,
-    meter: &mut Meter,
 ) -> bool
     requires laws { Laws }
     requires served { IsServed (tables registry.now) dimension.now }
@@ -212,7 +205,7 @@ fn joins(
     let _nodes = dimension.nodes();
     let next = next_stop(back);
     match arrival(
-        dimension, registry, vehicle, here, front, turned, first, second, third, next, meter,
+        dimension, registry, vehicle, here, front, turned, first, second, third, next,
     ) {
         None => false,
         Some(arrived) => overlap(arrived, there),
@@ -232,7 +225,6 @@ fn meets(
     third: &[u32],
     back: &[u32],
     behind: Option<Range>,
-    meter: &mut Meter,
 ) -> bool
     requires laws { Laws }
     requires served { IsServed (tables registry.now) dimension.now }
@@ -250,7 +242,7 @@ fn meets(
             None => false,
             Some(there) => joins(
                 dimension, registry, vehicle, here, front, turned, first, second, third, back,
-                there, meter,
+                there,
             ),
         },
     }
@@ -295,7 +287,6 @@ fn homecoming(
     second: &[u32],
     third: &[u32],
     back: &[u32],
-    meter: &mut Meter,
 ) -> Option<Range>
     requires laws { Laws }
     requires served { IsServed (tables registry.now) dimension.now }
@@ -307,14 +298,12 @@ fn homecoming(
     ensures { IsSpan result (Reaches (table_of (tables registry.now) dimension.now) dimension.now vehicle ((front.now ++ (way_of turned first.now ++ (second.now ++ (third.now ++ back.now)))) ++ 0 ∷ [])) }
 {
     let _nodes = dimension.nodes();
-    let (range, from) = carry_on(dimension, registry, here, 0, front, vehicle, meter)?;
-    let (range, from) = carry_way(
-        dimension, registry, range, from, turned, first, vehicle, meter,
-    )?;
-    let (range, from) = carry_on(dimension, registry, range, from, second, vehicle, meter)?;
-    let (range, from) = carry_on(dimension, registry, range, from, third, vehicle, meter)?;
-    let (range, from) = carry_on(dimension, registry, range, from, back, vehicle, meter)?;
-    let way = registry.ask(dimension.id(), meter, from, 0);
+    let (range, from) = carry_on(dimension, registry, here, 0, front, vehicle)?;
+    let (range, from) = carry_way(dimension, registry, range, from, turned, first, vehicle)?;
+    let (range, from) = carry_on(dimension, registry, range, from, second, vehicle)?;
+    let (range, from) = carry_on(dimension, registry, range, from, third, vehicle)?;
+    let (range, from) = carry_on(dimension, registry, range, from, back, vehicle)?;
+    let way = registry.ask(dimension.id(), &mut Meter::new(), from, 0);
     dimension.after(range, way, 0, vehicle)
 }
 
@@ -329,7 +318,6 @@ fn comes_home(
     second: &[u32],
     third: &[u32],
     back: &[u32],
-    meter: &mut Meter,
 ) -> bool
     requires laws { Laws }
     requires served { IsServed (tables registry.now) dimension.now }
@@ -344,7 +332,6 @@ fn comes_home(
         Some(here) => {
             let home = homecoming(
                 dimension, registry, vehicle, here, front, turned, first, second, third, back,
-                meter,
             );
             home.is_some()
         }
@@ -361,7 +348,6 @@ fn all_come_home(
     second: &[u32],
     third: &[u32],
     back: &[u32],
-    meter: &mut Meter,
 ) -> bool
     requires laws { Laws }
     requires known { All (λ c. c ≤ (setting setup.now).customers) (front.now ++ (way_of turned first.now ++ (second.now ++ (third.now ++ back.now)))) }
@@ -381,7 +367,6 @@ fn all_come_home(
             second,
             third,
             back,
-            meter,
         ) {
             return false;
         }
@@ -402,7 +387,6 @@ fn all_meet(
     third: &[u32],
     back: &[u32],
     behind: &Spans,
-    meter: &mut Meter,
 ) -> bool
     requires laws { Laws }
     requires known { All (λ c. c ≤ (setting setup.now).customers) (front.now ++ (way_of turned first.now ++ (second.now ++ (third.now ++ back.now)))) }
@@ -426,7 +410,6 @@ fn all_meet(
             third,
             back,
             behind.at(k, back.len()),
-            meter,
         );
         if !fits {
             return false;
@@ -435,12 +418,10 @@ fn all_meet(
     true
 }
 
-/// Whether a route of five parts, the second of which may be driven back, is in bounds in each dimension, where these bound it at all: by
-/// the cumuls after its first part and those before its last one where they are kept, and else by its whole way.
+/// Whether a route of five parts, the second of which may be driven back, is in bounds in each dimension: by the cumuls after its first part and those before its last one where they are kept, and else by its whole way.
 #[inline(always)]
 pub(crate) fn fits(
     setup: &Setup,
-    bounded: bool,
     vehicle: u32,
     ahead: &Spans,
     front: &[u32],
@@ -450,7 +431,6 @@ pub(crate) fn fits(
     third: &[u32],
     back: &[u32],
     behind: &Spans,
-    meter: &mut Meter,
 ) -> bool
     requires laws { Laws }
     requires known { All (λ c. c ≤ (setting setup.now).customers) (front.now ++ (way_of turned first.now ++ (second.now ++ (third.now ++ back.now)))) }
@@ -458,25 +438,18 @@ pub(crate) fn fits(
     requires high { vehicle ≤ (setting setup.now).vehicles }
     requires ahead { 0 < ahead.now.width → HasAhead (setting setup.now) vehicle front.now ahead.now }
     requires behind { 0 < behind.now.width → HasBehind (setting setup.now) vehicle back.now behind.now }
-    ensures { IsTrue result ↔ FitsAll (scope bounded (setting setup.now)) vehicle (front.now ++ (way_of turned first.now ++ (second.now ++ (third.now ++ back.now)))) }
+    ensures { IsTrue result ↔ FitsAll (setting setup.now) vehicle (front.now ++ (way_of turned first.now ++ (second.now ++ (third.now ++ back.now)))) }
 {
-    if !bounded {
-        return true;
-    }
     if is_nothing(front, turned, first, second, third, back) {
         return true;
     }
     if !ahead.are_kept() {
-        return all_come_home(
-            setup, vehicle, front, turned, first, second, third, back, meter,
-        );
+        return all_come_home(setup, vehicle, front, turned, first, second, third, back);
     }
     if !behind.are_kept() {
-        return all_come_home(
-            setup, vehicle, front, turned, first, second, third, back, meter,
-        );
+        return all_come_home(setup, vehicle, front, turned, first, second, third, back);
     }
     all_meet(
-        setup, vehicle, ahead, front, turned, first, second, third, back, behind, meter,
+        setup, vehicle, ahead, front, turned, first, second, third, back, behind,
     )
 }

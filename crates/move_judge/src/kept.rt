@@ -92,7 +92,6 @@ fn span_after(
     from: u32,
     node: u32,
     vehicle: u32,
-    meter: &mut Meter,
 ) -> Option<Range>
     requires laws { Laws }
     requires served { IsServed (tables registry.now) dimension.now }
@@ -105,7 +104,7 @@ fn span_after(
 {
     match span {
         None => None,
-        Some(range) => dimension.extend(registry, range, from, node, vehicle, meter),
+        Some(range) => dimension.extend(registry, range, from, node, vehicle, &mut Meter::new()),
     }
 }
 
@@ -133,7 +132,6 @@ fn span_before(
     node: u32,
     next: u32,
     vehicle: u32,
-    meter: &mut Meter,
 ) -> Option<Range>
     requires laws { Laws }
     requires served { IsServed (tables registry.now) dimension.now }
@@ -147,7 +145,7 @@ fn span_before(
 {
     match span {
         None => None,
-        Some(range) => dimension.precede(registry, range, node, next, vehicle, meter),
+        Some(range) => dimension.precede(registry, range, node, next, vehicle, &mut Meter::new()),
     }
 }
 
@@ -157,7 +155,6 @@ fn fill_ahead(
     vehicle: u32,
     route: &[u32],
     cells: &mut Vec<Option<Range>>,
-    meter: &mut Meter,
 ) -> Result<(), AllocError>
     requires laws { Laws }
     requires known { All (λ c. c ≤ (setting setup.now).customers) route.now }
@@ -174,15 +171,7 @@ fn fill_ahead(
         let mut from = 0;
         cells.push(span)?;
         for customer in route {
-            span = span_after(
-                dimension,
-                setup.registry(),
-                span,
-                from,
-                *customer,
-                vehicle,
-                meter,
-            );
+            span = span_after(dimension, setup.registry(), span, from, *customer, vehicle);
             from = *customer;
             cells.push(span)?;
         }
@@ -196,7 +185,6 @@ fn fill_behind(
     vehicle: u32,
     route: &[u32],
     cells: &mut Vec<Option<Range>>,
-    meter: &mut Meter,
 ) -> Result<(), AllocError>
     requires laws { Laws }
     requires known { All (λ c. c ≤ (setting setup.now).customers) route.now }
@@ -214,15 +202,7 @@ fn fill_behind(
         cells.push(span)?;
         for k in 0..route.len() {
             let node = route[route.len() - 1 - k];
-            span = span_before(
-                dimension,
-                setup.registry(),
-                span,
-                node,
-                next,
-                vehicle,
-                meter,
-            );
+            span = span_before(dimension, setup.registry(), span, node, next, vehicle);
             next = node;
             cells.push(span)?;
         }
@@ -232,13 +212,7 @@ fn fill_behind(
 
 impl Spans {
     /// Keeps the spans after each number of the first customers of a route, as the vehicle drives it.
-    fn keep_ahead(
-        &mut self,
-        setup: &Setup,
-        vehicle: u32,
-        route: &[u32],
-        meter: &mut Meter,
-    ) -> Result<(), AllocError>
+    fn keep_ahead(&mut self, setup: &Setup, vehicle: u32, route: &[u32]) -> Result<(), AllocError>
         requires laws { Laws }
         requires known { All (λ c. c ≤ (setting setup.now).customers) route.now }
         requires short { length route.now ≤ 1000 }
@@ -246,19 +220,13 @@ impl Spans {
         requires high { vehicle ≤ (setting setup.now).vehicles }
         ensures { IfOk result (λ _. AreAhead (setting setup.now) vehicle route.now self.new) }
     {
-        fill_ahead(setup, vehicle, route, &mut self.cells, meter)?;
+        fill_ahead(setup, vehicle, route, &mut self.cells)?;
         self.width = route.len() + 1;
         Ok(())
     }
 
     /// Keeps the spans before each number of the last customers of a route, as the vehicle drives it.
-    fn keep_behind(
-        &mut self,
-        setup: &Setup,
-        vehicle: u32,
-        route: &[u32],
-        meter: &mut Meter,
-    ) -> Result<(), AllocError>
+    fn keep_behind(&mut self, setup: &Setup, vehicle: u32, route: &[u32]) -> Result<(), AllocError>
         requires laws { Laws }
         requires known { All (λ c. c ≤ (setting setup.now).customers) route.now }
         requires short { length route.now ≤ 1000 }
@@ -266,7 +234,7 @@ impl Spans {
         requires high { vehicle ≤ (setting setup.now).vehicles }
         ensures { IfOk result (λ _. AreBehind (setting setup.now) vehicle route.now self.new) }
     {
-        fill_behind(setup, vehicle, route, &mut self.cells, meter)?;
+        fill_behind(setup, vehicle, route, &mut self.cells)?;
         self.width = route.len() + 1;
         Ok(())
     }
@@ -302,7 +270,6 @@ impl Kept {
         setup: &Setup,
         v: u32,
         w: u32,
-        meter: &mut Meter,
     ) -> Result<(), AllocError>
         requires view { IsViewOf (setting setup.now) view.now }
         requires v { (1 ≤ v) × (v ≤ (setting setup.now).vehicles) }
@@ -313,19 +280,13 @@ impl Kept {
         laws_below();
         let _customers = setup.customers();
         let (own, other) = (view.customers(v), view.customers(w));
-        self.ahead.keep_ahead(setup, v, own, meter)?;
-        self.behind.keep_behind(setup, v, own, meter)?;
-        self.over.keep_behind(setup, v, other, meter)
+        self.ahead.keep_ahead(setup, v, own)?;
+        self.behind.keep_behind(setup, v, own)?;
+        self.over.keep_behind(setup, v, other)
     }
 
     /// Keeps of a vehicle alone that by which moves inside it are judged. Vehicles count from 1.
-    pub fn keep_alone(
-        &mut self,
-        view: &View,
-        setup: &Setup,
-        v: u32,
-        meter: &mut Meter,
-    ) -> Result<(), AllocError>
+    pub fn keep_alone(&mut self, view: &View, setup: &Setup, v: u32) -> Result<(), AllocError>
         requires view { IsViewOf (setting setup.now) view.now }
         requires v { (1 ≤ v) × (v ≤ (setting setup.now).vehicles) }
         ensures kept { IfOk result (λ _. AreKept (setting setup.now) view.now.routes v v self.new) }
@@ -334,7 +295,7 @@ impl Kept {
         laws_below();
         let _customers = setup.customers();
         let own = view.customers(v);
-        self.ahead.keep_ahead(setup, v, own, meter)?;
-        self.behind.keep_behind(setup, v, own, meter)
+        self.ahead.keep_ahead(setup, v, own)?;
+        self.behind.keep_behind(setup, v, own)
     }
 }

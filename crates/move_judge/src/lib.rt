@@ -7,6 +7,6 @@ mod fits;
 mod kept;
 mod laws;
 
-pub use allowed::{allows, first_free, loose_from, may_leave, must_keep};
+pub use allowed::{allows, first_free, fits_after, is_free, loose_from, may_leave, must_keep};
 pub use kept::Kept;
 pub use laws::{allowed_moves_are_free, bounds_only_forbid};

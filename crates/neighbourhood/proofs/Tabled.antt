@@ -1,9 +1,11 @@
-use Rattle.std.proofs.Common.{◌≡◌, ◌∙◌, ℕ, ◌+◌, ◌-◌, ◌*◌, ◌<◌, ◌≤◌, ap, arith, List, length, slice_index, true, false, Bool}
+use Rattle.std.proofs.Common.{◌≡◌, ◌∙◌, ℕ, suc, ◌+◌, ◌-◌, ◌*◌, ◌<◌, ◌≤◌, ap, refl, arith, List, [], ◌∷◌, ◌++◌, length, slice_index, true, false, Bool}
+use Rattle.std.proofs.lemmas.List.{get_or-append_right}
 use Rattle.callback_store.specs.Tables.{Table}
+use Rattle.plan_core.specs.Plan.{route_at}
 use Rattle.dimension_core.specs.Setting.{Setting}
 use Rattle.pin_core.specs.View.{ViewState}
 use Rattle.move_core.specs.declared.moves.Move.{Move}
-use Rattle.way_costs.specs.Ways.{hop, hop_by, turned, stops, AreHopsFrom, AreEdges, AreSums}
+use Rattle.way_costs.specs.Ways.{hop, hop_by, turned, stops, AreStops, AreHopsFrom, AreEdges, AreSums}
 use Rattle.way_costs.specs.Savings.{shift_lost, shift_gained, swap_lost, swap_gained, next_lost, next_gained, cross_lost, cross_gained, reverse_lost, reverse_gained}
 use Rattle.way_costs.specs.Costs.{IsSaving}
 
@@ -21,6 +23,20 @@ edge_at t stops edges k e low high =
     let c = e.counted in
     let back : k - 1 + 1 ≡ k = omega arith in
     e.hops (k - 1) (omega arith) ∙ ap (λ (n : ℕ). hop t (slice_index stops (k - 1)) (slice_index stops n)) back
+
+-- the first stop and the last one are the depot
+pub stops_ends : (n : ℕ) (routes : List (List ℕ)) (v : ℕ) (all : List ℕ) → AreStops n routes v all → (slice_index all 0 ≡ 0) × (slice_index all (length all - 1) ≡ 0)
+stops_ends n routes v all are =
+    let r = route_at routes v in
+    let long = are.sized in
+    let last : length all - 1 ≡ suc (length r) = omega arith in (
+      ap (λ (xs : List ℕ). slice_index xs 0) are.is,
+      ap (λ (xs : List ℕ). slice_index xs (length all - 1)) are.is ∙ ap (λ (k : ℕ). slice_index (0 ∷ (r ++ 0 ∷ [])) k) last
+          ∙ get_or-append_right (0 ∷ r) (0 ∷ []) (suc (length r)) (suc (length r)) 0 refl (omega arith) ∙ ends (suc (length r)),
+    )
+  where
+    ends : (n : ℕ) → slice_index (0 ∷ []) (n - n) ≡ 0
+    ends n = let none : n - n ≡ 0 = omega arith in ap (λ (k : ℕ). slice_index (0 ∷ []) k) none
 
 -- a row of a table that lacks a row and a column: the ways from one stop to others, or back to it
 abbrev pub IsRowFrom : Bool → Table → List ℕ → List ℕ → ℕ → ℕ → List ℕ → Type 0

@@ -10,7 +10,6 @@ ghost use Rattle.move_judge.specs.Kept.{AreKept};
 ghost use Rattle.neighbourhood.specs.Search.{gain_of, IsBestSoFar, IsNext};
 ghost use Rattle.way_costs.specs.Costs.{IsSaving};
 
-use callback_store::Meter;
 use dimension_core::Setup;
 use move_core::Move;
 use move_judge::{Kept, allows};
@@ -57,7 +56,6 @@ pub(crate) fn better(
     lost: u64,
     gained: u64,
     best: Option<(Move, u64)>,
-    meter: &mut Meter,
 ) -> Option<(Move, u64)>
     requires view { IsViewOf (setting setup.now) view.now }
     requires v_kept { AreKept (setting setup.now) view.now.routes v w v_kept.now }
@@ -72,7 +70,7 @@ pub(crate) fn better(
     if gain <= gain_of(best) {
         return best;
     }
-    if !allows(view, setup, bounded, skip, v, w, v_kept, w_kept, mv, meter) {
+    if !allows(view, setup, bounded, skip, v, w, v_kept, w_kept, mv) {
         return best;
     }
     Some((mv, gain))

@@ -14,7 +14,6 @@ ghost use Rattle.way_costs.specs.Costs.{IsSaving};
 ghost use Rattle.way_costs.specs.Ways.{AreStops, AreEdges, AreHopsFrom};
 
 use crate::best::{better, wanted};
-use callback_store::Meter;
 use dimension_core::Setup;
 use move_core::Move;
 use move_judge::{Kept, must_keep};
@@ -41,7 +40,6 @@ fn cross_row(
     v_kept: &Kept,
     w_kept: &Kept,
     best: Option<(Move, u64)>,
-    meter: &mut Meter,
 ) -> Option<(Move, u64)>
     requires laws { Laws }
     requires view { IsViewOf (setting setup.now) view.now }
@@ -91,7 +89,7 @@ fn cross_row(
             keep_other: there,
         };
         best = better(
-            view, setup, bounded, skip, v, w, v_kept, w_kept, mv, all_lost, all_gained, best, meter,
+            view, setup, bounded, skip, v, w, v_kept, w_kept, mv, all_lost, all_gained, best,
         );
         keep_other = there + 1;
     }
@@ -120,7 +118,6 @@ fn cross_over(
     v_kept: &Kept,
     w_kept: &Kept,
     best: Option<(Move, u64)>,
-    meter: &mut Meter,
 ) -> Option<(Move, u64)>
     requires laws { Laws }
     requires view { IsViewOf (setting setup.now) view.now }
@@ -152,7 +149,7 @@ fn cross_over(
     let next = row(into, to.len(), index + 1);
     cross_row(
         view, setup, bounded, skip, v, w, keep, lost, to_edges, most, here, next, begin,
-        end as u32, v_kept, w_kept, best, meter,
+        end as u32, v_kept, w_kept, best,
     )
 }
 
@@ -174,7 +171,6 @@ pub(crate) fn best_cross(
     v_kept: &Kept,
     w_kept: &Kept,
     best: Option<(Move, u64)>,
-    meter: &mut Meter,
 ) -> Option<(Move, u64)>
     requires laws { Laws }
     requires view { IsViewOf (setting setup.now) view.now }
@@ -196,7 +192,7 @@ pub(crate) fn best_cross(
     for keep in 0..from.len() as u32 - 1 {
         best = cross_over(
             view, setup, bounded, skip, v, w, keep, least, begin, from, to, from_edges, to_edges,
-            most, out, into, v_kept, w_kept, best, meter,
+            most, out, into, v_kept, w_kept, best,
         );
     }
     best

@@ -13,7 +13,6 @@ ghost use Rattle.way_costs.specs.Costs.{IsSaving};
 ghost use Rattle.way_costs.specs.Ways.{AreStops, AreEdges, AreHopsFrom, AreSums};
 
 use crate::best::{better, wanted};
-use callback_store::Meter;
 use dimension_core::Setup;
 use move_core::Move;
 use move_judge::{Kept, first_free};
@@ -39,7 +38,6 @@ fn reverse_row(
     end: u32,
     kept: &Kept,
     best: Option<(Move, u64)>,
-    meter: &mut Meter,
 ) -> Option<(Move, u64)>
     requires laws { Laws }
     requires view { IsViewOf (setting setup.now) view.now }
@@ -105,7 +103,7 @@ fn reverse_row(
             last: there,
         };
         best = better(
-            view, setup, bounded, skip, v, v, kept, kept, mv, all_lost, all_gained, best, meter,
+            view, setup, bounded, skip, v, v, kept, kept, mv, all_lost, all_gained, best,
         );
         last = there + 1;
     }
@@ -127,7 +125,6 @@ fn reverse_from(
     out: &[u32],
     kept: &Kept,
     best: Option<(Move, u64)>,
-    meter: &mut Meter,
 ) -> Option<(Move, u64)>
     requires laws { Laws }
     requires view { IsViewOf (setting setup.now) view.now }
@@ -167,7 +164,6 @@ fn reverse_from(
         from.len() as u32 - 1,
         kept,
         best,
-        meter,
     )
 }
 
@@ -185,7 +181,6 @@ pub(crate) fn best_reverse(
     out: &[u32],
     kept: &Kept,
     best: Option<(Move, u64)>,
-    meter: &mut Meter,
 ) -> Option<(Move, u64)>
     requires laws { Laws }
     requires view { IsViewOf (setting setup.now) view.now }
@@ -203,7 +198,6 @@ pub(crate) fn best_reverse(
     for first in 1..from.len() as u32 - 1 {
         best = reverse_from(
             view, setup, bounded, skip, v, first, from, edges, sums, back_sums, out, kept, best,
-            meter,
         );
     }
     best

@@ -15,10 +15,9 @@ use crate::laws::laws_below;
 use crate::reverse::best_reverse;
 use crate::shift::{best_shift, best_shift_inside};
 use crate::swap::{best_swap, best_swap_inside};
-use callback_store::Meter;
 use dimension_core::Setup;
 use move_core::Move;
-use move_judge::{Kept, allows};
+use move_judge::{Kept, fits_after};
 use pin_core::View;
 use std::alloc::{AllocError, Global};
 use way_costs::{Along, Sides, Ways, fill_stops, most_of, parts_of};
@@ -34,7 +33,6 @@ fn best_of_one(
     ways: &Ways,
     along: &Along,
     kept: &Kept,
-    meter: &mut Meter,
 ) -> Option<(Move, u64)>
     requires laws { Laws }
     requires view { IsViewOf (setting setup.now) view.now }
@@ -47,14 +45,14 @@ fn best_of_one(
     let (edges, most) = (&along.edges, along.most);
     let (out, into) = (&ways.out, &ways.into);
     let shifted = best_shift_inside(
-        view, setup, bounded, skip, v, from, edges, most, out, into, kept, None, meter,
+        view, setup, bounded, skip, v, from, edges, most, out, into, kept, None,
     );
     let swapped = best_swap_inside(
-        view, setup, bounded, skip, v, from, edges, most, out, into, kept, shifted, meter,
+        view, setup, bounded, skip, v, from, edges, most, out, into, kept, shifted,
     );
     let (sums, back_sums) = along.sums.split_at(from.len() - 1);
     best_reverse(
-        view, setup, bounded, skip, v, from, edges, sums, back_sums, out, kept, swapped, meter,
+        view, setup, bounded, skip, v, from, edges, sums, back_sums, out, kept, swapped,
     )
 }
 
@@ -75,7 +73,6 @@ fn holds_up(
     w: u32,
     none: &Kept,
     found: Option<(Move, u64)>,
-    meter: &mut Meter,
 ) -> bool
     requires laws { Laws }
     requires view { IsViewOf (setting setup.now) view.now }
@@ -86,7 +83,7 @@ fn holds_up(
 {
     match found {
         None => true,
-        Some((mv, _)) => allows(view, setup, true, skip, v, w, none, none, mv, meter),
+        Some((mv, _)) => fits_after(view, setup, v, w, none, none, mv),
     }
 }
 
@@ -106,7 +103,6 @@ fn best_of_two(
     ways: &Ways,
     v_kept: &Kept,
     w_kept: &Kept,
-    meter: &mut Meter,
 ) -> Option<(Move, u64)>
     requires laws { Laws }
     requires view { IsViewOf (setting setup.now) view.now }
@@ -124,15 +120,15 @@ fn best_of_two(
     let (out, into) = (&ways.out, &ways.into);
     let shifted = best_shift(
         view, setup, bounded, skip, v, w, from, to, from_edges, to_edges, most, out, into, v_kept,
-        w_kept, None, meter,
+        w_kept, None,
     );
     let swapped = best_swap(
         view, setup, bounded, skip, v, w, from, to, from_edges, to_edges, most, out, into, v_kept,
-        w_kept, shifted, meter,
+        w_kept, shifted,
     );
     best_cross(
         view, setup, bounded, skip, v, w, from, to, from_edges, to_edges, most, out, into, v_kept,
-        w_kept, swapped, meter,
+        w_kept, swapped,
     )
 }
 
@@ -173,37 +169,23 @@ impl Searcher {
         requires v { (1 ≤ v) × (v ≤ (setting setup.now).vehicles) }
         ensures { IfOk result (λ best. MatchOption best (IsIdle (setting setup.now) view.now skip.now v v) (λ p. IsBest (setting setup.now) view.now skip.now v v p.0 p.1)) }
     {
-        let mut meter = Meter::new();
         fill_stops(view, setup, v, &mut self.sides.stops)?;
         let sides = &self.sides;
         let from = sides.stops.as_slice();
-        self.ways.gather_among(setup, from, &mut meter)?;
+        self.ways.gather_among(setup, from)?;
         let ways = &self.ways;
         self.along.gather(setup, from, &ways.out)?;
         let along = &self.along;
         if are_few(from.len(), 0) {
             self.v_kept.forget();
             let none = &self.v_kept;
-            let found = best_of_one(
-                view, setup, false, v, skip, from, ways, along, none, &mut meter,
-            );
-            if holds_up(view, setup, skip, v, v, none, found, &mut meter) {
+            let found = best_of_one(view, setup, false, v, skip, from, ways, along, none);
+            if holds_up(view, setup, skip, v, v, none, found) {
                 return Ok(found);
             }
         }
-        self.v_kept.keep_alone(view, setup, v, &mut meter)?;
-        Ok(best_of_one(
-            view,
-            setup,
-            true,
-            v,
-            skip,
-            from,
-            ways,
-            along,
-            &self.v_kept,
-            &mut meter,
-        ))
+        self.v_kept.keep_alone(view, setup, v)?;
+        Ok(best_of_one(view, setup, true, v, skip, from, ways, along, &self.v_kept))
     }
 
     /// The best move between two vehicles.
@@ -222,27 +204,26 @@ impl Searcher {
         requires apart { v ≢ w }
         ensures { IfOk result (λ best. MatchOption best (IsIdle (setting setup.now) view.now skip.now v w) (λ p. IsBest (setting setup.now) view.now skip.now v w p.0 p.1)) }
     {
-        let mut meter = Meter::new();
-        self.sides.gather(view, setup, v, w, &mut meter)?;
+        self.sides.gather(view, setup, v, w)?;
         let sides = &self.sides;
         let (stops, edges) = (sides.stops.as_slice(), sides.edges.as_slice());
         let (from, to, from_edges, to_edges) = parts_of(view, setup, v, w, stops, edges);
         let most = most_of(to_edges);
-        self.ways.gather_between(setup, from, to, &mut meter)?;
+        self.ways.gather_between(setup, from, to)?;
         let ways = &self.ways;
         if are_few(from.len(), to.len()) {
             self.v_kept.forget();
             let none = &self.v_kept;
             let found = best_of_two(
                 view, setup, false, v, w, skip, from, to, from_edges, to_edges, most, ways, none,
-                none, &mut meter,
+                none,
             );
-            if holds_up(view, setup, skip, v, w, none, found, &mut meter) {
+            if holds_up(view, setup, skip, v, w, none, found) {
                 return Ok(found);
             }
         }
-        self.v_kept.keep_between(view, setup, v, w, &mut meter)?;
-        self.w_kept.keep_between(view, setup, w, v, &mut meter)?;
+        self.v_kept.keep_between(view, setup, v, w)?;
+        self.w_kept.keep_between(view, setup, w, v)?;
         Ok(best_of_two(
             view,
             setup,
@@ -258,7 +239,6 @@ impl Searcher {
             ways,
             &self.v_kept,
             &self.w_kept,
-            &mut meter,
         ))
     }
 

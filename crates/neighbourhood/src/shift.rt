@@ -14,10 +14,9 @@ ghost use Rattle.neighbourhood.specs.Laws.{Laws};
 ghost use Rattle.move_judge.specs.Allowed.{AreLoose};
 ghost use Rattle.neighbourhood.specs.Search.{IsBestSoFar};
 ghost use Rattle.way_costs.specs.Costs.{IsSaving};
-ghost use Rattle.way_costs.specs.Ways.{AreStops, AreEdges, AreHopsFrom};
+ghost use Rattle.way_costs.specs.Ways.{hop, AreStops, AreEdges, AreHopsFrom};
 
 use crate::best::{better, gain_of, wanted};
-use callback_store::Meter;
 use dimension_core::Setup;
 use move_core::Move;
 use move_judge::{Kept, first_free, loose_from};
@@ -27,6 +26,7 @@ use way_costs::{first_gain, hop, may_gain, row};
 /// The better of the best so far and the shifts of some customers to the places from one to before another. What comes before and after
 /// them there stands `offset` places further among the stops. `into` and `out` are the ways from those stops to the first customer, and
 /// from the last one to them.
+#[inline(always)]
 fn shift_row(
     view: &View,
     setup: &Setup,
@@ -48,7 +48,6 @@ fn shift_row(
     v_kept: &Kept,
     w_kept: &Kept,
     best: Option<(Move, u64)>,
-    meter: &mut Meter,
 ) -> Option<(Move, u64)>
     requires laws { Laws }
     requires view { IsViewOf (setting setup.now) view.now }
@@ -105,11 +104,45 @@ fn shift_row(
             at: next,
         };
         best = better(
-            view, setup, bounded, skip, v, w, v_kept, w_kept, mv, all_lost, all_gained, best, meter,
+            view, setup, bounded, skip, v, w, v_kept, w_kept, mv, all_lost, all_gained, best,
         );
         at = next + 1;
     }
     best
+}
+
+/// What the way costs that closes a gap, from one stop of a vehicle to a later one. That from the depot and that to the depot are among the
+/// ways between both vehicles.
+#[inline(always)]
+fn closing(
+    setup: &Setup,
+    from: &[u32],
+    to: &[u32],
+    out: &[u32],
+    into: &[u32],
+    before: usize,
+    after: usize,
+) -> u64
+    requires known { All (λ c. c ≤ (setting setup.now).customers) from.now }
+    requires from { (slice_index from.now 0 ≡ 0) × (slice_index from.now (length from.now - 1) ≡ 0) }
+    requires to { (slice_index to.now 0 ≡ 0) × (slice_index to.now (length to.now - 1) ≡ 0) }
+    requires long { 2 ≤ length to.now }
+    requires order { before < after }
+    requires after { after < length from.now }
+    requires out { AreHopsFrom false (table_at (setting setup.now).tables (setting setup.now).cost) from.now to.now 0 1 out.now }
+    requires into { AreHopsFrom true (table_at (setting setup.now).tables (setting setup.now).cost) from.now to.now 1 0 into.now }
+    ensures value { result ≡ hop (table_at (setting setup.now).tables (setting setup.now).cost) (slice_index from.now before) (slice_index from.now after) }
+    ensures small { result < 2 ^ 34 }
+{
+    if before == 0 {
+        let comes = row(into, to.len(), after);
+        return u64::from(comes[0]);
+    }
+    if after + 1 == from.len() {
+        let goes = row(out, to.len(), before);
+        return u64::from(goes[to.len() - 1]);
+    }
+    hop(setup, from[before], from[after])
 }
 
 /// The better of the best so far and the shifts of so many customers from a place on to another vehicle. No more than `free` may leave.
@@ -133,7 +166,6 @@ fn shift_over(
     v_kept: &Kept,
     w_kept: &Kept,
     best: Option<(Move, u64)>,
-    meter: &mut Meter,
 ) -> Option<(Move, u64)>
     requires laws { Laws }
     requires view { IsViewOf (setting setup.now) view.now }
@@ -165,7 +197,7 @@ fn shift_over(
         return best;
     }
     let begin = first_free(view, setup, w);
-    let gained = hop(setup, from[first - 1], from[after], meter);
+    let gained = closing(setup, from, to, out, into, first - 1, after);
     shift_row(
         view,
         setup,
@@ -187,7 +219,6 @@ fn shift_over(
         v_kept,
         w_kept,
         best,
-        meter,
     )
 }
 
@@ -209,7 +240,6 @@ pub(crate) fn best_shift(
     v_kept: &Kept,
     w_kept: &Kept,
     best: Option<(Move, u64)>,
-    meter: &mut Meter,
 ) -> Option<(Move, u64)>
     requires laws { Laws }
     requires view { IsViewOf (setting setup.now) view.now }
@@ -233,7 +263,7 @@ pub(crate) fn best_shift(
             if place as usize + (count as usize) < from.len() {
                 best = shift_over(
                     view, setup, bounded, skip, v, w, place, count, free, from, to, from_edges,
-                    to_edges, most, out, into, v_kept, w_kept, best, meter,
+                    to_edges, most, out, into, v_kept, w_kept, best,
                 );
             }
         }
@@ -257,7 +287,6 @@ fn shift_within(
     into: &[u32],
     kept: &Kept,
     best: Option<(Move, u64)>,
-    meter: &mut Meter,
 ) -> Option<(Move, u64)>
     requires laws { Laws }
     requires view { IsViewOf (setting setup.now) view.now }
@@ -285,7 +314,7 @@ fn shift_within(
     let goes = row(out, from.len(), after - 1);
     let forwards = shift_row(
         view, setup, bounded, skip, v, v, place, count, lost, gained, edges, most, comes, goes, 0,
-        begin, place, kept, kept, best, meter,
+        begin, place, kept, kept, best,
     );
     shift_row(
         view,
@@ -308,7 +337,6 @@ fn shift_within(
         kept,
         kept,
         forwards,
-        meter,
     )
 }
 
@@ -326,7 +354,6 @@ pub(crate) fn best_shift_inside(
     into: &[u32],
     kept: &Kept,
     best: Option<(Move, u64)>,
-    meter: &mut Meter,
 ) -> Option<(Move, u64)>
     requires laws { Laws }
     requires view { IsViewOf (setting setup.now) view.now }
@@ -345,7 +372,7 @@ pub(crate) fn best_shift_inside(
             if place as usize + (count as usize) < from.len() {
                 best = shift_within(
                     view, setup, bounded, skip, v, place, count, from, edges, most, out, into,
-                    kept, best, meter,
+                    kept, best,
                 );
             }
         }

@@ -13,7 +13,6 @@ ghost use Rattle.way_costs.specs.Costs.{IsSaving};
 ghost use Rattle.way_costs.specs.Ways.{AreStops, AreEdges, AreHopsFrom};
 
 use crate::best::{better, wanted};
-use callback_store::Meter;
 use dimension_core::Setup;
 use move_core::Move;
 use move_judge::{Kept, first_free, may_leave};
@@ -43,7 +42,6 @@ fn swap_row(
     v_kept: &Kept,
     w_kept: &Kept,
     best: Option<(Move, u64)>,
-    meter: &mut Meter,
 ) -> Option<(Move, u64)>
     requires laws { Laws }
     requires view { IsViewOf (setting setup.now) view.now }
@@ -111,7 +109,7 @@ fn swap_row(
             at: there,
         };
         best = better(
-            view, setup, bounded, skip, v, w, v_kept, w_kept, mv, all_lost, all_gained, best, meter,
+            view, setup, bounded, skip, v, w, v_kept, w_kept, mv, all_lost, all_gained, best,
         );
         at = there + 1;
     }
@@ -137,7 +135,6 @@ fn swap_over(
     v_kept: &Kept,
     w_kept: &Kept,
     best: Option<(Move, u64)>,
-    meter: &mut Meter,
 ) -> Option<(Move, u64)>
     requires laws { Laws }
     requires view { IsViewOf (setting setup.now) view.now }
@@ -185,7 +182,6 @@ fn swap_over(
         v_kept,
         w_kept,
         best,
-        meter,
     )
 }
 
@@ -207,7 +203,6 @@ pub(crate) fn best_swap(
     v_kept: &Kept,
     w_kept: &Kept,
     best: Option<(Move, u64)>,
-    meter: &mut Meter,
 ) -> Option<(Move, u64)>
     requires laws { Laws }
     requires view { IsViewOf (setting setup.now) view.now }
@@ -228,7 +223,7 @@ pub(crate) fn best_swap(
     for place in 1..from.len() as u32 - 1 {
         best = swap_over(
             view, setup, bounded, skip, v, w, place, from, to, from_edges, to_edges, most, out,
-            into, v_kept, w_kept, best, meter,
+            into, v_kept, w_kept, best,
         );
     }
     best
@@ -248,7 +243,6 @@ fn swap_next(
     into: &[u32],
     kept: &Kept,
     best: Option<(Move, u64)>,
-    meter: &mut Meter,
 ) -> Option<(Move, u64)>
     requires laws { Laws }
     requires view { IsViewOf (setting setup.now) view.now }
@@ -276,7 +270,7 @@ fn swap_next(
         at: place + 1,
     };
     better(
-        view, setup, bounded, skip, v, v, kept, kept, mv, lost, gained, best, meter,
+        view, setup, bounded, skip, v, v, kept, kept, mv, lost, gained, best,
     )
 }
 
@@ -295,7 +289,6 @@ fn swap_within(
     into: &[u32],
     kept: &Kept,
     best: Option<(Move, u64)>,
-    meter: &mut Meter,
 ) -> Option<(Move, u64)>
     requires laws { Laws }
     requires view { IsViewOf (setting setup.now) view.now }
@@ -317,7 +310,7 @@ fn swap_within(
         return best;
     }
     let near = swap_next(
-        view, setup, bounded, skip, v, place, from, edges, out, into, kept, best, meter,
+        view, setup, bounded, skip, v, place, from, edges, out, into, kept, best,
     );
     if index + 3 >= from.len() {
         return near;
@@ -347,7 +340,6 @@ fn swap_within(
         kept,
         kept,
         near,
-        meter,
     )
 }
 
@@ -365,7 +357,6 @@ pub(crate) fn best_swap_inside(
     into: &[u32],
     kept: &Kept,
     best: Option<(Move, u64)>,
-    meter: &mut Meter,
 ) -> Option<(Move, u64)>
     requires laws { Laws }
     requires view { IsViewOf (setting setup.now) view.now }
@@ -381,7 +372,7 @@ pub(crate) fn best_swap_inside(
     let mut best = best;
     for place in 1..from.len() as u32 - 1 {
         best = swap_within(
-            view, setup, bounded, skip, v, place, from, edges, most, out, into, kept, best, meter,
+            view, setup, bounded, skip, v, place, from, edges, most, out, into, kept, best,
         );
     }
     best

@@ -15,7 +15,7 @@ use std::alloc::AllocError;
 /// What the way from a stop to the next one costs, in the unit of the cost callback. Stop 0 is the depot; a vehicle that stays there drives
 /// no way.
 #[inline(always)]
-pub fn hop(setup: &Setup, i: u32, j: u32, meter: &mut Meter) -> u64
+pub fn hop(setup: &Setup, i: u32, j: u32) -> u64
     requires from { i ≤ (setting setup.now).customers }
     requires to { j ≤ (setting setup.now).customers }
     ensures value { result ≡ hop (table_at (setting setup.now).tables (setting setup.now).cost) i j }
@@ -25,7 +25,7 @@ pub fn hop(setup: &Setup, i: u32, j: u32, meter: &mut Meter) -> u64
         return 0;
     }
     let _customers = setup.customers();
-    setup.registry().ask(setup.cost(), meter, i, j)
+    setup.registry().ask(setup.cost(), &mut Meter::new(), i, j)
 }
 
 /// Puts the stops of a vehicle, which count from 1, in place of what `all` held: the depot, its customers, the depot. The caller owes a

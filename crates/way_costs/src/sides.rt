@@ -9,7 +9,6 @@ ghost use Rattle.way_costs.specs.Ways.{AreStops, AreEdges, AreHopsFrom};
 
 use crate::hops::fill_stops_of_both;
 use crate::table::{fill_edges, fill_sums, fill_turned, fill_ways, most_of, pick_edges};
-use callback_store::Meter;
 use dimension_core::Setup;
 use pin_core::View;
 use plan_core::routes_are_known;
@@ -74,14 +73,7 @@ impl Sides {
     }
 
     /// Gathers the stops of two vehicles, which count from 1, and the ways from each stop to the next, in place of what was gathered.
-    pub fn gather(
-        &mut self,
-        view: &View,
-        setup: &Setup,
-        v: u32,
-        w: u32,
-        meter: &mut Meter,
-    ) -> Result<(), AllocError>
+    pub fn gather(&mut self, view: &View, setup: &Setup, v: u32, w: u32) -> Result<(), AllocError>
         requires plan { IsPlan (setting setup.now).customers view.now.routes }
         requires vehicles { length view.now.routes ≡ (setting setup.now).vehicles }
         requires v { (1 ≤ v) × (v ≤ (setting setup.now).vehicles) }
@@ -89,7 +81,7 @@ impl Sides {
         ensures { IfOk result (λ _. AreSides (setting setup.now) view.now.routes v w self.new) }
     {
         fill_stops_of_both(view, setup, v, w, &mut self.stops)?;
-        fill_edges(setup, &self.stops, &mut self.edges, meter)
+        fill_edges(setup, &self.stops, &mut self.edges)
     }
 }
 
@@ -139,7 +131,6 @@ impl Ways {
         setup: &Setup,
         from: &[u32],
         to: &[u32],
-        meter: &mut Meter,
     ) -> Result<(), AllocError>
         requires from { All (λ c. c ≤ (setting setup.now).customers) from.now }
         requires to { All (λ c. c ≤ (setting setup.now).customers) to.now }
@@ -147,23 +138,18 @@ impl Ways {
         requires short { (length from.now ≤ 1002) × (length to.now ≤ 1002) }
         ensures { IfOk result (λ _. AreWaysBetween (table_at (setting setup.now).tables (setting setup.now).cost) from.now to.now self.new) }
     {
-        fill_ways(setup, false, from, to, &mut self.out, meter)?;
-        fill_ways(setup, true, from, to, &mut self.into, meter)
+        fill_ways(setup, false, from, to, &mut self.out)?;
+        fill_ways(setup, true, from, to, &mut self.into)
     }
 
     /// Gathers the ways between some stops that a move inside their vehicle goes, each asked once, in place of what was gathered.
-    pub fn gather_among(
-        &mut self,
-        setup: &Setup,
-        stops: &[u32],
-        meter: &mut Meter,
-    ) -> Result<(), AllocError>
+    pub fn gather_among(&mut self, setup: &Setup, stops: &[u32]) -> Result<(), AllocError>
         requires known { All (λ c. c ≤ (setting setup.now).customers) stops.now }
         requires some { 1 ≤ length stops.now }
         requires short { length stops.now ≤ 1002 }
         ensures { IfOk result (λ _. AreWaysBetween (table_at (setting setup.now).tables (setting setup.now).cost) stops.now stops.now self.new) }
     {
-        fill_ways(setup, false, stops, stops, &mut self.out, meter)?;
+        fill_ways(setup, false, stops, stops, &mut self.out)?;
         fill_turned(setup, stops, &self.out, &mut self.into)
     }
 }

@@ -11,21 +11,21 @@ use std::alloc::AllocError;
 
 /// What a way costs, as it is driven or driven back.
 #[inline(always)]
-fn hop_by(setup: &Setup, turned: bool, i: u32, j: u32, meter: &mut Meter) -> u32
+fn hop_by(setup: &Setup, turned: bool, i: u32, j: u32) -> u32
     requires from { i ≤ (setting setup.now).customers }
     requires to { j ≤ (setting setup.now).customers }
     ensures value { result ≡ hop_by turned (table_at (setting setup.now).tables (setting setup.now).cost) i j }
     ensures small { result ≤ 1000000000 }
 {
     if turned {
-        hop(setup, j, i, meter) as u32
+        hop(setup, j, i) as u32
     } else {
-        hop(setup, i, j, meter) as u32
+        hop(setup, i, j) as u32
     }
 }
 
 /// The answers for the ways from a stop to each of some others, as they are driven or driven back.
-fn ask_ways(setup: &Setup, turned: bool, stop: u32, to: &[u32], row: &mut [u32], meter: &mut Meter)
+fn ask_ways(setup: &Setup, turned: bool, stop: u32, to: &[u32], row: &mut [u32])
     requires stop { stop ≤ (setting setup.now).customers }
     requires to { All (λ c. c ≤ (setting setup.now).customers) to.now }
     requires room { length row.old ≡ length to.now }
@@ -36,9 +36,11 @@ fn ask_ways(setup: &Setup, turned: bool, stop: u32, to: &[u32], row: &mut [u32],
     if turned {
         setup
             .registry()
-            .ask_column(setup.cost(), meter, stop, to, row);
+            .ask_column(setup.cost(), &mut Meter::new(), stop, to, row);
     } else {
-        setup.registry().ask_row(setup.cost(), meter, stop, to, row);
+        setup
+            .registry()
+            .ask_row(setup.cost(), &mut Meter::new(), stop, to, row);
     }
 }
 
@@ -55,30 +57,45 @@ fn clear_stays(to: &[u32], row: &mut [u32])
     }
 }
 
-/// What the ways from a stop to each of some others cost, as they are driven or driven back.
-fn fill_row(setup: &Setup, turned: bool, stop: u32, to: &[u32], row: &mut [u32], meter: &mut Meter)
+/// Up to so many ways are asked one by one: asking for them together takes longer.
+const FEW: usize = 9;
+
+/// What the ways from a stop to each of some others cost, as they are driven or driven back, asked one by one.
+#[inline(always)]
+fn ask_each(setup: &Setup, turned: bool, stop: u32, to: &[u32], row: &mut [u32])
     requires stop { stop ≤ (setting setup.now).customers }
     requires to { All (λ c. c ≤ (setting setup.now).customers) to.now }
     requires room { length row.old ≡ length to.now }
     ensures sized { length row.new ≡ length to.now }
     ensures ways { (k : ℕ) → k < length to.now → slice_index row.new k ≡ hop_by turned (table_at (setting setup.now).tables (setting setup.now).cost) stop (slice_index to.now k) }
 {
-    ask_ways(setup, turned, stop, to, row, meter);
+    for k in 0..to.len() {
+        row[k] = hop_by(setup, turned, stop, to[k]) as u32;
+    }
+}
+
+/// What the ways from a stop to each of some others cost, as they are driven or driven back.
+#[inline(always)]
+fn fill_row(setup: &Setup, turned: bool, stop: u32, to: &[u32], row: &mut [u32])
+    requires stop { stop ≤ (setting setup.now).customers }
+    requires to { All (λ c. c ≤ (setting setup.now).customers) to.now }
+    requires room { length row.old ≡ length to.now }
+    ensures sized { length row.new ≡ length to.now }
+    ensures ways { (k : ℕ) → k < length to.now → slice_index row.new k ≡ hop_by turned (table_at (setting setup.now).tables (setting setup.now).cost) stop (slice_index to.now k) }
+{
+    if to.len() <= FEW {
+        ask_each(setup, turned, stop, to, row);
+        return;
+    }
+    ask_ways(setup, turned, stop, to, row);
     if stop == 0 {
         clear_stays(to, row);
     }
 }
 
 /// Fills in a row of a table, from a place on.
-fn fill_at(
-    setup: &Setup,
-    turned: bool,
-    stop: u32,
-    to: &[u32],
-    cells: &mut [u32],
-    at: usize,
-    meter: &mut Meter,
-)
+#[inline(always)]
+fn fill_at(setup: &Setup, turned: bool, stop: u32, to: &[u32], cells: &mut [u32], at: usize)
     requires stop { stop ≤ (setting setup.now).customers }
     requires to { All (λ c. c ≤ (setting setup.now).customers) to.now }
     requires room { at + length to.now ≤ length cells.old }
@@ -87,7 +104,7 @@ fn fill_at(
     ensures kept { (k : ℕ) → k < at → slice_index cells.new k ≡ slice_index cells.old k }
 {
     let row = &mut cells[at..at + to.len()];
-    fill_row(setup, turned, stop, to, row, meter);
+    fill_row(setup, turned, stop, to, row);
 }
 
 /// What stands in a table before it is filled. Its bytes differ, so that a table is made by wide stores and not byte by byte.
@@ -129,7 +146,6 @@ pub(crate) fn fill_ways(
     from: &[u32],
     to: &[u32],
     cells: &mut Vec<u32>,
-    meter: &mut Meter,
 ) -> Result<(), AllocError>
     requires from { All (λ c. c ≤ (setting setup.now).customers) from.now }
     requires to { All (λ c. c ≤ (setting setup.now).customers) to.now }
@@ -150,10 +166,21 @@ pub(crate) fn fill_ways(
             asked,
             cells.as_mut_slice(),
             i * width + column,
-            meter,
         );
     }
     Ok(())
+}
+
+/// What the way from each stop to the next one costs, asked one by one.
+#[inline(always)]
+fn ask_edges(setup: &Setup, stops: &[u32], edges: &mut [u32])
+    requires known { All (λ c. c ≤ (setting setup.now).customers) stops.now }
+    requires room { length edges.old + 1 ≡ length stops.now }
+    ensures { AreEdges (table_at (setting setup.now).tables (setting setup.now).cost) stops.now edges.new }
+{
+    for k in 0..stops.len() - 1 {
+        edges[k] = hop(setup, stops[k], stops[k + 1]) as u32;
+    }
 }
 
 /// Puts what the way from each stop to the next one costs in place of what `edges` held.
@@ -161,18 +188,13 @@ pub(crate) fn fill_edges(
     setup: &Setup,
     stops: &[u32],
     edges: &mut Vec<u32>,
-    meter: &mut Meter,
 ) -> Result<(), AllocError>
     requires known { All (λ c. c ≤ (setting setup.now).customers) stops.now }
     requires some { 1 ≤ length stops.now }
     ensures { IfOk result (λ _. AreEdges (table_at (setting setup.now).tables (setting setup.now).cost) stops.now edges.new.items) }
 {
-    let last = stops.len() - 1;
-    edges.clear();
-    edges.reserve(last)?;
-    for k in 0..last {
-        edges.push(hop_by(setup, false, stops[k], stops[k + 1], meter))?;
-    }
+    edges.resize(stops.len() - 1, UNFILLED)?;
+    ask_edges(setup, stops, edges.as_mut_slice());
     Ok(())
 }
 

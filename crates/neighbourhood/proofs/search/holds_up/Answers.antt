@@ -8,4 +8,6 @@ returns-in-None g c = λ _.
 
 pub returns-in-Some : goal.returns-in-Some
 returns-in-Some g c = λ is.
-    rw c.in-Some.is (best_with c.requires.laws (setting c.args.setup.now) c.args.view.now c.args.skip.now c.args.v c.args.w _ _ (rw c.in-Some.is at c.requires.found) (c.allows.ensures.0 is))
+    let best = rw c.in-Some.is at c.requires.found in
+    rw c.in-Some.is (best_with c.requires.laws (setting c.args.setup.now) c.args.view.now c.args.skip.now c.args.v c.args.w _ _ best
+    (c.requires.laws.bounds.fitting (setting c.args.setup.now) c.args.view.now c.args.skip.now _ best.counts.allowed (c.fits_after.ensures.0 is)))

@@ -7,7 +7,7 @@ use Rattle.way_costs.specs.Ways.{hop}
 use Rattle.neighbourhood.proofs.Possible.{shift_can}
 use Rattle.neighbourhood.proofs.Shifts.{shifts_past}
 use Rattle.neighbourhood.proofs.Still.{shift_free}
-use Rattle.neighbourhood.proofs.Tabled.{row_from, shift_tabled}
+use Rattle.neighbourhood.proofs.Tabled.{row_from, shift_tabled, stops_ends}
 use Rattle.neighbourhood.proofs.shift.shift_over.Goals as goal
 
 pub shift_row-requires-clause-possible : goal.shift_row-requires-clause-possible
@@ -36,10 +36,10 @@ shift_row-requires-clause-saving g c =
     let can = shift_can r.laws s.customers c.args.view.now.routes c.args.v c.args.place c.args.count c.args.w at c.args.from.now c.args.to.now r.from r.to r.apart low some fit (omega arith) (omega arith) in
     let saving = r.laws.saves.shift s c.args.view.now c.args.v c.args.place c.args.count c.args.w at c.args.from.now c.args.to.now r.view.plan r.apart r.from r.to can in
     rw (f, f2) (shift_tabled s c.args.view.now (Shift c.args.v c.args.place c.args.count c.args.w at) t c.args.from.now c.args.to.now c.args.from_edges.now c.args.to_edges.now c.row-comes.result.now c.row-goes.result.now
-    c.args.place c.args.count 0 at c.hop-gained.result saving low some fit (omega arith) (omega arith) r.from_edges r.to_edges
+    c.args.place c.args.count 0 at c.closing-gained.result saving low some fit (omega arith) (omega arith) r.from_edges r.to_edges
     (row_from true t c.args.from.now c.args.to.now c.args.into.now c.row-comes.result.now 1 0 c.args.place (omega arith) r.into (omega arith) (omega arith) c.row-comes.ensures.cells)
     (row_from false t c.args.from.now c.args.to.now c.args.out.now c.row-goes.result.now 0 1 (c.args.place + c.args.count - 1) (omega arith) r.out (omega arith) (omega arith) c.row-goes.ensures.cells)
-    c.hop-gained.ensures.value)
+    c.closing-gained.ensures.value)
 
 pub returns-then-free-count : goal.returns-then-free-count
 returns-then-free-count g c =
@@ -91,7 +91,19 @@ returns-then-lost-from g c =
     omega arith)
     c.requires.best
 
-pub hop-gained-requires-clause-from : goal.hop-gained-requires-clause-from
-hop-gained-requires-clause-from g c =
-    let fit = c.requires.place.1 in
-    c.requires.from.known (c.args.place - 1) 0 (omega arith)
+pub closing-gained-requires-clause-from : goal.closing-gained-requires-clause-from
+closing-gained-requires-clause-from g c =
+    stops_ends (setting c.args.setup.now).customers c.args.view.now.routes c.args.v c.args.from.now c.requires.from
+
+pub closing-gained-requires-clause-to : goal.closing-gained-requires-clause-to
+closing-gained-requires-clause-to g c =
+    stops_ends (setting c.args.setup.now).customers c.args.view.now.routes c.args.w c.args.to.now c.requires.to
+
+pub closing-gained-requires-clause-long : goal.closing-gained-requires-clause-long
+closing-gained-requires-clause-long g c = let wide = c.requires.to.sized in omega arith
+
+pub closing-gained-requires-clause-order : goal.closing-gained-requires-clause-order
+closing-gained-requires-clause-order g c =
+    let some = c.requires.count.0 in
+    let low = c.requires.place.0 in
+    omega arith

@@ -1,0 +1,12 @@
+use Rattle.std.proofs.Common.{◌≡◌, ◌+◌, ◌<◌, ℕ, length, slice_index}
+use Rattle.callback_store.specs.Tables.{table_at}
+use Rattle.dimension_core.specs.Setup.{setting}
+use Rattle.way_costs.specs.Ways.{hop}
+use Rattle.way_costs.proofs.table.ask_edges.Given as goal
+
+-- the ways so far
+abbrev pub invariant-loop-k : goal.invariant-loop-k
+invariant-loop-k g l = record {
+  counted : length l.edges + 1 ≡ length l.stops;
+  hops : (k : ℕ) → k < l.k → slice_index l.edges k ≡ hop (table_at (setting l.setup).tables (setting l.setup).cost) (slice_index l.stops k) (slice_index l.stops (k + 1));
+}
