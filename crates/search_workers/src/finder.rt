@@ -6,7 +6,7 @@ ghost use Rattle.search_workers.specs.Steps.{IsFound};
 
 use dimension_core::Setup;
 use move_core::Move;
-use neighbourhood::best_move;
+use neighbourhood::Searcher;
 use pin_core::View;
 use std::alloc::{AllocError, Global};
 
@@ -18,15 +18,17 @@ pub(crate) struct Found {
     pub version: u32,
 }
 
-/// What is kept of the search from round to round.
+/// What is kept of the search from round to round: the memory of its tables. Nothing that it found in one view is used in another.
 #[derive(Drop)]
 pub(crate) struct Finder {
-    alloc: Global,
+    searcher: Searcher,
 }
 
 impl Finder {
     pub fn new(alloc: Global) -> Finder {
-        Finder { alloc }
+        Finder {
+            searcher: Searcher::new(alloc),
+        }
     }
 
     /// The best move near two vehicles of a view, but for those that are to be skipped.
@@ -44,7 +46,7 @@ impl Finder {
         ensures { IfOk result (λ found. IsFound (setting setup.now) view.now skip.now v w found) }
     {
         let version = view.version;
-        match best_move(self.alloc, view, setup, v, w, skip) {
+        match self.searcher.best_move(view, setup, v, w, skip) {
             Err(fault) => Err(fault),
             Ok(None) => Ok(None),
             Ok(Some((mv, gain))) => Ok(Some(Found { mv, gain, version })),

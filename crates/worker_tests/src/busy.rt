@@ -2,7 +2,6 @@
 ghost use Rattle.std.specs.Prelude.{◌≡◌};
 ghost use Rattle.dimension_core.specs.Setup.{setting};
 
-use crate::calls::{command, grant};
 use crate::threads::Task;
 use board_lock::{Naming, Seat};
 use board_rules::{Call, Fault, Reply};
@@ -17,15 +16,32 @@ pub(crate) const CUSTOMERS: u32 = 200;
 
 pub(crate) const VEHICLES: u32 = 10;
 
+/// A permission for role `worker`, or no more.
+fn permission(role: Name, granted: bool, range: ObjectRange) -> Call {
+    let operation = Operation::Move;
+    let command = if granted {
+        Command::GrantPermission {
+            role,
+            operation,
+            range,
+        }
+    } else {
+        Command::RevokePermission {
+            role,
+            operation,
+            range,
+        }
+    };
+    Call::Policy {
+        session: 1,
+        command,
+    }
+}
+
 /// What is done in a turn, of eight in a row.
 fn call_of(role: Name, turn: u32, version: u32, lost: u32) -> Call {
     let customer = turn.wrapping_mul(37) % CUSTOMERS + 1;
     let vehicle = turn.wrapping_mul(7) % VEHICLES + 1;
-    let range = ObjectRange::Customers {
-        first: customer,
-        last: customer,
-    };
-    let operation = Operation::Move;
     match turn % 8 {
         0 => Call::Pin {
             session: 1,
@@ -36,11 +52,14 @@ fn call_of(role: Name, turn: u32, version: u32, lost: u32) -> Call {
             vehicle,
             length: 2,
         },
-        2 => command(Command::RevokePermission {
+        2 => permission(
             role,
-            operation,
-            range,
-        }),
+            false,
+            ObjectRange::Customers {
+                first: customer,
+                last: customer,
+            },
+        ),
         3 => propose(version, Move::Remove { vehicle, place: 3 }),
         4 => Call::Unpin {
             session: 1,
@@ -51,9 +70,9 @@ fn call_of(role: Name, turn: u32, version: u32, lost: u32) -> Call {
             vehicle: turn.wrapping_sub(4).wrapping_mul(7) % VEHICLES + 1,
             length: 0,
         },
-        6 => grant(
+        6 => permission(
             role,
-            operation,
+            true,
             ObjectRange::Customers {
                 first: 1,
                 last: CUSTOMERS,

@@ -1,16 +1,19 @@
-//! Eight workers over two hundred customers, beside a busy desk. Each reply is then judged again by a board of one thread.
-ghost use Rattle.std.specs.Prelude.{◌≡◌, All};
+//! Eight workers over two hundred customers, beside a busy desk, twenty times, each time with other seeds. Each reply is then judged again by
+//! a board of one thread.
+ghost use Rattle.std.specs.Prelude.{◌≡◌, All, IfSome, map};
 ghost use Rattle.dimension_core.specs.Setup.{setting};
 
 use crate::busy::{Busy, CUSTOMERS, VEHICLES};
-use crate::calls::{command, grant, insert, last, name, submits};
+use crate::crossed::at_once;
+use crate::desks::{open_all, play};
+use crate::replay::judged_again;
 use crate::threads::Task;
 use board_journal::Journal;
-use board_lock::{Desk, DeskOf, Foyer, Naming, Seat, open_hall};
-use board_rules::Reply;
+use board_lock::{Desk, Foyer, Naming, Seat};
+use board_rules::Call;
 use dimension_core::Setup;
-use rbac_core::{Command, Names, ObjectRange, Operation};
-use search_workers::{OpenGate, Share, Tally, work_all};
+use move_core::Move;
+use search_workers::{OpenGate, Share, Tally};
 use separation_core::Name;
 use std::alloc::Global;
 use std::process::Abort;
@@ -18,65 +21,124 @@ use std::sync::{Arc, Wait};
 use std::thread;
 use std::thread::{Promise, PromisedHandle, Scope, Threads};
 
-const ALL_CUSTOMERS: ObjectRange = ObjectRange::Customers {
-    first: 1,
-    last: CUSTOMERS,
-};
+/// How often the workers work, how many rounds each time, and how many turns the busy desk has beside them.
+const RUNS: u64 = 20;
 
-const ALL_VEHICLES: ObjectRange = ObjectRange::Vehicles {
-    first: 1,
-    last: VEHICLES,
-};
+const ROUNDS: u32 = 50;
 
-/// How many rounds were committed, denied, refused and idle.
+const TURNS: u32 = 200;
+
+/// Session 1 may do everything, and eight sessions of user `worker` may move everything.
+const PREPARED: &[&str] = &[
+    "1 grant root audit board",
+    "1 grant root move vehicle 1 10",
+    "1 grant root move customer 1 200",
+    "1 grant root freeze vehicle 1 10",
+    "1 grant root pin customer 1 200",
+    "1 add-user worker",
+    "1 add-role worker",
+    "1 assign worker worker",
+    "1 grant worker move vehicle 1 10",
+    "1 grant worker move customer 1 200",
+    "1 open worker worker",
+    "1 open worker worker",
+    "1 open worker worker",
+    "1 open worker worker",
+    "1 open worker worker",
+    "1 open worker worker",
+    "1 open worker worker",
+    "1 open worker worker",
+];
+
+/// How many rounds were committed, denied, refused and idle, and how many turns of the busy desk were committed and met a fault.
 #[derive(Clone, Copy, Debug, PartialEq, Eq, Drop)]
 struct Sums {
     committed: u32,
     denied: u32,
     refused: u32,
     idle: u32,
+    turns: u32,
+    faults: u32,
 }
 
 impl Sums {
-    fn add(&mut self, tally: Tally) {
+    fn none() -> Sums {
+        Sums {
+            committed: 0,
+            denied: 0,
+            refused: 0,
+            idle: 0,
+            turns: 0,
+            faults: 0,
+        }
+    }
+
+    /// The sums of a run.
+    fn of<N: Naming, R: Wait + Drop>(turns: (u32, u32), shares: &[Share<N, R>]) -> Sums {
+        let mut sums = Sums::none();
+        sums.turns = turns.0;
+        sums.faults = turns.1;
+        for share in shares {
+            sums.count(share.tally);
+        }
+        sums
+    }
+
+    fn count(&mut self, tally: Tally) {
         self.committed = self.committed.wrapping_add(tally.committed);
         self.denied = self.denied.wrapping_add(tally.denied);
         self.refused = self.refused.wrapping_add(tally.refused);
         self.idle = self.idle.wrapping_add(tally.idle);
     }
-}
 
-/// The sums of the tallies.
-fn sums_of<N: Naming, R: Wait + Drop>(shares: Vec<Share<N, R>>) -> Sums {
-    let mut sums = Sums {
-        committed: 0,
-        denied: 0,
-        refused: 0,
-        idle: 0,
-    };
-    for share in shares {
-        sums.add(share.tally);
+    fn add(&mut self, more: Sums) {
+        self.committed = self.committed.wrapping_add(more.committed);
+        self.denied = self.denied.wrapping_add(more.denied);
+        self.refused = self.refused.wrapping_add(more.refused);
+        self.idle = self.idle.wrapping_add(more.idle);
+        self.turns = self.turns.wrapping_add(more.turns);
+        self.faults = self.faults.wrapping_add(more.faults);
     }
-    sums
 }
 
-/// The workers' part: six hundred rounds of each of eight desks.
+/// The desks of some shares.
+fn desks_of<N: Naming, R: Wait + Drop>(
+    alloc: Global,
+    shares: Vec<Share<N, R>>,
+) -> Option<Vec<Desk<N, R>>>
+    ensures { IfSome result (λ v. v.items ≡ map (λ s. s.desk) shares.items) }
+{
+    let mut desks = Vec::new(alloc);
+    for share in shares {
+        let Ok(()) = desks.push(share.desk) else {
+            return None;
+        };
+    }
+    Some(desks)
+}
+
+/// The workers' part, with eight seeds from one on.
 fn work_on<N: Naming + Send + Sync, R: Wait + Drop + Send + Sync, W: Threads + Wait + Sync>(
     rt: &W,
     alloc: Global,
     desks: Vec<Desk<N, R>>,
-) -> Option<Sums>
+    seed: u64,
+) -> Option<Vec<Share<N, R>>>
     requires { All (λ d. setting d.setup.value ≡ N.opening.setting) desks.items }
+    ensures { IfSome result (λ v. All (λ s. setting s.desk.setup.value ≡ N.opening.setting) v.items) }
 {
-    if desks.len() != 8 {
-        return None;
-    }
-    let sessions = vec![in alloc; 2u32, 3, 4, 5, 6, 7, 8, 9].ok()?;
-    let seeds = vec![in alloc; 1u64, 2, 3, 4, 5, 6, 7, 8].ok()?;
-    let Ok(shares) = work_all(rt, alloc, desks, sessions, seeds, 600, &OpenGate) else {
-        return None;
-    };
-    Some(sums_of(shares))
+    let seeds = [
+        seed,
+        seed.wrapping_add(1),
+        seed.wrapping_add(2),
+        seed.wrapping_add(3),
+        seed.wrapping_add(4),
+        seed.wrapping_add(5),
+        seed.wrapping_add(6),
+        seed.wrapping_add(7),
+    ];
+    let sessions = [2u32, 3, 4, 5, 6, 7, 8, 9];
+    at_once(rt, alloc, desks, &sessions, &seeds, ROUNDS, &OpenGate)
 }
 
 /// What a thread promises of what it gives back: nothing.
@@ -124,134 +186,141 @@ fn both<N: Naming + Send + Sync, R: Wait + Drop + Send + Sync, W: Threads + Wait
     setup: Arc<Setup>,
     seat: Seat<N, R>,
     desks: Vec<Desk<N, R>>,
-) -> Option<(Seat<N, R>, (u32, u32), Option<Sums>)>
+    seed: u64,
+) -> Option<(Seat<N, R>, (u32, u32), Vec<Share<N, R>>)>
     requires one { setting setup.value ≡ N.opening.setting }
     requires all { All (λ d. setting d.setup.value ≡ N.opening.setting) desks.items }
+    ensures { IfSome result (λ t. All (λ s. setting s.desk.setup.value ≡ N.opening.setting) t.2.items) }
 {
     thread::scope(
         thread::scope_env(),
         rt,
-        move |scope| -> Option<(Seat<N, R>, (u32, u32), Option<Sums>)>
+        move |scope| -> Option<(Seat<N, R>, (u32, u32), Vec<Share<N, R>>)>
             requires { (setting setup.value ≡ N.opening.setting) × All (λ d. setting d.setup.value ≡ N.opening.setting) desks.items }
+            ensures { IfSome result (λ t. All (λ s. setting s.desk.setup.value ≡ N.opening.setting) t.2.items) }
         {
             let child = start(rt, scope, busy, setup, seat)?;
-            let sums = work_on(rt, alloc, desks);
+            let shares = work_on(rt, alloc, desks, seed);
             let (seat, done) = child.join(rt);
-            Some((seat, done, sums))
+            match shares {
+                Some(shares) => Some((seat, done, shares)),
+                None => None,
+            }
         },
     )
 }
 
-/// Rights for all: session 1 may do everything, and eight sessions of user `worker` may move everything.
-fn prepare<N: Naming, R: Wait + Drop, W: Wait + Abort>(rt: &W, alloc: Global, desk: &mut Desk<N, R>)
-    requires { setting desk.old.setup.value ≡ N.opening.setting }
-    ensures { setting desk.new.setup.value ≡ N.opening.setting }
-{
-    let root = name(rt, b"root");
-    let worker = name(rt, b"worker");
-    let calls = [
-        grant(root, Operation::Audit, ObjectRange::Board),
-        grant(root, Operation::Move, ALL_VEHICLES),
-        grant(root, Operation::Move, ALL_CUSTOMERS),
-        grant(root, Operation::Freeze, ALL_VEHICLES),
-        grant(root, Operation::Pin, ALL_CUSTOMERS),
-        command(Command::AddUser { user: worker }),
-        command(Command::AddRole { role: worker }),
-        command(Command::AssignUser {
-            user: worker,
-            role: worker,
-        }),
-        grant(worker, Operation::Move, ALL_VEHICLES),
-        grant(worker, Operation::Move, ALL_CUSTOMERS),
-    ];
-    for call in calls {
-        submits(rt, desk, call, Reply::Done);
-    }
-    for number in 2..10u32 {
-        opens(rt, alloc, desk, worker, number);
-    }
-}
-
-/// A session of user `worker` with its role, which gets this number.
-fn opens<N: Naming, R: Wait + Drop, W: Wait + Abort>(
+/// One more run, with eight seeds from one on. It gives the desks back with what came of it.
+fn work_again<N: Naming + Send + Sync, R: Wait + Drop + Send + Sync, W: Threads + Wait + Sync>(
     rt: &W,
     alloc: Global,
-    desk: &mut Desk<N, R>,
-    worker: Name,
-    number: u32,
-)
-    requires { setting desk.old.setup.value ≡ N.opening.setting }
-    ensures { setting desk.new.setup.value ≡ N.opening.setting }
+    setup: &Arc<Setup>,
+    seat: Seat<N, R>,
+    desks: Vec<Desk<N, R>>,
+    seed: u64,
+) -> Option<(Seat<N, R>, Vec<Desk<N, R>>, Sums)>
+    requires one { setting setup.now.value ≡ N.opening.setting }
+    requires all { All (λ d. setting d.setup.value ≡ N.opening.setting) desks.items }
+    ensures { IfSome result (λ t. All (λ d. setting d.setup.value ≡ N.opening.setting) t.1.items) }
 {
-    let Ok(roles) = vec![in alloc; worker] else {
-        return assert!(rt; false);
-    };
-    let call = command(Command::CreateSession {
-        user: worker,
-        roles: Names::of(roles),
-    });
-    submits(rt, desk, call, Reply::Session(number));
+    let role = Name::new(b"worker")?;
+    let theirs = Arc::try_clone(setup).ok()?;
+    let busy = Busy { role, turns: TURNS };
+    let (seat, turns, shares) = both(rt, alloc, busy, theirs, seat, desks, seed)?;
+    let sums = Sums::of(turns, shares.as_slice());
+    match desks_of(alloc, shares) {
+        Some(desks) => Some((seat, desks, sums)),
+        None => None,
+    }
 }
 
 /// The customers on the vehicles in turn.
-fn lay_out<N: Naming, R: Wait + Drop, W: Wait + Abort>(rt: &W, desk: &mut Desk<N, R>)
-    requires { setting desk.old.setup.value ≡ N.opening.setting }
-    ensures { setting desk.new.setup.value ≡ N.opening.setting }
+fn lay_out<N: Naming, R: Wait + Drop, W: Wait>(rt: &W, setup: &Setup, seat: &mut Seat<N, R>)
+    requires { setting setup.now ≡ N.opening.setting }
 {
     for before in 0..CUSTOMERS {
-        let call = insert(before + 1, before % VEHICLES + 1, before / VEHICLES, before);
-        submits(rt, desk, call, Reply::Committed(before + 1));
+        let call = Call::Propose {
+            session: 1,
+            base: before,
+            mv: Move::Insert {
+                customer: before + 1,
+                vehicle: before % VEHICLES + 1,
+                place: before / VEHICLES + 1,
+            },
+        };
+        let _reply = seat.submit(rt, setup, call);
     }
 }
 
-/// What came of the rounds, of the busy desk's turns (its commits and its faults), and the journal.
+/// What came of all runs, with the setup and the journal.
 #[derive(Drop)]
 pub(crate) struct Ended {
     sums: Sums,
-    busy: (u32, u32),
-    pub journal: Journal,
+    setup: Arc<Setup>,
+    journal: Journal,
 }
 
 /// All rounds are counted, some were committed, none met a fault, and no reply differs. The version is the number of commits.
-pub(crate) fn compare(rt: &impl Abort, ended: &Ended, again: Option<(u32, u32)>) {
-    let Some((differ, version)) = again else {
-        return assert!(rt; false);
-    };
-    let sums = ended.sums;
+fn compare_sums(rt: &impl Abort, sums: Sums, again: Option<(u32, u32)>) {
     let tried = sums.committed.wrapping_add(sums.denied);
-    let all = tried.wrapping_add(sums.idle);
-    assert_eq!(rt; (all, sums.refused, ended.busy.1), (4800u32, 0u32, 0u32));
+    assert_eq!(rt; tried.wrapping_add(sums.idle), 8000);
+    assert_eq!(rt; (sums.refused, sums.faults), (0u32, 0u32));
     assert!(rt; sums.committed > 0);
-    let commits = sums.committed.wrapping_add(ended.busy.0);
-    assert_eq!(rt; (version, differ), (commits.wrapping_add(200), 0u32));
+    let commits = sums.committed.wrapping_add(sums.turns);
+    assert_eq!(rt; again, Some((0u32, commits.wrapping_add(200))));
 }
 
-/// The workers work beside the busy desk.
+/// Compares the sums, and the journal with what a board of one thread answers.
+pub(crate) fn compare_crowd(rt: &impl Abort, alloc: Global, ended: Option<Ended>) {
+    let Some(ended) = ended else {
+        return assert!(rt; false);
+    };
+    let again = judged_again(alloc, ended.setup, &ended.journal);
+    compare_sums(rt, ended.sums, again);
+}
+
+/// The runs one after another.
+fn work_often<N: Naming + Send + Sync, R: Wait + Drop + Send + Sync, W: Threads + Wait + Sync>(
+    rt: &W,
+    alloc: Global,
+    setup: &Arc<Setup>,
+    seat: Seat<N, R>,
+    desks: Vec<Desk<N, R>>,
+) -> Option<(Seat<N, R>, Sums)>
+    requires one { setting setup.now.value ≡ N.opening.setting }
+    requires all { All (λ d. setting d.setup.value ≡ N.opening.setting) desks.items }
+{
+    let mut seat = seat;
+    let mut desks = desks;
+    let mut sums = Sums::none();
+    for run in 0..RUNS {
+        let (next, others, more) = work_again(rt, alloc, setup, seat, desks, run * 8 + 1)?;
+        seat = next;
+        desks = others;
+        sums.add(more);
+    }
+    Some((seat, sums))
+}
+
+/// The workers work beside the busy desk, run after run.
 pub(crate) fn works_beside<
     N: Naming + Send + Sync,
     R: Wait + Drop + Send + Sync,
-    W: Threads + Wait + Abort + Sync,
+    W: Threads + Wait + Sync,
 >(rt: &W, alloc: Global, foyer: Foyer<R>) -> Option<Ended>
     requires opening { foyer.room.opening ≡ N.opening }
     requires book { foyer.room.book ≡ N.book }
 {
-    let Ok(desks) = open_hall::<N, R>(alloc, foyer) else {
-        return None;
-    };
-    let (desks, mut own) = last(desks)?;
-    prepare(rt, alloc, &mut own);
-    lay_out(rt, &mut own);
-    let role = name(rt, b"worker");
-    let DeskOf { setup, seat } = own;
-    let theirs = Arc::try_clone(&setup).ok()?;
-    let busy = Busy { role, turns: 800 };
-    let (seat, busy, sums) = both(rt, alloc, busy, theirs, seat, desks)?;
-    let mut own = DeskOf { setup, seat };
-    let journal = own.audit(rt, 1).ok()?;
-    let sums = sums?;
-    Some(Ended {
-        sums,
-        busy,
-        journal,
-    })
+    let (desks, setup, mut own) = open_all::<N, R>(alloc, foyer)?;
+    play(rt, alloc, &setup, &mut own, PREPARED);
+    lay_out(rt, &setup, &mut own);
+    let (mut own, sums) = work_often(rt, alloc, &setup, own, desks)?;
+    match own.audit(rt, 1) {
+        Ok(journal) => Some(Ended {
+            sums,
+            setup,
+            journal,
+        }),
+        Err(_) => None,
+    }
 }

@@ -1,300 +1,224 @@
-//! One worker that has found a move, and is held before it proposes it while another desk takes something away: its session, a role of its
-//! user, a permission, or the freedom of the vehicle's front.
-ghost use Rattle.std.specs.Prelude.{◌≡◌, IfSome};
+//! One worker that has found a move, and before it proposes it another desk takes something away: its session, a role of its user, a
+//! permission, or the freedom of the vehicle's front.
+ghost use Rattle.std.specs.Prelude.{◌≡◌};
 ghost use Rattle.dimension_core.specs.Setup.{setting};
 
-use crate::alone::lay_out;
-use crate::calls::{command, compare_tally, grant, last, name, submits};
-use crate::gates::{Held, Words, say, wait_for};
+use crate::alone::LAID_OUT;
+use crate::crossed::{say, wait_for};
+use crate::desks::{audit, open_two, play};
 use crate::threads::{Task, beside};
-use board_journal::Kept;
-use board_lock::{Desk, DeskOf, Foyer, Naming, Seat, open_hall};
-use board_rules::{Call, Denial, Reply};
+use board_lock::{DeskOf, Foyer, Naming, Seat};
 use dimension_core::Setup;
-use move_core::Move;
-use rbac_core::{Command, Names, ObjectRange, Operation};
-use search_workers::{Share, Tally, work};
-use separation_core::Name;
+use search_workers::{Gate, Point, Share, work};
 use std::alloc::Global;
 use std::process::Abort;
+use std::sync::atomic::AtomicU64;
 use std::sync::{Arc, Wait};
 use std::thread::Threads;
 
-const CUSTOMERS: ObjectRange = ObjectRange::Customers { first: 1, last: 3 };
+/// What another desk submits before a round of a session, and what while the worker is held before its proposal.
+#[derive(Clone, Copy, Drop)]
+struct Turn {
+    session: u32,
+    first: &'static [&'static str],
+    held: &'static [&'static str],
+}
 
-const SECOND: ObjectRange = ObjectRange::Customers { first: 2, last: 2 };
+/// User and role `worker` may move the vehicle and the customers, and session 1 may freeze.
+const HIRED: &[&str] = &[
+    "1 grant root freeze vehicle 1 1",
+    "1 add-user worker",
+    "1 add-role worker",
+    "1 grant worker move vehicle 1 1",
+    "1 grant worker move customer 1 3",
+];
 
-const VEHICLE: ObjectRange = ObjectRange::Vehicles { first: 1, last: 1 };
+const TURNS: [Turn; 4] = [
+    Turn {
+        session: 2,
+        first: &["1 assign worker worker", "1 open worker worker"],
+        held: &["1 close 2"],
+    },
+    Turn {
+        session: 3,
+        first: &["1 open worker worker"],
+        held: &["1 deassign worker worker"],
+    },
+    Turn {
+        session: 4,
+        first: &["1 assign worker worker", "1 open worker worker"],
+        held: &["1 revoke worker move customer 2 2"],
+    },
+    Turn {
+        session: 4,
+        first: &["1 grant worker move customer 2 2"],
+        held: &["1 freeze 1 3"],
+    },
+];
 
-/// One round of a worker, which is held before its proposal.
+const JOURNAL: &str = "event 1 2 1 | 1 grant root audit board | done
+event 2 2 2 | 1 grant root move vehicle 1 1 | done
+event 3 2 3 | 1 grant root move customer 1 3 | done
+event 4 2 4 | 1 insert 2 1 1 0 | committed 1
+event 5 2 5 | 1 insert 1 1 2 1 | committed 2
+event 6 2 6 | 1 insert 3 1 3 2 | committed 3
+event 7 2 7 | 1 grant root freeze vehicle 1 1 | done
+event 8 2 8 | 1 add-user worker | done
+event 9 2 9 | 1 add-role worker | done
+event 10 2 10 | 1 grant worker move vehicle 1 1 | done
+event 11 2 11 | 1 grant worker move customer 1 3 | done
+event 12 2 12 | 1 assign worker worker | done
+event 13 2 13 | 1 open worker worker | session 2
+event 14 2 14 | 1 close 2 | done
+event 15 1 1 | 2 shift 1 1 1 1 2 3 | denied no-session
+event 16 2 15 | 1 open worker worker | session 3
+event 17 2 16 | 1 deassign worker worker | done
+event 18 1 2 | 3 shift 1 1 1 1 2 3 | denied access vehicle 1
+event 19 2 17 | 1 assign worker worker | done
+event 20 2 18 | 1 open worker worker | session 4
+event 21 2 19 | 1 revoke worker move customer 2 2 | done
+event 22 1 3 | 4 shift 1 1 1 1 2 3 | denied access customer 1 1
+event 23 2 20 | 1 grant worker move customer 2 2 | done
+event 24 2 21 | 1 freeze 1 3 | done
+event 25 1 4 | 4 shift 1 1 1 1 2 3 | denied frozen 1
+end
+";
+
+/// Two words that two threads share: whether the worker is there, and whether it is let go.
+#[derive(Drop)]
+struct Words {
+    there: Arc<AtomicU64>,
+    free: Arc<AtomicU64>,
+}
+
+impl Words {
+    fn new(alloc: Global) -> Option<Words> {
+        Some(Words {
+            there: Arc::new(alloc, AtomicU64::new(0)).ok()?,
+            free: Arc::new(alloc, AtomicU64::new(0)).ok()?,
+        })
+    }
+
+    /// The same words, for another thread.
+    fn share(&self) -> Option<Words> {
+        Some(Words {
+            there: Arc::try_clone(&self.there).ok()?,
+            free: Arc::try_clone(&self.free).ok()?,
+        })
+    }
+}
+
+impl<W: Wait> Gate<W> for Words {
+    fn pass(&self, _rt: &W, _worker: u32, _round: u32, point: Point) {
+        if point == Point::Before {
+            say(&self.there);
+            wait_for(&self.free, 1);
+        }
+    }
+}
+
+/// One round of a worker, which is held before its proposal. It gives the seat back with the number of proposals that were denied.
 #[derive(Drop)]
 struct OneRound {
     alloc: Global,
     session: u32,
-    gate: Held,
+    gate: Words,
 }
 
-impl<N: Naming, R: Wait + Drop, W: Wait> Task<W, Arc<Setup>, Seat<N, R>, (Seat<N, R>, Tally)>
+impl<N: Naming, R: Wait + Drop, W: Wait> Task<W, Arc<Setup>, Seat<N, R>, (Seat<N, R>, u32)>
     for OneRound {
     ghost use Rattle.dimension_core.specs.Setup.{setting};
 
     ghost may = { λ setup seat. setting setup.value ≡ N.opening.setting };
 
-    fn run(self, rt: &W, first: Arc<Setup>, second: Seat<N, R>) -> (Seat<N, R>, Tally) {
+    fn run(self, rt: &W, first: Arc<Setup>, second: Seat<N, R>) -> (Seat<N, R>, u32) {
         let desk = DeskOf {
             setup: first,
             seat: second,
         };
-        let Share { desk, tally } = work(rt, self.alloc, desk, self.session, 1, 1, &self.gate);
-        (desk.seat, tally)
+        let Share { desk, tally } = work(rt, self.alloc, desk, self.session, 7, 1, &self.gate);
+        (desk.seat, tally.denied)
     }
 }
 
-/// One call, once the worker is held, which is then let go.
+/// What another desk submits once the worker is held, which is then let go.
 #[derive(Drop)]
-struct OneCall {
-    call: Call,
+struct OneTurn {
+    alloc: Global,
+    lines: &'static [&'static str],
     words: Words,
 }
 
-impl<N: Naming, R: Wait + Drop, W: Wait> Task<
-    W,
-    Arc<Setup>,
-    Seat<N, R>,
-    (Seat<N, R>, Option<Reply>),
-> for OneCall {
+impl<N: Naming, R: Wait + Drop, W: Wait> Task<W, Arc<Setup>, Seat<N, R>, Seat<N, R>> for OneTurn {
     ghost use Rattle.dimension_core.specs.Setup.{setting};
 
     ghost may = { λ setup seat. setting setup.value ≡ N.opening.setting };
 
-    fn run(self, rt: &W, first: Arc<Setup>, second: Seat<N, R>) -> (Seat<N, R>, Option<Reply>) {
+    fn run(self, rt: &W, first: Arc<Setup>, second: Seat<N, R>) -> Seat<N, R> {
         let mut seat = second;
-        wait_for(&self.words.first, 1);
-        let reply = seat.submit(rt, &first, self.call).ok();
-        say(&self.words.second);
-        (seat, reply)
+        wait_for(&self.words.there, 1);
+        play(rt, self.alloc, &first, &mut seat, self.lines);
+        say(&self.words.free);
+        seat
     }
 }
 
-/// Compares the reply of the call, and the last entry, which is the worker's.
-fn compare_last(rt: &impl Abort, reply: Option<Reply>, last: Option<Kept<'_>>, wanted: Denial) {
-    assert_eq!(rt; reply, Some(Reply::Done));
-    let Some(
-        Kept::Proposal {
-            base,
-            mv,
-            answer,
-            ..
-        },
-    ) = last
-    else {
-        return assert!(rt; false);
-    };
-    let moved = Move::Shift {
-        vehicle: 1,
-        place: 1,
-        length: 1,
-        to: 1,
-        at: 2,
-    };
-    assert_eq!(rt; (base, *mv), (3u32, moved));
-    assert_eq!(rt; answer.verdict(), Err(wanted));
-}
-
-/// The last entry of the journal, as session 1 may audit it.
-fn compare_entry<N: Naming, R: Wait + Drop, W: Wait + Abort>(
-    rt: &W,
-    desk: &mut Desk<N, R>,
-    reply: Option<Reply>,
-    wanted: Denial,
-)
-    requires { setting desk.old.setup.value ≡ N.opening.setting }
-    ensures { setting desk.new.setup.value ≡ N.opening.setting }
-{
-    match desk.audit(rt, 1) {
-        Ok(journal) => {
-            let last = journal.len().wrapping_sub(1);
-            compare_last(rt, reply, journal.get(last), wanted);
-        }
-        Err(_) => compare_last(rt, None, None, wanted),
-    }
-}
-
-/// The worker is held, the call is made, and the worker's proposal is denied. It gives the desks back.
-fn denies<N: Naming + Send + Sync, R: Wait + Drop + Send + Sync, W: Threads + Wait + Abort + Sync>(
+/// A turn of one seat, and a round of the other. It gives the seats back with the number of proposals that were denied.
+fn one_turn<N: Naming + Send + Sync, R: Wait + Drop + Send + Sync, W: Threads + Wait + Sync>(
     rt: &W,
     alloc: Global,
-    desks: (Desk<N, R>, Desk<N, R>),
-    session: u32,
-    call: Call,
-    wanted: Denial,
-) -> Option<(Desk<N, R>, Desk<N, R>)>
-    requires one { setting desks.0.setup.value ≡ N.opening.setting }
-    requires two { setting desks.1.setup.value ≡ N.opening.setting }
-    ensures one { IfSome result (λ t. setting t.0.setup.value ≡ N.opening.setting) }
-    ensures two { IfSome result (λ t. setting t.1.setup.value ≡ N.opening.setting) }
+    setup: &Arc<Setup>,
+    seats: (Seat<N, R>, Seat<N, R>),
+    turn: Turn,
+) -> Option<((Seat<N, R>, Seat<N, R>), u32)>
+    requires { setting setup.now.value ≡ N.opening.setting }
 {
     let words = Words::new(alloc)?;
-    let gate = Held(words.share()?);
-    let (one, two) = desks;
-    let DeskOf { setup, seat } = one;
-    let DeskOf {
-        setup: others,
-        seat: other,
-    } = two;
-    let first = Arc::try_clone(&setup).ok()?;
-    let second = Arc::try_clone(&others).ok()?;
-    let worker = OneRound {
+    let gate = words.share()?;
+    let first = Arc::try_clone(setup).ok()?;
+    let second = Arc::try_clone(setup).ok()?;
+    let (mut own, other) = seats;
+    play(rt, alloc, setup, &mut own, turn.first);
+    let round = OneRound {
         alloc,
-        session,
+        session: turn.session,
         gate,
     };
-    let caller = OneCall { call, words };
-    let ((other, tally), (seat, reply)) = beside(rt, worker, second, other, caller, first, seat);
-    compare_tally(rt, tally, (0, 1, 0, 0));
-    let mut one = DeskOf { setup, seat };
-    compare_entry(rt, &mut one, reply, wanted);
-    Some((
-        one,
-        DeskOf {
-            setup: others,
-            seat: other,
-        },
-    ))
-}
-
-/// What is added to the policy: user and role `worker`, which may move the vehicle and the customers; and session 1 may freeze.
-fn hire<N: Naming, R: Wait + Drop, W: Wait + Abort>(rt: &W, desk: &mut Desk<N, R>)
-    requires { setting desk.old.setup.value ≡ N.opening.setting }
-    ensures { setting desk.new.setup.value ≡ N.opening.setting }
-{
-    let root = name(rt, b"root");
-    let worker = name(rt, b"worker");
-    let calls = [
-        grant(root, Operation::Freeze, VEHICLE),
-        command(Command::AddUser { user: worker }),
-        command(Command::AddRole { role: worker }),
-        assign(worker),
-        grant(worker, Operation::Move, VEHICLE),
-        grant(worker, Operation::Move, CUSTOMERS),
-    ];
-    for call in calls {
-        submits(rt, desk, call, Reply::Done);
-    }
-}
-
-fn assign(worker: Name) -> Call {
-    command(Command::AssignUser {
-        user: worker,
-        role: worker,
-    })
-}
-
-/// A session of user `worker` with its role, which gets this number.
-fn opens<N: Naming, R: Wait + Drop, W: Wait + Abort>(
-    rt: &W,
-    alloc: Global,
-    desk: &mut Desk<N, R>,
-    number: u32,
-)
-    requires { setting desk.old.setup.value ≡ N.opening.setting }
-    ensures { setting desk.new.setup.value ≡ N.opening.setting }
-{
-    let worker = name(rt, b"worker");
-    let Ok(roles) = vec![in alloc; worker] else {
-        return assert!(rt; false);
+    let call = OneTurn {
+        alloc,
+        lines: turn.held,
+        words,
     };
-    let call = command(Command::CreateSession {
-        user: worker,
-        roles: Names::of(roles),
-    });
-    submits(rt, desk, call, Reply::Session(number));
+    let ((other, denied), own) = beside(rt, round, second, other, call, first, own);
+    Some(((own, other), denied))
 }
 
-/// The session is closed, and then the user loses the role.
-fn loses_the_session<
-    N: Naming + Send + Sync,
-    R: Wait + Drop + Send + Sync,
-    W: Threads + Wait + Abort + Sync,
->(rt: &W, alloc: Global, desks: (Desk<N, R>, Desk<N, R>)) -> Option<(Desk<N, R>, Desk<N, R>)>
-    requires one { setting desks.0.setup.value ≡ N.opening.setting }
-    requires two { setting desks.1.setup.value ≡ N.opening.setting }
-    ensures one { IfSome result (λ t. setting t.0.setup.value ≡ N.opening.setting) }
-    ensures two { IfSome result (λ t. setting t.1.setup.value ≡ N.opening.setting) }
-{
-    let worker = name(rt, b"worker");
-    let (mut one, two) = desks;
-    opens(rt, alloc, &mut one, 2);
-    let close = command(Command::DeleteSession { session: 2 });
-    let (mut one, two) = denies(rt, alloc, (one, two), 2, close, Denial::NoSession)?;
-    opens(rt, alloc, &mut one, 3);
-    let deassign = command(Command::DeassignUser {
-        user: worker,
-        role: worker,
-    });
-    let (mut one, two) = denies(rt, alloc, (one, two), 3, deassign, Denial::AccessVehicle(1))?;
-    submits(rt, &mut one, assign(worker), Reply::Done);
-    Some((one, two))
-}
-
-/// The role loses a permission, and then the vehicle is frozen.
-fn loses_the_right<
-    N: Naming + Send + Sync,
-    R: Wait + Drop + Send + Sync,
-    W: Threads + Wait + Abort + Sync,
->(rt: &W, alloc: Global, desks: (Desk<N, R>, Desk<N, R>)) -> Option<(Desk<N, R>, Desk<N, R>)>
-    requires one { setting desks.0.setup.value ≡ N.opening.setting }
-    requires two { setting desks.1.setup.value ≡ N.opening.setting }
-    ensures one { IfSome result (λ t. setting t.0.setup.value ≡ N.opening.setting) }
-    ensures two { IfSome result (λ t. setting t.1.setup.value ≡ N.opening.setting) }
-{
-    let worker = name(rt, b"worker");
-    let (mut one, two) = desks;
-    opens(rt, alloc, &mut one, 4);
-    let revoke = command(Command::RevokePermission {
-        role: worker,
-        operation: Operation::Move,
-        range: SECOND,
-    });
-    let wanted = Denial::AccessCustomer(1, 1);
-    let (mut one, two) = denies(rt, alloc, (one, two), 4, revoke, wanted)?;
-    let again = grant(worker, Operation::Move, SECOND);
-    submits(rt, &mut one, again, Reply::Done);
-    let freeze = Call::Freeze {
-        session: 1,
-        vehicle: 1,
-        length: 3,
-    };
-    denies(rt, alloc, (one, two), 4, freeze, Denial::Frozen(1))
-}
-
-fn compare_end(rt: &impl Abort, ended: bool) {
-    assert!(rt; ended);
-}
-
-/// Each of the four is taken away between a worker's look and its proposal.
+/// How many of the four rounds were denied, and the journal.
 pub(crate) fn works_held<
     N: Naming + Send + Sync,
     R: Wait + Drop + Send + Sync,
-    W: Threads + Wait + Abort + Sync,
->(rt: &W, alloc: Global, foyer: Foyer<R>)
+    W: Threads + Wait + Sync,
+>(rt: &W, alloc: Global, foyer: Foyer<R>) -> Option<(u32, Option<String>)>
     requires opening { foyer.room.opening ≡ N.opening }
     requires book { foyer.room.book ≡ N.book }
 {
-    let Ok(desks) = open_hall::<N, R>(alloc, foyer) else {
+    let (worker, setup, mut own) = open_two::<N, R>(alloc, foyer)?;
+    play(rt, alloc, &setup, &mut own, LAID_OUT);
+    play(rt, alloc, &setup, &mut own, HIRED);
+    let mut seats = (own, worker.seat);
+    let mut denied = 0u32;
+    for turn in TURNS {
+        let (next, more) = one_turn(rt, alloc, &setup, seats, turn)?;
+        seats = next;
+        denied = denied.wrapping_add(more);
+    }
+    Some((denied, audit(rt, alloc, &mut seats.0)))
+}
+
+pub(crate) fn compare_held(rt: &impl Abort, ended: &Option<(u32, Option<String>)>) {
+    let Some((denied, Some(journal))) = ended else {
         return assert!(rt; false);
     };
-    let Some((desks, two)) = last(desks) else {
-        return assert!(rt; false);
-    };
-    let Some((_desks, mut one)) = last(desks) else {
-        return assert!(rt; false);
-    };
-    lay_out(rt, &mut one);
-    hire(rt, &mut one);
-    let Some(desks) = loses_the_session(rt, alloc, (one, two)) else {
-        return assert!(rt; false);
-    };
-    let ended = loses_the_right(rt, alloc, desks);
-    compare_end(rt, ended.is_some());
+    assert_eq!(rt; *denied, 4);
+    assert_eq!(rt; journal.as_str(), JOURNAL);
 }

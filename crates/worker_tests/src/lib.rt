@@ -1,4 +1,5 @@
-//! Tests of workers: one alone, one that is held while rights change, two at once, and eight beside a busy desk.
+//! Tests of workers: one alone, one that is held while rights change, two at once, and eight beside a busy desk. Calls, replies and journals
+//! are compared as the text of their lines.
 #![tactic(auto)]
 
 #[cfg(test)]
@@ -8,13 +9,11 @@ mod boards;
 #[cfg(test)]
 mod busy;
 #[cfg(test)]
-mod calls;
-#[cfg(test)]
 mod crossed;
 #[cfg(test)]
 mod crowd;
 #[cfg(test)]
-mod gates;
+mod desks;
 #[cfg(test)]
 mod held;
 #[cfg(test)]

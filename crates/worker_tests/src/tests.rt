@@ -2,16 +2,13 @@
 ghost use Rattle.std.specs.Prelude.{◌≡◌, ◌+◌, ◌*◌, ◌%◌};
 ghost use Rattle.worker_tests.specs.Ways.{way};
 
-use crate::alone::works_alone;
-use crate::boards::free_board;
-use crate::crossed::works_crossed;
-use crate::crowd::{compare, works_beside};
-use crate::held::works_held;
-use crate::replay::judged_again;
-use board_lock::make_foyer;
+use crate::alone::{compare_alone, works_alone};
+use crate::boards::free_foyer;
+use crate::crossed::{compare_crossed, works_crossed};
+use crate::crowd::{compare_crowd, works_beside};
+use crate::held::{compare_held, works_held};
 use callback_store::Transit;
 use std::marker::Brand;
-use std::sync::Arc;
 use std::test::Fail;
 
 #[test]
@@ -24,9 +21,8 @@ fn one_worker_alone(rt: HostRuntime) -> Result<(), Fail> {
         { u64::from(i.abs_diff(j)) * 30 },
     )?;
     let drives = Transit::new(4, drive);
-    let board = free_board(alloc, drives, 3, 1, 1, 100)?;
-    let foyer = make_foyer(&rt, alloc, board).map_err(|_| "foyer")?;
-    works_alone::<Brand, _, _>(&rt, alloc, foyer);
+    let foyer = free_foyer(&rt, alloc, drives, (3, 1), 2, 20).ok_or("a foyer")?;
+    compare_alone(&rt, &works_alone::<Brand, _, _>(&rt, alloc, foyer));
     Ok(())
 }
 
@@ -40,9 +36,8 @@ fn a_worker_is_held(rt: HostRuntime) -> Result<(), Fail> {
         { u64::from(i.abs_diff(j)) * 30 },
     )?;
     let drives = Transit::new(4, drive);
-    let board = free_board(alloc, drives, 3, 1, 2, 100)?;
-    let foyer = make_foyer(&rt, alloc, board).map_err(|_| "foyer")?;
-    works_held::<Brand, _, _>(&rt, alloc, foyer);
+    let foyer = free_foyer(&rt, alloc, drives, (3, 1), 2, 100).ok_or("a foyer")?;
+    compare_held(&rt, &works_held::<Brand, _, _>(&rt, alloc, foyer));
     Ok(())
 }
 
@@ -56,9 +51,8 @@ fn two_workers_cross(rt: HostRuntime) -> Result<(), Fail> {
         { u64::from(i.abs_diff(j)) * 30 },
     )?;
     let drives = Transit::new(4, drive);
-    let board = free_board(alloc, drives, 3, 1, 3, 100)?;
-    let foyer = make_foyer(&rt, alloc, board).map_err(|_| "foyer")?;
-    works_crossed::<Brand, _, _>(&rt, alloc, foyer);
+    let foyer = free_foyer(&rt, alloc, drives, (3, 1), 3, 100).ok_or("a foyer")?;
+    compare_crossed(&rt, &works_crossed::<Brand, _, _>(&rt, alloc, foyer));
     Ok(())
 }
 
@@ -77,11 +71,7 @@ fn eight_workers_beside_a_busy_desk(rt: HostRuntime) -> Result<(), Fail> {
         },
     )?;
     let drives = Transit::new(201, drive);
-    let board = free_board(alloc, drives, 200, 10, 9, 20000)?;
-    let setup = Arc::try_clone(board.setup()).map_err(|_| "setup")?;
-    let foyer = make_foyer(&rt, alloc, board).map_err(|_| "foyer")?;
-    let ended = works_beside::<Brand, _, _>(&rt, alloc, foyer).ok_or("works")?;
-    let again = judged_again(alloc, setup, &ended.journal);
-    compare(&rt, &ended, again);
+    let foyer = free_foyer(&rt, alloc, drives, (200, 10), 9, 100000).ok_or("a foyer")?;
+    compare_crowd(&rt, alloc, works_beside::<Brand, _, _>(&rt, alloc, foyer));
     Ok(())
 }

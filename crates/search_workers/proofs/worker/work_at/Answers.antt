@@ -1,4 +1,4 @@
-use Rattle.std.proofs.Common.{◌≡◌, ◌+◌, ℕ, refl, ap, sym, subst, ◌∙◌, arith}
+use Rattle.std.proofs.Common.{◌≡◌, ◌+◌, ℕ, [], refl, ap, sym, subst, ◌∙◌, arith}
 use Rattle.search_workers.specs.Jobs.{job_of}
 use Rattle.search_workers.specs.Steps.{IsDone}
 use Rattle.search_workers.specs.Works.{Worked}
@@ -14,6 +14,24 @@ pub one_round-outcome-requires-clause-second : goal.one_round-outcome-requires-c
 one_round-outcome-requires-clause-second g c =
     let order = c.args.errand.order in
     c.draw_round-v.ensures.second (job_of g.N.Naming.opening c.loop-done.seat.number order.session order.seed) refl (ap (λ s. s.vehicles) (sym c.requires) ∙ sym c.vehicles-vehicles.ensures.value)
+
+pub loop-done-init : goal.loop-done-init
+loop-done-init g c =
+    let none = c.new-tally.ensures.none in
+    record {
+      done = record {
+        number_is = refl;
+        each = [];
+        many = refl;
+        run = refl;
+        own = omega arith;
+        skipped = record { moves_are = c.new-skips.ensures.moves; later = λ n lt. refl };
+        counted = record { committed_is = none.0; denied_is = none.1; refused_is = none.2; idle_is = none.3 };
+      };
+      version = omega (arith, c.new-skips.ensures.version);
+      words = c.sow-rng.ensures;
+      sum = c.new-tally.ensures.sum;
+    }
 
 pub loop-done-preserved : goal.loop-done-preserved
 loop-done-preserved g c =

@@ -1,9 +1,0 @@
-use Rattle.std.proofs.Common.{◌≡◌}
-use Rattle.dimension_core.specs.Setup.{setting}
-use Rattle.worker_tests.proofs.crowd.prepare.Given as goal
-
-abbrev pub invariant-loop-call : goal.invariant-loop-call
-invariant-loop-call g l = setting l.desk.setup.value ≡ g.N.Naming.opening.setting
-
-abbrev pub invariant-loop-number : goal.invariant-loop-number
-invariant-loop-number g l = setting l.desk.setup.value ≡ g.N.Naming.opening.setting
