@@ -1,0 +1,9 @@
+use Rattle.std.proofs.Common.{ap, ◌∙◌}
+use Rattle.plan_sums.specs.Visits.{visit_at}
+use Rattle.plan_picture.specs.Marks.{labels_of}
+use Rattle.plan_picture.proofs.Joining.{flat_joined}
+use Rattle.plan_picture.proofs.drawing.push_labels.Goals as goal
+
+pub loop-k-preserved : goal.loop-k-preserved
+loop-k-preserved c =
+    flat_joined (λ k. labels_of c.args.roads.now c.args.layout.now (visit_at c.args.roads.now c.args.rows.now k)) c.args.marks.now.items c.loop-k.marks.items c.push_label.new.marks.items (labels_of c.args.roads.now c.args.layout.now c.visit_at.result) c.loop-k.k c.loop-k.invariant c.in_ok-push_label.ensures (ap (labels_of c.args.roads.now c.args.layout.now) c.visit_at.ensures.value)

@@ -1,0 +1,6 @@
+use Rattle.std.proofs.Common.{◌≡◌, ◌++◌}
+use Rattle.plan_picture.specs.Marks.{labels_before}
+use Rattle.plan_picture.proofs.drawing.push_labels.Given as goal
+
+abbrev pub invariant-loop-k : goal.invariant-loop-k
+invariant-loop-k l = l.marks.items ≡ l.fn.marks.items ++ labels_before l.roads l.layout l.rows l.k

@@ -1,0 +1,4 @@
+pub mod Drawn
+pub mod Marks
+pub mod Scales
+pub mod Texts

@@ -1,0 +1,51 @@
+-- Where things stand in a picture. All numbers are tenths of a pixel.
+use Rattle.std.specs.Prelude.{ℕ, ◌+◌, ◌-◌, ◌*◌, ◌/◌, max, min, List, length, fold}
+use Rattle.solomon_reader.specs.declared.instance.Node.{Node}
+use Rattle.travel_table.specs.Travel.{node_at}
+use Rattle.plan_picture.specs.declared.scale.Point.{Point}
+use Rattle.plan_picture.specs.declared.scale.Frame.{Frame}
+use Rattle.plan_picture.specs.declared.scale.Clock.{Clock}
+
+-- ---- the map
+
+-- the least and the greatest of some numbers of the nodes
+abbrev pub least_x : List Node → ℕ
+least_x nodes = fold (λ m n. min m n.x) (node_at nodes 0).x nodes
+
+abbrev pub most_x : List Node → ℕ
+most_x nodes = fold (λ m n. max m n.x) (node_at nodes 0).x nodes
+
+abbrev pub least_y : List Node → ℕ
+least_y nodes = fold (λ m n. min m n.y) (node_at nodes 0).y nodes
+
+abbrev pub most_y : List Node → ℕ
+most_y nodes = fold (λ m n. max m n.y) (node_at nodes 0).y nodes
+
+abbrev pub most_demand : List Node → ℕ
+most_demand nodes = max (fold (λ m n. max m n.demand) 0 nodes) 1
+
+-- the square that all nodes are in: its left side, its upper side and how wide it is, at least 1
+abbrev pub frame_of : List Node → Frame
+frame_of nodes = record {
+  left = least_x nodes;
+  top = most_y nodes;
+  span = max (max (most_x nodes - least_x nodes) (most_y nodes - least_y nodes)) 1;
+}
+
+-- where a node stands: the square is 6,000 wide, from (400, 1100) on, and greater second coordinates stand higher
+abbrev pub point_of : Frame → Node → Point
+point_of f n = record { x = 400 + (n.x - f.left) * 6000 / f.span; y = 1100 + (f.top - n.y) * 6000 / f.span }
+
+-- how large a node is drawn: 30, and up to 40 more by its demand
+abbrev pub radius_of : ℕ → Node → ℕ
+radius_of most n = 30 + n.demand * 40 / most
+
+-- ---- the timelines
+
+-- from the depot's ready time to its due date, in tenths of the unit of time; at least 1
+abbrev pub clock_of : List Node → Clock
+clock_of nodes = record { from = (node_at nodes 0).ready * 10; span = max (((node_at nodes 0).due - (node_at nodes 0).ready) * 10) 1 }
+
+-- where a time stands: the depot's horizon is 11,000 wide, from 1,600 on; what is later stands at its end
+abbrev pub x_of : Clock → ℕ → ℕ
+x_of c t = 1600 + min (t - c.from) c.span * 11000 / c.span

@@ -1,0 +1,361 @@
+//! The marks of a picture, in the order in which they are drawn.
+
+ghost use Rattle.std.specs.Prelude.{◌≡◌, ◌<◌, ◌≤◌, ◌++◌, IfOk, OnOk, length};
+ghost use Rattle.plan_sums.specs.Rows.{AreRows};
+ghost use Rattle.plan_sums.specs.Visits.{IsVisit, visit_at};
+ghost use Rattle.plan_picture.specs.Drawn.{IsLayout};
+ghost use Rattle.plan_picture.specs.Marks.{place_of, leg_of, leg_in, leg_home, legs_of, spot_of, customer_mark, label_of, labels_of, depot_mark, entry_at, tick_at, lane_of, lanes_of, legs_before, customers_before, labels_before, entries_before, ticks_before, lanes_before, marks_of};
+
+use crate::layout::Layout;
+use crate::mark::{Depot, Entry, Label, Lane, Leg, Mark, Spot, Tick};
+use crate::scale::{Point, point_of, radius_of, x_of};
+use plan_sums::{Roads, Row, Tour, Visit, visit_at};
+use std::alloc::{AllocError, Global};
+
+/// The most nodes whose customers have their numbers on the map.
+const MOST_LABELLED: u32 = 101;
+
+/// Where a node stands on the map.
+fn place_of(roads: &Roads, layout: &Layout, node: u32) -> Point
+    requires node { node < length roads.now.nodes }
+    requires layout { IsLayout layout.now }
+    ensures { result ≡ place_of roads.now layout.now node }
+{
+    point_of(&layout.frame, &roads.node(node))
+}
+
+// ---- the ways
+
+/// A way of a vehicle from a node to another.
+fn leg_of(roads: &Roads, layout: &Layout, vehicle: u32, from: u32, to: u32) -> Mark
+    requires from { from < length roads.now.nodes }
+    requires to { to < length roads.now.nodes }
+    requires layout { IsLayout layout.now }
+    ensures { result ≡ leg_of roads.now layout.now vehicle from to }
+{
+    Mark::Leg(Leg {
+        vehicle,
+        from,
+        to,
+        start: place_of(roads, layout, from),
+        end: place_of(roads, layout, to),
+        way: roads.travel(from, to),
+    })
+}
+
+/// Appends the way to a visit, where the node before is known.
+fn push_leg_in(
+    marks: &mut Vec<Mark>,
+    roads: &Roads,
+    layout: &Layout,
+    visit: &Visit,
+) -> Result<(), AllocError>
+    requires visit { IsVisit roads.now visit.now }
+    requires layout { IsLayout layout.now }
+    ensures { OnOk result (marks.new.items ≡ marks.old.items ++ leg_in roads.now layout.now visit.now) }
+{
+    match visit.from {
+        None => Ok(()),
+        Some(from) => {
+            let row = visit.row;
+            marks.push(leg_of(roads, layout, row.vehicle, from, row.customer))?;
+            Ok(())
+        }
+    }
+}
+
+/// Appends the way home from a vehicle's last stop.
+fn push_leg_home(
+    marks: &mut Vec<Mark>,
+    roads: &Roads,
+    layout: &Layout,
+    visit: &Visit,
+) -> Result<(), AllocError>
+    requires visit { IsVisit roads.now visit.now }
+    requires layout { IsLayout layout.now }
+    ensures { OnOk result (marks.new.items ≡ marks.old.items ++ leg_home roads.now layout.now visit.now) }
+{
+    if !visit.is_last {
+        return Ok(());
+    }
+    let row = visit.row;
+    marks.push(leg_of(roads, layout, row.vehicle, row.customer, 0))?;
+    Ok(())
+}
+
+/// Appends the ways of a visit.
+fn push_legs(
+    marks: &mut Vec<Mark>,
+    roads: &Roads,
+    layout: &Layout,
+    visit: &Visit,
+) -> Result<(), AllocError>
+    requires visit { IsVisit roads.now visit.now }
+    requires layout { IsLayout layout.now }
+    ensures { OnOk result (marks.new.items ≡ marks.old.items ++ legs_of roads.now layout.now visit.now) }
+{
+    if !visit.row.is_planned() {
+        return Ok(());
+    }
+    push_leg_in(marks, roads, layout, visit)?;
+    push_leg_home(marks, roads, layout, visit)
+}
+
+/// Appends the ways of all rows.
+fn push_all_legs(
+    marks: &mut Vec<Mark>,
+    roads: &Roads,
+    layout: &Layout,
+    rows: &[Row],
+) -> Result<(), AllocError>
+    requires rows { AreRows roads.now rows.now }
+    requires layout { IsLayout layout.now }
+    ensures { OnOk result (marks.new.items ≡ marks.old.items ++ legs_before roads.now layout.now rows.now (length rows.now)) }
+{
+    for k in 0..rows.len() {
+        push_legs(marks, roads, layout, &visit_at(roads, rows, k))?;
+    }
+    Ok(())
+}
+
+// ---- the customers
+
+/// The mark of a row's customer: filled where it is planned, and else hollow.
+fn customer_mark(roads: &Roads, layout: &Layout, visit: &Visit) -> Mark
+    requires visit { IsVisit roads.now visit.now }
+    requires layout { IsLayout layout.now }
+    ensures { result ≡ customer_mark roads.now layout.now visit.now }
+{
+    let spot = Spot {
+        at: place_of(roads, layout, visit.row.customer),
+        radius: radius_of(layout.most, &roads.node(visit.row.customer)),
+        visit: *visit,
+    };
+    if visit.row.is_planned() {
+        Mark::Stop(spot)
+    } else {
+        Mark::Open(spot)
+    }
+}
+
+/// Appends a mark for each row.
+fn push_customers(
+    marks: &mut Vec<Mark>,
+    roads: &Roads,
+    layout: &Layout,
+    rows: &[Row],
+) -> Result<(), AllocError>
+    requires rows { AreRows roads.now rows.now }
+    requires layout { IsLayout layout.now }
+    ensures { OnOk result (marks.new.items ≡ marks.old.items ++ customers_before roads.now layout.now rows.now (length rows.now)) }
+{
+    for k in 0..rows.len() {
+        marks.push(customer_mark(roads, layout, &visit_at(roads, rows, k)))?;
+    }
+    Ok(())
+}
+
+/// The number of a row's customer.
+fn label_of(roads: &Roads, layout: &Layout, visit: &Visit) -> Mark
+    requires visit { IsVisit roads.now visit.now }
+    requires layout { IsLayout layout.now }
+    ensures { result ≡ label_of roads.now layout.now visit.now }
+{
+    let customer = visit.row.customer;
+    Mark::Label(Label {
+        at: place_of(roads, layout, customer),
+        customer,
+    })
+}
+
+/// Appends the number of a row's customer, where there are not more than 100 customers.
+fn push_label(
+    marks: &mut Vec<Mark>,
+    roads: &Roads,
+    layout: &Layout,
+    visit: &Visit,
+) -> Result<(), AllocError>
+    requires visit { IsVisit roads.now visit.now }
+    requires layout { IsLayout layout.now }
+    ensures { OnOk result (marks.new.items ≡ marks.old.items ++ labels_of roads.now layout.now visit.now) }
+{
+    if roads.size() > MOST_LABELLED {
+        return Ok(());
+    }
+    marks.push(label_of(roads, layout, visit))?;
+    Ok(())
+}
+
+/// Appends the numbers of all rows.
+fn push_labels(
+    marks: &mut Vec<Mark>,
+    roads: &Roads,
+    layout: &Layout,
+    rows: &[Row],
+) -> Result<(), AllocError>
+    requires rows { AreRows roads.now rows.now }
+    requires layout { IsLayout layout.now }
+    ensures { OnOk result (marks.new.items ≡ marks.old.items ++ labels_before roads.now layout.now rows.now (length rows.now)) }
+{
+    for k in 0..rows.len() {
+        push_label(marks, roads, layout, &visit_at(roads, rows, k))?;
+    }
+    Ok(())
+}
+
+/// The depot.
+fn depot_mark(roads: &Roads, layout: &Layout) -> Mark
+    requires { IsLayout layout.now }
+    ensures { result ≡ depot_mark roads.now layout.now }
+{
+    let depot = roads.depot();
+    Mark::Depot(Depot {
+        at: point_of(&layout.frame, &depot),
+        ready: depot.ready,
+        due: depot.due,
+    })
+}
+
+// ---- the table
+
+/// The line of a vehicle.
+fn entry_at(roads: &Roads, tours: &[Tour], k: usize) -> Mark
+    requires within { k < length tours.now }
+    requires few { length tours.now ≤ 1000 }
+    ensures { result ≡ entry_at roads.now tours.now k }
+{
+    Mark::Entry(Entry {
+        y: 1300 + 190 * k as u64,
+        tour: tours[k],
+        capacity: roads.capacity(),
+    })
+}
+
+/// Appends a line for each vehicle.
+fn push_entries(marks: &mut Vec<Mark>, roads: &Roads, tours: &[Tour]) -> Result<(), AllocError>
+    requires { length tours.now ≤ 1000 }
+    ensures { OnOk result (marks.new.items ≡ marks.old.items ++ entries_before roads.now tours.now (length tours.now)) }
+{
+    for k in 0..tours.len() {
+        marks.push(entry_at(roads, tours, k))?;
+    }
+    Ok(())
+}
+
+// ---- the timelines
+
+/// A line across the timelines.
+fn tick_at(layout: &Layout, i: u64) -> Mark
+    requires layout { IsLayout layout.now }
+    requires few { i ≤ 4 }
+    ensures { result ≡ tick_at layout.now i }
+{
+    Mark::Tick(Tick {
+        x: 1600 + 2750 * i,
+        top: layout.top.saturating_sub(60),
+        bottom: layout.bottom,
+        time: layout.clock.from + layout.clock.span * i / 4,
+    })
+}
+
+/// Appends a line for the start, the end and each quarter.
+fn push_ticks(marks: &mut Vec<Mark>, layout: &Layout) -> Result<(), AllocError>
+    requires { IsLayout layout.now }
+    ensures { OnOk result (marks.new.items ≡ marks.old.items ++ ticks_before layout.now 5) }
+{
+    for i in 0..5 {
+        marks.push(tick_at(layout, i))?;
+    }
+    Ok(())
+}
+
+/// The lane of a stop.
+fn lane_of(layout: &Layout, k: usize, visit: &Visit) -> Lane
+    requires layout { IsLayout layout.now }
+    requires leave { visit.now.leave ≤ 4394967285 }
+    requires home { visit.now.home ≤ 141421342 }
+    requires few { k ≤ 1000 }
+    ensures { result ≡ lane_of layout.now k visit.now }
+{
+    let clock = layout.clock;
+    let back = if visit.is_last {
+        visit.leave + visit.home
+    } else {
+        visit.leave
+    };
+    Lane {
+        y: layout.top + 160 * k as u64,
+        visit: *visit,
+        ready: x_of(&clock, u64::from(visit.node.ready) * 10),
+        due: x_of(&clock, u64::from(visit.node.due) * 10),
+        depart: x_of(&clock, visit.arrival.saturating_sub(visit.way)),
+        arrival: x_of(&clock, visit.arrival),
+        early: x_of(&clock, u64::from(visit.row.early)),
+        leave: x_of(&clock, visit.leave),
+        back: x_of(&clock, back),
+    }
+}
+
+/// Appends the lane of a visit, if it is planned.
+fn push_lane(
+    marks: &mut Vec<Mark>,
+    layout: &Layout,
+    k: usize,
+    visit: &Visit,
+) -> Result<(), AllocError>
+    requires layout { IsLayout layout.now }
+    requires leave { visit.now.leave ≤ 4394967285 }
+    requires home { visit.now.home ≤ 141421342 }
+    requires few { k ≤ 1000 }
+    ensures { OnOk result (marks.new.items ≡ marks.old.items ++ lanes_of layout.now k visit.now) }
+{
+    if !visit.row.is_planned() {
+        return Ok(());
+    }
+    marks.push(Mark::Lane(lane_of(layout, k, visit)))?;
+    Ok(())
+}
+
+/// Appends a lane for each planned row.
+fn push_lanes(
+    marks: &mut Vec<Mark>,
+    roads: &Roads,
+    layout: &Layout,
+    rows: &[Row],
+) -> Result<(), AllocError>
+    requires rows { AreRows roads.now rows.now }
+    requires layout { IsLayout layout.now }
+    ensures { OnOk result (marks.new.items ≡ marks.old.items ++ lanes_before roads.now layout.now rows.now (length rows.now)) }
+{
+    for k in 0..rows.len() {
+        push_lane(marks, layout, k, &visit_at(roads, rows, k))?;
+    }
+    Ok(())
+}
+
+// ---- the picture
+
+/// The marks of the picture of a listing, with its layout and its sums, the lower ones first: on the map the ways of the vehicles, the depot, a
+/// mark for each row of the listing, and their numbers; then the table; then the timelines. No other customer is drawn.
+pub fn picture(
+    alloc: Global,
+    roads: &Roads,
+    layout: &Layout,
+    rows: &[Row],
+    tours: &[Tour],
+) -> Result<Vec<Mark>, AllocError>
+    requires rows { AreRows roads.now rows.now }
+    requires tours { length tours.now ≤ 1000 }
+    requires layout { IsLayout layout.now }
+    ensures { IfOk result (λ marks. marks.items ≡ marks_of roads.now layout.now rows.now tours.now) }
+{
+    let mut marks = Vec::new(alloc);
+    push_all_legs(&mut marks, roads, layout, rows)?;
+    marks.push(depot_mark(roads, layout))?;
+    push_customers(&mut marks, roads, layout, rows)?;
+    push_labels(&mut marks, roads, layout, rows)?;
+    push_entries(&mut marks, roads, tours)?;
+    push_ticks(&mut marks, layout)?;
+    push_lanes(&mut marks, roads, layout, rows)?;
+    Ok(marks)
+}

@@ -1,0 +1,30 @@
+//! Names as XML has them.
+
+ghost use Rattle.std.specs.Prelude.{◌≡◌, ◌++◌, OnOk, string_bytes};
+ghost use Rattle.plan_picture.specs.Texts.{escaped, escaped_char};
+
+use std::alloc::AllocError;
+
+/// Appends a character; the five that XML keeps for itself as their entities.
+fn push_escaped_char(out: &mut String, c: char) -> Result<(), AllocError>
+    ensures { OnOk result (string_bytes out.new ≡ string_bytes out.old ++ escaped_char c) }
+{
+    match c {
+        '&' => out.push_str("&amp;"),
+        '<' => out.push_str("&lt;"),
+        '>' => out.push_str("&gt;"),
+        '"' => out.push_str("&quot;"),
+        '\'' => out.push_str("&#39;"),
+        _ => out.push(c),
+    }
+}
+
+/// Appends a name, so that it is that name in the text of an element or in an attribute.
+pub(crate) fn push_escaped(out: &mut String, name: &str) -> Result<(), AllocError>
+    ensures { OnOk result (string_bytes out.new ≡ string_bytes out.old ++ escaped name.now) }
+{
+    for c in name.chars() {
+        push_escaped_char(out, c)?;
+    }
+    Ok(())
+}

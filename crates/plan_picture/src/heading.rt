@@ -1,0 +1,125 @@
+//! What stands before and behind the marks.
+
+ghost use Rattle.std.specs.Prelude.{◌≡◌, ◌++◌, ◌-◌, ◌≤◌, All, OnOk, length, string_bytes};
+ghost use Rattle.plan_picture.specs.Drawn.{IsLayout};
+ghost use Rattle.plan_picture.specs.Texts.{size_text, opening_text, style_text, headings_text, counts_text, heading_text, lanes_heading, head_text, end_text};
+
+use crate::escape::push_escaped;
+use crate::layout::Layout;
+use crate::style::{HEADINGS, STYLE};
+use crate::text::{push_text, push_units};
+use plan_sums::{Row, Tour, cost, open_count};
+use std::alloc::AllocError;
+
+/// Appends the size.
+#[tactic(auto, unfolding(crate::specs::Texts::size_text))]
+fn push_size(out: &mut String, layout: &Layout) -> Result<(), AllocError>
+    requires { IsLayout layout.now }
+    ensures { OnOk result (string_bytes out.new ≡ string_bytes out.old ++ size_text layout.now) }
+{
+    write!(
+        out,
+        "<svg xmlns=\"http://www.w3.org/2000/svg\" width=\"1280\" height=\"{}\" viewBox=\"0 0 12800 {}\">\n<title>",
+        (layout.bottom + 400) / 10,
+        layout.bottom + 400
+    )
+}
+
+/// Appends the size, and the name as the title.
+fn push_opening(out: &mut String, layout: &Layout, name: &str) -> Result<(), AllocError>
+    requires { IsLayout layout.now }
+    ensures { OnOk result (string_bytes out.new ≡ string_bytes out.old ++ opening_text layout.now name.now) }
+{
+    push_size(out, layout)?;
+    push_escaped(out, name)?;
+    push_text(out, "</title>\n")?;
+    Ok(())
+}
+
+/// Appends the colours and the arrows.
+#[tactic(auto, unfolding(crate::specs::Texts::style_text))]
+fn push_style(out: &mut String) -> Result<(), AllocError>
+    ensures { OnOk result (string_bytes out.new ≡ string_bytes out.old ++ style_text) }
+{
+    push_text(out, STYLE)
+}
+
+/// Appends the headings of the parts.
+#[tactic(auto, unfolding(crate::specs::Texts::headings_text))]
+fn push_headings(out: &mut String) -> Result<(), AllocError>
+    ensures { OnOk result (string_bytes out.new ≡ string_bytes out.old ++ headings_text) }
+{
+    push_text(out, HEADINGS)
+}
+
+/// Appends how many customers are planned, and how many are not.
+#[tactic(auto, unfolding(crate::specs::Texts::counts_text))]
+fn push_counts(out: &mut String, planned: usize, unplanned: usize) -> Result<(), AllocError>
+    ensures { OnOk result (string_bytes out.new ≡ string_bytes out.old ++ counts_text planned unplanned) }
+{
+    write!(
+        out,
+        ", {} customers planned, {} not planned</text>\n",
+        planned, unplanned
+    )
+}
+
+/// Appends the name as the heading, what the plan costs, and how many customers are planned and are not.
+fn push_heading(
+    out: &mut String,
+    name: &str,
+    planned: usize,
+    unplanned: usize,
+    cost: u64,
+) -> Result<(), AllocError>
+    ensures { OnOk result (string_bytes out.new ≡ string_bytes out.old ++ heading_text name.now planned unplanned cost) }
+{
+    push_text(out, "<text class=\"k\" x=\"200\" y=\"420\">")?;
+    push_escaped(out, name)?;
+    push_text(out, "</text>\n<text class=\"m\" x=\"200\" y=\"700\">cost ")?;
+    push_units(out, cost)?;
+    push_counts(out, planned, unplanned)?;
+    Ok(())
+}
+
+/// Appends the headings of the timelines, at a height.
+#[tactic(auto, unfolding(crate::specs::Texts::lanes_heading))]
+fn push_lanes_heading(out: &mut String, y: u64) -> Result<(), AllocError>
+    ensures { OnOk result (string_bytes out.new ≡ string_bytes out.old ++ lanes_heading y) }
+{
+    write!(
+        out,
+        "<text class=\"e\" x=\"800\" y=\"{}\">vehicle</text>\n<text class=\"e\" x=\"1500\" y=\"{}\">customer</text>\n",
+        y, y
+    )
+}
+
+/// Appends all that stands before the marks of the picture of a listing with these sums: the name as the title and as the heading, the colours
+/// and the headings.
+pub fn push_head(
+    out: &mut String,
+    layout: &Layout,
+    name: &str,
+    rows: &[Row],
+    tours: &[Tour],
+) -> Result<(), AllocError>
+    requires layout { IsLayout layout.now }
+    requires few { length tours.now ≤ 1000 }
+    requires small { All (λ tour. tour.distance ≤ 1000141421342) tours.now }
+    ensures { OnOk result (string_bytes out.new ≡ string_bytes out.old ++ head_text layout.now name.now rows.now tours.now) }
+{
+    let unplanned = open_count(rows);
+    push_opening(out, layout, name)?;
+    push_style(out)?;
+    push_heading(out, name, rows.len() - unplanned, unplanned, cost(tours))?;
+    push_headings(out)?;
+    push_lanes_heading(out, layout.top.saturating_sub(100))?;
+    Ok(())
+}
+
+/// Appends what stands behind the marks.
+pub fn push_end(out: &mut String) -> Result<(), AllocError>
+    ensures { OnOk result (string_bytes out.new ≡ string_bytes out.old ++ end_text) }
+{
+    out.push_str("</svg>\n")
+}

@@ -1,0 +1,71 @@
+-- Text is held, and written later.
+use Rattle.std.proofs.Common.{◌≡◌, ◌∙◌, ℕ, ◌+◌, ◌<◌, List, [], ◌++◌, length, take, get_or, Option, Some, None, sym, ap, subst, append_assoc, append-nil}
+use Rattle.std.specs.List.{flat_map}
+use Rattle.std.proofs.lemmas.List.{flat_map_more, take_more}
+use Rattle.std.specs.Io.KnownBytes.{Appends}
+use Rattle.plan_sums.specs.declared.row.Row.{Row}
+use Rattle.plan_sums.specs.declared.tour.Tour.{Tour}
+use Rattle.plan_sums.specs.Places.{Places}
+use Rattle.plan_sums.specs.Tours.{tours_of}
+use Rattle.plan_picture.specs.declared.layout.Layout.{Layout}
+use Rattle.plan_picture.specs.declared.mark.Mark.{Mark}
+use Rattle.plan_picture.specs.Marks.{layout_of, marks_of}
+use Rattle.plan_picture.specs.Texts.{end_text, head_text, mark_text, svg_text}
+use Rattle.plan_program.specs.Holding.{IsHeld}
+
+adds_then : (a b c : Option (List ℕ)) (x y : List ℕ) → Appends a b x → Appends b c y → Appends a c (x ++ y)
+adds_then None b c x y h k = tt
+adds_then (Some p) None c x y h k = absurd h
+adds_then (Some p) (Some q) None x y h k = absurd k
+adds_then (Some p) (Some q) (Some r) x y h k = k ∙ ap (λ (l : List ℕ). l ++ y) h ∙ append_assoc p x y
+
+adds_none : (a : Option (List ℕ)) → Appends a a []
+adds_none None = tt
+adds_none (Some p) = sym (append-nil p)
+
+-- nothing was written
+pub held_still : (was : Option (List ℕ)) (held all : List ℕ) → held ≡ all → IsHeld was was held all
+held_still was held all e = record { done = []; appended = adds_none was; whole = e }
+
+-- all was written
+pub held_none : (was now : Option (List ℕ)) (held all : List ℕ) → held ≡ [] → Appends was now all → IsHeld was now held all
+held_none was now held all e h = record { done = all; appended = h; whole = ap (λ (l : List ℕ). all ++ l) e ∙ append-nil all }
+
+-- more is held, and some of that is written
+pub held_more : (a b c : Option (List ℕ)) (held mid next all text : List ℕ) → IsHeld a b held all → mid ≡ held ++ text → IsHeld b c next mid → IsHeld a c next (all ++ text)
+held_more a b c held mid next all text h e k = record {
+  done = h.done ++ k.done;
+  appended = adds_then a b c h.done k.done h.appended k.appended;
+  whole = append_assoc h.done k.done next ∙ ap (λ (l : List ℕ). h.done ++ l) (k.whole ∙ e) ∙ sym (append_assoc h.done held text) ∙ ap (λ (l : List ℕ). l ++ text) h.whole;
+}
+
+-- the rest is written
+pub held_written : (a b c : Option (List ℕ)) (held mid all text : List ℕ) → IsHeld a b held all → mid ≡ held ++ text → Appends b c mid → Appends a c (all ++ text)
+held_written a b c held mid all text h e k =
+    subst (λ (l : List ℕ). Appends a c l) (ap (λ (l : List ℕ). h.done ++ l) e ∙ sym (append_assoc h.done held text) ∙ ap (λ (l : List ℕ). l ++ text) h.whole) (adds_then a b c h.done mid h.appended k)
+
+-- ---- a picture
+
+-- one more mark
+pub marks_more : (a b c : Option (List ℕ)) (held mid next start : List ℕ) (marks : List Mark) (i : ℕ) (d : Mark) → i < length marks → IsHeld a b held (start ++ flat_map mark_text (take i marks)) → mid ≡ held ++ mark_text (get_or marks i d) → IsHeld b c next mid → IsHeld a c next (start ++ flat_map mark_text (take (i + 1) marks))
+marks_more a b c held mid next start marks i d lt h e k =
+    subst (λ (l : List ℕ). IsHeld a c next l)
+    (flat_map_more mark_text start (take i marks) (get_or marks i d) ∙ ap (λ (xs : List Mark). start ++ flat_map mark_text xs) (sym (take_more marks i d lt)))
+    (held_more a b c held mid next (start ++ flat_map mark_text (take i marks)) (mark_text (get_or marks i d)) h e k)
+
+-- all that was written
+pub drawn : (a b c : Option (List ℕ)) (none out held mid head marks : List ℕ) → none ≡ [] → out ≡ none ++ head → IsHeld a b held (out ++ marks) → mid ≡ held ++ end_text → Appends b c mid → Appends a c (head ++ (marks ++ end_text))
+drawn a b c none out held mid head marks n o h e k =
+    let whole : out ≡ head = o ∙ ap (λ (l : List ℕ). l ++ head) n in
+    subst (λ (l : List ℕ). Appends a c l) (ap (λ (l : List ℕ). (l ++ marks) ++ end_text) whole ∙ append_assoc head marks end_text)
+    (held_written a b c held mid (out ++ marks) end_text h e k)
+
+-- the text of the picture
+pub svg_is : (p : Places) (rows : List Row) (layout : Layout) (name : List ℕ) (tours : List Tour) (marks : List Mark) → tours ≡ tours_of p rows → layout ≡ layout_of p rows tours → name ≡ p.name → marks ≡ marks_of p layout rows tours → head_text layout name rows tours ++ (flat_map mark_text marks ++ end_text) ≡ svg_text p rows
+svg_is p rows layout name tours marks t l n m =
+    let place : layout ≡ layout_of p rows (tours_of p rows) = l ∙ ap (layout_of p rows) t in
+    ap (λ (x : Layout). head_text x name rows tours ++ (flat_map mark_text marks ++ end_text)) place
+    ∙ ap (λ (x : List ℕ). head_text (layout_of p rows (tours_of p rows)) x rows tours ++ (flat_map mark_text marks ++ end_text)) n
+    ∙ ap (λ (x : List Tour). head_text (layout_of p rows (tours_of p rows)) p.name rows x ++ (flat_map mark_text marks ++ end_text)) t
+    ∙ ap (λ (x : List Mark). head_text (layout_of p rows (tours_of p rows)) p.name rows (tours_of p rows) ++ (flat_map mark_text x ++ end_text))
+    (m ∙ ap (λ (x : Layout). marks_of p x rows tours) place ∙ ap (λ (x : List Tour). marks_of p (layout_of p rows (tours_of p rows)) rows x) t)

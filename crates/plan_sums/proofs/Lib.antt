@@ -1,0 +1,4 @@
+pub mod Cutting
+pub mod Searching
+pub mod Taking
+pub mod Tallies
