@@ -1,2 +1,6 @@
-pub mod CommandLines
-pub mod Found
+mod CommandLines
+mod Flags
+mod Found
+mod Leaves
+mod Paths
+mod Rows

@@ -1,2 +1,4 @@
 pub mod CommandLine
+pub mod Forms
+pub mod Found
 pub mod Words

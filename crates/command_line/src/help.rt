@@ -34,11 +34,48 @@ Opens the board of an instance, and answers the lines of a script.
 INSTANCE or SCRIPT may be /dev/stdin. `dispatch: cannot read PATH`, with status 3, says that the file
 is not there or may not be read, or, of INSTANCE alone, that it is a folder, fails while it is read,
 or has more than 16,777,216 bytes. `dispatch: run fault read` says that of a SCRIPT that could be
-opened. The instance is judged before SCRIPT is opened, and each reply is written before the next
-read: with /dev/stdin as SCRIPT the board is worked at from a terminal.";
+opened. The instance is judged before SCRIPT and the live file are opened, and each reply is written
+before the next read: with /dev/stdin as SCRIPT the board is worked at from a terminal.
+
+With --workers N the board has N workers beside it, each with a desk and a session of its own. Before
+SCRIPT, session 1 makes the user `worker` and the role `worker`, and opens session 2 for worker 1,
+session 3 for worker 2, and so on. The role may do nothing at first. What workers may touch is what
+SCRIPT grants it, as here two vehicles and four customers:
+  1 grant worker move vehicle 1 2
+  1 grant worker move customer 1 4
+
+SCRIPT runs alone. Then each worker does its rounds, while the lines of --live FILE are answered. In a
+round a worker draws two vehicles, looks for the move near them that saves most way, and proposes it,
+if one saves any. At the end there is a line for each worker, and one for the plan:
+  worker I tried T committed C denied D refused R
+  version V
+Of the worker's rounds T proposed a move: C were committed, D were denied, R met a fault. V is the
+number of all commits. `dispatch: open fault` also says that workers could not be set up or started.";
 
 /// What an instance's path names.
 pub(crate) const INSTANCE_PATH: &str = "A file in Solomon's format, of at most 16,777,216 bytes";
+
+/// The options of a run.
+pub(crate) const WORKERS: &str =
+    "How many workers search beside the board's desk 1: 0 to 63 [default: 0]";
+
+pub(crate) const ROUNDS: &str = "How many rounds each worker does: 0 to 1000000 [default: 100]";
+
+pub(crate) const SEED: &str = "Worker I draws by this number plus I: 0 to 4294967295 [default: 1]";
+
+pub(crate) const LIVE: &str = "A file of lines that are answered while the workers search";
+
+/// What the rows of a plan are.
+pub(crate) const ROWS_PATH: &str = "A file of lines `row V P C ..`, as a listing has them";
+
+pub(crate) const DRAW_SHORT: &str = "Draws the rows of a plan";
+
+pub(crate) const DRAW: &str =
+    "Draws the rows of a plan, as a listing has them, on the map of an instance.";
+
+pub(crate) const SUMS_SHORT: &str = "Sums up the rows of a plan";
+
+pub(crate) const SUMS: &str = "Sums up the rows of a plan, as a listing has them, by the instance.";
 
 /// The format of an instance.
 pub(crate) const INSTANCE: &str = "\

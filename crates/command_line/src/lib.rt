@@ -6,6 +6,6 @@ mod help;
 mod parse;
 mod saying;
 
-pub use form::{OptionFault, Options};
+pub use form::{NumberFault, OptionFault, Options, UsageFault};
 pub use parse::{options, status};
 pub use saying::told;

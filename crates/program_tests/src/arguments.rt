@@ -60,13 +60,96 @@ fn words_of_the_command_line(rt: HostRuntime) {
         );
     }
     for (words, instance, script) in RUN {
-        let wanted = Options::Run {
-            instance: *instance,
-            script: *script,
-        };
+        compare(
+            &rt,
+            rt.alloc(),
+            words,
+            run(*instance, *script, 0, 100, 1, None),
+        );
+    }
+    for (words, workers, rounds, seed, live) in NUMBERED {
+        let wanted = run("a", "b", *workers, *rounds, *seed, *live);
         compare(&rt, rt.alloc(), words, wanted);
     }
 }
+
+/// A run of these files with these options.
+fn run<'a>(
+    instance: &'a str,
+    script: &'a str,
+    workers: u32,
+    rounds: u32,
+    seed: u32,
+    live: Option<&'a str>,
+) -> Options<'a> {
+    Options::Run {
+        instance,
+        script,
+        workers,
+        rounds,
+        seed,
+        live,
+    }
+}
+
+/// Words of a run of `a` and `b`, with the numbers and the live file that they give.
+type Numbered = (&'static [&'static str], u32, u32, u32, Option<&'static str>);
+
+const NUMBERED: &[Numbered] = &[
+    (
+        &["dispatch", "run", "a", "b", "--workers", "63"],
+        63,
+        100,
+        1,
+        None,
+    ),
+    (
+        &[
+            "dispatch",
+            "run",
+            "--rounds=1000000",
+            "a",
+            "--seed",
+            "0",
+            "b",
+        ],
+        0,
+        1000000,
+        0,
+        None,
+    ),
+    (
+        &[
+            "dispatch",
+            "run",
+            "a",
+            "--seed",
+            "4294967295",
+            "--live=",
+            "--",
+            "b",
+        ],
+        0,
+        100,
+        4294967295,
+        Some(""),
+    ),
+    (
+        &[
+            "dispatch",
+            "run",
+            "--live",
+            "-",
+            "--workers=0000000002",
+            "a",
+            "b",
+        ],
+        2,
+        100,
+        1,
+        Some("-"),
+    ),
+];
 
 const NOTHING: &[(&[&str], u8, &str)] = &[
     (
@@ -85,9 +168,34 @@ const NOTHING: &[(&[&str], u8, &str)] = &[
         "error: unexpected argument 'c' found\n",
     ),
     (
-        &["dispatch", "run", "a", "b", "--workers", "2"],
+        &["dispatch", "run", "a", "b", "--workers", "64"],
         2,
-        "error: unexpected argument '--workers' found\n",
+        "error: invalid value for '--workers <N>': not a number from 0 to 63\n\nFor more information, try '--help'.\n",
+    ),
+    (
+        &["dispatch", "run", "a", "b", "--rounds=+5"],
+        2,
+        "error: invalid value for '--rounds <N>': not a number from 0 to 1000000\n",
+    ),
+    (
+        &["dispatch", "run", "a", "b", "--seed", "4294967296"],
+        2,
+        "error: invalid value for '--seed <N>': not a number from 0 to 4294967295\n",
+    ),
+    (
+        &["dispatch", "run", "a", "b", "--rounds"],
+        2,
+        "error: a value is required for '--rounds <N>' but none was supplied\n",
+    ),
+    (
+        &["dispatch", "run", "a", "b", "--rounds", "-5"],
+        2,
+        "error: unexpected argument '-5' found\n",
+    ),
+    (
+        &["dispatch", "run", "a", "b", "--seed", "1", "--seed=1"],
+        2,
+        "error: the argument '--seed <N>' cannot be used multiple times\n",
     ),
     (
         &["dispatch", "check"],

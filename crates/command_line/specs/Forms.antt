@@ -1,0 +1,69 @@
+-- What the words of the command line ask for.
+use Rattle.std.specs.Prelude.{ℕ, ◌≤◌, nat_le, List, Option, Some, None, option_map, option_and_then, if◌then◌else◌, Result, Ok, Err}
+use Rattle.text_words.specs.Words.{number}
+use Rattle.command_line.specs.Words.{Request, RunWords, requested}
+use Rattle.command_line.specs.Words as words
+use Rattle.command_line.specs.declared.form.Options.{Options}
+use Rattle.command_line.specs.declared.form.Options.TheVariants as options
+use Rattle.command_line.specs.declared.form.NumberFault.{NumberFault}
+
+-- a run: its files, and how many workers do how many rounds from which seed
+pub record Run : Type 0 where
+  pub instance : List ℕ
+  pub script : List ℕ
+  pub workers : ℕ
+  pub rounds : ℕ
+  pub seed : ℕ
+  pub live : Option (List ℕ)
+
+-- what they ask for, without saying where a text lies in memory
+pub data Form : Type 0 where
+  joined : Form
+  check : List ℕ → Form
+  run : Run → Form
+  draw : List ℕ → List ℕ → Form
+  sums : List ℕ → List ℕ → Form
+
+abbrev pub form : Options → Form
+form options.Joined = joined
+form (options.Check instance) = check instance.now
+form (options.Draw instance rows) = draw instance.now rows.now
+form (options.Sums instance rows) = sums instance.now rows.now
+form (options.Run instance script workers rounds seed live) =
+    run (record { instance = instance.now; script = script.now; workers = workers; rounds = rounds; seed = seed; live = option_map (λ s. s.now) live })
+
+-- the same of an answer that may be a fault
+abbrev pub form_in : Result Options NumberFault → Option Form
+form_in (Ok o) = Some (form o)
+form_in (Err fault) = None
+
+-- a number that is not above a limit
+abbrev pub up_to : ℕ → ℕ → Option ℕ
+up_to most n = if nat_le n most then Some n else None
+
+-- the number that an option has: digits alone, up to a limit; where the option is not given, its default
+abbrev pub number_or : ℕ → ℕ → Option (List ℕ) → Option ℕ
+number_or most default None = Some default
+number_or most default (Some text) = option_and_then (up_to most) (number text)
+
+-- the numbers of a run
+abbrev pub numbered : RunWords → Option Form
+numbered w = option_and_then (λ workers. option_and_then (λ rounds. option_map (λ seed.
+    run (record { instance = w.instance; script = w.script; workers = workers; rounds = rounds; seed = seed; live = w.live }))
+    (number_or 4294967295 1 w.seed)) (number_or 1000000 100 w.rounds)) (number_or 63 0 w.workers)
+
+abbrev pub form_of : Request → Option Form
+form_of words.joined = Some joined
+form_of (words.check instance) = Some (check instance)
+form_of (words.run w) = numbered w
+form_of (words.draw instance rows) = Some (draw instance rows)
+form_of (words.sums instance rows) = Some (sums instance rows)
+
+-- what words ask for
+abbrev pub asked : List (List ℕ) → Option Form
+asked ws = option_and_then form_of (requested ws)
+
+-- the numbers of a run are in their ranges
+abbrev pub IsInRange : Options → Type 0
+IsInRange (options.Run instance script workers rounds seed live) = (workers ≤ 63) × (rounds ≤ 1000000) × (seed ≤ 4294967295)
+IsInRange _ = Unit {0}

@@ -1,0 +1,58 @@
+//! What words ask for, done.
+
+use board_program::{check_file, joined};
+use command_line::{Options, options, told};
+use plan_program::{draw_files, sums_files};
+use std::alloc::Global;
+use std::convert::AsStr;
+use std::io::{Read, Write};
+use std::rt::Files;
+use std::sync::Wait;
+use std::thread::Threads;
+use worker_runs::{Orders, Paths, run_paths};
+
+/// Does what the words of the command line ask for, of which the first is the program's own name, and gives the status that the program
+/// ends with. `input` and `output` are its standard streams, and `faults` is its standard error.
+///
+/// The status is 3 also where memory runs out while the words are read.
+pub fn perform<
+    W: Threads + Wait + Files + Copy + Drop + Send + Sync + 'static,
+    S: AsStr,
+    I: Read,
+    O: Write,
+    F: Write,
+>(rt: W, alloc: Global, words: &[S], input: &mut I, output: &mut O, faults: &mut F) -> u8 {
+    match options(alloc, words) {
+        Ok(Options::Joined) => joined(&rt, alloc, input, output, faults),
+        Ok(Options::Check { instance }) => check_file(&rt, alloc, instance, output, faults),
+        Ok(Options::Draw { instance, rows }) => draw_files(
+            &rt, alloc, instance, rows, output, faults,
+        ),
+        Ok(Options::Sums { instance, rows }) => sums_files(
+            &rt, alloc, instance, rows, output, faults,
+        ),
+        Ok(
+            Options::Run {
+                instance,
+                script,
+                workers,
+                rounds,
+                seed,
+                live,
+            },
+        ) => {
+            let paths = Paths {
+                instance,
+                script,
+                live,
+            };
+            let orders = Orders {
+                workers,
+                rounds,
+                seed,
+            };
+            run_paths(rt, alloc, paths, orders, output, faults)
+        }
+        Err(fault) => told(&fault, output, faults),
+    }
+}

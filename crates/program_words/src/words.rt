@@ -1,0 +1,32 @@
+//! The words of the command line.
+
+use crate::doing::perform;
+use program_parts::{Stop, stopped};
+use std::alloc::Global;
+use std::env;
+use std::io::{self, ErrorKind, Read, Write};
+use std::rt::{Env, Files};
+use std::sync::Wait;
+use std::thread::Threads;
+
+/// The words of the command line, the program's own name first.
+fn words<W: Env + AllocGlobal>(rt: &W, alloc: Global) -> io::Result<Vec<String>> {
+    Ok(env::args(rt)?.collect(alloc)?)
+}
+
+/// The program: does what its words ask for, and gives the status that it ends with. A word that is not UTF-8 is a fault of usage.
+pub fn run<
+    W: Threads + Wait + Files + Env + AllocGlobal + Copy + Drop + Send + Sync + 'static,
+    I: Read,
+    O: Write,
+    F: Write,
+>(rt: W, alloc: Global, input: &mut I, output: &mut O, faults: &mut F) -> u8 {
+    match words(&rt, alloc) {
+        Ok(words) => perform(rt, alloc, words.as_slice(), input, output, faults),
+        Err(error) if error.kind() == ErrorKind::OutOfMemory => stopped(faults, Stop::Open),
+        Err(_) => {
+            let _ = writeln!(faults, "error: a word of the command line is not UTF-8");
+            2
+        }
+    }
+}

@@ -1,0 +1,9 @@
+//! Tests of runs with workers and live scripts, in a crate of their own, so that what they stand on is not proved once more for them.
+#![tactic(auto)]
+
+#[cfg(test)]
+mod cases;
+#[cfg(test)]
+mod devices;
+#[cfg(test)]
+mod runs;

@@ -1,0 +1,205 @@
+//! Whole runs, from bytes to bytes.
+
+use crate::cases::{A, B, CASES, CROSSED, Case, GRANTED, LONG};
+use crate::devices::{Narrow, Torn};
+use std::alloc::Global;
+use std::io::Read;
+use std::process::Abort;
+use std::rt::Files;
+use std::sync::Wait;
+use std::thread::Threads;
+use std::{fs, str};
+use worker_runs::{Orders, Paths, run_paths, scripted};
+
+/// Compares what was written and said, and the status.
+fn compare(rt: &impl Abort, written: &[u8], faults: &[u8], status: u8, wanted: (&str, &str, u8)) {
+    assert_eq!(rt; str::from_utf8(written).expect(rt, "text"), wanted.0);
+    assert_eq!(rt; str::from_utf8(faults).expect(rt, "text"), wanted.1);
+    assert_eq!(rt; status, wanted.2);
+}
+
+fn orders(rt: &impl Abort, numbers: (u32, u32, u32)) -> Orders {
+    let (workers, rounds, seed) = numbers;
+    assert!(rt; workers <= 63);
+    Orders {
+        workers,
+        rounds,
+        seed,
+    }
+}
+
+/// A script of a case: the text itself, or a line that is too long.
+fn text_of(alloc: Global, text: &str) -> Option<Vec<u8>> {
+    if text == LONG {
+        return vec![in alloc; b'x'; 4097].ok();
+    }
+    Vec::from_slice(alloc, text.as_bytes()).ok()
+}
+
+/// Runs inputs: what was written and said, and the status.
+fn run<
+    H: Threads + Wait + AllocGlobal + Abort + Copy + Drop + Send + Sync + 'static,
+    I: Read,
+    L: Read,
+>(rt: H, instance: &str, script: &mut I, live: &mut L, orders: Orders) -> (Vec<u8>, Vec<u8>, u8) {
+    let mut written = Vec::new(rt.alloc());
+    let mut faults = Vec::new(rt.alloc());
+    let status = scripted(
+        rt,
+        rt.alloc(),
+        instance.as_bytes(),
+        script,
+        live,
+        orders,
+        &mut written,
+        &mut faults,
+    );
+    (written, faults, status)
+}
+
+/// The run of a case gives what is wanted.
+fn gives<H: Threads + Wait + AllocGlobal + Abort + Copy + Drop + Send + Sync + 'static>(
+    rt: H,
+    case: &Case,
+) {
+    let orders = orders(&rt, case.orders);
+    let script = text_of(rt.alloc(), case.script).expect(&rt, "memory");
+    let live = text_of(rt.alloc(), case.live).expect(&rt, "memory");
+    let (written, faults, status) = run(
+        rt,
+        case.instance,
+        &mut script.as_slice(),
+        &mut live.as_slice(),
+        orders,
+    );
+    compare(
+        &rt,
+        written.as_slice(),
+        faults.as_slice(),
+        status,
+        case.wanted,
+    );
+}
+
+#[test]
+fn runs_give_what_is_wanted(rt: HostRuntime) {
+    for case in &CASES {
+        gives(rt, case);
+    }
+}
+
+/// Whether the end of what was written is one of the texts.
+fn ends_with_one(written: &[u8], texts: &[&str]) -> bool {
+    for text in texts {
+        if written.ends_with(text.as_bytes()) {
+            return true;
+        }
+    }
+    false
+}
+
+/// Two workers propose the same move, and one commits.
+#[test]
+fn two_workers_want_the_same(rt: HostRuntime) {
+    let orders = orders(&rt, (2, 1, 1));
+    let (written, _, status) = run(rt, B, &mut GRANTED.as_bytes(), &mut b"".as_slice(), orders);
+    let one_of_them = ends_with_one(written.as_slice(), &CROSSED);
+    assert!(rt; one_of_them);
+    assert_eq!(rt; status, 0);
+}
+
+/// As many workers as there may be.
+#[test]
+fn sixty_three_workers(rt: HostRuntime) {
+    let orders = orders(&rt, (63, 1, 4294967295));
+    let (written, _, status) = run(rt, A, &mut b"".as_slice(), &mut b"".as_slice(), orders);
+    let last = written.ends_with(b"worker 63 tried 0 committed 0 denied 0 refused 0\nversion 0\n");
+    assert!(rt; last);
+    assert_eq!(rt; status, 0);
+}
+
+/// A live script that cannot be read: the workers' lines are written all the same.
+#[test]
+fn a_torn_live_script(rt: HostRuntime) {
+    let orders = orders(&rt, (1, 0, 1));
+    let (written, faults, status) = run(rt, A, &mut b"1 fly\n".as_slice(), &mut Torn, orders);
+    let wanted = (
+        "bad word\nworker 1 tried 0 committed 0 denied 0 refused 0\nversion 0\n",
+        "dispatch: run fault read\n",
+        3,
+    );
+    compare(&rt, written.as_slice(), faults.as_slice(), status, wanted);
+}
+
+/// A writer that fails at the replies of the script, of the live script, or at the lines of the workers.
+#[test]
+fn a_writer_that_fails(rt: HostRuntime) {
+    for writes in 0..3usize {
+        let orders = orders(&rt, (1, 0, 1));
+        let mut writer = Narrow { writes };
+        let mut faults = Vec::new(rt.alloc());
+        let status = scripted(
+            rt,
+            rt.alloc(),
+            A.as_bytes(),
+            &mut b"1 fly\n".as_slice(),
+            &mut b"1 fly\n".as_slice(),
+            orders,
+            &mut writer,
+            &mut faults,
+        );
+        let wanted = ("", "dispatch: run fault write\n", 3);
+        compare(&rt, b"".as_slice(), faults.as_slice(), status, wanted);
+    }
+}
+
+const INSTANCE_FILE: &str = "worker_run_tests_instance";
+
+const SCRIPT_FILE: &str = "worker_run_tests_script";
+
+/// The run of files gives what is wanted.
+fn paths_give<
+    H: Threads + Wait + AllocGlobal + Abort + Files + Copy + Drop + Send + Sync + 'static,
+>(rt: H, paths: (&str, &str, &str), wanted: (&str, &str, u8)) {
+    let orders = orders(&rt, (1, 0, 1));
+    let paths = Paths {
+        instance: paths.0,
+        script: paths.1,
+        live: Some(paths.2),
+    };
+    let mut written = Vec::new(rt.alloc());
+    let mut faults = Vec::new(rt.alloc());
+    let status = run_paths(rt, rt.alloc(), paths, orders, &mut written, &mut faults);
+    compare(&rt, written.as_slice(), faults.as_slice(), status, wanted);
+}
+
+/// The instance is judged first, then the script is opened, then the live script, and nothing is answered before.
+#[test]
+fn files_are_opened_in_order(rt: HostRuntime) {
+    fs::write(&rt, INSTANCE_FILE, A).expect(&rt, "a file");
+    fs::write(&rt, SCRIPT_FILE, "1 fly\n").expect(&rt, "a file");
+    let lines = "bad word\nbad word\nworker 1 tried 0 committed 0 denied 0 refused 0\nversion 0\n";
+    for (paths, wanted) in [
+        (
+            ("no file", "no script", "no live"),
+            ("", "dispatch: cannot read no file\n", 3u8),
+        ),
+        (
+            ("/dev/null", "no script", "no live"),
+            ("", "dispatch: instance fault name line 1\n", 3),
+        ),
+        (
+            (INSTANCE_FILE, "no script", "no live"),
+            ("", "dispatch: cannot read no script\n", 3),
+        ),
+        (
+            (INSTANCE_FILE, SCRIPT_FILE, "no live"),
+            ("", "dispatch: cannot read no live\n", 3),
+        ),
+        ((INSTANCE_FILE, SCRIPT_FILE, SCRIPT_FILE), (lines, "", 1)),
+    ] {
+        paths_give(rt, paths, wanted);
+    }
+    fs::remove_file(&rt, SCRIPT_FILE).expect(&rt, "a file");
+    fs::remove_file(&rt, INSTANCE_FILE).expect(&rt, "a file");
+}

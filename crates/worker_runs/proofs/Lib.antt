@@ -1,0 +1,2 @@
+mod Called
+mod Small

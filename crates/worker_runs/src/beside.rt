@@ -1,0 +1,45 @@
+//! Live lines beside the workers.
+ghost use Rattle.std.specs.Prelude.{◌≡◌};
+ghost use Rattle.dimension_core.specs.Setup.{setting};
+
+use crate::orders::Orders;
+use crate::search::{Searched, join_all, start_all};
+use crate::setups::{By, Setups};
+use board_lock::{Naming, Seat};
+use desk_text::{Seated, run_desk_lines};
+use dimension_core::Setup;
+use line_engine::{Counts, RunFault};
+use std::alloc::Global;
+use std::io::{Read, Write};
+use std::sync::{Arc, Wait};
+use std::thread::Threads;
+
+/// What comes of the live lines, and of the workers, if all of them were started.
+pub(crate) type Both<N, D> = (Result<Counts, RunFault>, Option<Searched<N, D>>);
+
+/// Answers live lines on a desk, while workers search from the other seats.
+pub(crate) fn beside<
+    N: Naming + Send + Sync + 'static,
+    D: Wait + Drop + Send + Sync + 'static,
+    S: Setups + Drop,
+    W: Threads + Wait + Copy + Send + Sync + 'static,
+    I: Read,
+    O: Write,
+>(
+    rt: W,
+    alloc: Global,
+    setup: &Arc<Setup>,
+    front: &mut Seated<N, D, By<S>>,
+    others: Vec<Seat<N, D>>,
+    orders: Orders,
+    live: &mut I,
+    writer: &mut O,
+) -> Both<N, D>
+    requires setup { setting setup.now.value ≡ N.opening.setting }
+    requires hall { S.setting_of front.old.setup.setup ≡ N.opening.setting }
+{
+    let crew = start_all(rt, alloc, setup, others, orders);
+    let answered = run_desk_lines(&rt, alloc, front, live, writer);
+    let searched = join_all(&rt, alloc, crew);
+    (answered, searched)
+}

@@ -1,0 +1,111 @@
+//! The board that an instance opens, for a run with workers or a live script.
+
+ghost use Rattle.std.specs.Prelude.{◌≡◌, ◌≤◌, ◌<◌, length, IfOk, IfErr};
+ghost use Rattle.solomon_reader.specs.Instances.{view, IsSound};
+ghost use Rattle.travel_table.specs.Travel.{travel_at};
+ghost use Rattle.program_parts.specs.Network.{demand_at, time_between};
+
+use crate::hall_run::hall_run;
+use crate::orders::Orders;
+use crate::set_up::set_up;
+use board_core::Board;
+use board_lock::{Foyer, make_foyer};
+use board_text::{BoardFront, run_board_lines};
+use callback_store::{Registry, Transit, Unary};
+use dimension_core::Setup;
+use program_parts::{Network, Stop, standard_pair};
+use solomon_reader::Instance;
+use std::alloc::Global;
+use std::io::{Read, Write};
+use std::marker::Brand;
+use std::sync::{Arc, Wait};
+use std::thread::Threads;
+
+/// How many events the board's journal holds.
+const MAX_EVENTS: u32 = 1_000_000;
+
+/// Opens the board of an instance, with a desk more than workers, sets the workers up, and answers the lines of a script on its desk 1
+/// alone. Then it answers live lines there while the workers search, and writes what their rounds came to. Whether a line counted as
+/// refused.
+///
+/// Its callbacks answer from the instance; they are made here, and nothing that holds them leaves.
+pub(crate) fn run_with<
+    W: Threads + Wait + Copy + Drop + Send + Sync + 'static,
+    I: Read,
+    L: Read,
+    O: Write,
+>(
+    rt: W,
+    alloc: Global,
+    instance: Instance,
+    orders: Orders,
+    script: &mut I,
+    live: &mut L,
+    writer: &mut O,
+) -> Result<bool, Stop>
+    requires { IsSound (view instance) }
+{
+    let network = Arc::new(alloc, Network::new(alloc, instance)?)?;
+    let size = network.size();
+    let demands = network.clone()?;
+    let demand = Box::new(
+        alloc,
+        move |node: u32| -> u64
+            requires { node < length demands.value.nodes }
+            ensures { result ≡ demand_at demands.value node }
+        { demands.demand(node) },
+    )?;
+    let ways = network.clone()?;
+    let way = Box::new(
+        alloc,
+        move |from: u32, to: u32| -> u64
+            requires from { from < length ways.value.nodes }
+            requires to { to < length ways.value.nodes }
+            ensures { result ≡ time_between ways.value from to }
+        { ways.time(from, to) },
+    )?;
+    let travels = network.clone()?;
+    let travel = Box::new(
+        alloc,
+        move |from: u32, to: u32| -> u64
+            requires from { from < length travels.value.nodes }
+            requires to { to < length travels.value.nodes }
+            ensures { result ≡ travel_at travels.value.travel from to }
+        { travels.travel(from, to) },
+    )?;
+    let mut registry = Registry::new(alloc);
+    let demand = registry.register_unary(Unary::new(size, demand))?;
+    let way = registry.register(Transit::new(size, way))?;
+    let cost = registry.register(Transit::new(size, travel))?;
+    let pair = standard_pair(alloc, &registry, &network, demand, way)?;
+    let setup = Setup::new(
+        size - 1,
+        network.vehicles(),
+        registry,
+        pair,
+        cost,
+        MAX_EVENTS,
+    )?;
+    let board = Board::new(alloc, Arc::new(alloc, setup)?, orders.workers + 1)?;
+    let mut front = BoardFront {
+        board,
+        desk: 1,
+        turn: 1,
+    };
+    set_up(&rt, alloc, &mut front, orders)?;
+    let counts = run_board_lines(&rt, alloc, &mut front, script, writer)?;
+    let BoardFront {
+        board,
+        desk: _,
+        turn: _,
+    } = front;
+    let Ok(foyer) = make_foyer(rt, alloc, board) else {
+        return Err(Stop::Open);
+    };
+    let Foyer { setup, room } = foyer;
+    let lines = Arc::try_clone(&setup)?;
+    let refused = hall_run::<Brand, Arc<Setup>, W, L, O>(
+        rt, alloc, setup, lines, room, orders, live, writer,
+    )?;
+    Ok(counts.refused > 0 || refused > 0)
+}
