@@ -14,4 +14,5 @@ pub mod Taking
 pub mod Alone
 pub mod Prepared
 pub mod Shown
+pub mod Plans
 pub mod Boards

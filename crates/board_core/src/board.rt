@@ -6,6 +6,7 @@ ghost use Rattle.plan_core.specs.Plan.{route_at};
 ghost use Rattle.pin_core.specs.Pins.{pin_of, front_of};
 ghost use Rattle.board_core.specs.Kept.{IsKept, entry_of};
 ghost use Rattle.board_core.specs.Alone.{IsKept-prop};
+ghost use Rattle.board_core.specs.Plans.{IsPlanOf};
 ghost use Rattle.board_core.specs.Prepared.{Makes};
 ghost use Rattle.board_rules.specs.declared.reply.Fault.{Fault};
 ghost use Rattle.board_rules.specs.declared.reply.AskFault.{AskFault};
@@ -22,7 +23,7 @@ use board_journal::Journal;
 use board_rules::{AskFault, Event, Fault, Reply, Review, Row};
 use callback_store::Meter;
 use dimension_core::Setup;
-use plan_core::Route;
+use plan_core::{Plan, Route};
 use rbac_core::{Object, Operation};
 use separation_core::Name;
 use std::alloc::{AllocError, Global};
@@ -149,6 +150,14 @@ impl Board {
         ensures legal { IsLegal (history self.now) }
     {
         self.core.version()
+    }
+
+    /// The plan.
+    pub fn plan(&self) -> &Plan
+        ensures plan { IsPlanOf (history self.now).opening.setting (state_of (history self.now)) result.now }
+        ensures legal { IsLegal (history self.now) }
+    {
+        self.core.plan()
     }
 
     /// The setup.

@@ -7,11 +7,12 @@ ghost use Rattle.board_rules.specs.Delta.{spot_in};
 ghost use Rattle.board_rules.specs.History.{state_after, turns_of};
 ghost use Rattle.board_rules.specs.Questions.{check_of};
 ghost use Rattle.board_core.specs.Kept.{IsKept, HasVehicle, HasCustomer};
+ghost use Rattle.board_core.specs.Plans.{IsPlanOf};
 
 use crate::body::Core;
 use board_journal::Journal;
 use board_rules::{customers_have_one_spot, legal_histories_leave_good_states};
-use plan_core::Route;
+use plan_core::{Plan, Route};
 use rbac_core::{Object, Operation};
 use std::sync::Arc;
 
@@ -58,6 +59,13 @@ impl Core {
         ensures { (s : Setting) → IsKept s self.now → result ≡ turns_of desk self.now.journal }
     {
         self.turns[desk as usize - 1]
+    }
+
+    /// The plan.
+    pub fn plan(&self) -> &Plan
+        ensures { (s : Setting) → IsKept s self.now → IsPlanOf s (state_after s self.now.journal) result.now }
+    {
+        self.state.plan()
     }
 
     /// How many commits there were.

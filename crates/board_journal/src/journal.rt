@@ -136,7 +136,7 @@ impl Journal {
     }
 
     /// Appends a proposal with the version that it commits or why it is denied. It takes no memory.
-    #[inline]
+    #[inline(always)]
     pub fn push_proposal(&mut self, proposal: Proposal, verdict: Result<u32, Denial>)
         requires { HasRoom self.old }
         ensures entries { self.new.entries ≡ self.old.entries ++ proposed proposal verdict ∷ [] }
@@ -148,7 +148,7 @@ impl Journal {
     }
 
     /// Appends a call on a pin or a front with the reply to it. It takes no memory.
-    #[inline]
+    #[inline(always)]
     pub fn push_hold(&mut self, desk: u32, turn: u32, hold: Hold, ruling: Ruling)
         requires { HasRoom self.old }
         ensures entries { self.new.entries ≡ self.old.entries ++ held desk turn hold ruling ∷ [] }
@@ -160,7 +160,7 @@ impl Journal {
     }
 
     /// Appends a policy command with the reply to it. It takes no memory.
-    #[inline]
+    #[inline(always)]
     pub fn push_command(
         &mut self,
         desk: u32,

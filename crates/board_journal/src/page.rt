@@ -114,7 +114,7 @@ impl Page {
     }
 
     /// Appends a proposal with the verdict on it.
-    #[inline]
+    #[inline(always)]
     pub(crate) fn push_proposal(&mut self, proposal: Proposal, verdict: Result<u32, Denial>)
         requires { HasRoom self.old }
         ensures entries { self.new.entries ≡ self.old.entries ++ proposed proposal verdict ∷ [] }
@@ -156,7 +156,7 @@ impl Page {
     }
 
     /// Appends a call on a pin or a front with the reply to it.
-    #[inline]
+    #[inline(always)]
     pub(crate) fn push_hold(&mut self, desk: u32, turn: u32, hold: Hold, ruling: Ruling)
         requires { HasRoom self.old }
         ensures entries { self.new.entries ≡ self.old.entries ++ held desk turn hold ruling ∷ [] }
@@ -176,7 +176,7 @@ impl Page {
     }
 
     /// Appends a policy command with the reply to it.
-    #[inline]
+    #[inline(always)]
     pub(crate) fn push_command(
         &mut self,
         desk: u32,

@@ -28,7 +28,7 @@ use Rattle.board_state.specs.Changes.{PolicyWillBe}
 -- the tables say what the test says
 pub allows_access : (t : TablesState) (p : PolicyState) → ∥ AreCompiled t p ∥₁ → (session : ℕ) (operation : Operation) (object : Object)
     → allows t session operation object ≡ has_access p session operation object
-allows_access t p compiled session operation object = ∥∥₁_elim compiled (Bool-set _ _) (λ are. are session operation object)
+allows_access t p compiled session operation object = ∥∥₁_elim compiled (Bool-set _ _) (λ are. are.0 session operation object)
 
 -- a session that may do something is there
 and_first : (a b : Bool) → (a && b) ≡ true → a ≡ true

@@ -26,9 +26,12 @@ first_of_none true b h = absurd cc
 first_of_none false b h = refl
 
 pub opened_alone : (customers vehicles : ℕ) → SameAccessBut (1 ∷ []) (before_session customers vehicles) (opening customers vehicles)
-opened_alone customers vehicles session out operation object =
-    no_access (opening customers vehicles) session operation object (let e = first_of_none (nat_eq session 1) false out in rw e refl)
-    ∙ sym (no_access (before_session customers vehicles) session operation object refl)
+opened_alone customers vehicles = record {
+  reach = λ session out. (let e = first_of_none (nat_eq session 1) false out in rw e refl);
+  access = λ session out operation object.
+      no_access (opening customers vehicles) session operation object (let e = first_of_none (nat_eq session 1) false out in rw e refl)
+      ∙ sym (no_access (before_session customers vehicles) session operation object refl);
+}
 
 zero_everywhere : (n k : ℕ) → slice_index (replicate n 0) k ≡ 0
 zero_everywhere zero k = refl

@@ -1,14 +1,17 @@
 -- Work that follows other work.
-use Rattle.std.proofs.Common.{◌≡◌, ℕ, ◌+◌, ◌≤◌, ◌∙◌, refl, ap, subst, arith, min, Result, Ok, Err, Option, Some, None}
+use Rattle.std.proofs.Common.{◌≡◌, ℕ, ◌+◌, ◌≤◌, ◌∙◌, Bool, List, refl, ap, subst, arith, min, Result, Ok, Err, Option, Some, None}
 use Rattle.std.specs.Prelude.{IfErr, IfNone}
 use Rattle.callback_store.specs.declared.meter.Meter.{Meter}
 use Rattle.callback_store.specs.Meter.{Asks, after_probe}
+use Rattle.plan_core.specs.declared.touch.Touch.{Touch}
+use Rattle.plan_core.specs.Plan.{Changes}
+use Rattle.pin_core.specs.Pins.{PinState}
 use Rattle.board_rules.specs.declared.reply.Denial.{Denial}
 use Rattle.board_rules.specs.declared.reply.Denial.TheVariants.{NoSession, BadVehicle, AccessVehicle, Ahead, Stale, BadPlace, AccessCustomer, Frozen, Pinned, Bound}
 use Rattle.board_state.specs.declared.stop.Stop.{Stop}
 use Rattle.board_state.specs.declared.stop.Stop.TheVariants.{Denied, NoMemory}
-use Rattle.board_state.specs.Verdicts.{ComesEarly, IsLate, asks_least, asks_most, probes_least, probes_most, early_least, stop_asks, stop_least, stop_most}
-use Rattle.board_state.specs.Work.{Works, WorksJust, WorksAtMost, denial_least, denial_most, denial_asks}
+use Rattle.board_state.specs.Verdicts.{ComesEarly, IsLate, IsPinStop, asks_most, probes_least, probes_most, early_least, stop_asks, stop_asks_least, stop_least, stop_most}
+use Rattle.board_state.specs.Work.{Works, WorksJust, WorksAtMost, denial_least, denial_most, denial_asks, denial_asks_least}
 
 -- nothing was counted
 pub idle : (m : Meter) (asks probes : ℕ) → WorksAtMost m m asks probes
@@ -202,18 +205,18 @@ after_touched a b c t l i m r late h q =
     both_within a b c 0 0 t t i m _ _ i m _ _ h q (omega arith) (omega arith) (touched_least t l r) (touched_most t l r late)
 
 -- a denial by one of the first rules
-pub denied_early : (a b : Meter) (n t l m : ℕ) (denial : Denial) → ComesEarly denial → Works a b 0 0 (early_least n (Some denial)) n
-    → Works a b 0 (denial_asks m denial) (denial_least n t l denial) (denial_most n t l denial)
-denied_early a b n t l m NoSession early h = h
-denied_early a b n t l m BadVehicle early h = h
-denied_early a b n t l m (AccessVehicle v) early h = h
-denied_early a b n t l m Ahead early h = h
-denied_early a b n t l m (Stale v) early h = h
-denied_early a b n t l m BadPlace early h = h
-denied_early a b n t l m (AccessCustomer v p) early h = absurd early
-denied_early a b n t l m (Frozen v) early h = absurd early
-denied_early a b n t l m (Pinned v p) early h = absurd early
-denied_early a b n t l m (Bound v d) early h = absurd early
+pub denied_early : (a b : Meter) (n t l m : ℕ) (dimensions : ℕ) (routes : List (List ℕ)) (changes : Changes) (denial : Denial) → ComesEarly denial → Works a b 0 0 (early_least n (Some denial)) n
+    → Works a b (denial_asks_least dimensions routes changes denial) (denial_asks m denial) (denial_least n t l denial) (denial_most n t l denial)
+denied_early a b n t l m dimensions routes changes NoSession early h = h
+denied_early a b n t l m dimensions routes changes BadVehicle early h = h
+denied_early a b n t l m dimensions routes changes (AccessVehicle v) early h = h
+denied_early a b n t l m dimensions routes changes Ahead early h = h
+denied_early a b n t l m dimensions routes changes (Stale v) early h = h
+denied_early a b n t l m dimensions routes changes BadPlace early h = h
+denied_early a b n t l m dimensions routes changes (AccessCustomer v p) early h = absurd early
+denied_early a b n t l m dimensions routes changes (Frozen v) early h = absurd early
+denied_early a b n t l m dimensions routes changes (Pinned v p) early h = absurd early
+denied_early a b n t l m dimensions routes changes (Bound v d) early h = absurd early
 
 -- what judging pins and fronts counted, where it let the new routes pass, and where it stopped them
 pub pinned_whole : {C : Type 0} (a b : Meter) (l : ℕ) (r : Result C Stop) {x : C} → r ≡ Ok x → Works a b 0 0 (probes_least 0 0 l r) l → WorksJust a b 0 l
@@ -224,16 +227,17 @@ pinned_whole {C} a b l r {x} e h =
     none_before : (n : ℕ) → 0 + 0 + n ≡ n
     none_before n = omega arith
 
-pub pinned_stop : (a b : Meter) (l m : ℕ) (stop : Stop) → IsLate stop → Works a b 0 0 (stop_least 0 0 l stop) l
-    → Works a b 0 (stop_asks m stop) (stop_least 0 0 l stop) (stop_most 0 0 l stop)
-pinned_stop a b l m NoMemory late h = within a b 0 0 0 l 0 m 0 _ h (omega arith) (omega arith) (omega arith) (omega arith)
-pinned_stop a b l m (Denied NoSession) late h = absurd late
-pinned_stop a b l m (Denied BadVehicle) late h = absurd late
-pinned_stop a b l m (Denied (AccessVehicle v)) late h = absurd late
-pinned_stop a b l m (Denied Ahead) late h = absurd late
-pinned_stop a b l m (Denied (Stale v)) late h = absurd late
-pinned_stop a b l m (Denied BadPlace) late h = absurd late
-pinned_stop a b l m (Denied (AccessCustomer v p)) late h = absurd late
-pinned_stop a b l m (Denied (Frozen v)) late h = within a b 0 0 _ l _ _ _ _ h (omega arith) (omega arith) (omega arith) (omega arith)
-pinned_stop a b l m (Denied (Pinned v p)) late h = within a b 0 0 _ l _ _ _ _ h (omega arith) (omega arith) (omega arith) (omega arith)
-pinned_stop a b l m (Denied (Bound v d)) late h = within a b 0 0 _ l _ _ _ _ h (omega arith) (omega arith) (omega arith) (omega arith)
+pub pinned_stop : (a b : Meter) (l m dimensions : ℕ) (routes : List (List ℕ)) (changes : Changes) (pins : PinState) (free : ℕ → Bool) (old : List (List ℕ)) (new : Changes) (touched : List Touch) (stop : Stop)
+    → IsPinStop pins free old new touched stop → Works a b 0 0 (stop_least 0 0 l stop) l
+    → Works a b (stop_asks_least dimensions routes changes stop) (stop_asks m stop) (stop_least 0 0 l stop) (stop_most 0 0 l stop)
+pinned_stop a b l m dimensions routes changes pins free old new touched NoMemory held h = within a b 0 0 0 l 0 m 0 _ h (omega arith) (omega arith) (omega arith) (omega arith)
+pinned_stop a b l m dimensions routes changes pins free old new touched (Denied NoSession) held h = absurd held
+pinned_stop a b l m dimensions routes changes pins free old new touched (Denied BadVehicle) held h = absurd held
+pinned_stop a b l m dimensions routes changes pins free old new touched (Denied (AccessVehicle v)) held h = absurd held
+pinned_stop a b l m dimensions routes changes pins free old new touched (Denied Ahead) held h = absurd held
+pinned_stop a b l m dimensions routes changes pins free old new touched (Denied (Stale v)) held h = absurd held
+pinned_stop a b l m dimensions routes changes pins free old new touched (Denied BadPlace) held h = absurd held
+pinned_stop a b l m dimensions routes changes pins free old new touched (Denied (AccessCustomer v p)) held h = absurd held
+pinned_stop a b l m dimensions routes changes pins free old new touched (Denied (Bound v d)) held h = absurd held
+pinned_stop a b l m dimensions routes changes pins free old new touched (Denied (Frozen v)) held h = within a b 0 0 _ l _ _ _ _ h (omega arith) (omega arith) (omega arith) (omega arith)
+pinned_stop a b l m dimensions routes changes pins free old new touched (Denied (Pinned v p)) held h = within a b 0 0 _ l _ _ _ _ h (omega arith) (omega arith) (omega arith) (omega arith)

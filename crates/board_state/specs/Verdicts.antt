@@ -4,6 +4,7 @@ use Rattle.dimension_core.specs.Setting.{Setting}
 use Rattle.plan_core.specs.declared.touch.Touch.{Touch}
 use Rattle.plan_core.specs.Plan.{Changes, IsPlan, AreChanges, with_routes}
 use Rattle.plan_core.specs.Commits.{named_vehicles}
+use Rattle.range_cache.specs.Asks.{judge_asks}
 use Rattle.pin_core.specs.Pins.{PinState, DoPinsHold, DoFrontsFit, AreFreezesKept}
 use Rattle.pin_core.specs.Allowed.{AreAllTouched, IsFirstThawed}
 use Rattle.move_core.specs.declared.moves.Move.{Move}
@@ -14,7 +15,7 @@ use Rattle.board_rules.specs.Rules.{Basis, IsVerdictBy}
 use Rattle.board_state.specs.declared.stop.Stop.{Stop}
 use Rattle.board_state.specs.declared.stop.Stop.TheVariants.{Denied, NoMemory}
 use Rattle.board_state.specs.Held.{HeldState}
-use Rattle.board_state.specs.Work.{denial_least, denial_most, denial_asks}
+use Rattle.board_state.specs.Work.{denial_least, denial_most, denial_asks, denial_asks_least}
 
 -- a proposal is stopped by the denial that is right for it
 abbrev pub IsStop : Setting → Basis → ℕ → Move → Stop → Type 0
@@ -70,9 +71,13 @@ abbrev pub stop_most : ℕ → ℕ → ℕ → Stop → ℕ
 stop_most n t l (Denied denial) = denial_most n t l denial
 stop_most n t l NoMemory = n + t + l
 
-abbrev pub asks_least : {C : Type 0} → ℕ → Result C Stop → ℕ
-asks_least m (Ok new) = m
-asks_least m (Err stop) = 0
+abbrev pub stop_asks_least : ℕ → List (List ℕ) → Changes → Stop → ℕ
+stop_asks_least dimensions routes changes (Denied denial) = denial_asks_least dimensions routes changes denial
+stop_asks_least dimensions routes changes NoMemory = 0
+
+abbrev pub asks_least : {C : Type 0} → ℕ → List (List ℕ) → Changes → Result C Stop → ℕ
+asks_least dimensions routes changes (Ok new) = judge_asks dimensions routes changes
+asks_least dimensions routes changes (Err stop) = stop_asks_least dimensions routes changes stop
 
 abbrev pub asks_most : {C : Type 0} → ℕ → Result C Stop → ℕ
 asks_most m (Ok new) = m

@@ -5,7 +5,8 @@ use Rattle.plan_core.specs.declared.touch.Touch.{Touch}
 use Rattle.pin_core.specs.Pins.{PinState, pin_of}
 use Rattle.pin_core.specs.Override.{after_commit}
 use Rattle.dimension_core.specs.Setting.{Setting}
-use Rattle.range_cache.specs.Asks.{judge_asks}
+use Rattle.plan_core.specs.Plan.{Changes}
+use Rattle.range_cache.specs.Asks.{judge_asks, asks_before}
 use Rattle.move_core.specs.Moves.{named_by, changes_by}
 use Rattle.move_core.specs.Touched.{touched_by}
 use Rattle.board_rules.specs.declared.call.Call.{Call}
@@ -82,10 +83,16 @@ abbrev pub denial_asks : ℕ → Denial → ℕ
 denial_asks n (Bound v d) = n
 denial_asks n _ = 0
 
+-- and how many are made at least, in this many dimensions: all that come before the vehicle's dimension that is out of bounds
+abbrev pub denial_asks_least : ℕ → List (List ℕ) → Changes → Denial → ℕ
+denial_asks_least dimensions routes changes (Bound v d) = asks_before dimensions routes changes v d
+denial_asks_least dimensions routes changes _ = 0
+
 -- the least and the greatest number of asks for a reply
-abbrev pub reply_asks_least : ℕ → Reply → ℕ
-reply_asks_least n (Committed version) = n
-reply_asks_least n _ = 0
+abbrev pub reply_asks_least : ℕ → List (List ℕ) → Changes → Reply → ℕ
+reply_asks_least dimensions routes changes (Committed version) = judge_asks dimensions routes changes
+reply_asks_least dimensions routes changes (Denied denial) = denial_asks_least dimensions routes changes denial
+reply_asks_least dimensions routes changes _ = 0
 
 abbrev pub reply_asks : ℕ → Reply → ℕ
 reply_asks n (Committed version) = n
@@ -109,6 +116,6 @@ IsWorkOf s pins routes (Propose session base mv) reply old new =
     let asks = judge_asks (length s.dimensions) routes (changes_by routes mv) in
     let touched = touched_by routes mv in
     let left = leaving pins (routes_after routes mv) touched in
-    Works old new (reply_asks_least asks reply) (reply_asks asks reply)
+    Works old new (reply_asks_least (length s.dimensions) routes (changes_by routes mv) reply) (reply_asks asks reply)
     (reply_probes_least (length (named_by mv)) (length touched) left reply) (reply_probes (length (named_by mv)) (length touched) left reply)
 IsWorkOf s pins routes _ reply old new = WorksJust old new 0 1

@@ -11,7 +11,7 @@ use std::marker::Model;
 use std::snapshot::Snapshot;
 use std::sync::Arc;
 
-/// The memory of one commit's lists, kept for the lists of the next.
+/// The memory of one proposal's lists, kept for the lists of the next.
 #[derive(Drop)]
 pub(crate) struct Workspace {
     pub(crate) touched: Vec<Touch>,
@@ -27,6 +27,13 @@ impl Workspace {
             changes: Vec::new(alloc),
             rows: Room::new(alloc),
         }
+    }
+
+    /// Keeps the lists of a move that is not taken. Their memory stays, and its new routes go.
+    pub(crate) fn keep(&mut self, touched: Vec<Touch>, mut changes: Vec<(u32, Arc<Route>)>) {
+        changes.clear();
+        self.touched = touched;
+        self.changes = changes;
     }
 }
 

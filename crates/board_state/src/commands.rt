@@ -1,5 +1,6 @@
 //! Policy commands: tried on the spare policy, with the rows of the sessions whose access they change.
-ghost use Rattle.std.specs.Prelude.{◌≡◌, ℕ, Option, None, Some, Ok, IfOk, OnErr, MatchResult};
+ghost use Rattle.std.specs.Prelude.{◌≡◌, ℕ, Option, None, Some, Ok, IfOk, OnOk, OnErr, MatchResult};
+ghost use Rattle.policy_core.specs.State.{slot_of};
 ghost use Rattle.policy_core.specs.Commands.{Says};
 ghost use Rattle.policy_core.specs.declared.refusal.Refusal.{Refusal as PolicyRefusal};
 ghost use Rattle.rbac_core.specs.Step.{guard, guard_by, refusal_of, after};
@@ -20,12 +21,14 @@ use callback_store::Meter;
 use permission_table::{Rows, Tables};
 use policy_core::Refusal as PolicyRefusal;
 use rbac_core::{
-    Command, Object, Operation, Outcome, Twin, access_stays, affected, guard_by, sizes_stay,
+    Command, Object, Operation, Outcome, Policy, Twin, access_stays, affected, guard_by, sizes_stay,
 };
+use separation_core::Name;
 use std::alloc::{AllocError, Global};
 
 impl State {
     /// Why the session may not give the command. A session that has `admin` on the board exists, so it is not looked up.
+    #[inline(always)]
     fn command_guard(
         &self,
         session: u32,
@@ -107,18 +110,104 @@ fn keep_command(
     ensures tables { OnErr result (tables.new ≡ record tables.old { room = tables.new.room }) }
 {
     match policy.prepare(command) {
-        Ok(outcome) => match new_rows(alloc, policy, tables, command) {
-            Ok(rows) => {
-                policy.keep(command);
-                tables.put(rows);
-                Ok(reply_to(outcome))
-            }
-            Err(error) => {
-                policy.give_up();
-                Err(error)
-            }
+        Ok(outcome) => match keep_tried(alloc, policy, tables, command) {
+            Ok(()) => Ok(reply_to(outcome)),
+            Err(error) => Err(error),
         },
         Err(refusal) => refused_by(refusal),
+    }
+}
+
+/// Keeps the command that was tried, and lets the compiled permissions follow. A change of a role's permissions or of the hierarchy takes no
+/// memory for that: a grant and a revocation concern one row of the sessions that reach the role, a pair the sessions that reach other roles
+/// than before.
+fn keep_tried(
+    alloc: Global,
+    policy: &mut Twin,
+    tables: &mut Tables,
+    command: &Command,
+) -> Result<(), AllocError>
+    requires compiled { ∥ AreCompiled tables.old policy.old.now ∥₁ }
+    requires sizes { HasSizes policy.old.now tables.old }
+    requires allowed { refusal_of policy.old.now command.now ≡ None }
+    requires tried { policy.old.tried ≡ after policy.old.now command.now }
+    ensures made { OnOk result (PolicyWillBe policy.new tables.new Nothing (after policy.old.now command.now)) }
+    ensures policy { OnErr result (policy.new ≡ record { now = policy.old.now; tried = policy.old.now }) }
+    ensures tables { OnErr result (tables.new ≡ record tables.old { room = tables.new.room }) }
+{
+    sizes_stay();
+    match command {
+        Command::GrantPermission {
+            role,
+            operation,
+            range,
+        } => {
+            policy.keep(command);
+            tables.grant(policy.policy(), *role, *operation, *range);
+            Ok(())
+        }
+        Command::RevokePermission {
+            role,
+            operation,
+            ..
+        } => {
+            policy.keep(command);
+            tables.revoke(policy.policy(), *role, *operation);
+            Ok(())
+        }
+        Command::AddInheritance { senior, junior } => {
+            policy.policy().is_policy();
+            policy.keep(command);
+            tables.inherit(policy.policy(), *senior, *junior);
+            Ok(())
+        }
+        Command::DeleteInheritance { .. } => {
+            policy.keep(command);
+            tables.uninherit(policy.policy());
+            Ok(())
+        }
+        Command::DeleteRole { role } => {
+            let slot = slot_or_zero(policy.policy(), *role);
+            policy.keep(command);
+            tables.delete_role(policy.policy(), slot);
+            Ok(())
+        }
+        _ => keep_with_rows(alloc, policy, tables, command),
+    }
+}
+
+/// The slot of the role, 0 where there is no such role.
+fn slot_or_zero(policy: &Policy, role: Name) -> u8
+    ensures { result ≡ slot_of policy.now role }
+{
+    policy.slot_of(role).unwrap_or(0)
+}
+
+/// Keeps the command that was tried, with new rows for the sessions whose access it changes. Where memory runs out for them, it is given up.
+fn keep_with_rows(
+    alloc: Global,
+    policy: &mut Twin,
+    tables: &mut Tables,
+    command: &Command,
+) -> Result<(), AllocError>
+    requires compiled { ∥ AreCompiled tables.old policy.old.now ∥₁ }
+    requires sizes { HasSizes policy.old.now tables.old }
+    requires allowed { refusal_of policy.old.now command.now ≡ None }
+    requires tried { policy.old.tried ≡ after policy.old.now command.now }
+    ensures made { OnOk result (PolicyWillBe policy.new tables.new Nothing (after policy.old.now command.now)) }
+    ensures policy { OnErr result (policy.new ≡ record { now = policy.old.now; tried = policy.old.now }) }
+    ensures tables { OnErr result (tables.new ≡ record tables.old { room = tables.new.room }) }
+{
+    match new_rows(alloc, policy, tables, command) {
+        Ok(rows) => {
+            policy.keep(command);
+            tables.put(rows);
+            Ok(())
+        }
+        Err(error) => {
+            policy.give_up();
+            Err(error)
+        }
     }
 }
 
@@ -170,6 +259,7 @@ fn compile(
 }
 
 /// The rows of the sessions whose access the tried command changes.
+#[inline(always)]
 fn new_rows(
     alloc: Global,
     policy: &Twin,

@@ -87,6 +87,7 @@ impl State {
     }
 
     /// Judges a pin of a customer to the vehicle on which it stands.
+    #[inline(always)]
     #[tactic(auto, unfolding(board_rules::specs::Pinning::pin_refusal))]
     pub(crate) fn judge_pin(
         &self,
@@ -114,6 +115,7 @@ impl State {
     }
 
     /// Judges whether a customer may be unpinned.
+    #[inline(always)]
     #[tactic(auto, unfolding(board_rules::specs::Pinning::unpin_refusal))]
     pub(crate) fn judge_unpin(
         &self,
@@ -138,6 +140,7 @@ impl State {
     }
 
     /// Judges a longer frozen front. The length may be any number.
+    #[inline(always)]
     #[tactic(auto, unfolding(board_rules::specs::Pinning::freeze_refusal))]
     pub(crate) fn judge_freeze(
         &self,
@@ -164,6 +167,7 @@ impl State {
     }
 
     /// Judges a shorter frozen front.
+    #[inline(always)]
     #[tactic(auto, unfolding(board_rules::specs::Pinning::thaw_refusal))]
     pub(crate) fn judge_thaw(
         &self,

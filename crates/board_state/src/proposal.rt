@@ -27,13 +27,14 @@ use dimension_core::Setup;
 use move_core::{Move, moves_keep_plans, moves_keep_the_untouched, moves_name_vehicles};
 use pin_core::pins_after_commits;
 use plan_core::{Route, Touch, routes_are_known};
-use range_cache::{JudgeFault, Room};
+use range_cache::JudgeFault;
 use std::alloc::{AllocError, Global};
+use std::mem::replace;
 use std::sync::Arc;
 
 impl State {
-    /// Judges a proposal: the new routes that it may put in place, or the first rule that it fails. Where an early rule denies it, the kept
-    /// memory stays where it is.
+    /// Judges a proposal: the new routes that it may put in place, or the first rule that it fails. Where a rule denies it, the kept memory
+    /// is kept on.
     #[inline(always)]
     pub(crate) fn judge_proposal(
         &mut self,
@@ -52,7 +53,7 @@ impl State {
         ensures made { IfOk result (AreMadeBy self.old mv.now) }
         ensures ranges { IfOk result (λ new. AreNewRows (setting setup.now) (changes_by self.old.plan.routes mv.now) new.pending.rows) }
         ensures stop { IfErr result (IsStop (setting setup.now) (held_basis self.old session) base mv.now) }
-        ensures work { Works meter.old meter.new (asks_least (judge_asks (length (setting setup.now).dimensions) self.old.plan.routes (changes_by self.old.plan.routes mv.now)) result) (asks_most (judge_asks (length (setting setup.now).dimensions) self.old.plan.routes (changes_by self.old.plan.routes mv.now)) result)
+        ensures work { Works meter.old meter.new (asks_least (length (setting setup.now).dimensions) self.old.plan.routes (changes_by self.old.plan.routes mv.now) result) (asks_most (judge_asks (length (setting setup.now).dimensions) self.old.plan.routes (changes_by self.old.plan.routes mv.now)) result)
             (probes_least (length (named_by mv.now)) (length (touched_by self.old.plan.routes mv.now)) (leaving self.old.pins (routes_after self.old.plan.routes mv.now) (touched_by self.old.plan.routes mv.now)) result)
             (probes_most (length (named_by mv.now)) (length (touched_by self.old.plan.routes mv.now)) (leaving self.old.pins (routes_after self.old.plan.routes mv.now) (touched_by self.old.plan.routes mv.now)) result) }
         ensures most { WorksAtMost meter.old meter.new (judge_asks (length (setting setup.now).dimensions) self.old.plan.routes (changes_by self.old.plan.routes mv.now))
@@ -61,11 +62,16 @@ impl State {
         if let Some(denial) = self.early_denial(setup, session, base, mv, meter) {
             return Err(Stop::Denied(denial));
         }
-        let room = self.workspace(alloc);
-        self.judge_move(alloc, setup, session, base, mv, room, meter)
+        let mut room = self.workspace(alloc);
+        let judged = self.judge_move(alloc, setup, session, base, mv, &mut room, meter);
+        if judged.is_err() {
+            self.workspace = room;
+        }
+        judged
     }
 
     /// The denial of a proposal by its session, its vehicles, its base or its places.
+    #[inline(always)]
     fn early_denial(
         &self,
         setup: &Setup,
@@ -100,7 +106,7 @@ impl State {
         session: u32,
         base: u32,
         mv: &Move,
-        room: Workspace,
+        room: &mut Workspace,
         meter: &mut Meter,
     ) -> Result<NewRoutes, Stop>
         requires ready { IsReady (setting setup.now) self.now }
@@ -111,24 +117,19 @@ impl State {
         ensures made { IfOk result (AreMadeBy self.now mv.now) }
         ensures ranges { IfOk result (λ new. AreNewRows (setting setup.now) (changes_by self.now.plan.routes mv.now) new.pending.rows) }
         ensures stop { IfErr result (IsStop (setting setup.now) (held_basis self.now session) base mv.now) }
-        ensures work { Works meter.old meter.new (asks_least (judge_asks (length (setting setup.now).dimensions) self.now.plan.routes (changes_by self.now.plan.routes mv.now)) result) (asks_most (judge_asks (length (setting setup.now).dimensions) self.now.plan.routes (changes_by self.now.plan.routes mv.now)) result)
+        ensures work { Works meter.old meter.new (asks_least (length (setting setup.now).dimensions) self.now.plan.routes (changes_by self.now.plan.routes mv.now) result) (asks_most (judge_asks (length (setting setup.now).dimensions) self.now.plan.routes (changes_by self.now.plan.routes mv.now)) result)
             (probes_least 0 (length (touched_by self.now.plan.routes mv.now)) (leaving self.now.pins (routes_after self.now.plan.routes mv.now) (touched_by self.now.plan.routes mv.now)) result)
             (probes_most 0 (length (touched_by self.now.plan.routes mv.now)) (leaving self.now.pins (routes_after self.now.plan.routes mv.now) (touched_by self.now.plan.routes mv.now)) result) }
     {
-        let Workspace {
-            touched,
-            changes,
-            rows,
-        } = room;
-        let Ok(touched) = mv.touches_in(touched, &self.plan) else {
+        let kept = replace(&mut room.touched, Vec::new(alloc));
+        let Ok(touched) = mv.touches_in(kept, &self.plan) else {
             return Err(Stop::NoMemory);
         };
         if let Some(touch) = self.first_barred_customer(session, &touched, meter) {
+            room.touched = touched;
             return Err(Stop::Denied(Denial::AccessCustomer(touch.vehicle, touch.place)));
         }
-        self.judge_routes(
-            alloc, setup, session, base, mv, touched, changes, rows, meter,
-        )
+        self.judge_routes(alloc, setup, session, base, mv, touched, room, meter)
     }
 
     /// The rules on the new routes: fronts, pins and bounds.
@@ -140,8 +141,7 @@ impl State {
         base: u32,
         mv: &Move,
         touched: Vec<Touch>,
-        room: Vec<(u32, Arc<Route>)>,
-        rows: Room,
+        room: &mut Workspace,
         meter: &mut Meter,
     ) -> Result<NewRoutes, Stop>
         requires ready { IsReady (setting setup.now) self.now }
@@ -154,19 +154,24 @@ impl State {
         ensures ranges { IfOk result (λ new. AreNewRows (setting setup.now) (changes_by self.now.plan.routes mv.now) new.pending.rows) }
         ensures stop { IfErr result (IsStop (setting setup.now) (held_basis self.now session) base mv.now) }
         ensures late { IfErr result IsLate }
-        ensures work { Works meter.old meter.new (asks_least (judge_asks (length (setting setup.now).dimensions) self.now.plan.routes (changes_by self.now.plan.routes mv.now)) result) (asks_most (judge_asks (length (setting setup.now).dimensions) self.now.plan.routes (changes_by self.now.plan.routes mv.now)) result)
+        ensures work { Works meter.old meter.new (asks_least (length (setting setup.now).dimensions) self.now.plan.routes (changes_by self.now.plan.routes mv.now) result) (asks_most (judge_asks (length (setting setup.now).dimensions) self.now.plan.routes (changes_by self.now.plan.routes mv.now)) result)
             (probes_least 0 0 (leaving self.now.pins (routes_after self.now.plan.routes mv.now) (touched_by self.now.plan.routes mv.now)) result)
             (probes_most 0 0 (leaving self.now.pins (routes_after self.now.plan.routes mv.now) (touched_by self.now.plan.routes mv.now)) result) }
     {
         pins_after_commits();
-        let Ok(changes) = self.new_routes(alloc, room, mv, &touched) else {
+        let kept = replace(&mut room.changes, Vec::new(alloc));
+        let Ok(changes) = self.new_routes(alloc, kept, mv, &touched) else {
             return Err(Stop::NoMemory);
         };
         let freed = match self.judge_pins(alloc, session, &changes, &touched, meter) {
             Ok(freed) => freed,
-            Err(stop) => return Err(stop),
+            Err(stop) => {
+                room.keep(touched, changes);
+                return Err(stop);
+            }
         };
         let cache = &self.cache;
+        let rows = &mut room.rows;
         match cache.judge_in(rows, setup, &self.plan, &changes, meter) {
             Ok(pending) => Ok(NewRoutes {
                 changes,
@@ -175,6 +180,7 @@ impl State {
                 pending,
             }),
             Err(JudgeFault::Bound(vehicle, dimension)) => {
+                room.keep(touched, changes);
                 Err(Stop::Denied(Denial::Bound(vehicle, dimension)))
             }
             Err(JudgeFault::NoMemory) => Err(Stop::NoMemory),

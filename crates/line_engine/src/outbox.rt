@@ -73,6 +73,7 @@ impl Outbox {
     }
 
     /// Appends the text of a line's answer to the replies that are held, and counts it. Running out of memory changes neither.
+    #[inline(always)]
     pub(crate) fn put(&mut self, mark: Mark) -> Result<(), AllocError>
         requires { self.old.tally.seen < 4294967296 }
         ensures text { OnOk result (self.new.held.items ≡ self.old.held.items ++ mark_text mark (string_bytes self.old.text)) }

@@ -1,5 +1,6 @@
 pub mod Bits
 pub mod Compiled
+pub mod Rights
 pub mod Seen
 pub mod Tables
 pub mod Unions

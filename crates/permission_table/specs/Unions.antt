@@ -1,10 +1,10 @@
 -- The row of a session as the union of the rows of roles.
-use Rattle.std.specs.Prelude.{◌≡◌, ◌<◌, ◌↔◌, ℕ, true, List, slice_index}
+use Rattle.std.specs.Prelude.{◌≡◌, ◌<◌, ◌↔◌, ℕ, true, length}
 use Rattle.role_hierarchy.specs.Roles.{has}
 use Rattle.permission_core.specs.declared.objects.Operation.{Operation}
-use Rattle.permission_core.specs.Objects.{index_of}
 use Rattle.policy_core.specs.State.{PolicyState}
 use Rattle.policy_core.specs.Access.{row_of}
+use Rattle.permission_table.specs.Bits.{SessionAccess, row_in}
 
 -- the row has the objects to which one of the roles may do the operation
 abbrev pub IsUnion : PolicyState → ℕ → Operation → ℕ → Type 0
@@ -16,6 +16,8 @@ abbrev pub IsUnionBelow : PolicyState → ℕ → ℕ → Operation → ℕ → 
 IsUnionBelow p roles n operation row =
     (number : ℕ) → (has row number ≡ true) ↔ ((b : ℕ) × (b < n) × (has roles b ≡ true) × (has (row_of p b operation) number ≡ true))
 
--- seven rows, one for each operation
-abbrev pub AreUnions : PolicyState → ℕ → List ℕ → Type 0
-AreUnions p roles rows = (operation : Operation) → IsUnion p roles operation (slice_index rows (index_of operation))
+-- the roles, and seven rows of what they may do, one for each operation
+pub record AreUnions (p : PolicyState) (roles : ℕ) (access : SessionAccess) : Type 0 where
+  pub reach : access.reach ≡ roles
+  pub seven : length access.rows ≡ 7
+  pub rows : (operation : Operation) → IsUnion p roles operation (row_in access operation)

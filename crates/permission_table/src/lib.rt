@@ -5,6 +5,6 @@ mod laws;
 mod row;
 mod tables;
 
-pub use laws::compiled_is_check_access;
+pub use laws::{access_depends_on_reached_roles, compiled_is_check_access};
 pub use row::SessionRows;
 pub use tables::{Rows, Tables};

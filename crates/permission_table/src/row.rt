@@ -1,9 +1,10 @@
 //! One session's rows.
 ghost use Rattle.std.specs.Prelude.{◌≡◌, ◌<◌, ◌≤◌, ◌⊎◌, ℕ, true, false, slice_index, bit_or, IfOk, IfSome, IfNone};
 ghost use Rattle.role_hierarchy.specs.Roles.{has};
-ghost use Rattle.permission_core.specs.Objects.{index_of};
 ghost use Rattle.policy_core.specs.Access.{row_of};
+ghost use Rattle.permission_table.specs.Bits.{row_in};
 ghost use Rattle.permission_table.specs.Unions.{AreUnions};
+ghost use Rattle.permission_table.specs.Rights.{row_made, part_of, granted_to, revoked_from, followed, all_made};
 
 use permission_core::Operation;
 use policy_core::Policy;
@@ -54,6 +55,46 @@ impl Row {
         let other = policy.permissions(roles.1, operation).words();
         join_words(&mut self.words, one, other);
     }
+
+    /// The objects to which some role of the set may do the operation.
+    fn of(policy: &Policy, roles: RoleSet, operation: Operation) -> Row
+        ensures { result ≡ row_made policy.now roles operation }
+    {
+        roles.is_small();
+        let mut row = Row::new();
+        let mut from = 0;
+        while let Some(two) = two_from(roles, from) {
+            row.join(policy, two, operation);
+            from = two.1 as u32 + 1;
+        }
+        row
+    }
+
+    /// The objects of these words to which the role may do the operation join the row.
+    fn add(&mut self, policy: &Policy, role: u8, operation: Operation, words: (u32, u32))
+        requires order { words.0 ≤ words.1 }
+        requires small { words.1 ≤ 32 }
+        ensures { self.new ≡ bit_or self.old (part_of words.0 words.1 (row_of policy.now role operation)) }
+    {
+        add_words(
+            &mut self.words,
+            policy.permissions(role, operation).words(),
+            words,
+        );
+    }
+}
+
+/// Joins word by word with one other row, from the first of the two places on, up to but not including the second.
+fn add_words(words: &mut [u64; 32], other: &[u64; 32], places: (u32, u32))
+    requires order { places.0 ≤ places.1 }
+    requires small { places.1 ≤ 32 }
+    ensures inside { (k : ℕ) → places.0 ≤ k → k < places.1 → slice_index words.new k ≡ bit_or (slice_index words.old k) (slice_index other.now k) }
+    ensures below { (k : ℕ) → k < places.0 → slice_index words.new k ≡ slice_index words.old k }
+    ensures above { (k : ℕ) → places.1 ≤ k → slice_index words.new k ≡ slice_index words.old k }
+{
+    for place in places.0..places.1 {
+        words[place as usize] |= other[place as usize];
+    }
 }
 
 /// Joins word by word.
@@ -80,18 +121,20 @@ fn two_from(roles: RoleSet, from: u32) -> Option<(u8, u8)>
     }
 }
 
-/// The rows of a session, one for each operation.
+/// The roles that a session reaches, and its rows, one for each operation.
 #[derive(Drop)]
 pub struct SessionRows {
+    reach: RoleSet,
     rows: Box<[Row; 7]>,
 }
 
 impl Model for SessionRows {
-    ghost use Rattle.std.specs.Prelude.{◌≡◌, ℕ, List, length};
+    ghost use Rattle.std.specs.Prelude.{◌≡◌, length};
+    ghost use Rattle.permission_table.specs.Bits.{SessionAccess};
 
-    ghost Value = { List ℕ };
+    ghost Value = { SessionAccess };
 
-    ghost view = { λ a. a.rows.value };
+    ghost view = { λ a. record { reach = a.reach; rows = a.rows.value } };
 
     ghost invariant = { λ a. length a.rows.value ≡ 7 };
 }
@@ -125,6 +168,7 @@ impl SessionRows {
             from = two.1 as u32 + 1;
         }
         Ok(SessionRows {
+            reach: roles,
             rows: Box::new(alloc, [view, moves, pins, freezes, admin, audit, overrides])?,
         })
     }
@@ -132,8 +176,71 @@ impl SessionRows {
     /// Whether the object is in the row of the operation.
     pub(crate) fn contains(&self, operation: Operation, number: u32) -> bool
         requires { number < 2048 }
-        ensures { result ≡ has (slice_index self.now (index_of operation)) number }
+        ensures { result ≡ has (row_in self.now operation) number }
     {
         self.rows[operation.index()].contains(number)
+    }
+
+    /// The role may do more of the operation: what it may do to the objects of these words joins the row of that operation, where the
+    /// session reaches the role.
+    #[inline(always)]
+    pub(crate) fn grant(
+        &mut self,
+        policy: &Policy,
+        role: u8,
+        operation: Operation,
+        words: (u32, u32),
+    )
+        requires order { words.0 ≤ words.1 }
+        requires small { words.1 ≤ 32 }
+        ensures { (session : ℕ) → self.new ≡ granted_to policy.now role operation words session self.old }
+    {
+        if self.reach.contains(role) {
+            self.rows[operation.index()].add(policy, role, operation, words);
+        }
+    }
+
+    /// The role may do less of the operation: the row of that operation is made anew, where the session reaches the role.
+    #[inline(always)]
+    pub(crate) fn revoke(&mut self, policy: &Policy, role: u8, operation: Operation)
+        ensures { (session : ℕ) → self.new ≡ revoked_from policy.now role operation session self.old }
+    {
+        if self.reach.contains(role) {
+            self.rows[operation.index()] = Row::of(policy, self.reach, operation);
+        }
+    }
+
+    /// Whether the session reaches the role.
+    #[inline(always)]
+    pub(crate) fn reaches(&self, role: u8) -> bool
+        ensures { result ≡ has self.now.reach role }
+    {
+        self.reach.contains(role)
+    }
+
+    /// The session reaches these roles: where they are others than before, its rows are made anew.
+    pub(crate) fn follow(&mut self, policy: &Policy, roles: RoleSet)
+        ensures { self.new ≡ followed policy.now roles self.old }
+    {
+        if roles == self.reach {
+            return;
+        }
+        self.make(policy, roles);
+    }
+
+    /// The rows of a session that reaches these roles, in the place of the old ones.
+    pub(crate) fn make(&mut self, policy: &Policy, roles: RoleSet)
+        ensures { self.new ≡ all_made policy.now roles }
+    {
+        self.reach = roles;
+        *self.rows = [
+            Row::of(policy, roles, Operation::View),
+            Row::of(policy, roles, Operation::Move),
+            Row::of(policy, roles, Operation::Pin),
+            Row::of(policy, roles, Operation::Freeze),
+            Row::of(policy, roles, Operation::Admin),
+            Row::of(policy, roles, Operation::Audit),
+            Row::of(policy, roles, Operation::Override),
+        ];
     }
 }

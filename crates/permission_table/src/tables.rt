@@ -1,19 +1,25 @@
 //! Tables of permissions, and the rows that a change of the policy puts into them.
-ghost use Rattle.std.specs.Prelude.{◌≡◌, ◌<◌, ◌≤◌, ◌+◌, ℕ, true, false, [], IfOk, OnOk, length, nat_eq, is_some, unwrap_or, ◌==◌, if◌then◌else◌};
+ghost use Rattle.std.specs.Prelude.{◌≡◌, ◌<◌, ◌≤◌, ◌+◌, ◌/◌, ℕ, List, true, false, [], None, IfOk, OnOk, length, nat_eq, is_some, unwrap_or, ◌==◌, if◌then◌else◌};
 ghost use Rattle.std.specs.Map.{lookup};
 ghost use Rattle.std.specs.Option.{option_map};
 ghost use Rattle.indexmap.specs.IndexMap.{spare};
 ghost use Rattle.callback_store.specs.Meter.{after_probe};
-ghost use Rattle.policy_core.specs.State.{PolicyState};
+ghost use Rattle.permission_core.specs.declared.objects.ObjectRange.{ObjectRange as ARange};
+ghost use Rattle.role_hierarchy.specs.Below.{IsOrder};
+ghost use Rattle.permission_core.specs.Objects.{first_of, size_of, is_bad_range};
+ghost use Rattle.policy_core.specs.State.{PolicyState, slot_of};
+ghost use Rattle.policy_core.specs.Commands.{granted, grant_refusal, revoked, inherited, uninherited, role_gone};
 ghost use Rattle.permission_table.specs.Bits.{allowed_by};
 ghost use Rattle.permission_table.specs.Tables.{TablesState, RowsState, no_rows, rows_of, allows, rows_after, will_allow, is_among};
+ghost use Rattle.permission_table.specs.Rights.{granted_to, revoked_from, refreshed, refreshed_above, made_anew, refreshed_without, changed_at, all_changed};
 ghost use Rattle.permission_table.specs.Compiled.{AreCompiled, WillBeCompiled, SameAccessBut, HasSizes, AreRowsOf, AreChangesOf};
 
 use crate::row::SessionRows;
 use callback_store::Meter;
 use indexmap::IndexMap;
-use permission_core::{Object, Operation};
+use permission_core::{Object, ObjectRange, Operation};
 use policy_core::Policy;
+use separation_core::Name;
 use std::alloc::{AllocError, Global};
 use std::marker::Model;
 use std::snapshot::Snapshot;
@@ -124,6 +130,68 @@ impl Tables {
         put_all(&mut self.rows, changes);
     }
 
+    /// Follows GrantPermission: of each session that reaches the role, the row of that operation takes in what the role now may do to the
+    /// objects of the range. No other row is written, and no memory is taken. The policy is the one after the command, over the customers
+    /// and vehicles of these tables, and the command was not refused.
+    pub fn grant(&mut self, policy: &Policy, role: Name, operation: Operation, range: ObjectRange)
+        requires sizes { HasSizes policy.now self.old }
+        ensures kept { self.new ≡ record self.old { rows = self.new.rows } }
+        ensures compiled { (before : PolicyState) → AreCompiled self.old before → grant_refusal before role range ≡ None →
+            policy.now ≡ granted before role operation range → AreCompiled self.new policy.now }
+    {
+        let slot = slot_or_zero(policy, role);
+        let words = words_of(range, self.customers, self.vehicles);
+        grant_all(&mut self.rows, policy, slot, operation, words);
+    }
+
+    /// Follows RevokePermission: of each session that reaches the role, the row of that operation is made anew. No other row is written, and
+    /// no memory is taken. The policy is the one after the command, over the customers and vehicles of these tables.
+    pub fn revoke(&mut self, policy: &Policy, role: Name, operation: Operation)
+        requires sizes { HasSizes policy.now self.old }
+        ensures kept { self.new ≡ record self.old { rows = self.new.rows } }
+        ensures compiled { (before : PolicyState) (range : ARange) → AreCompiled self.old before →
+            policy.now ≡ revoked before role operation range → AreCompiled self.new policy.now }
+    {
+        let slot = slot_or_zero(policy, role);
+        revoke_all(&mut self.rows, policy, slot, operation);
+    }
+
+    /// Follows AddInheritance: each session that reaches the senior role, and now reaches more roles, gets new rows in place. No other row is
+    /// written, and no memory is taken. The policy is the one after the command, over the customers and vehicles of these tables.
+    pub fn inherit(&mut self, policy: &Policy, senior: Name, junior: Name)
+        requires sizes { HasSizes policy.now self.old }
+        ensures kept { self.new ≡ record self.old { rows = self.new.rows } }
+        ensures compiled { (before : PolicyState) → AreCompiled self.old before → IsOrder before.order →
+            policy.now ≡ inherited before senior junior → AreCompiled self.new policy.now }
+    {
+        let above = slot_or_zero(policy, senior);
+        let _below = slot_or_zero(policy, junior);
+        inherit_all(&mut self.rows, policy, above);
+    }
+
+    /// Follows DeleteInheritance: each session that now reaches other roles gets new rows in place. No other row is written, and no memory
+    /// is taken. The policy is the one after the command, over the customers and vehicles of these tables.
+    pub fn uninherit(&mut self, policy: &Policy)
+        requires sizes { HasSizes policy.now self.old }
+        ensures kept { self.new ≡ record self.old { rows = self.new.rows } }
+        ensures compiled { (before : PolicyState) (senior junior : List ℕ) → AreCompiled self.old before →
+            policy.now ≡ uninherited before senior junior → AreCompiled self.new policy.now }
+    {
+        refresh_all(&mut self.rows, policy);
+    }
+
+    /// Follows DeleteRole, of the role that had this slot: each session that reached it, or that now reaches other roles, gets new rows in
+    /// place. No other row is written, and no memory is taken. The policy is the one after the command, over the customers and vehicles of
+    /// these tables.
+    pub fn delete_role(&mut self, policy: &Policy, slot: u8)
+        requires sizes { HasSizes policy.now self.old }
+        ensures kept { self.new ≡ record self.old { rows = self.new.rows } }
+        ensures compiled { (before : PolicyState) (role : List ℕ) → AreCompiled self.old before → slot ≡ slot_of before role →
+            policy.now ≡ role_gone before role → AreCompiled self.new policy.now }
+    {
+        delete_all(&mut self.rows, policy, slot);
+    }
+
     /// The rows of the session, for a caller that asks about many objects by `check_in`.
     pub fn session_rows(&self, session: u32) -> Option<&SessionRows>
         ensures { option_map (λ rows. rows.now) result ≡ rows_of self.now session }
@@ -232,5 +300,188 @@ fn put_one(rows: &mut IndexMap<u32, SessionRows>, session: u32, found: Option<Se
         None => {
             let _ = rows.swap_remove(&session);
         }
+    }
+}
+
+/// The slot of the role, 0 where it is not there.
+fn slot_or_zero(policy: &Policy, role: Name) -> u8
+    ensures { result ≡ slot_of policy.now role }
+{
+    policy.slot_of(role).unwrap_or(0)
+}
+
+/// The words in which the objects of the range are, from the first of the two places on, up to but not including the second.
+fn words_of(range: ObjectRange, customers: u32, vehicles: u32) -> (u32, u32)
+    requires customers { customers ≤ 1000 }
+    requires vehicles { vehicles ≤ 1000 }
+    ensures order { result.0 ≤ result.1 }
+    ensures small { result.1 ≤ 32 }
+    ensures whole { is_bad_range customers vehicles range ≡ false → (number : ℕ) → first_of range ≤ number →
+        number < first_of range + size_of range → (result.0 ≤ number / 64) × (number / 64 < result.1) }
+{
+    match range.span(customers, vehicles) {
+        Some((first, end)) => (first / 64, (end + 63) / 64),
+        None => (0, 32),
+    }
+}
+
+/// What each session gains where the role may do more of the operation.
+fn grant_all(
+    rows: &mut IndexMap<u32, SessionRows>,
+    policy: &Policy,
+    role: u8,
+    operation: Operation,
+    words: (u32, u32),
+)
+    requires order { words.0 ≤ words.1 }
+    requires small { words.1 ≤ 32 }
+    ensures rows { rows.new.entries ≡ all_changed (granted_to policy.now role operation words) rows.old.entries }
+    ensures room { spare rows.new ≡ spare rows.old }
+{
+    for place in 0..rows.len() {
+        grant_at(rows, place, policy, role, operation, words);
+    }
+}
+
+/// The same for the session at this place.
+#[inline(always)]
+fn grant_at(
+    rows: &mut IndexMap<u32, SessionRows>,
+    place: usize,
+    policy: &Policy,
+    role: u8,
+    operation: Operation,
+    words: (u32, u32),
+)
+    requires order { words.0 ≤ words.1 }
+    requires small { words.1 ≤ 32 }
+    ensures rows { rows.new.entries ≡ changed_at (granted_to policy.now role operation words) rows.old.entries place }
+    ensures room { spare rows.new ≡ spare rows.old }
+{
+    if let Some(found) = rows.get_index_mut(place) {
+        found.grant(policy, role, operation, words);
+    }
+}
+
+/// What each session loses where the role may do less of the operation.
+fn revoke_all(
+    rows: &mut IndexMap<u32, SessionRows>,
+    policy: &Policy,
+    role: u8,
+    operation: Operation,
+)
+    ensures rows { rows.new.entries ≡ all_changed (revoked_from policy.now role operation) rows.old.entries }
+    ensures room { spare rows.new ≡ spare rows.old }
+{
+    for place in 0..rows.len() {
+        revoke_at(rows, place, policy, role, operation);
+    }
+}
+
+/// The same for the session at this place.
+#[inline(always)]
+fn revoke_at(
+    rows: &mut IndexMap<u32, SessionRows>,
+    place: usize,
+    policy: &Policy,
+    role: u8,
+    operation: Operation,
+)
+    ensures rows { rows.new.entries ≡ changed_at (revoked_from policy.now role operation) rows.old.entries place }
+    ensures room { spare rows.new ≡ spare rows.old }
+{
+    if let Some(found) = rows.get_index_mut(place) {
+        found.revoke(policy, role, operation);
+    }
+}
+
+/// New rows for each session that reaches the role, and now reaches other roles than before.
+fn inherit_all(rows: &mut IndexMap<u32, SessionRows>, policy: &Policy, role: u8)
+    ensures rows { rows.new.entries ≡ all_changed (refreshed_above policy.now role) rows.old.entries }
+    ensures room { spare rows.new ≡ spare rows.old }
+{
+    for place in 0..rows.len() {
+        inherit_at(rows, place, policy, role);
+    }
+}
+
+/// The same for the session at this place.
+#[inline(always)]
+fn inherit_at(rows: &mut IndexMap<u32, SessionRows>, place: usize, policy: &Policy, role: u8)
+    ensures rows { rows.new.entries ≡ changed_at (refreshed_above policy.now role) rows.old.entries place }
+    ensures room { spare rows.new ≡ spare rows.old }
+{
+    let Some((_, found)) = rows.get_index(place) else {
+        return;
+    };
+    if found.reaches(role) {
+        refresh_at(rows, place, policy);
+    }
+}
+
+/// New rows for each session that now reaches other roles than before.
+fn refresh_all(rows: &mut IndexMap<u32, SessionRows>, policy: &Policy)
+    ensures rows { rows.new.entries ≡ all_changed (refreshed policy.now) rows.old.entries }
+    ensures room { spare rows.new ≡ spare rows.old }
+{
+    for place in 0..rows.len() {
+        refresh_at(rows, place, policy);
+    }
+}
+
+/// The same for the session at this place.
+fn refresh_at(rows: &mut IndexMap<u32, SessionRows>, place: usize, policy: &Policy)
+    ensures rows { rows.new.entries ≡ changed_at (refreshed policy.now) rows.old.entries place }
+    ensures room { spare rows.new ≡ spare rows.old }
+{
+    let Some((session, _)) = rows.get_index(place) else {
+        return;
+    };
+    let Some(roles) = policy.reached_roles(*session) else {
+        return;
+    };
+    if let Some(found) = rows.get_index_mut(place) {
+        found.follow(policy, roles);
+    }
+}
+
+/// New rows for each session that reached the role, which is gone, or that now reaches other roles than before.
+fn delete_all(rows: &mut IndexMap<u32, SessionRows>, policy: &Policy, role: u8)
+    ensures rows { rows.new.entries ≡ all_changed (refreshed_without policy.now role) rows.old.entries }
+    ensures room { spare rows.new ≡ spare rows.old }
+{
+    for place in 0..rows.len() {
+        delete_at(rows, place, policy, role);
+    }
+}
+
+/// The same for the session at this place.
+fn delete_at(rows: &mut IndexMap<u32, SessionRows>, place: usize, policy: &Policy, role: u8)
+    ensures rows { rows.new.entries ≡ changed_at (refreshed_without policy.now role) rows.old.entries place }
+    ensures room { spare rows.new ≡ spare rows.old }
+{
+    let Some((_, found)) = rows.get_index(place) else {
+        return;
+    };
+    if found.reaches(role) {
+        make_at(rows, place, policy);
+    } else {
+        refresh_at(rows, place, policy);
+    }
+}
+
+/// New rows for the session at this place.
+fn make_at(rows: &mut IndexMap<u32, SessionRows>, place: usize, policy: &Policy)
+    ensures rows { rows.new.entries ≡ changed_at (made_anew policy.now) rows.old.entries place }
+    ensures room { spare rows.new ≡ spare rows.old }
+{
+    let Some((session, _)) = rows.get_index(place) else {
+        return;
+    };
+    let Some(roles) = policy.reached_roles(*session) else {
+        return;
+    };
+    if let Some(found) = rows.get_index_mut(place) {
+        found.make(policy, roles);
     }
 }

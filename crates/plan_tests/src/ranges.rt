@@ -22,7 +22,7 @@ fn commit(
     setup: &Setup,
     cache: &mut Cache,
     plan: &mut Plan,
-    room: Room,
+    mut room: Room,
     vehicle: u32,
     customers: &[u32],
     meter: &mut Meter,
@@ -39,7 +39,7 @@ fn commit(
     ensures err { OnErr result (plan.new ≡ plan.old) }
 {
     let changes = one_change(alloc, vehicle, customers)?;
-    let pending = cache.judge_in(room, setup, plan, &changes, meter)?;
+    let pending = cache.judge_in(&mut room, setup, plan, &changes, meter)?;
     let room = cache.take(pending);
     plan.replace(changes);
     Ok(room)

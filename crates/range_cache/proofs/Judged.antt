@@ -1,21 +1,23 @@
 -- What holds of the new routes that are left to be judged holds of all of them.
-use Rattle.std.proofs.Common.{◌≡◌, ℕ, ◌+◌, ◌*◌, ◌≤◌, ◌∙◌, refl, ap, sym, subst, arith, List, [], ◌∷◌, ◌++◌, append_assoc, length}
-use Rattle.std.specs.Prelude.{All}
+use Rattle.std.proofs.Common.{◌≡◌, ℕ, ◌+◌, ◌-◌, ◌*◌, ◌==◌, ◌≤◌, Bool, true, false, ◌∙◌, refl, ap, sym, subst, arith, List, [], ◌∷◌, ◌++◌, append_assoc, length}
+use Rattle.std.specs.Prelude.{All, if◌then◌else◌}
+use Rattle.std.proofs.Math.Nat.{mul-le-mul_right}
+use Rattle.std.proofs.lemmas.Bool.Decides.{nat_tests}
 use Rattle.std.proofs.lemmas.List.{append-nil}
 use Rattle.std.proofs.lemmas.List.Elements.{All-cons}
 use Rattle.std.proofs.lemmas.List.Sums.{sum_by-append, sum_by-cons}
 use Rattle.callback_store.specs.declared.meter.Meter.{Meter}
-use Rattle.callback_store.specs.Meter.{AsksJust, AsksAtMost, none_asked, asks_after, asks_both}
+use Rattle.callback_store.specs.Meter.{Asks, AsksJust, AsksAtMost, none_asked, asks_after, asks_both}
 use Rattle.dimension_core.specs.Feasible.{FitsAll, IsFirstOut}
 use Rattle.dimension_core.specs.NewRoutes.{Changes, AllFit, AllKnown, IsOut}
 use Rattle.dimension_core.specs.Setting.{Setting}
 use Rattle.plan_core.specs.Plan.{route_at}
-use Rattle.range_cache.specs.Asks.{walk_asks, judge_asks}
+use Rattle.range_cache.specs.Asks.{walk_asks, judge_asks, asks_before, fault_asks}
 use Rattle.range_cache.specs.Cache.{RowState, CacheState, IsRowOf}
 use Rattle.range_cache.specs.Pending.{NewRows, AreWithin, AreNewRows, IsJudgeFault}
 use Rattle.range_cache.specs.declared.fault.JudgeFault.{JudgeFault}
 use Rattle.range_cache.specs.declared.fault.JudgeFault.TheVariants.{Bound, NoMemory}
-use Rattle.range_cache.specs.Row.{IsRowFault}
+use Rattle.range_cache.specs.Row.{IsRowFault, row_asks}
 use Rattle.range_cache.proofs.Caches.{not_out}
 
 -- the new routes that are left, after those of these rows
@@ -103,3 +105,33 @@ pub asked_all : (n : ℕ) (routes : List (List ℕ)) (all rest : Changes) (from 
 asked_all n routes all rest from to p e =
     let whole : all ≡ p.0 = p.1 ∙ ap (λ (cs : Changes). p.0 ++ cs) e ∙ append-nil p.0 in
     subst (λ (cs : Changes). AsksJust from to (judge_asks n routes cs)) (sym whole) p.2
+
+-- where the judgement ends with a fault, what was asked before the vehicle's dimension
+before_least : (n : ℕ) (routes : List (List ℕ)) (done next : Changes) (c : ℕ × List ℕ) (d : ℕ) → d ≤ n
+    → asks_before n routes (done ++ c ∷ next) c.0 d ≤ judge_asks n routes done + (d - 1) * walk_asks (route_at routes c.0) c.1
+before_least n routes [] next c d few = grind (arith, nat_tests)
+before_least n routes (x ∷ done) next c d few =
+    let rest = before_least n routes done next c d few in
+    let one = sum_by-cons (λ (y : ℕ × List ℕ). n * walk_asks (route_at routes y.0) y.1) x done in
+    step (x.0 == c.0) ((d - 1) * walk_asks (route_at routes x.0) x.1) (n * walk_asks (route_at routes x.0) x.1) _ _ _ _
+    (mul-le-mul_right (walk_asks (route_at routes x.0) x.1) (omega (arith, few))) rest one
+  where
+    step : (b : Bool) (part whole rest_least done_all later all : ℕ) → part ≤ whole → rest_least ≤ done_all + later → all ≡ whole + done_all
+        → (if b then part else whole + rest_least) ≤ all + later
+    step true part whole rest_least done_all later all small rest is = omega (arith, small, is)
+    step false part whole rest_least done_all later all small rest is = omega (arith, rest, is)
+
+pub asked_stop : (n : ℕ) (routes : List (List ℕ)) (s : Setting) (all rest next : Changes) (c : ℕ × List ℕ) (e : JudgeFault) (from a b : Meter) → n ≡ length s.dimensions
+    → AreAsked n routes all rest from a → rest ≡ c ∷ next → IsRowFault s c.0 c.1 e
+    → Asks a b (row_asks (walk_asks (route_at routes c.0) c.1) e) (n * walk_asks (route_at routes c.0) c.1) → Asks from b (fault_asks n routes all e) (judge_asks n routes all)
+asked_stop n routes s all rest next c NoMemory from a b is p e f q =
+    asked_out n routes all rest next c from a b p e q
+asked_stop n routes s all rest next c (Bound v d) from a b is p e f q =
+    let more = sum_by-cons (λ (x : ℕ × List ℕ). n * walk_asks (route_at routes x.0) x.1) c next in
+    let split : all ≡ p.0 ++ c ∷ next = p.1 ∙ ap (λ (cs : Changes). p.0 ++ cs) e in
+    let whole : judge_asks n routes all ≡ judge_asks n routes p.0 + judge_asks n routes (c ∷ next) =
+    ap (judge_asks n routes) split ∙ sum_by-append (λ (x : ℕ × List ℕ). n * walk_asks (route_at routes x.0) x.1) p.0 (c ∷ next) in
+    let named : asks_before n routes all v d ≡ asks_before n routes (p.0 ++ c ∷ next) c.0 d = λ i. asks_before n routes (split i) (f.0 i) d in
+    let high : d ≤ length s.dimensions = f.1.high in
+    let least = before_least n routes p.0 next c d (omega (arith, high, is)) in
+    asks_both from a b _ _ _ _ _ _ p.2 q (omega (arith, named, least)) (omega (arith, whole, more))

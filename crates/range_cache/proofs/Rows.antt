@@ -6,7 +6,7 @@ use Rattle.std.proofs.lemmas.Bool.{cases_eq}
 use Rattle.std.proofs.lemmas.List.{get_or_append_left, get_or-append_right, get_or-take, get_or-drop, take-take, length-take-le, length-drop}
 use Rattle.std.proofs.lemmas.Nat.{mul-add-lt}
 use Rattle.callback_store.specs.declared.meter.Meter.{Meter}
-use Rattle.callback_store.specs.Meter.{AsksJust, AsksAtMost, asks_after, asks_both}
+use Rattle.callback_store.specs.Meter.{Asks, AsksJust, AsksAtMost, asks_both, asks_wider}
 use Rattle.dimension_core.specs.declared.range.Range.{Range}
 use Rattle.dimension_core.specs.Feasible.{FitsIn, IsFirstOut}
 use Rattle.dimension_core.specs.Setting.{Setting}
@@ -103,12 +103,19 @@ asks_more a b c d front kept old new p q e f some =
     asks_both a b c _ _ _ _ _ _ p (subst (λ (n : ℕ). AsksJust b c n) each q) (omega arith) (omega arith)
 
 -- and where it stops in one
+pub asks_out : (a b c : Meter) (count d front kept : ℕ) (old new : List ℕ) → d < count → AsksJust a b (d * walk_asks old new) → AsksAtMost b c (length new + 1 - kept)
+    → kept ≡ front → front ≡ common_front old new → 0 < length new → Asks a c ((d + 1 - 1) * walk_asks old new) (count * walk_asks old new)
+asks_out a b c count d front kept old new h p q e f some =
+    let each : length new + 1 - kept ≡ walk_asks old new = ap (λ (n : ℕ). length new + 1 - n) (e ∙ f) ∙ sym (walk_asks-some old new some) in
+    let within : (d + 1) * walk_asks old new ≤ count * walk_asks old new = mul-le-mul_right (walk_asks old new) (omega arith) in
+    let before : (d + 1 - 1) * walk_asks old new ≤ d * walk_asks old new = mul-le-mul_right (walk_asks old new) (omega arith) in
+    asks_both a b c _ _ _ _ _ _ p (subst (λ (n : ℕ). AsksAtMost b c n) each q) (omega (arith, before)) (omega arith)
+
 pub asks_stop : (a b c : Meter) (count d front kept : ℕ) (old new : List ℕ) → d < count → AsksJust a b (d * walk_asks old new) → AsksAtMost b c (length new + 1 - kept)
     → kept ≡ front → front ≡ common_front old new → 0 < length new → AsksAtMost a c (count * walk_asks old new)
 asks_stop a b c count d front kept old new h p q e f some =
-    let each : length new + 1 - kept ≡ walk_asks old new = ap (λ (n : ℕ). length new + 1 - n) (e ∙ f) ∙ sym (walk_asks-some old new some) in
-    let within : (d + 1) * walk_asks old new ≤ count * walk_asks old new = mul-le-mul_right (walk_asks old new) (omega arith) in
-    asks_after a b c _ _ _ p (subst (λ (n : ℕ). AsksAtMost b c n) each q) (omega arith)
+    let out = asks_out a b c count d front kept old new h p q e f some in
+    asks_wider a c _ _ _ _ out (omega arith) (omega arith)
 
 -- and the ranges of one more dimension, where they were found
 pub ranges_more : (s : Setting) (v : ℕ) (route : List ℕ) (n : ℕ) (old new : List Range) → AreFilled s v route n old

@@ -1,5 +1,5 @@
 -- Why a vehicle has no row for a new route.
-use Rattle.std.specs.Prelude.{◌≡◌, ℕ, List}
+use Rattle.std.specs.Prelude.{◌≡◌, ℕ, ◌-◌, ◌*◌, List}
 use Rattle.dimension_core.specs.Feasible.{IsFirstOut}
 use Rattle.dimension_core.specs.Setting.{Setting}
 use Rattle.range_cache.specs.declared.fault.JudgeFault.{JudgeFault}
@@ -9,3 +9,8 @@ use Rattle.range_cache.specs.declared.fault.JudgeFault.TheVariants.{Bound, NoMem
 abbrev pub IsRowFault : Setting → ℕ → List ℕ → JudgeFault → Type 0
 IsRowFault s vehicle route (Bound v d) = (v ≡ vehicle) × IsFirstOut s vehicle route d
 IsRowFault s vehicle route NoMemory = Unit {0}
+
+-- at least this many asks are made where it has none, by those of one dimension
+abbrev pub row_asks : ℕ → JudgeFault → ℕ
+row_asks each (Bound v d) = (d - 1) * each
+row_asks each NoMemory = 0

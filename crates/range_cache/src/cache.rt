@@ -1,5 +1,5 @@
 ghost use Rattle.std.specs.Prelude.{◌≡◌, ℕ, ◌+◌, ◌*◌, ◌-◌, ◌<◌, ◌≤◌, List, [], length, take, replicate, All, IfOk, IfErr, OnOk};
-ghost use Rattle.callback_store.specs.Meter.{AsksJust, AsksAtMost};
+ghost use Rattle.callback_store.specs.Meter.{Asks, AsksJust, AsksAtMost};
 ghost use Rattle.dimension_core.specs.Cumuls.{IsEarly, table_of};
 ghost use Rattle.dimension_core.specs.Feasible.{FitsAll, IsFeasible};
 ghost use Rattle.dimension_core.specs.NewRoutes.{Changes, AllFit, AllKnown};
@@ -7,10 +7,10 @@ ghost use Rattle.dimension_core.specs.Setting.{Setting, dimension_at};
 ghost use Rattle.dimension_core.specs.Setup.{setting};
 ghost use Rattle.plan_core.specs.Cost.{route_asks, asks_of};
 ghost use Rattle.plan_core.specs.Plan.{route_at, changes_of, with_routes};
-ghost use Rattle.range_cache.specs.Asks.{judge_asks, walk_asks};
+ghost use Rattle.range_cache.specs.Asks.{judge_asks, walk_asks, fault_asks};
 ghost use Rattle.range_cache.specs.Cache.{IsRowOf, IsCacheOf, HasEarly};
 ghost use Rattle.range_cache.specs.Pending.{AreNewRows, IsJudgeFault, with_rows};
-ghost use Rattle.range_cache.specs.Row.{IsRowFault};
+ghost use Rattle.range_cache.specs.Row.{IsRowFault, row_asks};
 
 use crate::fault::JudgeFault;
 use crate::pending::{Pending, Room};
@@ -20,7 +20,7 @@ use dimension_core::{Setup, spans_go_on};
 use plan_core::{Plan, Route};
 use std::alloc::{AllocError, Global};
 use std::marker::Model;
-use std::mem::swap;
+use std::mem::{replace, swap};
 use std::sync::Arc;
 
 /// For each vehicle, in each dimension, the range of the cumuls that it may have at each customer of its route.
@@ -82,7 +82,8 @@ impl Cache {
     ///
     /// Each dimension of a new route is walked from the end of the longest common prefix of the old and the new route on, and no other
     /// vehicle's route is looked at. It asks the callback of each dimension once for each customer after the common prefix and once for the
-    /// return, and not at all for an empty route. It stops asking where a new route is out of bounds, or memory runs out.
+    /// return, and not at all for an empty route. Where a new route is out of bounds it has asked for all that comes before that dimension of
+    /// that route, and stops within it. It also stops where memory runs out.
     pub fn judge(
         &self,
         setup: &Setup,
@@ -99,15 +100,18 @@ impl Cache {
         ensures fault { IfErr result (IsJudgeFault (setting setup.now) (changes_of changes.now)) }
         ensures asks { AsksAtMost meter.old meter.new (judge_asks (length (setting setup.now).dimensions) plan.now.routes (changes_of changes.now)) }
         ensures whole { OnOk result (AsksJust meter.old meter.new (judge_asks (length (setting setup.now).dimensions) plan.now.routes (changes_of changes.now))) }
+        ensures least { IfErr result (λ f. Asks meter.old meter.new (fault_asks (length (setting setup.now).dimensions) plan.now.routes (changes_of changes.now) f)
+            (judge_asks (length (setting setup.now).dimensions) plan.now.routes (changes_of changes.now))) }
     {
         let alloc = *self.rows.allocator();
-        self.judge_in(Room::new(alloc), setup, plan, changes, meter)
+        self.judge_in(&mut Room::new(alloc), setup, plan, changes, meter)
     }
 
-    /// What `judge` answers, with the new ranges in the memory of earlier ones: more memory is taken only where that is too small.
+    /// What `judge` answers, with the new ranges in the memory of earlier ones: more memory is taken only where that is too small. Where
+    /// the new routes are not taken, the memory stays in the room.
     pub fn judge_in(
         &self,
-        room: Room,
+        room: &mut Room,
         setup: &Setup,
         plan: &Plan,
         changes: &[(u32, Arc<Route>)],
@@ -122,15 +126,18 @@ impl Cache {
         ensures fault { IfErr result (IsJudgeFault (setting setup.now) (changes_of changes.now)) }
         ensures asks { AsksAtMost meter.old meter.new (judge_asks (length (setting setup.now).dimensions) plan.now.routes (changes_of changes.now)) }
         ensures whole { OnOk result (AsksJust meter.old meter.new (judge_asks (length (setting setup.now).dimensions) plan.now.routes (changes_of changes.now))) }
+        ensures least { IfErr result (λ f. Asks meter.old meter.new (fault_asks (length (setting setup.now).dimensions) plan.now.routes (changes_of changes.now) f)
+            (judge_asks (length (setting setup.now).dimensions) plan.now.routes (changes_of changes.now))) }
     {
-        let mut rows = room.into_rows(changes.len())?;
+        room.hold(changes.len())?;
         for k in 0..changes.len() {
             let (vehicle, route) = &changes[k];
-            let (named, row) = &mut rows[k];
+            let (named, row) = &mut room.rows[k];
             *named = *vehicle;
             self.change_row(row, setup, plan, *vehicle, route, meter)?;
         }
-        Ok(Pending::new(self, rows))
+        let none = Vec::new(*self.rows.allocator());
+        Ok(Pending::new(self, replace(&mut room.rows, none)))
     }
 
     /// Makes a row that of a vehicle's new route, from the row of its route in the plan.
@@ -153,6 +160,7 @@ impl Cache {
         ensures fault { IfErr result (IsRowFault (setting setup.now) vehicle route.now) }
         ensures asks { AsksAtMost meter.old meter.new (length (setting setup.now).dimensions * walk_asks (route_at plan.now.routes vehicle) route.now) }
         ensures whole { OnOk result (AsksJust meter.old meter.new (length (setting setup.now).dimensions * walk_asks (route_at plan.now.routes vehicle) route.now)) }
+        ensures least { IfErr result (λ f. Asks meter.old meter.new (row_asks (walk_asks (route_at plan.now.routes vehicle) route.now) f) (length (setting setup.now).dimensions * walk_asks (route_at plan.now.routes vehicle) route.now)) }
     {
         let old = plan.route(vehicle).customers();
         let kept = &self.rows[vehicle as usize - 1];

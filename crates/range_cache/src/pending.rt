@@ -1,5 +1,5 @@
 //! What is judged and not yet taken, and the memory of it.
-ghost use Rattle.std.specs.Prelude.{◌≡◌, length, IfOk};
+ghost use Rattle.std.specs.Prelude.{◌≡◌, length, OnOk};
 
 use crate::cache::Cache;
 use crate::row::Row;
@@ -21,17 +21,16 @@ impl Room {
         }
     }
 
-    /// The memory of this many rows, whatever they contain.
-    pub(crate) fn into_rows(self, count: usize) -> Result<Vec<(u32, Row)>, AllocError>
-        ensures { IfOk result (λ rows. length rows.items ≡ count) }
+    /// Makes it hold this many rows, whatever they contain.
+    pub(crate) fn hold(&mut self, count: usize) -> Result<(), AllocError>
+        ensures { OnOk result (length self.new.rows.items ≡ count) }
     {
-        let Room { mut rows } = self;
-        let alloc = *rows.allocator();
-        rows.truncate(count);
-        'rows: while rows.len() < count {
-            rows.push((0, Row::empty(alloc)))?;
+        let alloc = *self.rows.allocator();
+        self.rows.truncate(count);
+        'rows: while self.rows.len() < count {
+            self.rows.push((0, Row::empty(alloc)))?;
         }
-        Ok(rows)
+        Ok(())
     }
 }
 

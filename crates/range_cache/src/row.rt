@@ -1,11 +1,11 @@
 //! The ranges along the route of one vehicle.
 ghost use Rattle.std.specs.Prelude.{◌≡◌, ℕ, ◌+◌, ◌*◌, ◌<◌, ◌≤◌, [], length, take, drop, All, IfErr, OnOk, vec_capacity};
-ghost use Rattle.callback_store.specs.Meter.{AsksJust, AsksAtMost};
+ghost use Rattle.callback_store.specs.Meter.{Asks, AsksJust, AsksAtMost};
 ghost use Rattle.dimension_core.specs.Feasible.{FitsAll, IsFirstOut};
 ghost use Rattle.dimension_core.specs.Setup.{setting};
 ghost use Rattle.range_cache.specs.Asks.{walk_asks};
 ghost use Rattle.range_cache.specs.Cache.{IsRowOf, range_at};
-ghost use Rattle.range_cache.specs.Row.{IsRowFault};
+ghost use Rattle.range_cache.specs.Row.{IsRowFault, row_asks};
 
 use crate::fault::JudgeFault;
 use crate::walk::walk;
@@ -85,6 +85,7 @@ impl Row {
         ensures fault { IfErr result (IsRowFault (setting setup.now) vehicle new.now) }
         ensures asks { AsksAtMost meter.old meter.new (length (setting setup.now).dimensions * walk_asks old.now new.now) }
         ensures whole { OnOk result (AsksJust meter.old meter.new (length (setting setup.now).dimensions * walk_asks old.now new.now)) }
+        ensures least { IfErr result (λ f. Asks meter.old meter.new (row_asks (walk_asks old.now new.now) f) (length (setting setup.now).dimensions * walk_asks old.now new.now)) }
     {
         let count = setup.dimensions().len();
         row.stops = new.len() as u32;

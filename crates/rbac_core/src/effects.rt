@@ -2,7 +2,7 @@
 ghost use Rattle.std.specs.Prelude.{◌≡◌, ℕ, None, IfOk, Bool, false, nat_eq, not, ◌==◌, filter, ◌∷◌, [], take};
 ghost use Rattle.std.specs.List.{list_any};
 ghost use Rattle.policy_core.specs.State.{session_of};
-ghost use Rattle.policy_core.specs.Access.{has_access};
+ghost use Rattle.policy_core.specs.Access.{has_access, reached_roles};
 ghost use Rattle.permission_core.specs.declared.objects.Operation.{Operation as AnOperation};
 ghost use Rattle.permission_core.specs.declared.objects.Object.{Object as AnObject};
 ghost use Rattle.rbac_core.specs.Step.{refusal_of, after};
@@ -84,11 +84,13 @@ fn has_lost(old: &Policy, new: &Policy, session: u32) -> bool
     old.active_roles(session) != new.active_roles(session)
 }
 
-/// A law, for callers' proofs: a session that is not among those affected has the access that it
+/// A law, for callers' proofs: a session that is not among those affected reaches the roles that it reached, and has the access that it
 /// had, for every operation and object.
 pub fn access_stays(old: &Policy, command: &Command, new: &Policy)
     requires { new.now ≡ after old.now command.now }
-    ensures { (session : ℕ) → list_any (nat_eq session) (affected_sessions old.now command.now new.now) ≡ false →
+    ensures reach { (session : ℕ) → list_any (nat_eq session) (affected_sessions old.now command.now new.now) ≡ false →
+        reached_roles new.now session ≡ reached_roles old.now session }
+    ensures access { (session : ℕ) → list_any (nat_eq session) (affected_sessions old.now command.now new.now) ≡ false →
         (operation : AnOperation) (object : AnObject) →
         has_access new.now session operation object ≡ has_access old.now session operation object }
 {}

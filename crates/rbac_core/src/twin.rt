@@ -93,6 +93,7 @@ impl Twin {
 
     /// Tries the command on the spare policy, which is first made equal to the other, whoever gives the command. The policy stays as it is.
     /// After a refusal nothing is tried.
+    #[inline(always)]
     pub fn prepare(&mut self, command: &Command) -> Result<Outcome, Refusal>
         ensures now { self.new.now ≡ self.old.now }
         ensures ok { OnOk result (self.new.tried ≡ after self.old.now command.now) }
@@ -134,6 +135,7 @@ impl Twin {
 
     /// As `settle`, but the spare policy gets the command at once, so that no copy of the command is kept. Where memory runs out for that,
     /// the next command that is tried first copies what the spare one lacks.
+    #[inline(always)]
     pub fn keep(&mut self, command: &Command)
         requires allowed { refusal_of self.old.now command.now ≡ None }
         requires tried { self.old.tried ≡ after self.old.now command.now }

@@ -1,44 +1,30 @@
 use Rattle.std.proofs.Common.{◌≡◌, None, Ok, sym, ap, subst, ◌∙◌}
-use Rattle.std.proofs.Math.Logic.{∥∥₁_map}
 use Rattle.policy_core.specs.State.{PolicyState}
 use Rattle.rbac_core.specs.declared.command.Outcome.{Outcome}
 use Rattle.rbac_core.specs.Step.{after, refusal_of}
-use Rattle.rbac_core.specs.Tried.{Tried}
-use Rattle.permission_table.specs.Tables.{TablesState}
-use Rattle.permission_table.specs.Compiled.{AreCompiled, WillBeCompiled, HasSizes}
+use Rattle.permission_table.specs.Compiled.{AreCompiled}
 use Rattle.board_rules.specs.Policies.{reply_of}
 use Rattle.board_state.specs.declared.change.Change.TheVariants.{Nothing}
 use Rattle.board_state.specs.Changes.{PolicyWillBe}
 use Rattle.board_state.proofs.Commanding.{carried, refused, refused_alone}
 use Rattle.board_state.proofs.commands.keep_command.Goals as goal
 
-pub new_rows-requires-clause-compiled : goal.new_rows-requires-clause-compiled
-new_rows-requires-clause-compiled c =
+pub keep_tried-requires-clause-compiled : goal.keep_tried-requires-clause-compiled
+keep_tried-requires-clause-compiled c =
     subst (λ (p : PolicyState). ∥ AreCompiled c.args.tables.now p ∥₁) (sym c.prepare.ensures.now) c.requires.compiled
 
-pub returns-in-Ok-new_rows-clause-reply : goal.returns-in-Ok-new_rows-clause-reply
-returns-in-Ok-new_rows-clause-reply c session free =
+pub returns-in-Ok-keep_tried-clause-reply : goal.returns-in-Ok-keep_tried-clause-reply
+returns-in-Ok-keep_tried-clause-reply c session free =
     c.reply_to.ensures ∙ ap (λ (o : Outcome). reply_of (Ok o)) c.in-Ok.ensures.outcome
     ∙ sym (carried c.args.policy.now.now session c.args.command.now free c.in-Ok.ensures.allowed).0
 
-pub returns-in-Ok-new_rows-clause-made : goal.returns-in-Ok-new_rows-clause-made
-returns-in-Ok-new_rows-clause-made c session free =
+pub returns-in-Ok-keep_tried-clause-made : goal.returns-in-Ok-keep_tried-clause-made
+returns-in-Ok-keep_tried-clause-made c session free =
     let p = c.args.policy.now.now in
     let command = c.args.command.now in
-    let next = sym (carried p session command free c.in-Ok.ensures.allowed).1 in
-    let same = ap (λ (q : PolicyState). after q command) c.prepare.ensures.now in
-    let sizes = c.in-Ok-new_rows.ensures.sizes in
-    subst (λ (q : PolicyState). PolicyWillBe c.keep.new.self c.put.new.self Nothing q) next
-    (record {
-      ready = tt;
-      made = ap (λ (t : Tried). t.now) c.keep.ensures ∙ c.in-Ok.ensures.ok;
-      compiled = ∥∥₁_map c.in-Ok-new_rows.ensures.compiled (λ (will : WillBeCompiled c.in-Ok-new_rows.rows (after c.prepare.new.self.now command)).
-          subst (λ (q : PolicyState). AreCompiled c.put.new.self q) same (c.put.ensures.compiled (after c.prepare.new.self.now command) will));
-      sizes = subst (λ (q : PolicyState). HasSizes q c.put.new.self) same (record {
-        customers = sizes.customers ∙ sym (ap (λ (t : TablesState). t.customers) c.put.ensures.kept);
-        vehicles = sizes.vehicles ∙ sym (ap (λ (t : TablesState). t.vehicles) c.put.ensures.kept);
-      });
-    })
+    subst (λ (q : PolicyState). PolicyWillBe c.keep_tried.new.policy c.keep_tried.new.tables Nothing q)
+    (ap (λ (q : PolicyState). after q command) c.prepare.ensures.now ∙ sym (carried p session command free c.in-Ok.ensures.allowed).1)
+    c.in-Ok-keep_tried.ensures.made
 
 pub returns-in-Err-clause-reply : goal.returns-in-Err-clause-reply
 returns-in-Err-clause-reply c session free =

@@ -16,8 +16,11 @@ returns-clause-compiled c =
     let new = c.tried-new.result.now in
     let next = c.tried-new.ensures ∙ c.requires.tried in
     let sessions : c.deref.result.now ≡ affected_sessions old a.command.now new = c.deref.ensures.value ∙ c.in_ok-sessions.ensures in
-    let same : SameAccessBut c.deref.result.now old new = λ session out operation object.
-    c.access_stays.ensures session (subst (λ (xs : List ℕ). list_any (nat_eq session) xs ≡ false) sessions out) operation object in
+    let same : SameAccessBut c.deref.result.now old new = record {
+      reach = λ session out. c.access_stays.ensures.reach session (subst (λ (xs : List ℕ). list_any (nat_eq session) xs ≡ false) sessions out);
+      access = λ session out operation object.
+          c.access_stays.ensures.access session (subst (λ (xs : List ℕ). list_any (nat_eq session) xs ≡ false) sessions out) operation object;
+    } in
     if_ok _ (λ (rows : RowsState). ∥ WillBeCompiled rows (after a.policy.now.now a.command.now) ∥₁) c.rebuild.result
     (λ rows will. ∥∥₁_map c.requires.compiled (λ (are : AreCompiled a.tables.now a.policy.now.now).
     subst (λ (p : PolicyState). WillBeCompiled rows p) next

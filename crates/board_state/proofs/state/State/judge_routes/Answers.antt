@@ -1,12 +1,12 @@
 use Rattle.std.proofs.Common.{◌≡◌, ◌≤◌, ℕ, ◌+◌, ◌⊎◌, List, Some, length, sym, ap, ◌∙◌, subst, arith, All}
-use Rattle.callback_store.specs.Meter.{AsksJust, AsksAtMost}
+use Rattle.callback_store.specs.Meter.{Asks, AsksJust, AsksAtMost}
 use Rattle.dimension_core.specs.Setup.{setting}
 use Rattle.dimension_core.specs.NewRoutes.{AllFit, AllKnown, IsOut}
 use Rattle.plan_core.specs.declared.touch.Touch.{Touch}
 use Rattle.plan_core.specs.Plan.{Changes, changes_of, with_routes, IsPlan, AreChanges}
 use Rattle.pin_core.specs.Pins.{AreFreezesKept, IsHeld}
 use Rattle.pin_core.specs.Allowed.{IsTouched}
-use Rattle.range_cache.specs.Asks.{judge_asks}
+use Rattle.range_cache.specs.Asks.{judge_asks, asks_before}
 use Rattle.move_core.specs.Moves.{changes_by, effect}
 use Rattle.move_core.specs.Touched.{touched_by}
 use Rattle.board_rules.specs.Override.{DoPinsAllow}
@@ -112,8 +112,11 @@ returns-in-Err-Bound-clause-work g c =
     (leaving held.pins (with_routes (changes_of c.deref-2.result.now) held.plan.routes) ts)) c.deref-3.ensures.value c.judge_pins.ensures.work) in
     let touched = subst (λ (ts : List Touch). Works a.meter.now c.judge_pins.new.meter 0 0 (probes_least 0 0 (leaving held.pins (routes_after held.plan.routes a.mv.now) ts) c.judge_pins.result)
     (leaving held.pins (routes_after held.plan.routes a.mv.now) ts)) c.requires.touched pins in
-    let bounds = subst (λ (cs : Changes). AsksAtMost c.judge_pins.new.meter c.judge_in.new.meter (judge_asks (length s.dimensions) held.plan.routes cs)) judged
-    (subst (λ (h : HeldState). AsksAtMost c.judge_pins.new.meter c.judge_in.new.meter (judge_asks (length s.dimensions) h.plan.routes (changes_of c.deref-4.result.now))) c.self.view_is c.judge_in.ensures.asks) in
+    let v = c.in-Err-Bound.vehicle in
+    let d = c.in-Err-Bound.dimension in
+    let least = rw c.in-Err-Bound.field-0-is at c.in-Err-Bound.ensures.least in
+    let bounds = subst (λ (cs : Changes). Asks c.judge_pins.new.meter c.judge_in.new.meter (asks_before (length s.dimensions) held.plan.routes cs v d) (judge_asks (length s.dimensions) held.plan.routes cs)) judged
+    (subst (λ (h : HeldState). Asks c.judge_pins.new.meter c.judge_in.new.meter (asks_before (length s.dimensions) h.plan.routes (changes_of c.deref-4.result.now) v d) (judge_asks (length s.dimensions) h.plan.routes (changes_of c.deref-4.result.now))) c.self.view_is least) in
     both_within _ _ _ _ _ _ _ _ _ _ _ _ _ _ _ (pinned_whole _ _ _ _ c.in-Ok-judge_pins.is touched) (asks_alone _ _ _ _ bounds) (omega arith) (omega arith) (omega arith) (omega arith)
 
 pub judge_in-requires-clause-known : goal.judge_in-requires-clause-known
@@ -135,10 +138,10 @@ returns-in-Err-clause-work g c =
     (leaving held.pins (routes_after held.plan.routes a.mv.now) ts)) c.requires.touched pins in
     let stopped = subst (λ (n : ℕ). Works a.meter.now c.judge_pins.new.meter 0 0 n (leaving held.pins (routes_after held.plan.routes a.mv.now) (touched_by held.plan.routes a.mv.now)))
     (ap (λ r. probes_least 0 0 (leaving held.pins (routes_after held.plan.routes a.mv.now) (touched_by held.plan.routes a.mv.now)) r) c.in-Err.is) touched in
-    pinned_stop _ _ _ _ c.in-Err.stop c.in-Err.ensures.late stopped
+    pinned_stop _ _ _ _ _ _ _ held.pins (may_override (held_basis held a.session)) held.plan.routes (changes_of c.deref-2.result.now) c.deref-3.result.now c.in-Err.stop c.in-Err.ensures.stop stopped
 
-pub returns-clause-work : goal.returns-clause-work
-returns-clause-work g c =
+pub returns-in-Err-NoMemory-clause-work : goal.returns-in-Err-NoMemory-clause-work
+returns-in-Err-NoMemory-clause-work g c =
     let a = c.args in
     let held = a.self.now in
     let s = setting a.setup.now in

@@ -1,5 +1,6 @@
 use Rattle.std.proofs.Common.{◌≡◌, ℕ, List, subst, ap, ◌∙◌, sym}
 use Rattle.indexmap.specs.IndexMap.{spare}
+use Rattle.permission_table.specs.Bits.{SessionAccess}
 use Rattle.permission_table.specs.Tables.{TablesState}
 use Rattle.permission_table.specs.Compiled.{AreCompiled, HasSizes}
 use Rattle.permission_table.proofs.CompiledLaws as laws
@@ -16,7 +17,7 @@ returns-clause-compiled c before =
     let room : ℕ = spare c.reserve.new.self in
     let grown : t ≡ record old { room = room } =
     c.of.ensures
-    ∙ ap (λ (es : List (ℕ × List ℕ)). record { customers = c.self.inside.customers; vehicles = c.self.inside.vehicles; rows = es; room = room }) c.in_ok-reserve.ensures.entries
+    ∙ ap (λ (es : List (ℕ × SessionAccess)). record { customers = c.self.inside.customers; vehicles = c.self.inside.vehicles; rows = es; room = room }) c.in_ok-reserve.ensures.entries
     ∙ ap (λ (s : TablesState). record s { room = room }) c.self.view_is in
     λ were. laws.compiled c.args.policy.now t c.in_ok-changes.changes.items c.args.sessions.now c.in_ok-changes.ensures.rows c.in_ok-changes.ensures.sessions
     (subst (HasSizes c.args.policy.now) (sym grown) (record { customers = c.requires.sizes.customers; vehicles = c.requires.sizes.vehicles }))

@@ -7,7 +7,7 @@ use Rattle.range_cache.proofs.cache.Cache.judge_in.Given as goal
 -- what holds of the rest holds of all, and for those before it all was asked
 abbrev pub invariant-loop-k : goal.invariant-loop-k
 invariant-loop-k g l = record {
-  sized : length l.rows.items ≡ length l.changes;
-  rest : IsRest (setting l.setup) (changes_of l.changes) (changes_of (drop l.k l.changes)) (take l.k l.rows.items);
+  sized : length l.room.rows.items ≡ length l.changes;
+  rest : IsRest (setting l.setup) (changes_of l.changes) (changes_of (drop l.k l.changes)) (take l.k l.room.rows.items);
   asks : AreAsked (length (setting l.setup).dimensions) l.plan.routes (changes_of l.changes) (changes_of (drop l.k l.changes)) l.fn.meter l.meter;
 }

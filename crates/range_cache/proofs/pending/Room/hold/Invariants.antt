@@ -1,10 +1,10 @@
 use Rattle.std.proofs.Common.{◌≤◌, ◌-◌, length}
-use Rattle.range_cache.proofs.pending.Room.into_rows.Given as goal
+use Rattle.range_cache.proofs.pending.Room.hold.Given as goal
 
 -- there are not too many rows
 abbrev pub invariant-rows : goal.invariant-rows
-invariant-rows l = record { few : length l.rows.items ≤ l.count }
+invariant-rows l = record { few : length l.self.rows.items ≤ l.count }
 
 -- how many rows are missing
 abbrev pub decreases-rows : goal.decreases-rows
-decreases-rows l = l.count - length l.rows.items
+decreases-rows l = l.count - length l.self.rows.items
