@@ -28,8 +28,8 @@ use Rattle.locked_board.specs.Commits.{Legal, entry}
 use Rattle.board_seat.specs.Watches.{Watch}
 use Rattle.board_lock.specs.DeskSteps.{HadNoTurn, HadTurn, IsDeskStep, DeskLacksMemory}
 use Rattle.board_text.specs.BoardSteps.{DeskState, IsReplied, has_turn, IsBoardStep, LacksMemory}
-use Rattle.desk_text.specs.DeskRuns.{HasSeenItsTurns, IsOnlyDesk, board_state}
-use Rattle.desk_text.proofs.Held.{Adds, is_same, adds_line, adds_all, ends}
+use Rattle.desk_text.specs.DeskRuns.{IsOnlyDesk, board_state}
+use Rattle.desk_text.proofs.Held.{is_same}
 
 -- ---- on a board of one desk all entries are that desk's
 
@@ -89,9 +89,9 @@ turn_is number desks turns own a b c = grind (arith, nat_tests, a, b, c)
 turn_is_due : (o : Opening) (w : Watch) → o.desks ≡ 1 → IsOnlyDesk w → has_turn (board_state o w) ≡ true
 turn_is_due o w one only = turn_is w.number o.desks (turns_of w.number w.seen) w.own only.number one only.turns
 
-replied : (o : Opening) (old new : Watch) (call : Call) (reply : Reply) → o.desks ≡ 1 → IsOnlyDesk old → length new.seen ≤ o.setting.max_events → HadTurn o old call reply new
+replied : (o : Opening) (old new : Watch) (call : Call) (reply : Reply) → o.desks ≡ 1 → IsOnlyDesk old → HadTurn o old call reply new
     → IsReplied (board_state o old) call reply (board_state o new) × IsOnlyDesk new
-replied o old new call reply one only most is =
+replied o old new call reply one only is =
     let sub = is.submitted in
     let e : Entry = entry old.number (old.own + 1) call reply in
     let turns : turns_of old.number new.seen ≡ old.own + 1 = sub.turns_are in
@@ -105,7 +105,7 @@ replied o old new call reply one only most is =
     let behind : old.seen ++ sub.between ≡ old.seen = ap (λ xs. old.seen ++ xs) none ∙ append-nil old.seen in
     let same : turns_of new.number new.seen ≡ turns_of old.number new.seen = ap (λ k. turns_of k new.seen) is.number in (
       record {
-        room = λ full. absurd (omega (arith, most, long, front, full));
+        room = λ full. absurd (omega (arith, sub.few, long, front, full));
         opening = refl;
         entries = sub.after_is ∙ ap (λ xs. xs ++ e ∷ []) behind;
         legal = sub.legal;
@@ -131,62 +131,51 @@ faulted o old new call faults.Full one only step =
 faulted o old new call faults.OutOfTurn one only step = absurd step.1
 faulted o old new call faults.NoMemory one only step = absurd step.1
 
-called : (o : Opening) (old new : Watch) (call : Call) (answer : Answer) → o.desks ≡ 1 → IsOnlyDesk old → length new.seen ≤ o.setting.max_events → IsDeskStep o old (commands.Submit call) answer new
+called : (o : Opening) (old new : Watch) (call : Call) (answer : Answer) → o.desks ≡ 1 → IsOnlyDesk old → IsDeskStep o old (commands.Submit call) answer new
     → IsBoardStep (board_state o old) (commands.Submit call) answer (board_state o new) × IsOnlyDesk new
-called o old new call (Replied reply) one only most step = replied o old new call reply one only most step
-called o old new call (Faulted fault) one only most step = faulted o old new call fault one only step
-called o old new call (Listed rows) one only most step = absurd step.1
-called o old new call (Rowed rows) one only most step = absurd step.1
-called o old new call (Audited entries) one only most step = absurd step.1
-called o old new call (Reviewed names) one only most step = absurd step.1
-called o old new call (Checked answer) one only most step = absurd step.1
-called o old new call (Refused fault) one only most step = absurd step.1
+called o old new call (Replied reply) one only step = replied o old new call reply one only step
+called o old new call (Faulted fault) one only step = faulted o old new call fault one only step
+called o old new call (Listed rows) one only step = absurd step.1
+called o old new call (Rowed rows) one only step = absurd step.1
+called o old new call (Audited entries) one only step = absurd step.1
+called o old new call (Reviewed names) one only step = absurd step.1
+called o old new call (Checked answer) one only step = absurd step.1
+called o old new call (Refused fault) one only step = absurd step.1
 
-gives_alone : (o : Opening) (old new : Watch) (read : Result Command LineFault) (outcome : Outcome) → o.desks ≡ 1 → IsOnlyDesk old → length new.seen ≤ o.setting.max_events → Gives (IsDeskStep o) old read outcome new
+gives_alone : (o : Opening) (old new : Watch) (read : Result Command LineFault) (outcome : Outcome) → o.desks ≡ 1 → IsOnlyDesk old → Gives (IsDeskStep o) old read outcome new
     → Gives IsBoardStep (board_state o old) read outcome (board_state o new) × IsOnlyDesk new
-gives_alone o old new (Err fault) outcome one only most g = ((g.0, same_state o old new g.1), only_too old new only g.1)
-gives_alone o old new (Ok commands.Skip) outcome one only most g = ((g.0, same_state o old new g.1), only_too old new only g.1)
-gives_alone o old new (Ok (commands.Submit call)) outcome one only most g =
-    let both = called o old new call g.0 one only most g.2 in
+gives_alone o old new (Err fault) outcome one only g = ((g.0, same_state o old new g.1), only_too old new only g.1)
+gives_alone o old new (Ok commands.Skip) outcome one only g = ((g.0, same_state o old new g.1), only_too old new only g.1)
+gives_alone o old new (Ok (commands.Submit call)) outcome one only g =
+    let both = called o old new call g.0 one only g.2 in
     ((g.0, g.1, both.0), both.1)
-gives_alone o old new (Ok (commands.List session)) outcome one only most g =
+gives_alone o old new (Ok (commands.List session)) outcome one only g =
     let both = answers o old new (commands.List session) g.0 one only g.2.0 g.2.1 in
     ((g.0, g.1, both.0), both.1)
-gives_alone o old new (Ok (commands.Json session)) outcome one only most g =
+gives_alone o old new (Ok (commands.Json session)) outcome one only g =
     let both = answers o old new (commands.List session) g.0 one only g.2.0 g.2.1 in
     ((g.0, g.1, both.0), both.1)
-gives_alone o old new (Ok (commands.Audit session)) outcome one only most g =
+gives_alone o old new (Ok (commands.Audit session)) outcome one only g =
     let both = answers o old new (commands.Audit session) g.0 one only g.2.0 g.2.1 in
     ((g.0, g.1, both.0), both.1)
-gives_alone o old new (Ok (commands.Check session operation object)) outcome one only most g =
+gives_alone o old new (Ok (commands.Check session operation object)) outcome one only g =
     let both = answers o old new (commands.Check session operation object) g.0 one only g.2.0 g.2.1 in
     ((g.0, g.1, both.0), both.1)
-gives_alone o old new (Ok (commands.Review session which)) outcome one only most g =
+gives_alone o old new (Ok (commands.Review session which)) outcome one only g =
     let both = answers o old new (commands.Review session which) g.0 one only g.2.0 g.2.1 in
     ((g.0, g.1, both.0), both.1)
 
 -- ---- lines
 
-has_seen : (w : Watch) → IsOnlyDesk w → HasSeenItsTurns w
-has_seen w only = let turns : turns_of w.number w.seen ≡ w.own = only.turns in omega (arith, turns)
-
--- what is in a list is in a longer one
-fewer : (old new : Watch) (pairs : List (Call × Reply)) (most : ℕ) → Adds old new pairs → length new.seen ≤ most → length old.seen ≤ most
-fewer old new pairs most adds few =
-    let long : length new.seen ≡ length old.seen + length adds.added = ap length adds.added_is ∙ length-append old.seen adds.added in
-    omega (arith, long, few)
-
-runs_alone : (o : Opening) (old new : Watch) (lines : List (List ℕ)) (outcomes : List Outcome) → o.desks ≡ 1 → IsOnlyDesk old → length new.seen ≤ o.setting.max_events → Runs (IsDeskStep o) old lines outcomes new
+runs_alone : (o : Opening) (old new : Watch) (lines : List (List ℕ)) (outcomes : List Outcome) → o.desks ≡ 1 → IsOnlyDesk old → Runs (IsDeskStep o) old lines outcomes new
     → Runs IsBoardStep (board_state o old) lines outcomes (board_state o new) × IsOnlyDesk new
-runs_alone o old new [] [] one only most run = (same_state o old new run, only_too old new only run)
-runs_alone o old new [] (x ∷ outcomes) one only most run = absurd run
-runs_alone o old new (line ∷ lines) [] one only most run = absurd run
-runs_alone o old new (line ∷ lines) (x ∷ outcomes) one only most run =
+runs_alone o old new [] [] one only run = (same_state o old new run, only_too old new only run)
+runs_alone o old new [] (x ∷ outcomes) one only run = absurd run
+runs_alone o old new (line ∷ lines) [] one only run = absurd run
+runs_alone o old new (line ∷ lines) (x ∷ outcomes) one only run =
     let mid : Watch = run.0 in
-    let adds = adds_line o old mid (read_of (body line)) x (has_seen old only) run.1 in
-    let later = adds_all o mid new lines outcomes adds.turns run.2 in
-    let first = gives_alone o old mid (read_of (body line)) x one only (fewer mid new _ o.setting.max_events later most) run.1 in
-    let rest = runs_alone o mid new lines outcomes one first.1 most run.2 in
+    let first = gives_alone o old mid (read_of (body line)) x one only run.1 in
+    let rest = runs_alone o mid new lines outcomes one first.1 run.2 in
     ((board_state o mid, first.0, rest.0), rest.1)
 
 -- ---- what the next line leaves
@@ -205,34 +194,34 @@ lacks_alone o old new (commands.Audit session) one only h = same_state o old new
 lacks_alone o old new (commands.Check session operation object) one only h = same_state o old new (stays o old new one only h)
 lacks_alone o old new (commands.Review session which) one only h = same_state o old new (stays o old new one only h)
 
-leaves_alone : (o : Opening) (old new : Watch) (read : Result Command LineFault) → o.desks ≡ 1 → IsOnlyDesk old → length new.seen ≤ o.setting.max_events → Leaves (IsDeskStep o) (DeskLacksMemory o) old read new → Leaves IsBoardStep LacksMemory (board_state o old) read (board_state o new)
-leaves_alone o old new (Err fault) one only most h = elim h [
+leaves_alone : (o : Opening) (old new : Watch) (read : Result Command LineFault) → o.desks ≡ 1 → IsOnlyDesk old → Leaves (IsDeskStep o) (DeskLacksMemory o) old read new → Leaves IsBoardStep LacksMemory (board_state o old) read (board_state o new)
+leaves_alone o old new (Err fault) one only h = elim h [
   | inl r ↦ absurd r
-  | inr l ↦ inr (l.0, (gives_alone o old new (Err fault) l.0 one only most l.1).0)
+  | inr l ↦ inr (l.0, (gives_alone o old new (Err fault) l.0 one only l.1).0)
 ]
-leaves_alone o old new (Ok command) one only most h = elim h [
+leaves_alone o old new (Ok command) one only h = elim h [
   | inl r ↦ inl (lacks_alone o old new (asked command) one only r)
-  | inr l ↦ inr (l.0, (gives_alone o old new (Ok command) l.0 one only most l.1).0)
+  | inr l ↦ inr (l.0, (gives_alone o old new (Ok command) l.0 one only l.1).0)
 ]
 
-near_alone : (o : Opening) (mid new : Watch) (more : List ℕ) (left : Option (List ℕ)) → o.desks ≡ 1 → IsOnlyDesk mid → length new.seen ≤ o.setting.max_events → IsNear (IsDeskStep o) (DeskLacksMemory o) mid new more left → IsNear IsBoardStep LacksMemory (board_state o mid) (board_state o new) more left
-near_alone o mid new more left one only most h = elim h [
+near_alone : (o : Opening) (mid new : Watch) (more : List ℕ) (left : Option (List ℕ)) → o.desks ≡ 1 → IsOnlyDesk mid → IsNear (IsDeskStep o) (DeskLacksMemory o) mid new more left → IsNear IsBoardStep LacksMemory (board_state o mid) (board_state o new) more left
+near_alone o mid new more left one only h = elim h [
   | inl e ↦ inl (same_state o mid new e)
-  | inr l ↦ inr (l.0, l.1, leaves_alone o mid new (read_of (body l.0)) one only most l.2)
+  | inr l ↦ inr (l.0, l.1, leaves_alone o mid new (read_of (body l.0)) one only l.2)
 ]
 
-ends_alone : (o : Opening) (fault : RunFault) (mid new : Watch) (used more : List ℕ) (left : Option (List ℕ)) → o.desks ≡ 1 → IsOnlyDesk mid → length new.seen ≤ o.setting.max_events → EndsAt (IsDeskStep o) (DeskLacksMemory o) fault mid new used more left → EndsAt IsBoardStep LacksMemory fault (board_state o mid) (board_state o new) used more left
-ends_alone o runs.Read mid new used more left one only most h = (same_state o mid new h.0, h.1)
-ends_alone o runs.LongLine mid new used more left one only most h = (same_state o mid new h.0, h.1)
-ends_alone o runs.NoMemory mid new used more left one only most h = near_alone o mid new more left one only most h
-ends_alone o runs.Write mid new used more left one only most h = near_alone o mid new more left one only most h
+ends_alone : (o : Opening) (fault : RunFault) (mid new : Watch) (used more : List ℕ) (left : Option (List ℕ)) → o.desks ≡ 1 → IsOnlyDesk mid → EndsAt (IsDeskStep o) (DeskLacksMemory o) fault mid new used more left → EndsAt IsBoardStep LacksMemory fault (board_state o mid) (board_state o new) used more left
+ends_alone o runs.Read mid new used more left one only h = (same_state o mid new h.0, h.1)
+ends_alone o runs.LongLine mid new used more left one only h = (same_state o mid new h.0, h.1)
+ends_alone o runs.NoMemory mid new used more left one only h = near_alone o mid new more left one only h
+ends_alone o runs.Write mid new used more left one only h = near_alone o mid new more left one only h
 
 -- ---- whole runs
 
-pub alone : (o : Opening) (old new : Watch) (left_old left_new was now : Option (List ℕ)) (replies refusals : ℕ) → o.desks ≡ 1 → IsOnlyDesk old → length new.seen ≤ o.setting.max_events
+pub alone : (o : Opening) (old new : Watch) (left_old left_new was now : Option (List ℕ)) (replies refusals : ℕ) → o.desks ≡ 1 → IsOnlyDesk old
     → IsAnswered (IsDeskStep o) old new left_old left_new was now replies refusals → IsAnswered IsBoardStep (board_state o old) (board_state o new) left_old left_new was now replies refusals
-alone o old new left_old left_new was now replies refusals one only most h =
-    let run = runs_alone o old new (lines_of h.bytes) h.outcomes one only most h.run.run in
+alone o old new left_old left_new was now replies refusals one only h =
+    let run = runs_alone o old new (lines_of h.bytes) h.outcomes one only h.run.run in
     record {
       bytes = h.bytes;
       given = h.given;
@@ -245,12 +234,10 @@ alone o old new left_old left_new was now replies refusals one only most h =
       refused = h.refused;
     }
 
-pub alone_at_stop : (o : Opening) (fault : RunFault) (old new : Watch) (left_old left_new was now : Option (List ℕ)) → o.desks ≡ 1 → IsOnlyDesk old → length new.seen ≤ o.setting.max_events
+pub alone_at_stop : (o : Opening) (fault : RunFault) (old new : Watch) (left_old left_new was now : Option (List ℕ)) → o.desks ≡ 1 → IsOnlyDesk old
     → IsStopped (IsDeskStep o) (DeskLacksMemory o) fault old new left_old left_new was now → IsStopped IsBoardStep LacksMemory fault (board_state o old) (board_state o new) left_old left_new was now
-alone_at_stop o fault old new left_old left_new was now one only most h =
-    let all = adds_all o old h.mid (lines_of h.used) h.outcomes (has_seen old only) h.run.run in
-    let last = ends o fault h.mid new h.used h.more left_new all.turns h.end in
-    let run = runs_alone o old h.mid (lines_of h.used) h.outcomes one only (fewer h.mid new last.0 o.setting.max_events last.1 most) h.run.run in
+alone_at_stop o fault old new left_old left_new was now one only h =
+    let run = runs_alone o old h.mid (lines_of h.used) h.outcomes one only h.run.run in
     record {
       used = h.used;
       more = h.more;
@@ -259,6 +246,6 @@ alone_at_stop o fault old new left_old left_new was now one only most h =
       outcomes = h.outcomes;
       mid = board_state o h.mid;
       run = record { short = h.run.short; run = run.0 };
-      end = ends_alone o fault h.mid new h.used h.more left_new one run.1 most h.end;
+      end = ends_alone o fault h.mid new h.used h.more left_new one run.1 h.end;
       text = h.text;
     }

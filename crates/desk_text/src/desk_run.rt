@@ -1,6 +1,6 @@
 //! Runs over a desk.
 
-ghost use Rattle.std.specs.Prelude.{◌≡◌, ◌≤◌, length, IfOk, IfErr};
+ghost use Rattle.std.specs.Prelude.{◌≡◌, IfOk, IfErr};
 ghost use Rattle.line_engine.specs.WholeRuns.{IsAnswered, IsStopped};
 ghost use Rattle.board_text.specs.BoardSteps.{IsBoardStep, LacksMemory};
 ghost use Rattle.desk_text.specs.DeskRuns.{IsHeld, IsHeldAtStop, IsOnlyDesk, board_state};
@@ -40,10 +40,10 @@ pub fn run_desk_lines<
         (I.remaining reader.old) (I.remaining reader.new) (W.contents writer.old) (W.contents writer.new) counts.lines counts.refused) }
     ensures err { IfErr result (λ e. IsHeldAtStop N.opening e front.old.seat front.new.seat
         (I.remaining reader.old) (I.remaining reader.new) (W.contents writer.old) (W.contents writer.new)) }
-    ensures alone { N.opening.desks ≡ 1 → IsOnlyDesk front.old.seat → length front.new.seat.seen ≤ N.opening.setting.max_events
+    ensures alone { N.opening.desks ≡ 1 → IsOnlyDesk front.old.seat
         → IfOk result (λ counts. IsAnswered IsBoardStep (board_state N.opening front.old.seat) (board_state N.opening front.new.seat)
         (I.remaining reader.old) (I.remaining reader.new) (W.contents writer.old) (W.contents writer.new) counts.lines counts.refused) }
-    ensures alone_at_fault { N.opening.desks ≡ 1 → IsOnlyDesk front.old.seat → length front.new.seat.seen ≤ N.opening.setting.max_events
+    ensures alone_at_fault { N.opening.desks ≡ 1 → IsOnlyDesk front.old.seat
         → IfErr result (λ e. IsStopped IsBoardStep LacksMemory e (board_state N.opening front.old.seat) (board_state N.opening front.new.seat)
         (I.remaining reader.old) (I.remaining reader.new) (W.contents writer.old) (W.contents writer.new)) }
 {

@@ -1,5 +1,5 @@
 //! Laws of runs over a desk, each the contract of a function that does nothing.
-ghost use Rattle.std.specs.Prelude.{◌≡◌, ◌≤◌, ℕ, List, length, Option};
+ghost use Rattle.std.specs.Prelude.{◌≡◌, ℕ, List, Option};
 ghost use Rattle.board_rules.specs.History.{Opening};
 ghost use Rattle.line_engine.specs.WholeRuns.{IsAnswered, IsStopped};
 ghost use Rattle.line_engine.specs.declared.run_fault.RunFault.{RunFault};
@@ -19,9 +19,9 @@ pub fn lists_hold_what_is_written()
 /// On a board of one desk a run over the desk is a run over a board of one thread, entry by entry, also where it ended early.
 pub fn only_desks_run_as_boards()
     ensures answered { (o : Opening) (old new : Watch) (left_old left_new was now : Option (List ℕ)) (answers refusals : ℕ) → o.desks ≡ 1 → IsOnlyDesk old
-        → length new.seen ≤ o.setting.max_events → IsAnswered (IsDeskStep o) old new left_old left_new was now answers refusals
+        → IsAnswered (IsDeskStep o) old new left_old left_new was now answers refusals
         → IsAnswered IsBoardStep (board_state o old) (board_state o new) left_old left_new was now answers refusals }
     ensures stopped { (o : Opening) (fault : RunFault) (old new : Watch) (left_old left_new was now : Option (List ℕ)) → o.desks ≡ 1 → IsOnlyDesk old
-        → length new.seen ≤ o.setting.max_events → IsStopped (IsDeskStep o) (DeskLacksMemory o) fault old new left_old left_new was now
+        → IsStopped (IsDeskStep o) (DeskLacksMemory o) fault old new left_old left_new was now
         → IsStopped IsBoardStep LacksMemory fault (board_state o old) (board_state o new) left_old left_new was now }
 {}

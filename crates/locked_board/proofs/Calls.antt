@@ -1,7 +1,8 @@
 -- From the journal to what a desk has seen.
-use Rattle.std.proofs.Common.{◌≡◌, ℕ, ◌+◌, ◌==◌, ◌≤◌, true, List, [], ◌∷◌, ◌++◌, sym, ap, ◌∙◌, arith}
+use Rattle.std.proofs.Common.{◌≡◌, ℕ, ◌+◌, ◌==◌, ◌<◌, ◌≤◌, true, List, [], ◌∷◌, ◌++◌, length, sym, ap, ◌∙◌, arith}
 use Rattle.std.specs.Prelude.{if◌then◌else◌}
 use Rattle.std.proofs.lemmas.Bool.Decides.{nat_tests}
+use Rattle.std.proofs.lemmas.List.{length-append}
 use mathlib.Core.List.{IsPrefix}
 use Rattle.board_rules.specs.declared.call.Call.{Call}
 use Rattle.board_rules.specs.declared.call.Entry.{Entry}
@@ -17,12 +18,16 @@ TurnLaw = (desk : ℕ) (es : List Entry) (e : Entry) → turns_of desk (es ++ e 
 self_test : (n : ℕ) → (n == n) ≡ true
 self_test n = grind (arith, nat_tests)
 
+one_more : (before after most : ℕ) → after ≡ before + 1 → before < most → after ≤ most
+one_more before after most is room = omega (arith, is, room)
+
 pub submitted : TurnLaw → (o : Opening) (desk own : ℕ) (call : Call) (reply : Reply) (before es after : List Entry) → IsPrefix before es → turns_of desk es ≡ own
     → IsCommitted o es (entry desk (own + 1) call reply) after → Submitted o desk own call reply before after
 submitted law o desk own call reply before es after seen turns done =
     let e : Entry = entry desk (own + 1) call reply in
     record {
       legal = done.legal;
+      few = one_more (length es) (length after) o.setting.max_events (ap length done.after_is ∙ length-append es (e ∷ [])) done.room;
       between = seen.0;
       after_is = done.after_is ∙ (λ i. sym seen.1 i ++ e ∷ []);
       turns_are = ap (turns_of desk) done.after_is ∙ (law desk es e ∙ (ap (λ b. turns_of desk es + (if b then 1 else 0)) (self_test desk) ∙ ap (λ n. n + 1) turns));

@@ -10,7 +10,7 @@ pub returns-clause-err : goal.returns-clause-err
 returns-clause-err g c = IfErr-weaker c.run_lines.result _ _ (λ e h. held_at_stop g.N.Naming.opening e _ _ _ _ _ _ c.turns_are_seen.ensures h) c.run_lines.ensures.err
 
 pub returns-clause-alone : goal.returns-clause-alone
-returns-clause-alone g c = λ one only few. IfOk-weaker c.run_lines.result _ _ (λ counts h. alone g.N.Naming.opening _ _ _ _ _ _ _ _ one only few h) c.run_lines.ensures.ok
+returns-clause-alone g c = λ one only. IfOk-weaker c.run_lines.result _ _ (λ counts h. alone g.N.Naming.opening _ _ _ _ _ _ _ _ one only h) c.run_lines.ensures.ok
 
 pub returns-clause-alone_at_fault : goal.returns-clause-alone_at_fault
-returns-clause-alone_at_fault g c = λ one only few. IfErr-weaker c.run_lines.result _ _ (λ e h. alone_at_stop g.N.Naming.opening e _ _ _ _ _ _ one only few h) c.run_lines.ensures.err
+returns-clause-alone_at_fault g c = λ one only. IfErr-weaker c.run_lines.result _ _ (λ e h. alone_at_stop g.N.Naming.opening e _ _ _ _ _ _ one only h) c.run_lines.ensures.err

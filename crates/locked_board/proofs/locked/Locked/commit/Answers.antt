@@ -1,4 +1,4 @@
-use Rattle.std.proofs.Common.{◌≡◌, ℕ, [], ◌∷◌, ◌++◌, ap, sym, ◌∙◌, subst}
+use Rattle.std.proofs.Common.{◌≡◌, ℕ, ◌<◌, List, [], ◌∷◌, ◌++◌, length, ap, sym, ◌∙◌, subst}
 use Rattle.dimension_core.specs.Setting.{Setting}
 use Rattle.board_rules.specs.declared.call.Entry.{Entry}
 use Rattle.board_rules.specs.History.{IsLegal, state_after}
@@ -22,6 +22,7 @@ returns-in-Ok-publish-clause-ok g c =
     let reply : c.in-Ok-publish.reply ≡ made.reply = if_ok c.publish.result (λ r. r ≡ made.reply) c.in-Ok-publish.reply c.in-Ok-publish.is c.publish.ensures.reply in
     let e : made ≡ entry_of c.args.event c.in-Ok-publish.reply = c.in-Ok.ensures.entry ∙ ap (entry_of c.args.event) (sym reply) in
     record {
+      room = subst (λ (es : List Entry). length es < s.max_events) (ap (λ (k : CoreState). k.journal) c.in-Ok.ensures.of ∙ c.in-Ok.ensures.journal) c.in-Ok.ensures.makes.space;
       after_is = journal ∙ (λ i. c.in-Ok.ensures.journal i ++ e i ∷ []);
       legal = subst (λ (n : ℕ). IsLegal (record { opening = record { setting = s; desks = n }; entries = c.publish.new.self.journal })) c.publish.ensures.desks c.publish.ensures.kept.legal;
     }
