@@ -202,9 +202,6 @@ module _ (law : Laws) where
   abbrev pub AreKnown : ℕ → List ℕ → Type 0
   AreKnown n = All (λ c. (1 ≤ c) × (c ≤ n))
 
-  pub front_known : (n : ℕ) (r xs : List ℕ) (i : ℕ) → AreKnown n r → xs ≡ take i r → AreKnown n xs
-  front_known n r xs i all e = subst (λ (ys : List ℕ). AreKnown n ys) (sym e) (All-take (λ c. (1 ≤ c) × (c ≤ n)) i r all)
-
   pub back_known : (n : ℕ) (r xs : List ℕ) (i : ℕ) → AreKnown n r → xs ≡ drop i r → AreKnown n xs
   back_known n r xs i all e = subst (λ (ys : List ℕ). AreKnown n ys) (sym e) (All-drop (λ c. (1 ≤ c) × (c ≤ n)) i r all)
 

@@ -1,7 +1,5 @@
-use Rattle.std.proofs.Common.{◌≡◌, ◌≢◌, ◌∙◌, ℕ, zero, ◌+◌, ◌-◌, ◌<◌, ◌≤◌, ◌⊎◌, ◌↔◌, inl, inr, refl, sym, ap, subst, arith, List, [], ◌∷◌, ◌++◌, length, take, drop, slice_get, slice_index_or, Some, None, true, Bool, IsTrue, Contains, All}
+use Rattle.std.proofs.Common.{◌≡◌, ◌≢◌, ◌∙◌, ℕ, zero, ◌+◌, ◌-◌, ◌<◌, ◌≤◌, ◌⊎◌, ◌↔◌, inl, inr, refl, sym, ap, subst, arith, List, [], ◌∷◌, ◌++◌, length, take, drop, slice_get, Some, None, true, Bool, IsTrue, Contains, All}
 use Rattle.std.proofs.lemmas.Bool.{ne_eqb, eq-eqb}
-use Rattle.std.proofs.lemmas.List.Elements.{Contains-get_or}
-use Rattle.std.proofs.lemmas.Option.{slice_get_within, get_or_from_slice_get}
 use Rattle.plan_core.specs.declared.touch.Touch.{Touch}
 use Rattle.plan_core.specs.Plan.{Changes, IsPlan, AreApart, route_at, with_routes}
 use Rattle.pin_core.specs.Pins.{PinState, StandsOn, DoPinsHold, pin_of, front_of}
@@ -197,18 +195,6 @@ module _ (law : Laws) where
       let apart : AreApart (length routes) changes = subst (λ (cs : Changes). AreApart (length routes) cs) b.changes (law.names.changes n routes mv (changes_by routes mv) has).apart in
       let after : IsPlan n (with_routes changes routes) = subst (λ (cs : Changes). IsPlan n (with_routes cs routes)) b.changes (law.plans.plan n routes mv (changes_by routes mv) sound.plan has) in
       (law.known.new_known n changes routes 0 (v, r) after apart refl, law.known.new_known n changes routes 1 (w, q) after apart refl)
-
-  pub known_over : (s : Setting) (view : ViewState) (mv : Move) (v w x y : ℕ) (over back r q : List ℕ) → IsViewOf s view
-      → is_possible s.customers view.routes mv ≡ true → IsBetween view.routes mv v w x y over back r q → AreKnown law s.customers over × AreKnown law s.customers back
-  known_over s view mv v w x y over back r q sound can b =
-      let all = law.plans.known s.customers view.routes mv (changes_by view.routes mv) sound.plan (has_effect s.customers view.routes mv can) in
-      (λ k d h. one all (b.over_touched (slice_index_or over k d) (Contains-get_or over k d h)), λ k d h. one all (b.back_touched (slice_index_or back k d) (Contains-get_or back k d h)))
-    where
-      one : {c : ℕ} → All (λ t. (1 ≤ t.customer) × (t.customer ≤ s.customers)) (touched_by view.routes mv) → IsTouchedBy law (touched_by view.routes mv) c → (1 ≤ c) × (c ≤ s.customers)
-      one {c} all (k, (t, e, f)) =
-          let known = subst (λ (u : Touch). (1 ≤ u.customer) × (u.customer ≤ s.customers)) (get_or_from_slice_get (touched_by view.routes mv) k t t e)
-          (all k t (slice_get_within (touched_by view.routes mv) k t e)) in
-          subst (λ (d : ℕ). (1 ≤ d) × (d ≤ s.customers)) f known
 
   -- of lists that are the new routes: who is known, and when both are in bounds
   pub first_known : (s : Setting) (view : ViewState) (mv : Move) (v w x y : ℕ) (over back r q r' : List ℕ) → IsViewOf s view

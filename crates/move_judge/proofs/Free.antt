@@ -1,5 +1,5 @@
 -- What is allowed with the dimensions left out, and with them.
-use Rattle.std.proofs.Common.{◌≡◌, ℕ, ◌+◌, ◌<◌, ◌⊎◌, ◌↔◌, inl, inr, refl, arith, List, [], Bool, true, false, IsTrue, Contains}
+use Rattle.std.proofs.Common.{◌≡◌, ℕ, ◌<◌, ◌⊎◌, ◌↔◌, inl, inr, refl, arith, List, [], Bool, true, false, IsTrue, Contains}
 use Rattle.std.proofs.lemmas.Bool.{cases_order}
 use Rattle.dimension_core.specs.Setting.{Setting}
 use Rattle.dimension_core.specs.Feasible.{FitsAll}

@@ -212,10 +212,5 @@ tail_on ts us d v r i next span o et h tail on =
     tail_more (table_of us d) d v r i next (slice_index r (length r - 1 - i)) span o h refl tail
     (subst (λ (xs : List Table). (rest : List ℕ) → IsSpan span (IsOnward (table_of xs d) d v next rest) → IsSpan o (IsOnward (table_of xs d) d v (slice_index r (length r - 1 - i)) (next ∷ rest))) et on)
 
--- what is kept for equal vehicles
-pub kept_at : (s : Setting) (routes : List (List ℕ)) (v w v' w' : ℕ) (kept : KeptSpans) → v' ≡ v → w' ≡ w → AreKept s routes v w kept → AreKept s routes v' w' kept
-kept_at s routes v w v' w' kept ev ew all =
-    subst (λ (x : ℕ). AreKept s routes x w' kept) (sym ev) (subst (λ (x : ℕ). AreKept s routes v x kept) (sym ew) all)
-
 pub kept_as : (s : Setting) (routes : List (List ℕ)) (v w : ℕ) (kept opened : KeptSpans) → opened ≡ kept → AreKept s routes v w kept → AreKept s routes v w opened
 kept_as s routes v w kept opened e all = subst (λ (x : KeptSpans). AreKept s routes v w x) (sym e) all

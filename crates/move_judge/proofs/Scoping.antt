@@ -1,5 +1,5 @@
 -- What holds where the dimensions are left out.
-use Rattle.std.proofs.Common.{◌≡◌, ℕ, ◌↔◌, refl, arith, Bool, true, false, List, [], ◌∷◌, IsTrue}
+use Rattle.std.proofs.Common.{ℕ, arith, Bool, true, false, List, [], ◌∷◌}
 use Rattle.dimension_core.specs.Setting.{Setting}
 use Rattle.dimension_core.specs.Feasible.{FitsAll}
 use Rattle.dimension_core.specs.NewRoutes.{AllFit}
@@ -13,14 +13,6 @@ use Rattle.move_judge.specs.Scope.{scope}
 fits_within : (b : Bool) (s : Setting) (v : ℕ) (route : List ℕ) → FitsAll s v route → FitsAll (scope b s) v route
 fits_within true s v route all = all
 fits_within false s v route all = λ k h. absurd (omega arith)
-
-pub fits_unbounded : (b : Bool) (s : Setting) (v : ℕ) (route : List ℕ) → b ≡ false → IsTrue true ↔ FitsAll (scope b s) v route
-fits_unbounded true s v route e = absurd cc
-fits_unbounded false s v route e = (λ t k h. absurd (omega arith), λ all. refl)
-
-pub fits_bounded : (b : Bool) (s : Setting) (v : ℕ) (route : List ℕ) (p : Bool) → b ≡ true → IsTrue p ↔ FitsAll s v route → IsTrue p ↔ FitsAll (scope b s) v route
-fits_bounded true s v route p e is = is
-fits_bounded false s v route p e is = absurd cc
 
 pub view_within : (b : Bool) (s : Setting) (view : ViewState) → IsViewOf s view → IsViewOf (scope b s) view
 view_within b s view is = record {

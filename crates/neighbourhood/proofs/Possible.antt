@@ -1,8 +1,10 @@
 -- Moves whose numbers are in range, by the stops of their vehicles.
-use Rattle.std.proofs.Common.{◌≡◌, ◌≢◌, ℕ, ◌+◌, ◌<◌, ◌≤◌, ◌⊎◌, refl, arith, List, length, true}
+use Rattle.std.proofs.Common.{◌≡◌, ◌≢◌, ℕ, ◌+◌, ◌<◌, ◌≤◌, ◌⊎◌, inl, inr, ap, refl, arith, List, length, true}
 use Rattle.plan_core.specs.Plan.{route_at}
-use Rattle.move_core.specs.declared.moves.Move.TheVariants.{Shift, Swap, Reverse, Cross}
+use Rattle.move_core.specs.declared.moves.Move.{Move}
+use Rattle.move_core.specs.declared.moves.Move.TheVariants.{Insert, Remove, Shift, Swap, Reverse, Cross}
 use Rattle.move_core.specs.Moves.{is_possible}
+use Rattle.move_judge.specs.Near.{IsNear}
 use Rattle.way_costs.specs.Ways.{AreStops}
 use Rattle.neighbourhood.specs.Laws.{Laws}
 
@@ -57,3 +59,36 @@ module _ (law : Laws) (n : ℕ) (routes : List (List ℕ)) where
         kept_other = omega arith;
         some = some;
       })
+
+  -- vehicles without customers give none away and change none
+  pub none_possible : (v w : ℕ) → length (route_at routes v) ≡ 0 → length (route_at routes w) ≡ 0
+      → (mv : Move) → IsNear v w mv → is_possible n routes mv ≡ true → ⊥
+  none_possible v w e f (Insert c u p) near can = near
+  none_possible v w e f (Remove u p) near can = near
+  none_possible v w e f (Shift u p m x a) near can =
+      let from = ((law.possible.shift n routes u p m x a).0 can).from in
+      let some = from.some in
+      let low = from.low in
+      let high = from.high in
+      let here : length (route_at routes u) ≡ length (route_at routes v) = ap (λ (k : ℕ). length (route_at routes k)) near.0 in
+      absurd (omega arith)
+  none_possible v w e f (Swap u p x a) near can =
+      let place = ((law.possible.swap n routes u p x a).0 can).place in
+      let low = place.low in
+      let high = place.high in
+      let here : length (route_at routes u) ≡ length (route_at routes v) = ap (λ (k : ℕ). length (route_at routes k)) near.0 in
+      absurd (omega arith)
+  none_possible v w e f (Reverse u i j) near can =
+      let all = (law.possible.reverse n routes u i j).0 can in
+      let low = all.low in
+      let order = all.order in
+      let high = all.high in
+      let here : length (route_at routes u) ≡ length (route_at routes v) = ap (λ (k : ℕ). length (route_at routes k)) near.0 in
+      absurd (omega arith)
+  none_possible v w e f (Cross u k x l) near can =
+      let here : length (route_at routes u) ≡ length (route_at routes v) = ap (λ (k : ℕ). length (route_at routes k)) near.0 in
+      let there : length (route_at routes x) ≡ length (route_at routes w) = ap (λ (k : ℕ). length (route_at routes k)) near.1 in
+      elim ((law.possible.cross n routes u k x l).0 can).some [
+        | inl less ↦ absurd (omega arith)
+        | inr less ↦ absurd (omega arith)
+      ]

@@ -5,7 +5,7 @@ use Rattle.plan_core.specs.Plan.{route_at}
 use Rattle.dimension_core.specs.Setting.{Setting}
 use Rattle.pin_core.specs.View.{ViewState}
 use Rattle.move_core.specs.declared.moves.Move.{Move}
-use Rattle.way_costs.specs.Ways.{hop, hop_by, turned, stops, AreStops, AreHopsFrom, AreEdges, AreSums}
+use Rattle.way_costs.specs.Ways.{hop, hop_by, turned, stops, spare_of, AreStops, AreHopsFrom, AreFloors, AreEdges, AreSums}
 use Rattle.way_costs.specs.Savings.{shift_lost, shift_gained, swap_lost, swap_gained, next_lost, next_gained, cross_lost, cross_gained, reverse_lost, reverse_gained}
 use Rattle.way_costs.specs.Costs.{IsSaving}
 
@@ -54,6 +54,16 @@ pub row_from : (turned : Bool) (t : Table) (from to cells one : List ℕ) (row c
     → row ≤ a → a + 1 < length from + row
     → ((k : ℕ) → k < length to → slice_index one k ≡ slice_index cells (a * length to + k)) → IsRowFrom turned t from to column a one
 row_from turned t from to cells one row column a few all low high is k l h = is k (omega arith) ∙ all.hops a k low high l h
+
+-- none of its ways is below the number that it has where it lacks a way
+pub floor_from : (from to cells one : List ℕ) (row column a : ℕ) → column ≤ 1 → spare_of column to < length to → AreFloors from to row column cells
+    → row ≤ a → a + 1 < length from + row → ((k : ℕ) → k < length to → slice_index one k ≡ slice_index cells (a * length to + k))
+    → (k : ℕ) → column ≤ k → k + 1 < length to + column → slice_index one (spare_of column to) ≤ slice_index one k
+floor_from from to cells one row column a few wide f low high is k l h =
+    let bound = f a k low high l h in
+    let x = is (spare_of column to) wide in
+    let y = is k (omega arith) in
+    omega arith
 
 -- what a row knows of its costs, by numbers
 pub shift_tabled : (s : Setting) (view : ViewState) (mv : Move) (t : Table) (from to from_edges to_edges into out : List ℕ) (p m o at gained : ℕ)

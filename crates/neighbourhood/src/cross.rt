@@ -11,7 +11,7 @@ ghost use Rattle.move_judge.specs.Kept.{AreKept};
 ghost use Rattle.neighbourhood.specs.Laws.{Laws};
 ghost use Rattle.neighbourhood.specs.Search.{IsBestSoFar};
 ghost use Rattle.way_costs.specs.Costs.{IsSaving};
-ghost use Rattle.way_costs.specs.Ways.{AreStops, AreEdges, AreHopsFrom};
+ghost use Rattle.way_costs.specs.Ways.{AreStops, AreEdges, AreHopsFrom, AreFloors};
 
 use crate::best::{better, wanted};
 use dimension_core::Setup;
@@ -135,6 +135,8 @@ fn cross_over(
     requires most { All (λ x. x ≤ most) to_edges.now }
     requires out { AreHopsFrom false (table_at (setting setup.now).tables (setting setup.now).cost) from.now to.now 0 1 out.now }
     requires into { AreHopsFrom true (table_at (setting setup.now).tables (setting setup.now).cost) from.now to.now 1 0 into.now }
+    requires out_floors { AreFloors from.now to.now 0 1 out.now }
+    requires into_floors { AreFloors from.now to.now 1 0 into.now }
     requires best { IsBestSoFar (scope bounded (setting setup.now)) view.now skip.now v w (4 ∷ v ∷ keep ∷ w ∷ 0 ∷ []) best }
     ensures { IsBestSoFar (scope bounded (setting setup.now)) view.now skip.now v w (4 ∷ v ∷ keep ∷ w ∷ (length to.now - 1) ∷ []) result }
 {
@@ -142,11 +144,16 @@ fn cross_over(
         return best;
     }
     let index = keep as usize;
-    let last = index + 2 == from.len();
-    let end = if last { to.len() - 2 } else { to.len() - 1 };
     let lost = u64::from(from_edges[index]);
     let here = row(out, to.len(), index);
     let next = row(into, to.len(), index + 1);
+    let least = u64::from(here[0]) + u64::from(next[to.len() - 1]);
+    let floor = wanted(least, best);
+    if lost + u64::from(most) <= floor {
+        return best;
+    }
+    let last = index + 2 == from.len();
+    let end = if last { to.len() - 2 } else { to.len() - 1 };
     cross_row(
         view, setup, bounded, skip, v, w, keep, lost, to_edges, most, here, next, begin,
         end as u32, v_kept, w_kept, best,
@@ -184,6 +191,8 @@ pub(crate) fn best_cross(
     requires most { All (λ x. x ≤ most) to_edges.now }
     requires out { AreHopsFrom false (table_at (setting setup.now).tables (setting setup.now).cost) from.now to.now 0 1 out.now }
     requires into { AreHopsFrom true (table_at (setting setup.now).tables (setting setup.now).cost) from.now to.now 1 0 into.now }
+    requires out_floors { AreFloors from.now to.now 0 1 out.now }
+    requires into_floors { AreFloors from.now to.now 1 0 into.now }
     requires best { IsBestSoFar (scope bounded (setting setup.now)) view.now skip.now v w (4 ∷ []) best }
     ensures { IsBestSoFar (scope bounded (setting setup.now)) view.now skip.now v w (5 ∷ []) result }
 {

@@ -1,13 +1,14 @@
 //! The best move.
-ghost use Rattle.std.specs.Prelude.{◌≡◌, ◌≢◌, ◌≤◌, false, All, IfOk, IsTrue, MatchOption};
+ghost use Rattle.std.specs.Prelude.{◌≡◌, ◌≢◌, ◌≤◌, false, List, All, IfOk, IsTrue, MatchOption};
 ghost use Rattle.callback_store.specs.Tables.{table_at};
 ghost use Rattle.dimension_core.specs.Setup.{setting};
+ghost use Rattle.move_core.specs.declared.moves.Move.{Move};
 ghost use Rattle.move_judge.specs.View.{IsViewOf};
 ghost use Rattle.neighbourhood.specs.Best.{IsBest, IsIdle};
 ghost use Rattle.move_judge.specs.Kept.{AreKept};
 ghost use Rattle.neighbourhood.specs.Laws.{Laws};
 ghost use Rattle.move_judge.specs.Scope.{scope};
-ghost use Rattle.way_costs.specs.Sides.{AreWaysBetween, IsAlong};
+ghost use Rattle.way_costs.specs.Sides.{AreWaysBetween, AreFloored, IsAlong};
 ghost use Rattle.way_costs.specs.Ways.{AreStops, AreEdges};
 
 use crate::cross::best_cross;
@@ -56,12 +57,18 @@ fn best_of_one(
     )
 }
 
-/// The stops of one vehicle, or of two, are few up to this number.
-const FEW: usize = 24;
-
-/// Whether so many stops are few. Then nothing is kept of them at first.
-fn are_few(from: usize, to: usize) -> bool {
-    from <= FEW && to <= FEW
+/// Whether neither of two vehicles, which may be one, has a customer. Then no move counts.
+fn are_empty(view: &View, setup: &Setup, v: u32, w: u32) -> bool
+    requires laws { Laws }
+    requires view { IsViewOf (setting setup.now) view.now }
+    requires v { (1 ≤ v) × (v ≤ (setting setup.now).vehicles) }
+    requires w { (1 ≤ w) × (w ≤ (setting setup.now).vehicles) }
+    ensures { IsTrue result → (skip : List Move) → IsIdle (setting setup.now) view.now skip v w }
+{
+    if !view.customers(v).is_empty() {
+        return false;
+    }
+    view.customers(w).is_empty()
 }
 
 /// Whether the bounds allow what was found without them, which is then the best with them.
@@ -113,6 +120,7 @@ fn best_of_two(
     requires to_edges { AreEdges (table_at (setting setup.now).tables (setting setup.now).cost) to.now to_edges.now }
     requires most { All (λ x. x ≤ most) to_edges.now }
     requires ways { AreWaysBetween (table_at (setting setup.now).tables (setting setup.now).cost) from.now to.now ways.now }
+    requires floors { AreFloored from.now to.now ways.now }
     requires v_kept { AreKept (setting setup.now) view.now.routes v w v_kept.now }
     requires w_kept { AreKept (setting setup.now) view.now.routes w v w_kept.now }
     ensures { MatchOption result (IsIdle (scope bounded (setting setup.now)) view.now skip.now v w) (λ p. IsBest (scope bounded (setting setup.now)) view.now skip.now v w p.0 p.1) }
@@ -156,7 +164,8 @@ impl Searcher {
         }
     }
 
-    /// The best move inside a vehicle.
+    /// The best move inside a vehicle. It is searched without the dimensions at first: where none is found, or they allow what was found,
+    /// nothing is kept of them.
     fn best_inside(
         &mut self,
         view: &View,
@@ -169,6 +178,9 @@ impl Searcher {
         requires v { (1 ≤ v) × (v ≤ (setting setup.now).vehicles) }
         ensures { IfOk result (λ best. MatchOption best (IsIdle (setting setup.now) view.now skip.now v v) (λ p. IsBest (setting setup.now) view.now skip.now v v p.0 p.1)) }
     {
+        if are_empty(view, setup, v, v) {
+            return Ok(None);
+        }
         fill_stops(view, setup, v, &mut self.sides.stops)?;
         let sides = &self.sides;
         let from = sides.stops.as_slice();
@@ -176,19 +188,17 @@ impl Searcher {
         let ways = &self.ways;
         self.along.gather(setup, from, &ways.out)?;
         let along = &self.along;
-        if are_few(from.len(), 0) {
-            self.v_kept.forget();
-            let none = &self.v_kept;
-            let found = best_of_one(view, setup, false, v, skip, from, ways, along, none);
-            if holds_up(view, setup, skip, v, v, none, found) {
-                return Ok(found);
-            }
+        self.v_kept.forget();
+        let none = &self.v_kept;
+        let found = best_of_one(view, setup, false, v, skip, from, ways, along, none);
+        if holds_up(view, setup, skip, v, v, none, found) {
+            return Ok(found);
         }
         self.v_kept.keep_alone(view, setup, v)?;
         Ok(best_of_one(view, setup, true, v, skip, from, ways, along, &self.v_kept))
     }
 
-    /// The best move between two vehicles.
+    /// The best move between two vehicles, searched without the dimensions at first as `best_inside` does.
     fn best_between(
         &mut self,
         view: &View,
@@ -204,6 +214,9 @@ impl Searcher {
         requires apart { v ≢ w }
         ensures { IfOk result (λ best. MatchOption best (IsIdle (setting setup.now) view.now skip.now v w) (λ p. IsBest (setting setup.now) view.now skip.now v w p.0 p.1)) }
     {
+        if are_empty(view, setup, v, w) {
+            return Ok(None);
+        }
         self.sides.gather(view, setup, v, w)?;
         let sides = &self.sides;
         let (stops, edges) = (sides.stops.as_slice(), sides.edges.as_slice());
@@ -211,16 +224,13 @@ impl Searcher {
         let most = most_of(to_edges);
         self.ways.gather_between(setup, from, to)?;
         let ways = &self.ways;
-        if are_few(from.len(), to.len()) {
-            self.v_kept.forget();
-            let none = &self.v_kept;
-            let found = best_of_two(
-                view, setup, false, v, w, skip, from, to, from_edges, to_edges, most, ways, none,
-                none,
-            );
-            if holds_up(view, setup, skip, v, w, none, found) {
-                return Ok(found);
-            }
+        self.v_kept.forget();
+        let none = &self.v_kept;
+        let found = best_of_two(
+            view, setup, false, v, w, skip, from, to, from_edges, to_edges, most, ways, none, none,
+        );
+        if holds_up(view, setup, skip, v, w, none, found) {
+            return Ok(found);
         }
         self.v_kept.keep_between(view, setup, v, w)?;
         self.w_kept.keep_between(view, setup, w, v)?;

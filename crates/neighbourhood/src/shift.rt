@@ -14,9 +14,9 @@ ghost use Rattle.neighbourhood.specs.Laws.{Laws};
 ghost use Rattle.move_judge.specs.Allowed.{AreLoose};
 ghost use Rattle.neighbourhood.specs.Search.{IsBestSoFar};
 ghost use Rattle.way_costs.specs.Costs.{IsSaving};
-ghost use Rattle.way_costs.specs.Ways.{hop, AreStops, AreEdges, AreHopsFrom};
+ghost use Rattle.way_costs.specs.Ways.{hop, AreStops, AreEdges, AreHopsFrom, AreFloors};
 
-use crate::best::{better, gain_of, wanted};
+use crate::best::{better, wanted};
 use dimension_core::Setup;
 use move_core::Move;
 use move_judge::{Kept, first_free, loose_from};
@@ -146,6 +146,8 @@ fn closing(
 }
 
 /// The better of the best so far and the shifts of so many customers from a place on to another vehicle. No more than `free` may leave.
+/// A row of the tables has a number that none of its ways is below where it lacks a way: by those the most that the shifts can gain is
+/// compared with what is wanted before they are gone through.
 fn shift_over(
     view: &View,
     setup: &Setup,
@@ -182,6 +184,8 @@ fn shift_over(
     requires most { All (λ x. x ≤ most) to_edges.now }
     requires out { AreHopsFrom false (table_at (setting setup.now).tables (setting setup.now).cost) from.now to.now 0 1 out.now }
     requires into { AreHopsFrom true (table_at (setting setup.now).tables (setting setup.now).cost) from.now to.now 1 0 into.now }
+    requires out_floors { AreFloors from.now to.now 0 1 out.now }
+    requires into_floors { AreFloors from.now to.now 1 0 into.now }
     requires best { IsBestSoFar (scope bounded (setting setup.now)) view.now skip.now v w (1 ∷ v ∷ place ∷ count ∷ w ∷ 1 ∷ []) best }
     ensures { IsBestSoFar (scope bounded (setting setup.now)) view.now skip.now v w (1 ∷ v ∷ place ∷ count ∷ w ∷ (length to.now) ∷ []) result }
 {
@@ -193,11 +197,18 @@ fn shift_over(
     let lost = u64::from(from_edges[first - 1]) + u64::from(from_edges[after - 1]);
     let comes = row(into, to.len(), first);
     let goes = row(out, to.len(), after - 1);
-    if lost + u64::from(most) <= gain_of(best) {
+    let reach = lost + u64::from(most);
+    let least = u64::from(goes[0]) + u64::from(comes[to.len() - 1]);
+    let floor = wanted(least, best);
+    if reach <= floor {
         return best;
     }
     let begin = first_free(view, setup, w);
     let gained = closing(setup, from, to, out, into, first - 1, after);
+    let higher = wanted(least + gained, best);
+    if reach <= higher {
+        return best;
+    }
     shift_row(
         view,
         setup,
@@ -253,6 +264,8 @@ pub(crate) fn best_shift(
     requires most { All (λ x. x ≤ most) to_edges.now }
     requires out { AreHopsFrom false (table_at (setting setup.now).tables (setting setup.now).cost) from.now to.now 0 1 out.now }
     requires into { AreHopsFrom true (table_at (setting setup.now).tables (setting setup.now).cost) from.now to.now 1 0 into.now }
+    requires out_floors { AreFloors from.now to.now 0 1 out.now }
+    requires into_floors { AreFloors from.now to.now 1 0 into.now }
     requires best { IsBestSoFar (scope bounded (setting setup.now)) view.now skip.now v w (1 ∷ []) best }
     ensures { IsBestSoFar (scope bounded (setting setup.now)) view.now skip.now v w (2 ∷ []) result }
 {

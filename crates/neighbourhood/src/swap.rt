@@ -10,7 +10,7 @@ ghost use Rattle.move_judge.specs.Kept.{AreKept};
 ghost use Rattle.neighbourhood.specs.Laws.{Laws};
 ghost use Rattle.neighbourhood.specs.Search.{IsBestSoFar};
 ghost use Rattle.way_costs.specs.Costs.{IsSaving};
-ghost use Rattle.way_costs.specs.Ways.{AreStops, AreEdges, AreHopsFrom};
+ghost use Rattle.way_costs.specs.Ways.{AreStops, AreEdges, AreHopsFrom, AreFloors};
 
 use crate::best::{better, wanted};
 use dimension_core::Setup;
@@ -149,6 +149,8 @@ fn swap_over(
     requires most { All (λ x. x ≤ most) to_edges.now }
     requires out { AreHopsFrom false (table_at (setting setup.now).tables (setting setup.now).cost) from.now to.now 0 1 out.now }
     requires into { AreHopsFrom true (table_at (setting setup.now).tables (setting setup.now).cost) from.now to.now 1 0 into.now }
+    requires out_floors { AreFloors from.now to.now 0 1 out.now }
+    requires into_floors { AreFloors from.now to.now 1 0 into.now }
     requires best { IsBestSoFar (scope bounded (setting setup.now)) view.now skip.now v w (2 ∷ v ∷ place ∷ w ∷ 1 ∷ []) best }
     ensures { IsBestSoFar (scope bounded (setting setup.now)) view.now skip.now v w (2 ∷ v ∷ place ∷ w ∷ (length to.now - 1) ∷ []) result }
 {
@@ -162,6 +164,13 @@ fn swap_over(
     let here = row(out, to.len(), index);
     let next = row(into, to.len(), index + 1);
     let back = row(into, to.len(), index);
+    let end = to.len() - 1;
+    let leaves = u64::from(before[0]) + u64::from(here[0]);
+    let least = leaves + u64::from(next[end]) + u64::from(back[end]);
+    let floor = wanted(least, best);
+    if lost + 2 * u64::from(most) <= floor {
+        return best;
+    }
     swap_row(
         view,
         setup,
@@ -216,6 +225,8 @@ pub(crate) fn best_swap(
     requires most { All (λ x. x ≤ most) to_edges.now }
     requires out { AreHopsFrom false (table_at (setting setup.now).tables (setting setup.now).cost) from.now to.now 0 1 out.now }
     requires into { AreHopsFrom true (table_at (setting setup.now).tables (setting setup.now).cost) from.now to.now 1 0 into.now }
+    requires out_floors { AreFloors from.now to.now 0 1 out.now }
+    requires into_floors { AreFloors from.now to.now 1 0 into.now }
     requires best { IsBestSoFar (scope bounded (setting setup.now)) view.now skip.now v w (2 ∷ []) best }
     ensures { IsBestSoFar (scope bounded (setting setup.now)) view.now skip.now v w (3 ∷ []) result }
 {

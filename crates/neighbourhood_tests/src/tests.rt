@@ -148,3 +148,13 @@ fn answers_as_a_plain_search(rt: HostRuntime) -> Result<(), Fail> {
     assert_eq!(&rt; (tally.answers, tally.moves, tally.differ), (4863, 2370, 0));
     Ok(())
 }
+
+/// The same on routes so long that a row of candidates is gone through twice.
+#[test]
+fn answers_on_long_routes(rt: HostRuntime) -> Result<(), Fail> {
+    let mut rng = Lcg64Xsh32::new(2027, 11);
+    let mut tally = no_tally(rt.alloc());
+    compare_setup(&rt, rt.alloc(), 6, 1, &mut rng, &mut tally);
+    assert_eq!(&rt; (tally.answers, tally.moves, tally.differ), (24, 18, 0));
+    Ok(())
+}

@@ -1,4 +1,5 @@
 //! Where a worker lets itself be held.
+use crate::tally::Outcome;
 use std::sync::Wait;
 
 /// A point of a round.
@@ -16,6 +17,9 @@ pub enum Point {
 /// count from 1 in the order of their desks, and each one's rounds from 1.
 pub trait Gate<W: Wait> {
     fn pass(&self, rt: &W, worker: u32, round: u32, point: Point);
+
+    /// A round is over, and ended so.
+    fn done(&self, _rt: &W, _worker: u32, _round: u32, _outcome: Outcome) {}
 }
 
 /// A gate that never holds anybody.

@@ -94,6 +94,7 @@ pub(crate) fn work_at<N: Naming, R: Wait + Drop, W: Wait, G: Gate<W>>(
             place,
         );
         tally.count(outcome);
+        gate.done(rt, worker, round, outcome);
     }
     let _may = seat.check(rt, order.session, Operation::View, Object::Board);
     Work { seat, tally }

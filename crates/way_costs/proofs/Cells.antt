@@ -65,6 +65,61 @@ filled_from turned t from to cells filled row column i few f sized ways kept =
       ];
     }
 
+-- the first rows of a table that lacks a column have there a number that none of theirs is below
+pub record AreFlooredTo (to : List ℕ) (row column spare n : ℕ) (cells : List ℕ) : Type 0 where
+  pub floors : (a b : ℕ) → row ≤ a → a < n → column ≤ b → b + 1 < length to + column → slice_index cells (a * length to + spare) ≤ slice_index cells (a * length to + b)
+
+-- that number is put where the row lacks a way
+pub spared : (turned : Bool) (t : Table) (from to cells : List ℕ) (row column i spare x : ℕ) → column ≤ 1 → spare < length to
+    → ((b : ℕ) → column ≤ b → b + 1 < length to + column → b ≢ spare)
+    → AreFilledFrom turned t from to row column (i + 1) cells → AreFilledFrom turned t from to row column (i + 1) (set cells (i * length to + spare) x)
+spared turned t from to cells row column i spare x few wide apart f =
+    let w = length to in
+    record {
+      whole = length-set cells (i * w + spare) x ∙ f.whole;
+      hops = λ a b la ha lb hb.
+          get_or-set_other cells (i * w + spare) (a * w + b) x 0 (elim (cases_lt a i) [
+            | inl less ↦
+                let fits = row_fits a i w less in
+                λ same. absurd (omega (arith, same))
+            | inr more ↦
+                let here : a ≡ i = omega arith in
+                let rows : a * w ≡ i * w = ap (λ (n : ℕ). n * w) here in
+                let o = apart b lb hb in
+                λ same. let place : b ≡ spare = omega (arith, same) in absurd (o place)
+          ]) ∙ f.hops a b la ha lb hb;
+    }
+
+pub floored : (to cells filled : List ℕ) (row column i spare x : ℕ) → column ≤ 1 → spare < length to
+    → ((b : ℕ) → column ≤ b → b + 1 < length to + column → b ≢ spare) → i * length to + spare < length filled
+    → AreFlooredTo to row column spare i cells
+    → ((k : ℕ) → k < i * length to + column → slice_index filled k ≡ slice_index cells k)
+    → ((k : ℕ) → k < length to - 1 → x ≤ slice_index filled (i * length to + column + k))
+    → AreFlooredTo to row column spare (i + 1) (set filled (i * length to + spare) x)
+floored to cells filled row column i spare x few wide apart room f kept low = record {
+  floors = λ a b la ha lb hb. elim (cases_lt a i) [
+    | inl less ↦
+        let w = length to in
+        let fits = row_fits a i w less in
+        let one = get_or-set_other filled (i * w + spare) (a * w + spare) x 0 (λ same. absurd (omega (arith, same))) in
+        let two = get_or-set_other filled (i * w + spare) (a * w + b) x 0 (λ same. absurd (omega (arith, same))) in
+        let one_kept = kept (a * w + spare) (omega arith) in
+        let two_kept = kept (a * w + b) (omega arith) in
+        let old = f.floors a b la less lb hb in
+        omega arith
+    | inr more ↦
+        let w = length to in
+        let same : i ≡ a = omega arith in
+        let o = apart b lb hb in
+        let here = get_or-set_same filled (i * w + spare) x 0 room in
+        let there = get_or-set_other filled (i * w + spare) (i * w + b) x 0 (λ e. let place : b ≡ spare = omega (arith, e) in absurd (o place)) in
+        let bound = low (b - column) (omega arith) in
+        let place : i * w + column + (b - column) ≡ i * w + b = omega arith in
+        let value : slice_index filled (i * w + column + (b - column)) ≡ slice_index filled (i * w + b) = ap (λ (n : ℕ). slice_index filled n) place in
+        subst (λ (n : ℕ). slice_index (set filled (i * w + spare) x) (n * w + spare) ≤ slice_index (set filled (i * w + spare) x) (n * w + b)) same (omega arith)
+  ];
+}
+
 -- a table that is turned: the rows before one, and the first numbers of this one
 pub record AreTurned (t : Table) (S : List ℕ) (i j : ℕ) (cells : List ℕ) : Type 0 where
   pub rows : AreFilledFrom true t S S 1 0 i cells
@@ -114,6 +169,36 @@ turned_row t S cells i j all f = record {
 
 pub turned_all : (t : Table) (S cells : List ℕ) (i : ℕ) → length S ≤ i → AreFilledFrom true t S S 1 0 i cells → AreHopsFrom true t S S 1 0 cells
 turned_all t S cells i all f = record { counted = f.whole; hops = λ a b la ha lb hb. f.hops a b la (omega arith) lb hb }
+
+-- the first answers of a row, and a number that none of them is below
+pub record AreAsked (turned : Bool) (t : Table) (stop : ℕ) (to : List ℕ) (n least : ℕ) (row : List ℕ) : Type 0 where
+  pub sized : length row ≡ length to
+  pub ways : (k : ℕ) → k < n → slice_index row k ≡ hop_by turned t stop (slice_index to k)
+  pub floor : (k : ℕ) → k < n → least ≤ slice_index row k
+
+pub asked_more : (turned : Bool) (t : Table) (stop : ℕ) (to row : List ℕ) (n least less way : ℕ) → n < length to → AreAsked turned t stop to n least row
+    → way ≡ hop_by turned t stop (slice_index to n) → less ≤ least → less ≤ way → AreAsked turned t stop to (n + 1) less (set row n way)
+asked_more turned t stop to row n least less way more f e l m =
+    let sized = f.sized in
+    let here = get_or-set_same row n way 0 (omega arith) in
+    record {
+      sized = length-set row n way ∙ f.sized;
+      ways = λ k h. elim (cases_lt k n) [
+        | inl before ↦ get_or-set_other row n k way 0 (λ same. absurd (omega (arith, same))) ∙ f.ways k before
+        | inr after ↦
+            let same : n ≡ k = omega arith in
+            subst (λ (j : ℕ). slice_index (set row n way) j ≡ hop_by turned t stop (slice_index to j)) same (here ∙ e)
+      ];
+      floor = λ k h. elim (cases_lt k n) [
+        | inl before ↦
+            let there = get_or-set_other row n k way 0 (λ same. absurd (omega (arith, same))) in
+            let old = f.floor k before in
+            omega arith
+        | inr after ↦
+            let same : n ≡ k = omega arith in
+            subst (λ (j : ℕ). less ≤ slice_index (set row n way) j) same (omega arith)
+      ];
+    }
 
 -- a callback answers on each way that is driven
 hop_away : (t : Table) (i j : ℕ) → (i ≡ 0 → j ≢ 0) → hop t i j ≡ entry t i j

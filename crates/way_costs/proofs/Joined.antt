@@ -1,6 +1,5 @@
-use Rattle.std.proofs.Common.{◌≡◌, ◌∙◌, ℕ, ◌+◌, ◌-◌, ◌<◌, ◌≤◌, sym, ap, subst, arith, List, [], ◌∷◌, ◌++◌, length, take, drop, slice_index, length-drop, get_or-drop, All}
+use Rattle.std.proofs.Common.{◌≡◌, ◌∙◌, ℕ, ◌+◌, ◌-◌, ◌<◌, ◌≤◌, sym, ap, subst, arith, List, [], ◌∷◌, ◌++◌, length, take, drop, slice_index, length-drop, get_or-drop}
 use Rattle.std.proofs.lemmas.List.{append_assoc, length-append, length-take-le, get_or-take}
-use Rattle.std.proofs.lemmas.List.Elements.{All-nil, All-cons, All-append}
 use Rattle.std.proofs.Math.Seq.{take-append_seam, take-length, drop-append_seam}
 use Rattle.callback_store.specs.Tables.{Table}
 use Rattle.way_costs.specs.Sides.{stops_of_both}
@@ -26,13 +25,6 @@ both_back r q all n e m =
     let long : length (0 ∷ r) ≡ n = omega arith in
     ap (λ (xs : List ℕ). drop n xs) (e ∙ ap (λ (xs : List ℕ). 0 ∷ xs) (append_assoc r (0 ∷ []) (q ++ 0 ∷ [])))
     ∙ subst (λ (k : ℕ). drop k ((0 ∷ r) ++ (0 ∷ (q ++ 0 ∷ []))) ≡ 0 ∷ (q ++ 0 ∷ [])) long (drop-append_seam (0 ∷ r) (0 ∷ (q ++ 0 ∷ [])))
-
-pub both_known : (n : ℕ) (r q all : List ℕ) → all ≡ stops_of_both r q → All (λ c. c ≤ n) r → All (λ c. c ≤ n) q → All (λ c. c ≤ n) all
-both_known n r q all e a b =
-    let home = All-cons (λ c. c ≤ n) 0 [] (omega arith) (All-nil (λ c. c ≤ n)) in
-    subst (λ (xs : List ℕ). All (λ c. c ≤ n) xs) (sym e)
-    (All-cons (λ c. c ≤ n) 0 ((r ++ 0 ∷ []) ++ (q ++ 0 ∷ [])) (omega arith)
-    (All-append (λ c. c ≤ n) (r ++ 0 ∷ []) (q ++ 0 ∷ []) (All-append (λ c. c ≤ n) r (0 ∷ []) a home) (All-append (λ c. c ≤ n) q (0 ∷ []) b home)))
 
 -- the rest of a list, as its slice tells it
 pub rest_whole : (n : ℕ) (xs : List ℕ) → take (length xs - n) (drop n xs) ≡ drop n xs

@@ -3,7 +3,7 @@ use Rattle.std.specs.Prelude.{◌≡◌, ℕ, ◌≤◌, true, false, List, ◌�
 use Rattle.callback_store.specs.Tables.{Table, table_at}
 use Rattle.dimension_core.specs.Setting.{Setting}
 use Rattle.plan_core.specs.Plan.{route_at}
-use Rattle.way_costs.specs.Ways.{stops, AreEdges, AreHopsFrom, AreBothSums}
+use Rattle.way_costs.specs.Ways.{stops, AreEdges, AreHopsFrom, AreFloors, AreBothSums}
 
 -- the stops of two vehicles, one after the other: the depot between them is the last stop of the one and the first of the other
 abbrev pub stops_of_both : List ℕ → List ℕ → List ℕ
@@ -27,6 +27,11 @@ pub record TwoWays : Type 0 where
 pub record AreWaysBetween (t : Table) (from to : List ℕ) (ways : TwoWays) : Type 0 where
   pub out : AreHopsFrom false t from to 0 1 ways.out
   pub into : AreHopsFrom true t from to 1 0 ways.into
+
+-- each row of both has a number that none of its ways is below
+pub record AreFloored (from to : List ℕ) (ways : TwoWays) : Type 0 where
+  pub out : AreFloors from to 0 1 ways.out
+  pub into : AreFloors from to 1 0 ways.into
 
 -- the ways along some stops: from each to the next, a number that none of these is above, and those over the first ones, as they are
 -- driven, then as they are driven back

@@ -46,6 +46,15 @@ pub record AreHopsFrom (turned : Bool) (t : Table) (from to : List ℕ) (row col
   pub hops : (a b : ℕ) → row ≤ a → a + 1 < length from + row → column ≤ b → b + 1 < length to + column
       → slice_index cells (a * length to + b) ≡ hop_by turned t (slice_index from a) (slice_index to b)
 
+-- the column of such a table that has no ways: the last one, or the first one
+abbrev pub spare_of : ℕ → List ℕ → ℕ
+spare_of column to = if column == 0 then length to - 1 else 0
+
+-- there each row has a number that none of its ways is below
+abbrev pub AreFloors : List ℕ → List ℕ → ℕ → ℕ → List ℕ → Type 0
+AreFloors from to row column cells = (a b : ℕ) → row ≤ a → a + 1 < length from + row → column ≤ b → b + 1 < length to + column
+    → slice_index cells (a * length to + spare_of column to) ≤ slice_index cells (a * length to + b)
+
 -- the ways from each stop to the next
 pub record AreEdges (t : Table) (stops : List ℕ) (edges : List ℕ) : Type 0 where
   pub counted : length edges + 1 ≡ length stops

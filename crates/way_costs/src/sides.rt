@@ -4,7 +4,7 @@ ghost use Rattle.std.specs.Prelude.{◌≡◌, ◌≤◌, ◌*◌, ◌∷◌, �
 ghost use Rattle.callback_store.specs.Tables.{table_at};
 ghost use Rattle.dimension_core.specs.Setup.{setting};
 ghost use Rattle.plan_core.specs.Plan.{IsPlan, route_at};
-ghost use Rattle.way_costs.specs.Sides.{AreSides, AreWaysBetween, IsAlong, stops_of_both};
+ghost use Rattle.way_costs.specs.Sides.{AreSides, AreWaysBetween, AreFloored, IsAlong, stops_of_both};
 ghost use Rattle.way_costs.specs.Ways.{AreStops, AreEdges, AreHopsFrom};
 
 use crate::hops::fill_stops_of_both;
@@ -136,7 +136,8 @@ impl Ways {
         requires to { All (λ c. c ≤ (setting setup.now).customers) to.now }
         requires some { (1 ≤ length from.now) × (1 ≤ length to.now) }
         requires short { (length from.now ≤ 1002) × (length to.now ≤ 1002) }
-        ensures { IfOk result (λ _. AreWaysBetween (table_at (setting setup.now).tables (setting setup.now).cost) from.now to.now self.new) }
+        ensures ways { IfOk result (λ _. AreWaysBetween (table_at (setting setup.now).tables (setting setup.now).cost) from.now to.now self.new) }
+        ensures floors { IfOk result (λ _. AreFloored from.now to.now self.new) }
     {
         fill_ways(setup, false, from, to, &mut self.out)?;
         fill_ways(setup, true, from, to, &mut self.into)

@@ -1,28 +1,13 @@
 //! What the ways between stops cost, asked once and kept.
-ghost use Rattle.std.specs.Prelude.{◌≡◌, ◌≤◌, ◌<◌, ◌+◌, ◌-◌, ◌*◌, ◌^◌, ◌∷◌, ◌==◌, if◌then◌else◌, ℕ, true, false, List, length, slice_index, take, drop, All, IfOk};
+ghost use Rattle.std.specs.Prelude.{◌≡◌, ◌≢◌, ◌≤◌, ◌<◌, ◌+◌, ◌-◌, ◌*◌, ◌^◌, ◌∷◌, ◌==◌, if◌then◌else◌, ℕ, true, false, List, length, slice_index, take, drop, All, IfOk};
 ghost use Rattle.callback_store.specs.Tables.{table_at};
 ghost use Rattle.dimension_core.specs.Setup.{setting};
-ghost use Rattle.way_costs.specs.Ways.{entry_by, hop_by, AreHopsFrom, AreEdges, AddsSums, AreBothSums};
+ghost use Rattle.way_costs.specs.Ways.{entry_by, hop_by, AreHopsFrom, AreFloors, AreEdges, AddsSums, AreBothSums};
 
 use crate::hops::hop;
 use callback_store::Meter;
 use dimension_core::Setup;
 use std::alloc::AllocError;
-
-/// What a way costs, as it is driven or driven back.
-#[inline(always)]
-fn hop_by(setup: &Setup, turned: bool, i: u32, j: u32) -> u32
-    requires from { i ≤ (setting setup.now).customers }
-    requires to { j ≤ (setting setup.now).customers }
-    ensures value { result ≡ hop_by turned (table_at (setting setup.now).tables (setting setup.now).cost) i j }
-    ensures small { result ≤ 1000000000 }
-{
-    if turned {
-        hop(setup, j, i) as u32
-    } else {
-        hop(setup, i, j) as u32
-    }
-}
 
 /// The answers for the ways from a stop to each of some others, as they are driven or driven back.
 fn ask_ways(setup: &Setup, turned: bool, stop: u32, to: &[u32], row: &mut [u32])
@@ -57,54 +42,119 @@ fn clear_stays(to: &[u32], row: &mut [u32])
     }
 }
 
-/// Up to so many ways are asked one by one: asking for them together takes longer.
-const FEW: usize = 9;
-
-/// What the ways from a stop to each of some others cost, as they are driven or driven back, asked one by one.
-#[inline(always)]
-fn ask_each(setup: &Setup, turned: bool, stop: u32, to: &[u32], row: &mut [u32])
+/// What the ways from a stop to each of some others cost, as they are driven or driven back, asked together.
+fn ask_together(setup: &Setup, turned: bool, stop: u32, to: &[u32], row: &mut [u32])
     requires stop { stop ≤ (setting setup.now).customers }
     requires to { All (λ c. c ≤ (setting setup.now).customers) to.now }
     requires room { length row.old ≡ length to.now }
     ensures sized { length row.new ≡ length to.now }
     ensures ways { (k : ℕ) → k < length to.now → slice_index row.new k ≡ hop_by turned (table_at (setting setup.now).tables (setting setup.now).cost) stop (slice_index to.now k) }
 {
-    for k in 0..to.len() {
-        row[k] = hop_by(setup, turned, stop, to[k]) as u32;
-    }
-}
-
-/// What the ways from a stop to each of some others cost, as they are driven or driven back.
-#[inline(always)]
-fn fill_row(setup: &Setup, turned: bool, stop: u32, to: &[u32], row: &mut [u32])
-    requires stop { stop ≤ (setting setup.now).customers }
-    requires to { All (λ c. c ≤ (setting setup.now).customers) to.now }
-    requires room { length row.old ≡ length to.now }
-    ensures sized { length row.new ≡ length to.now }
-    ensures ways { (k : ℕ) → k < length to.now → slice_index row.new k ≡ hop_by turned (table_at (setting setup.now).tables (setting setup.now).cost) stop (slice_index to.now k) }
-{
-    if to.len() <= FEW {
-        ask_each(setup, turned, stop, to, row);
-        return;
-    }
     ask_ways(setup, turned, stop, to, row);
     if stop == 0 {
         clear_stays(to, row);
     }
 }
 
-/// Fills in a row of a table, from a place on.
+/// The greatest number, which is what the least of no numbers is.
+const NONE: u32 = 4_294_967_295;
+
+/// The least of some numbers.
+fn least_of(row: &[u32]) -> u32
+    ensures { All (λ x. result ≤ x) row.now }
+{
+    let mut least = NONE;
+    for k in 0..row.len() {
+        least = least.min(row[k]);
+    }
+    least
+}
+
+/// Up to so many ways are asked one by one: asking for them together takes longer.
+const FEW: usize = 9;
+
+// The registry is asked right in the two loops: each function in between would cost one more test after every answer.
+
+/// What the ways from a customer to each of some stops cost, asked one by one, and a number that none of them is below.
 #[inline(always)]
-fn fill_at(setup: &Setup, turned: bool, stop: u32, to: &[u32], cells: &mut [u32], at: usize)
+fn ask_out(setup: &Setup, stop: u32, to: &[u32], row: &mut [u32]) -> u32
+    requires customer { 1 ≤ stop }
+    requires stop { stop ≤ (setting setup.now).customers }
+    requires to { All (λ c. c ≤ (setting setup.now).customers) to.now }
+    requires room { length row.old ≡ length to.now }
+    ensures sized { length row.new ≡ length to.now }
+    ensures ways { (k : ℕ) → k < length to.now → slice_index row.new k ≡ hop_by false (table_at (setting setup.now).tables (setting setup.now).cost) stop (slice_index to.now k) }
+    ensures least { All (λ x. result ≤ x) row.new }
+{
+    let _customers = setup.customers();
+    let mut least = NONE;
+    for k in 0..to.len() {
+        let way = setup
+            .registry()
+            .ask(setup.cost(), &mut Meter::new(), stop, to[k]);
+        row[k] = way as u32;
+        least = least.min(way as u32);
+    }
+    least
+}
+
+/// What the ways to a customer from each of some stops cost, asked one by one, and a number that none of them is below.
+#[inline(always)]
+fn ask_back(setup: &Setup, stop: u32, to: &[u32], row: &mut [u32]) -> u32
+    requires customer { 1 ≤ stop }
+    requires stop { stop ≤ (setting setup.now).customers }
+    requires to { All (λ c. c ≤ (setting setup.now).customers) to.now }
+    requires room { length row.old ≡ length to.now }
+    ensures sized { length row.new ≡ length to.now }
+    ensures ways { (k : ℕ) → k < length to.now → slice_index row.new k ≡ hop_by true (table_at (setting setup.now).tables (setting setup.now).cost) stop (slice_index to.now k) }
+    ensures least { All (λ x. result ≤ x) row.new }
+{
+    let _customers = setup.customers();
+    let mut least = NONE;
+    for k in 0..to.len() {
+        let way = setup
+            .registry()
+            .ask(setup.cost(), &mut Meter::new(), to[k], stop);
+        row[k] = way as u32;
+        least = least.min(way as u32);
+    }
+    least
+}
+
+/// What the ways from a stop to each of some others cost, as they are driven or driven back, and a number that none of them is below.
+#[inline(always)]
+fn fill_row(setup: &Setup, turned: bool, stop: u32, to: &[u32], row: &mut [u32]) -> u32
+    requires stop { stop ≤ (setting setup.now).customers }
+    requires to { All (λ c. c ≤ (setting setup.now).customers) to.now }
+    requires room { length row.old ≡ length to.now }
+    ensures sized { length row.new ≡ length to.now }
+    ensures ways { (k : ℕ) → k < length to.now → slice_index row.new k ≡ hop_by turned (table_at (setting setup.now).tables (setting setup.now).cost) stop (slice_index to.now k) }
+    ensures least { All (λ x. result ≤ x) row.new }
+{
+    if stop == 0 || to.len() > FEW {
+        ask_together(setup, turned, stop, to, row);
+        return least_of(row);
+    }
+    if turned {
+        ask_back(setup, stop, to, row)
+    } else {
+        ask_out(setup, stop, to, row)
+    }
+}
+
+/// Fills in a row of a table, from a place on. The result is a number that none of the row's is below.
+#[inline(always)]
+fn fill_at(setup: &Setup, turned: bool, stop: u32, to: &[u32], cells: &mut [u32], at: usize) -> u32
     requires stop { stop ≤ (setting setup.now).customers }
     requires to { All (λ c. c ≤ (setting setup.now).customers) to.now }
     requires room { at + length to.now ≤ length cells.old }
     ensures sized { length cells.new ≡ length cells.old }
     ensures ways { (k : ℕ) → k < length to.now → slice_index cells.new (at + k) ≡ hop_by turned (table_at (setting setup.now).tables (setting setup.now).cost) stop (slice_index to.now k) }
     ensures kept { (k : ℕ) → k < at → slice_index cells.new k ≡ slice_index cells.old k }
+    ensures least { (k : ℕ) → k < length to.now → result ≤ slice_index cells.new (at + k) }
 {
     let row = &mut cells[at..at + to.len()];
-    fill_row(setup, turned, stop, to, row);
+    fill_row(setup, turned, stop, to, row)
 }
 
 /// What stands in a table before it is filled. Its bytes differ, so that a table is made by wide stores and not byte by byte.
@@ -136,9 +186,20 @@ fn first_column(turned: bool) -> usize
     if turned { 0 } else { 1 }
 }
 
+/// The column that is not filled.
+fn spare_column(column: usize, width: usize) -> usize
+    requires column { column ≤ 1 }
+    requires some { 1 ≤ width }
+    ensures value { result ≡ (if column == 0 then width - 1 else 0) }
+    ensures small { result < width }
+    ensures apart { (b : ℕ) → column ≤ b → b + 1 < width + column → b ≢ result }
+{
+    if column == 0 { width - 1 } else { 0 }
+}
+
 /// Fills a table with what the ways from each of some stops to each of others cost, row by row, as they are driven or driven back. What
-/// it held is given up. No way goes from the last of the first stops or to the first of the others, or back: there the table has any
-/// numbers.
+/// it held is given up. No way goes from the last of the first stops or to the first of the others, or back. Where a row lacks a way
+/// for that, it has a number that none of its ways is below.
 #[inline(always)]
 pub(crate) fn fill_ways(
     setup: &Setup,
@@ -151,15 +212,17 @@ pub(crate) fn fill_ways(
     requires to { All (λ c. c ≤ (setting setup.now).customers) to.now }
     requires some { (1 ≤ length from.now) × (1 ≤ length to.now) }
     requires short { (length from.now ≤ 1002) × (length to.now ≤ 1002) }
-    ensures { IfOk result (λ _. AreHopsFrom turned (table_at (setting setup.now).tables (setting setup.now).cost) from.now to.now (if turned then 1 else 0) (if turned then 0 else 1) cells.new.items) }
+    ensures hops { IfOk result (λ _. AreHopsFrom turned (table_at (setting setup.now).tables (setting setup.now).cost) from.now to.now (if turned then 1 else 0) (if turned then 0 else 1) cells.new.items) }
+    ensures floors { IfOk result (λ _. AreFloors from.now to.now (if turned then 1 else 0) (if turned then 0 else 1) cells.new.items) }
 {
     let width = to.len();
     let first = first_row(turned);
     let column = first_column(turned);
+    let spare = spare_column(column, width);
     let asked = all_but_one(to, column);
     cells.resize(from.len() * width, UNFILLED)?;
     for i in first..first + from.len() - 1 {
-        fill_at(
+        let least = fill_at(
             setup,
             turned,
             from[i],
@@ -167,6 +230,7 @@ pub(crate) fn fill_ways(
             cells.as_mut_slice(),
             i * width + column,
         );
+        cells[i * width + spare] = least;
     }
     Ok(())
 }

@@ -1,4 +1,3 @@
-use Rattle.std.proofs.Common.{arith}
 use Rattle.dimension_core.specs.Setup.{setting}
 use Rattle.move_judge.proofs.Between.{cross_between}
 use Rattle.move_judge.proofs.Free.{between_free}

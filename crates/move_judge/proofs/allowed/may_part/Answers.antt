@@ -1,4 +1,4 @@
-use Rattle.std.proofs.Common.{◌∙◌, ap, sym, arith, subst, List, ℕ, ◌≤◌, drop, length, All}
+use Rattle.std.proofs.Common.{◌∙◌, ap, sym, arith, subst, List, ℕ, ◌≤◌, drop, All}
 use Rattle.dimension_core.specs.Setup.{setting}
 use Rattle.pin_core.specs.View.{pins_of}
 use Rattle.move_judge.specs.Allowed.{AreLoose}

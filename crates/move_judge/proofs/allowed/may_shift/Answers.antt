@@ -1,4 +1,4 @@
-use Rattle.std.proofs.Common.{arith, ℕ, List, [], Contains}
+use Rattle.std.proofs.Common.{arith}
 use Rattle.dimension_core.specs.Setup.{setting}
 use Rattle.pin_core.specs.View.{pins_of}
 use Rattle.move_judge.proofs.Between.{shift_between}
