@@ -18,7 +18,8 @@ What ends a run early is told on standard error:
                                          a folder, one that fails while it is read, or is too long
   dispatch: instance fault KIND line N   `dispatch check --help` has the format
   dispatch: open fault                   memory ran out before the script
-  dispatch: run fault KIND               read, write, long-line or no-memory, at some line";
+  dispatch: run fault KIND               read, write, long-line or no-memory, at some line
+  dispatch: rows fault line N            of `dispatch draw` and `dispatch sums`: no such row, or no rows";
 
 /// What `dispatch check` does.
 pub(crate) const CHECK: &str = "\
@@ -49,8 +50,8 @@ round a worker draws two vehicles, looks for the move near them that saves most 
 if one saves any. At the end there is a line for each worker, and one for the plan:
   worker I tried T committed C denied D refused R
   version V
-Of the worker's rounds T proposed a move: C were committed, D were denied, R met a fault. V is the
-number of all commits. `dispatch: open fault` also says that workers could not be set up or started.";
+T of worker I's rounds proposed a move: C were committed, D denied, and R met a fault, as a full
+journal; in the others no move saved anything. V is the number of all commits. `dispatch: open fault` also says that workers could not be set up or started.";
 
 /// What an instance's path names.
 pub(crate) const INSTANCE_PATH: &str = "A file in Solomon's format, of at most 16,777,216 bytes";
@@ -66,16 +67,34 @@ pub(crate) const SEED: &str = "Worker I draws by this number plus I: 0 to 429496
 pub(crate) const LIVE: &str = "A file of lines that are answered while the workers search";
 
 /// What the rows of a plan are.
-pub(crate) const ROWS_PATH: &str = "A file of lines `row V P C ..`, as a listing has them";
+pub(crate) const ROWS_PATH: &str = "The output of a run, with a listing";
 
-pub(crate) const DRAW_SHORT: &str = "Draws the rows of a plan";
+pub(crate) const DRAW_SHORT: &str = "Draws the plan that a run listed last";
 
-pub(crate) const DRAW: &str =
-    "Draws the rows of a plan, as a listing has them, on the map of an instance.";
+pub(crate) const DRAW: &str = "\
+Draws the plan that a run listed last, as one SVG: a map, a table and a timeline.
 
-pub(crate) const SUMS_SHORT: &str = "Sums up the rows of a plan";
+ROWS is the output of a run, in a file or on /dev/stdin. Its last listing is drawn, from `row` lines up
+to `end`, and all other lines are skipped:
+  dispatch run INSTANCE SCRIPT | dispatch draw INSTANCE /dev/stdin > plan.svg
 
-pub(crate) const SUMS: &str = "Sums up the rows of a plan, as a listing has them, by the instance.";
+`dispatch: rows fault line N`, with status 3, says that line N is a row that the instance cannot have:
+a vehicle, customer or place that is not there, a customer twice, or rows out of order. Where there is
+no listing, N is the number of lines plus 1.";
+
+pub(crate) const SUMS_SHORT: &str = "Sums up the plan that a run listed last";
+
+pub(crate) const SUMS: &str = "\
+Sums up the plan that a run listed last: a line for each vehicle that has a stop, with its stops, load,
+start, return and distance, and one for the plan. Times and distances are tenths.
+
+ROWS is the output of a run, in a file or on /dev/stdin. Its last listing is summed up, from `row` lines
+up to `end`, and all other lines are skipped:
+  dispatch run INSTANCE SCRIPT | dispatch sums INSTANCE /dev/stdin
+
+`dispatch: rows fault line N`, with status 3, says that line N is a row that the instance cannot have:
+a vehicle, customer or place that is not there, a customer twice, or rows out of order. Where there is
+no listing, N is the number of lines plus 1.";
 
 /// The format of an instance.
 pub(crate) const INSTANCE: &str = "\

@@ -1,5 +1,10 @@
 //! What words ask for, done.
 
+ghost use Rattle.std.specs.Prelude.{drop, map};
+ghost use Rattle.command_line.specs.Forms.{asked};
+ghost use Rattle.program_parts.specs.Streams.{streams_of};
+ghost use Rattle.program_words.specs.Performed.{IsPerformed};
+
 use board_program::{check_file, joined};
 use command_line::{Options, options, told};
 use plan_program::{draw_files, sums_files};
@@ -15,13 +20,17 @@ use worker_runs::{Orders, Paths, run_paths};
 /// ends with. `input` and `output` are its standard streams, and `faults` is its standard error.
 ///
 /// The status is 3 also where memory runs out while the words are read.
+#[tactic(auto, using(crate::proofs::Said::done, crate::proofs::Said::said))]
 pub fn perform<
     W: Threads + Wait + Files + Copy + Drop + Send + Sync + 'static,
     S: AsStr,
     I: Read,
     O: Write,
     F: Write,
->(rt: W, alloc: Global, words: &[S], input: &mut I, output: &mut O, faults: &mut F) -> u8 {
+>(rt: W, alloc: Global, words: &[S], input: &mut I, output: &mut O, faults: &mut F) -> u8
+    ensures { IsPerformed (asked (drop 1 (map S.text words.now))) (I.remaining input.old)
+        (streams_of (O.contents output.old) (O.contents output.new) (F.contents faults.old) (F.contents faults.new)) result }
+{
     match options(alloc, words) {
         Ok(Options::Joined) => joined(&rt, alloc, input, output, faults),
         Ok(Options::Check { instance }) => check_file(&rt, alloc, instance, output, faults),

@@ -1,5 +1,8 @@
 //! The words of the command line.
 
+ghost use Rattle.program_parts.specs.Streams.{streams_of};
+ghost use Rattle.program_words.specs.Performed.{IsProgram};
+
 use crate::doing::perform;
 use program_parts::{Stop, stopped};
 use std::alloc::Global;
@@ -20,7 +23,10 @@ pub fn run<
     I: Read,
     O: Write,
     F: Write,
->(rt: W, alloc: Global, input: &mut I, output: &mut O, faults: &mut F) -> u8 {
+>(rt: W, alloc: Global, input: &mut I, output: &mut O, faults: &mut F) -> u8
+    ensures { IsProgram (I.remaining input.old)
+        (streams_of (O.contents output.old) (O.contents output.new) (F.contents faults.old) (F.contents faults.new)) result }
+{
     match words(&rt, alloc) {
         Ok(words) => perform(rt, alloc, words.as_slice(), input, output, faults),
         Err(error) if error.kind() == ErrorKind::OutOfMemory => stopped(faults, Stop::Open),

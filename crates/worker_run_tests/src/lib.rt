@@ -7,3 +7,5 @@ mod cases;
 mod devices;
 #[cfg(test)]
 mod runs;
+#[cfg(test)]
+mod words;

@@ -1,2 +1,10 @@
+mod Asked
 mod Called
+mod Ends
+mod Halls
+mod Lines
+mod Live
+mod Opening
+mod Prefixes
+mod Served
 mod Small

@@ -1,6 +1,8 @@
 //! Live lines beside the workers.
-ghost use Rattle.std.specs.Prelude.{◌≡◌};
+ghost use Rattle.std.specs.Prelude.{◌≡◌, ◌≤◌, IfOk, IfErr, IfSome, length};
 ghost use Rattle.dimension_core.specs.Setup.{setting};
+ghost use Rattle.desk_text.specs.DeskRuns.{IsHeld, IsHeldAtStop};
+ghost use Rattle.worker_runs.specs.Halls.{AllSearched};
 
 use crate::orders::Orders;
 use crate::search::{Searched, join_all, start_all};
@@ -37,6 +39,12 @@ pub(crate) fn beside<
 ) -> Both<N, D>
     requires setup { setting setup.now.value ≡ N.opening.setting }
     requires hall { S.setting_of front.old.setup.setup ≡ N.opening.setting }
+    requires few { length others.items ≤ 63 }
+    ensures ok { IfOk result.0 (λ counts. IsHeld N.opening front.old.seat front.new.seat (I.remaining live.old) (I.remaining live.new)
+        (O.contents writer.old) (O.contents writer.new) counts.lines counts.refused) }
+    ensures err { IfErr result.0 (λ fault. IsHeldAtStop N.opening fault front.old.seat front.new.seat (I.remaining live.old) (I.remaining live.new)
+        (O.contents writer.old) (O.contents writer.new)) }
+    ensures searched { IfSome result.1 (λ s. AllSearched N.opening orders others.items s.seats.items s.tallies.items) }
 {
     let crew = start_all(rt, alloc, setup, others, orders);
     let answered = run_desk_lines(&rt, alloc, front, live, writer);

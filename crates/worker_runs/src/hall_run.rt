@@ -1,15 +1,21 @@
 //! Runs in a hall: live lines on desk 1, beside the workers.
-ghost use Rattle.std.specs.Prelude.{◌≡◌};
+ghost use Rattle.std.specs.Prelude.{◌≡◌, ◌∷◌, ◌+◌, ◌-◌, ◌⊎◌, ℕ, List, Ok, Err, IfOk, IfErr, MatchResult, option_map};
+ghost use Rattle.std.specs.Option.{IsSomeAnd};
 ghost use Rattle.dimension_core.specs.Setup.{setting};
+ghost use Rattle.board_seat.specs.Watches.{watch_at};
+ghost use Rattle.line_engine.specs.Running.{AppendsFront};
+ghost use Rattle.program_parts.specs.declared.stop.Stop.TheVariants as stops;
+ghost use Rattle.worker_runs.specs.Halls.{IsClosing, IsEnd, IsHallRun, IsHallShort, worker_desks};
 
-use crate::beside::{Both, beside};
+use crate::beside::beside;
 use crate::closing::close;
 use crate::orders::Orders;
+use crate::search::Searched;
 use crate::setups::{By, Setups};
 use board_lock::{Anteroom, Naming, Seat, open_seats};
 use desk_text::{Seated, run_desk_lines};
 use dimension_core::Setup;
-use line_engine::RunFault;
+use line_engine::{Counts, RunFault};
 use program_parts::Stop;
 use std::alloc::Global;
 use std::io::{Read, Write};
@@ -23,6 +29,9 @@ fn seats_of<N: Naming, D: Wait + Drop>(
 ) -> Result<(Seat<N, D>, Vec<Seat<N, D>>), Stop>
     requires opening { room.opening ≡ N.opening }
     requires book { room.book ≡ N.book }
+    ensures first { IfOk result (λ p. p.0 ≡ watch_at room.entries 1) }
+    ensures others { IfOk result (λ p. p.1.items ≡ worker_desks room.entries (N.opening.desks - 1)) }
+    ensures err { IfErr result (λ stop. stop ≡ Stop.Open) }
 {
     let Ok(mut seats) = open_seats::<N, D>(alloc, room) else {
         return Err(Stop::Open);
@@ -30,42 +39,67 @@ fn seats_of<N: Naming, D: Wait + Drop>(
     if seats.is_empty() {
         return Err(Stop::Open);
     }
-    let Ok(others) = seats.split_off(1) else {
-        return Err(Stop::Open);
-    };
-    match seats.pop() {
-        Some(seat) => Ok((seat, others)),
-        None => Err(Stop::Open),
+    let seat = seats.remove(0);
+    Ok((seat, seats))
+}
+
+/// Closes a run whose live lines ended early, as far as memory and the writer allow, unless it was the writer that failed.
+fn close_early<N: Naming, D: Wait + Drop, W: Wait, O: Write>(
+    rt: &W,
+    alloc: Global,
+    fault: RunFault,
+    seat: &mut Seat<N, D>,
+    searched: Option<Searched<N, D>>,
+    writer: &mut O,
+)
+    ensures write { fault ≡ RunFault.Write → O.contents writer.new ≡ O.contents writer.old }
+    ensures may { (O.contents writer.new ≡ O.contents writer.old)
+        ⊎ IsSomeAnd searched (λ s. (text : List ℕ) × IsClosing N.opening (seat.old ∷ s.seats.items) s.tallies.items text
+        × AppendsFront (O.contents writer.old) (O.contents writer.new) text) }
+{
+    if fault == RunFault::Write {
+        return;
+    }
+    if let Some(searched) = searched {
+        let _end = close(rt, alloc, seat, searched, writer);
     }
 }
 
-/// What comes of the live lines and of the workers, once the closing lines are written.
-fn closed<N: Naming, D: Wait + Drop, W: Wait, O: Write>(
+/// Ends a run that has workers, by what came of the live lines and of the workers. How many of the lines counted as refused.
+fn ended<N: Naming, D: Wait + Drop, W: Wait, O: Write>(
     rt: &W,
     alloc: Global,
     seat: &mut Seat<N, D>,
-    both: Both<N, D>,
+    answered: Result<Counts, RunFault>,
+    searched: Option<Searched<N, D>>,
     writer: &mut O,
-) -> Result<u64, Stop> {
-    let (answered, searched) = both;
-    let counts = match answered {
-        Ok(counts) => Ok(counts),
-        Err(RunFault::Write) => return Err(Stop::Run(RunFault::Write)),
+) -> Result<u64, Stop>
+    ensures { IsEnd N.opening seat.old answered (option_map (λ s. (s.seats.items, s.tallies.items)) searched) (O.contents writer.old) (O.contents writer.new) result }
+{
+    match answered {
+        Ok(counts) => {
+            let Some(searched) = searched else {
+                return Err(Stop::Open);
+            };
+            match close(rt, alloc, seat, searched, writer) {
+                Ok(()) => Ok(counts.refused),
+                Err(stop) => Err(stop),
+            }
+        }
+        Err(fault) => {
+            close_early(rt, alloc, fault, seat, searched, writer);
+            Err(Stop::Run(fault))
+        }
+    }
+}
+
+/// How many lines of a run counted as refused, or why it stopped.
+fn counted(answered: Result<Counts, RunFault>) -> Result<u64, Stop>
+    ensures { MatchResult answered (λ counts. result ≡ Ok counts.refused) (λ fault. result ≡ Err (stops.Run fault)) }
+{
+    match answered {
+        Ok(counts) => Ok(counts.refused),
         Err(fault) => Err(Stop::Run(fault)),
-    };
-    let Some(searched) = searched else {
-        return match counts {
-            Ok(_) => Err(Stop::Open),
-            Err(stop) => Err(stop),
-        };
-    };
-    let end = close(rt, alloc, seat, searched, writer);
-    match counts {
-        Ok(counts) => match end {
-            Ok(()) => Ok(counts.refused),
-            Err(stop) => Err(stop),
-        },
-        Err(stop) => Err(stop),
     }
 }
 
@@ -91,16 +125,21 @@ pub(crate) fn hall_run<
     requires book { room.book ≡ N.book }
     requires setup { setting setup.value ≡ room.opening.setting }
     requires lines { S.setting_of lines ≡ room.opening.setting }
+    requires desks { N.opening.desks ≡ orders.workers + 1 }
+    ensures { MatchResult result
+        (IsHallRun N.opening orders room.entries (I.remaining live.old) (I.remaining live.new) (O.contents writer.old) (O.contents writer.new))
+        (IsHallShort N.opening orders room.entries (I.remaining live.old) (I.remaining live.new) (O.contents writer.old) (O.contents writer.new)) }
 {
-    let (seat, others) = seats_of::<N, W>(alloc, room)?;
+    let Ok((seat, others)) = seats_of::<N, W>(alloc, room) else {
+        return Err(Stop::Open);
+    };
     let mut front = Seated {
         setup: By { setup: lines },
         seat,
     };
-    if others.is_empty() {
-        let counts = run_desk_lines(&rt, alloc, &mut front, live, writer)?;
-        return Ok(counts.refused);
+    if orders.workers == 0 {
+        return counted(run_desk_lines(&rt, alloc, &mut front, live, writer));
     }
-    let both = beside(rt, alloc, &setup, &mut front, others, orders, live, writer);
-    closed(&rt, alloc, &mut front.seat, both, writer)
+    let (answered, searched) = beside(rt, alloc, &setup, &mut front, others, orders, live, writer);
+    ended(&rt, alloc, &mut front.seat, answered, searched, writer)
 }

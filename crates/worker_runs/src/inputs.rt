@@ -1,8 +1,11 @@
 //! An instance, a script and a live script, each in an input or a file of its own: `dispatch run` with its options.
 
-ghost use Rattle.std.specs.Prelude.{◌≡◌, ◌⊎◌};
+ghost use Rattle.std.specs.Prelude.{◌≡◌, ◌⊎◌, Ok, option_map};
 ghost use Rattle.solomon_reader.specs.Instances.{view, IsSound};
-ghost use Rattle.program_parts.specs.Streams.{AgreesWithStatus};
+ghost use Rattle.program_parts.specs.Streams.{AgreesWithStatus, streams_of};
+ghost use Rattle.solomon_reader.specs.Reading.{read_of};
+ghost use Rattle.worker_runs.specs.Files.{IsOfPaths};
+ghost use Rattle.worker_runs.specs.Scripted.{IsRunOfBytes, flow_of};
 
 use crate::opened::run_with;
 use crate::orders::Orders;
@@ -36,6 +39,8 @@ fn answered<
     requires { IsSound (view instance) }
     ensures status { (result ≡ 0) ⊎ (result ≡ 1) ⊎ (result ≡ 3) }
     ensures told { AgreesWithStatus (F.contents faults.old) (F.contents faults.new) result }
+    ensures run { IsRunOfBytes (Ok (view instance)) orders (flow_of (I.remaining script.old) (I.remaining script.new)
+        (L.remaining live.old) (L.remaining live.new) (O.contents writer.old) (O.contents writer.new)) (F.contents faults.old) (F.contents faults.new) result }
 {
     match run_with(rt, alloc, instance, orders, script, live, writer) {
         Ok(refused) => u8::from(refused),
@@ -70,6 +75,8 @@ pub fn scripted<
 ) -> u8
     ensures status { (result ≡ 0) ⊎ (result ≡ 1) ⊎ (result ≡ 3) }
     ensures told { AgreesWithStatus (F.contents faults.old) (F.contents faults.new) result }
+    ensures run { IsRunOfBytes (read_of instance.now) orders (flow_of (I.remaining script.old) (I.remaining script.new)
+        (L.remaining live.old) (L.remaining live.new) (O.contents writer.old) (O.contents writer.new)) (F.contents faults.old) (F.contents faults.new) result }
 {
     match read(alloc, instance) {
         Ok(instance) => answered(rt, alloc, instance, orders, script, live, writer, faults),
@@ -95,6 +102,8 @@ pub fn run_paths<
     F: Write,
 >(rt: W, alloc: Global, paths: Paths<'_>, orders: Orders, writer: &mut O, faults: &mut F) -> u8
     ensures status { (result ≡ 0) ⊎ (result ≡ 1) ⊎ (result ≡ 3) }
+    ensures files { IsOfPaths paths.entry.instance.now paths.entry.script.now (option_map (λ s. s.now) paths.entry.live)
+        (streams_of (O.contents writer.old) (O.contents writer.new) (F.contents faults.old) (F.contents faults.new)) result }
 {
     if orders.workers == 0 && paths.live.is_none() {
         return run_files(&rt, alloc, paths.instance, paths.script, writer, faults);

@@ -1,9 +1,11 @@
 //! The board that an instance opens, for a run with workers or a live script.
 
-ghost use Rattle.std.specs.Prelude.{◌≡◌, ◌≤◌, ◌<◌, length, IfOk, IfErr};
+ghost use Rattle.std.specs.Prelude.{◌≡◌, ◌<◌, ◌+◌, ◌||◌, nat_lt, length, Ok, Err, MatchResult};
 ghost use Rattle.solomon_reader.specs.Instances.{view, IsSound};
 ghost use Rattle.travel_table.specs.Travel.{travel_at};
+ghost use Rattle.board_core.specs.Boards.{history};
 ghost use Rattle.program_parts.specs.Network.{demand_at, time_between};
+ghost use Rattle.worker_runs.specs.Scripted.{IsOpened, IsRunOf, IsUnrun, flow_of};
 
 use crate::hall_run::hall_run;
 use crate::orders::Orders;
@@ -18,11 +20,28 @@ use solomon_reader::Instance;
 use std::alloc::Global;
 use std::io::{Read, Write};
 use std::marker::Brand;
+use std::snapshot::Snapshot;
 use std::sync::{Arc, Wait};
 use std::thread::Threads;
 
 /// How many events the board's journal holds.
 const MAX_EVENTS: u32 = 1_000_000;
+
+/// Whether a line counted as refused, of a script or of what came after it.
+fn either(first: u64, hall: Result<u64, Stop>) -> Result<bool, Stop>
+    ensures { MatchResult hall (λ n. result ≡ Ok (nat_lt 0 first || nat_lt 0 n)) (λ stop. result ≡ Err stop) }
+{
+    match hall {
+        Ok(second) => Ok(first > 0 || second > 0),
+        Err(stop) => Err(stop),
+    }
+}
+
+/// A law: what is known of a board that was just opened. It does nothing.
+fn opened_for(board: &Board, instance: &Snapshot<Instance>, orders: Orders)
+    requires { IsOpened (view instance.now.value) orders (history board.now) }
+    ensures { IsOpened (view instance.now.value) orders (history board.now) }
+{}
 
 /// Opens the board of an instance, with a desk more than workers, sets the workers up, and answers the lines of a script on its desk 1
 /// alone. Then it answers live lines there while the workers search, and writes what their rounds came to. Whether a line counted as
@@ -44,7 +63,11 @@ pub(crate) fn run_with<
     writer: &mut O,
 ) -> Result<bool, Stop>
     requires { IsSound (view instance) }
+    ensures { MatchResult result
+        (IsRunOf (view instance) orders (flow_of (I.remaining script.old) (I.remaining script.new) (L.remaining live.old) (L.remaining live.new) (O.contents writer.old) (O.contents writer.new)))
+        (IsUnrun (view instance) orders (flow_of (I.remaining script.old) (I.remaining script.new) (L.remaining live.old) (L.remaining live.new) (O.contents writer.old) (O.contents writer.new))) }
 {
+    let first = Snapshot::of(&instance);
     let network = Arc::new(alloc, Network::new(alloc, instance)?)?;
     let size = network.size();
     let demands = network.clone()?;
@@ -86,14 +109,22 @@ pub(crate) fn run_with<
         cost,
         MAX_EVENTS,
     )?;
-    let board = Board::new(alloc, Arc::new(alloc, setup)?, orders.workers + 1)?;
+    let setup = Arc::new(alloc, setup)?;
+    let lines = setup.clone()?;
+    let board = Board::new(alloc, setup, orders.workers + 1)?;
+    opened_for(&board, &first, orders);
     let mut front = BoardFront {
         board,
         desk: 1,
         turn: 1,
     };
-    set_up(&rt, alloc, &mut front, orders)?;
-    let counts = run_board_lines(&rt, alloc, &mut front, script, writer)?;
+    let Ok(()) = set_up(&rt, alloc, &mut front, orders) else {
+        return Err(Stop::Open);
+    };
+    let counts = match run_board_lines(&rt, alloc, &mut front, script, writer) {
+        Ok(counts) => counts,
+        Err(fault) => return Err(Stop::Run(fault)),
+    };
     let BoardFront {
         board,
         desk: _,
@@ -103,9 +134,8 @@ pub(crate) fn run_with<
         return Err(Stop::Open);
     };
     let Foyer { setup, room } = foyer;
-    let lines = Arc::try_clone(&setup)?;
-    let refused = hall_run::<Brand, Arc<Setup>, W, L, O>(
-        rt, alloc, setup, lines, room, orders, live, writer,
-    )?;
-    Ok(counts.refused > 0 || refused > 0)
+    either(
+        counts.refused,
+        hall_run::<Brand, Arc<Setup>, W, L, O>(rt, alloc, setup, lines, room, orders, live, writer),
+    )
 }

@@ -2,25 +2,32 @@
 //!
 //! That a setup and a seat may go to another thread is found of each alone, and not of both in one closure. So the closure is made in a
 //! function that knows of its types no more than that each may go.
-ghost use Rattle.std.specs.Prelude.{◌≡◌};
+ghost use Rattle.std.specs.Prelude.{◌≡◌, ◌≤◌, IfSome, OnOk, true, length, map, ◌++◌, ◌∷◌, []};
+ghost use Rattle.std.specs.Option.{IsSomeAnd};
 ghost use Rattle.dimension_core.specs.Setup.{setting};
+ghost use Rattle.worker_runs.specs.Halls.{AreDone, post, posts};
 
 use crate::orders::Orders;
 use board_lock::{DeskOf, Naming, Seat};
 use dimension_core::Setup;
 use search_workers::{OpenGate, Share, Tally, work};
 use std::alloc::{AllocError, Global};
+use std::snapshot::Snapshot;
 use std::sync::{Arc, Wait};
 use std::thread;
-use std::thread::{JoinHandle, Threads};
+use std::thread::{Promise, PromisedHandle, Threads};
 
 /// What a thread does with two things that it is given.
 trait Task<W, A, B, C> {
     // What must hold of the two.
     ghost may: { A → B → Type 0 };
 
+    // What holds of the second one and what comes of it.
+    ghost makes: { B → C → Type 0 };
+
     fn run(self, rt: &W, first: A, second: B) -> C
-        requires { may first second };
+        requires { may first second }
+        ensures { makes second result };
 }
 
 /// Starts a thread that does a task.
@@ -28,15 +35,20 @@ fn start<
     A: Send + Drop + 'static,
     B: Send + Drop + 'static,
     C: Send + Drop + 'static,
+    P: Promise<C> + Drop,
     T: Task<W, A, B, C> + Send + Drop + 'static,
     W: Threads + Wait + Copy + Send + Sync + 'static,
->(rt: W, task: T, first: A, second: B) -> Option<JoinHandle<C>>
-    requires { T.may first second }
+>(rt: W, promise: P, task: T, first: A, second: B) -> Option<PromisedHandle<C, P>>
+    requires may { T.may first second }
+    requires kept { (c : C) → T.makes second c → P.kept_by promise c }
+    ensures { IfSome result (λ h. h.promise ≡ promise) }
 {
-    let Ok(child) = thread::spawn(
+    let Ok(child) = thread::spawn_with(
         &rt,
+        promise,
         move || -> C
             requires { T.may first second }
+            ensures { T.makes second result }
         { task.run(&rt, first, second) },
     ) else {
         return None;
@@ -44,22 +56,36 @@ fn start<
     Some(child)
 }
 
-/// What a worker is given, beside the setup: its desk, the session by which it proposes, the seed from which it draws, and how many rounds it
-/// does.
+/// What a worker is given, beside the setup: its desk, its number, from 1, and what all workers are told.
 #[derive(Drop)]
 struct Errand<N: Naming, D: Wait + Drop> {
     seat: Seat<N, D>,
-    session: u32,
-    seed: u64,
-    rounds: u32,
+    worker: u32,
+    orders: Orders,
+    ghost few: { worker ≤ 63 },
 }
 
 /// What a worker gives back.
 #[derive(Drop)]
-pub(crate) struct Done<N: Naming, D: Wait + Drop> {
-    pub seat: Seat<N, D>,
-    pub tally: Tally,
+struct Done<N: Naming, D: Wait + Drop> {
+    seat: Seat<N, D>,
+    tally: Tally,
 }
+
+/// A promise to do an errand.
+#[derive(Drop)]
+struct WorkOf<N: Naming, D: Wait + Drop> {
+    errand: Snapshot<Errand<N, D>>,
+}
+
+impl<N: Naming, D: Wait + Drop> Promise<Done<N, D>> for WorkOf<N, D> {
+    ghost use Rattle.worker_runs.specs.Halls.{IsDone, post};
+
+    ghost kept_by = { λ p done. IsDone N.opening (post p.errand.value.worker p.errand.value.orders p.errand.value.seat) done.seat done.tally };
+}
+
+/// A worker's thread.
+type Thread<N, D> = PromisedHandle<Done<N, D>, WorkOf<N, D>>;
 
 /// The rounds of a worker, past a gate that never holds.
 #[derive(Drop)]
@@ -70,18 +96,30 @@ struct Rounds {
 impl<N: Naming, D: Wait + Drop, W: Wait> Task<W, Arc<Setup>, Errand<N, D>, Done<N, D>> for Rounds {
     ghost use Rattle.std.specs.Prelude.{◌≡◌};
     ghost use Rattle.dimension_core.specs.Setup.{setting};
+    ghost use Rattle.worker_runs.specs.Halls.{IsDone, post};
 
     ghost may = { λ setup errand. setting setup.value ≡ N.opening.setting };
+
+    ghost makes = { λ errand done. IsDone N.opening (post errand.worker errand.orders errand.seat) done.seat done.tally };
 
     fn run(self, rt: &W, first: Arc<Setup>, second: Errand<N, D>) -> Done<N, D> {
         let Errand {
             seat,
-            session,
-            seed,
-            rounds,
+            worker,
+            orders,
         } = second;
         let desk = DeskOf { setup: first, seat };
-        let Share { desk, tally } = work(rt, self.alloc, desk, session, seed, rounds, &OpenGate);
+        let session = worker + 1;
+        let seed = u64::from(orders.seed) + u64::from(worker);
+        let Share { desk, tally } = work(
+            rt,
+            self.alloc,
+            desk,
+            session,
+            seed,
+            orders.rounds,
+            &OpenGate,
+        );
         let DeskOf { setup: _, seat } = desk;
         Done { seat, tally }
     }
@@ -92,20 +130,52 @@ fn start_one<
     N: Naming + Send + Sync + 'static,
     D: Wait + Drop + Send + Sync + 'static,
     W: Threads + Wait + Copy + Send + Sync + 'static,
->(rt: W, alloc: Global, setup: &Arc<Setup>, errand: Errand<N, D>) -> Option<JoinHandle<Done<N, D>>>
+>(rt: W, alloc: Global, setup: &Arc<Setup>, errand: Errand<N, D>) -> Option<Thread<N, D>>
     requires { setting setup.now.value ≡ N.opening.setting }
+    ensures { IfSome result (λ h. h.promise.errand.value ≡ errand) }
 {
     let Ok(theirs) = Arc::try_clone(setup) else {
         return None;
     };
-    start(rt, Rounds { alloc }, theirs, errand)
+    let promise = WorkOf {
+        errand: Snapshot::of(&errand),
+    };
+    start(rt, promise, Rounds { alloc }, theirs, errand)
 }
 
 /// The threads of the workers that were started, in their order, and whether all were.
 #[derive(Drop)]
 pub(crate) struct Crew<N: Naming, D: Wait + Drop> {
-    threads: Vec<JoinHandle<Done<N, D>>>,
+    threads: Vec<Thread<N, D>>,
     whole: bool,
+}
+
+/// One worker more, or that it was not started.
+fn with_one<N: Naming, D: Wait + Drop, W: Threads>(
+    rt: &W,
+    crew: Crew<N, D>,
+    thread: Option<Thread<N, D>>,
+) -> Crew<N, D>
+    ensures { result.whole ≡ true → (crew.whole ≡ true) × IsSomeAnd thread (λ h. result.threads.items ≡ crew.threads.items ++ h ∷ []) }
+{
+    let Crew { threads, whole } = crew;
+    let mut threads = threads;
+    let Some(thread) = thread else {
+        return Crew {
+            threads,
+            whole: false,
+        };
+    };
+    match threads.push(thread) {
+        Ok(()) => Crew { threads, whole },
+        Err(refused) => {
+            let _done = refused.value.join(rt);
+            Crew {
+                threads,
+                whole: false,
+            }
+        }
+    }
 }
 
 /// Starts a worker for each of the seats: worker i, counted from 1, proposes by session i plus 1 and draws by the seed plus i.
@@ -114,35 +184,29 @@ pub(crate) fn start_all<
     D: Wait + Drop + Send + Sync + 'static,
     W: Threads + Wait + Copy + Send + Sync + 'static,
 >(rt: W, alloc: Global, setup: &Arc<Setup>, seats: Vec<Seat<N, D>>, orders: Orders) -> Crew<N, D>
-    requires { setting setup.now.value ≡ N.opening.setting }
+    requires setup { setting setup.now.value ≡ N.opening.setting }
+    requires few { length seats.items ≤ 63 }
+    ensures { result.whole ≡ true → map (λ h. post h.promise.errand.value.worker h.promise.errand.value.orders h.promise.errand.value.seat) result.threads.items ≡ posts orders 0 seats.items }
 {
-    let mut threads = Vec::new(alloc);
-    let mut worker = 0u32;
-    for seat in seats {
-        worker = worker.saturating_add(1);
-        let errand = Errand {
-            seat,
-            session: worker.saturating_add(1),
-            seed: u64::from(orders.seed) + u64::from(worker),
-            rounds: orders.rounds,
+    let mut seats = seats;
+    let Some(seat) = seats.pop() else {
+        return Crew {
+            threads: Vec::new(alloc),
+            whole: true,
         };
-        let Some(thread) = start_one(rt, alloc, setup, errand) else {
-            return Crew {
-                threads,
-                whole: false,
-            };
-        };
-        if threads.push(thread).is_err() {
-            return Crew {
-                threads,
-                whole: false,
-            };
-        }
+    };
+    let worker = seats.len() as u32 + 1;
+    let crew = start_all(rt, alloc, setup, seats, orders);
+    if !crew.whole {
+        return crew;
     }
-    Crew {
-        threads,
-        whole: true,
-    }
+    let errand = Errand {
+        seat,
+        worker,
+        orders,
+    };
+    let thread = start_one(rt, alloc, setup, errand);
+    with_one(&rt, crew, thread)
 }
 
 /// What workers give back: their seats and their tallies, in their order.
@@ -154,7 +218,10 @@ pub(crate) struct Searched<N: Naming, D: Wait + Drop> {
 
 impl<N: Naming, D: Wait + Drop> Searched<N, D> {
     /// Adds what a worker gives back.
-    fn add(&mut self, done: Done<N, D>) -> Result<(), AllocError> {
+    fn add(&mut self, done: Done<N, D>) -> Result<(), AllocError>
+        ensures seats { OnOk result (self.new.seats.items ≡ self.old.seats.items ++ done.seat ∷ []) }
+        ensures tallies { OnOk result (self.new.tallies.items ≡ self.old.tallies.items ++ done.tally ∷ []) }
+    {
         let Done { seat, tally } = done;
         if self.seats.push(seat).is_err() {
             return Err(AllocError);
@@ -164,23 +231,42 @@ impl<N: Naming, D: Wait + Drop> Searched<N, D> {
     }
 }
 
+/// Joins workers. None where memory runs out.
+fn join_threads<N: Naming, D: Wait + Drop, W: Threads>(
+    rt: &W,
+    alloc: Global,
+    threads: Vec<Thread<N, D>>,
+) -> Option<Searched<N, D>>
+    ensures { IfSome result (λ s. AreDone N.opening (map (λ h. post h.promise.errand.value.worker h.promise.errand.value.orders h.promise.errand.value.seat) threads.items) s.seats.items s.tallies.items) }
+{
+    let mut threads = threads;
+    let Some(last) = threads.pop() else {
+        return Some(Searched {
+            seats: Vec::new(alloc),
+            tallies: Vec::new(alloc),
+        });
+    };
+    let rest = join_threads(rt, alloc, threads);
+    let done = last.join(rt);
+    let Some(mut searched) = rest else {
+        return None;
+    };
+    match searched.add(done) {
+        Ok(()) => Some(searched),
+        Err(_) => None,
+    }
+}
+
 /// Joins all workers that were started. None where one was not, or memory ran out.
 pub(crate) fn join_all<N: Naming, D: Wait + Drop, W: Threads>(
     rt: &W,
     alloc: Global,
     crew: Crew<N, D>,
-) -> Option<Searched<N, D>> {
+) -> Option<Searched<N, D>>
+    ensures { IfSome result (λ s. (crew.whole ≡ true)
+        × AreDone N.opening (map (λ h. post h.promise.errand.value.worker h.promise.errand.value.orders h.promise.errand.value.seat) crew.threads.items) s.seats.items s.tallies.items) }
+{
     let Crew { threads, whole } = crew;
-    let mut searched = Searched {
-        seats: Vec::new(alloc),
-        tallies: Vec::new(alloc),
-    };
-    let mut whole = whole;
-    for thread in threads {
-        let done = thread.join(rt);
-        if searched.add(done).is_err() {
-            whole = false;
-        }
-    }
-    if whole { Some(searched) } else { None }
+    let searched = join_threads(rt, alloc, threads);
+    if whole { searched } else { None }
 }

@@ -3,7 +3,7 @@ ghost use Rattle.std.specs.Prelude.{◌≡◌, OnOk, IfErr};
 ghost use Rattle.board_rules.specs.declared.reply.Reply.TheVariants as replies;
 ghost use Rattle.board_lines.specs.declared.command.Command.TheVariants as commands;
 ghost use Rattle.line_front.specs.Answers.{Replied};
-ghost use Rattle.worker_runs.specs.SetUp.{by_root};
+ghost use Rattle.worker_runs.specs.SetUp.{AreAsked, by_root, sessions_to, set_up_of, user_and_role};
 
 use crate::orders::Orders;
 use board_rules::{Call, Reply};
@@ -54,6 +54,7 @@ fn opened<R, F: Front<R>>(rt: &R, front: &mut F, call: Call, number: u32) -> Res
 /// Has a desk make the user and the role of the workers.
 fn user_and_role<R, F: Front<R>>(rt: &R, front: &mut F) -> Result<(), Stop>
     requires ready { F.ready front.old }
+    ensures ok { OnOk result (AreAsked F.step (F.seen front.old) user_and_role (F.seen front.new)) }
     ensures ready { F.ready front.new }
     ensures err { IfErr result (λ stop. stop ≡ Stop.Open) }
 {
@@ -80,6 +81,7 @@ fn sessions<R, F: Front<R>>(
     orders: Orders,
 ) -> Result<(), Stop>
     requires ready { F.ready front.old }
+    ensures ok { OnOk result (AreAsked F.step (F.seen front.old) (sessions_to orders.workers) (F.seen front.new)) }
     ensures ready { F.ready front.new }
     ensures err { IfErr result (λ stop. stop ≡ Stop.Open) }
 {
@@ -106,6 +108,7 @@ pub(crate) fn set_up<R, F: Front<R>>(
     orders: Orders,
 ) -> Result<(), Stop>
     requires ready { F.ready front.old }
+    ensures ok { OnOk result (AreAsked F.step (F.seen front.old) (set_up_of orders.workers) (F.seen front.new)) }
     ensures ready { F.ready front.new }
     ensures err { IfErr result (λ stop. stop ≡ Stop.Open) }
 {

@@ -1,0 +1,33 @@
+-- What is done for words, and what is said of those that ask for nothing.
+use Rattle.std.proofs.Common.{◌≡◌, ◌≤◌, ℕ, List, Option, Some, inl, inr, arith}
+use Rattle.std.specs.Prelude.{◌⊎◌, ◌≢◌}
+use Rattle.program_parts.specs.Streams.{Streams}
+use Rattle.command_line.specs.CommandLine.{IsFault, status_of}
+use Rattle.command_line.specs.Forms.{Form}
+use Rattle.command_line.specs.declared.form.OptionFault.{OptionFault}
+use Rattle.command_line.specs.declared.form.OptionFault.TheVariants as faults
+use Rattle.command_line.specs.declared.form.UsageFault.TheVariants as usage
+use Rattle.program_words.specs.Performed.{IsDone, IsPerformed, IsSaid}
+
+-- what is asked for is done
+pub done : (wanted : Option Form) (form : Form) (left : Option (List ℕ)) (s : Streams) (status : ℕ) → wanted ≡ Some form → IsDone form left s status → IsPerformed wanted left s status
+done wanted form left s status e d = inl (form, e, d)
+
+abbrev IsZero : ℕ → Type 0
+IsZero n = n ≡ 0
+
+some : (n : ℕ) → 1 ≤ n → IsZero n → ⊥
+some n h = λ e. omega (arith, h, e)
+
+wrong : (s : Streams) (status : ℕ) → (status ≡ 2) ⊎ ((status ≡ 3) × IsZero 2) → ((IsZero 2 → ⊥) → s.now ≡ s.was) → IsSaid s status
+wrong s status t u = elim t [
+  | inl e ↦ inr (inl (e, u (some 2 (omega arith))))
+  | inr e ↦ inr (inr e.0)
+]
+
+pub said : (wanted : Option Form) (left : Option (List ℕ)) (fault : OptionFault) (s : Streams) (status : ℕ) → IsFault wanted fault → (status ≡ status_of fault) ⊎ ((status ≡ 3) × (status_of fault ≡ 0))
+    → (status_of fault ≢ 0 → s.now ≡ s.was) → (status ≡ 0 → s.told_now ≡ s.told_was) → IsPerformed wanted left s status
+said wanted left (faults.Usage (usage.Words error)) s status f t u k = inr (inl (f.0, wrong s status t u))
+said wanted left (faults.Usage (usage.Number fault)) s status f t u k = inr (inl (f, wrong s status t u))
+said wanted left (faults.Help error) s status f t u k = inr (inl (f.0, elim t [ inl e ↦ inl (e, k e) | inr e ↦ inr (inr e.0) ]))
+said wanted left faults.NoMemory s status f t u k = inr (inr (elim t [ inl e ↦ e | inr e ↦ e.0 ], u (some 3 (omega arith))))

@@ -1,0 +1,45 @@
+-- What the program does by the words of its command line: which file is which, which stream is which, and which status it ends with.
+use Rattle.std.specs.Prelude.{◌≡◌, ℕ, ◌⊎◌, List, drop, Option, Some, None, IfSome}
+use Rattle.solomon_reader.specs.Reading.{read_of}
+use Rattle.line_engine.specs.Running.{AppendsFront}
+use Rattle.plan_picture.specs.Texts.{svg_text}
+use Rattle.plan_sums.specs.Texts.{sums_text}
+use Rattle.plan_program.specs.Views.{IsViewOfFiles}
+use Rattle.program_parts.specs.Head.{Halves}
+use Rattle.program_parts.specs.Report.{IsChecked}
+use Rattle.program_parts.specs.Streams.{Streams, IsUnreadable, stop_line}
+use Rattle.program_parts.specs.declared.stop.Stop.TheVariants as stops
+use Rattle.board_program.specs.Joined.{IsJoined, IsOfHalves}
+use Rattle.command_line.specs.Forms.{Form, asked}
+use Rattle.command_line.specs.Forms as forms
+use Rattle.worker_runs.specs.Files.{IsOfPaths, IsUnreadFile}
+
+-- an input of all that was asked for, whose bytes may be known
+abbrev pub IsOfInput : Option (List ℕ) → Streams → ℕ → Type 0
+IsOfInput left s status = IfSome left (λ bytes. IsJoined bytes s status) × ((h : Halves) × IsOfHalves h s status)
+
+-- the file cannot be read, or some bytes of it are checked
+abbrev pub IsCheckOfFile : List ℕ → Streams → ℕ → Type 0
+IsCheckOfFile path s status = IsUnreadFile path s status ⊎ ((bytes : List ℕ) × IsChecked (read_of bytes) s status)
+
+-- what is asked for is done, on standard input and output
+abbrev pub IsDone : Form → Option (List ℕ) → Streams → ℕ → Type 0
+IsDone forms.joined left s status = IsOfInput left s status
+IsDone (forms.check path) left s status = IsCheckOfFile path s status
+IsDone (forms.run run) left s status = IsOfPaths run.instance run.script run.live s status
+IsDone (forms.draw instance rows) left s status = IsViewOfFiles svg_text instance rows s status
+IsDone (forms.sums instance rows) left s status = IsViewOfFiles sums_text instance rows s status
+
+-- Nothing can be done: help or the version is written, and nothing else; or the words are wrong, and nothing is written; or help could not be.
+abbrev pub IsSaid : Streams → ℕ → Type 0
+IsSaid s status = ((status ≡ 0) × (s.told_now ≡ s.told_was)) ⊎ (((status ≡ 2) × (s.now ≡ s.was)) ⊎ (status ≡ 3))
+
+-- The words ask for something, which is done; or they ask for nothing, which is said; or memory ran out while they were read.
+abbrev pub IsPerformed : Option Form → Option (List ℕ) → Streams → ℕ → Type 0
+IsPerformed wanted left s status = ((form : Form) × (wanted ≡ Some form) × IsDone form left s status)
+    ⊎ (((wanted ≡ None) × IsSaid s status) ⊎ ((status ≡ 3) × (s.now ≡ s.was)))
+
+-- All of the program: it has words, by which it does what they ask for; or memory ran out, which is told; or a word is not UTF-8.
+abbrev pub IsProgram : Option (List ℕ) → Streams → ℕ → Type 0
+IsProgram left s status = ((words : List (List ℕ)) × IsPerformed (asked (drop 1 words)) left s status)
+    ⊎ (((status ≡ 3) × (s.now ≡ s.was) × AppendsFront s.told_was s.told_now (stop_line stops.Open)) ⊎ ((status ≡ 2) × (s.now ≡ s.was)))

@@ -1,0 +1,5 @@
+use Rattle.std.proofs.Common.{vec_len}
+use Rattle.worker_runs.proofs.search.+start_all.Given as goal
+
+abbrev pub decreases-start_all : goal.decreases-start_all
+decreases-start_all g l = vec_len l.seats
