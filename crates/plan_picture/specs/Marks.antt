@@ -2,11 +2,11 @@
 use Rattle.std.specs.Prelude.{ℕ, ◌+◌, ◌-◌, ◌*◌, ◌/◌, max, nat_le, List, [], ◌∷◌, ◌++◌, length, map, slice_index_or, Option, Some, None, if◌then◌else◌}
 use Rattle.std.specs.List.{flat_map, range_with_len}
 use Rattle.solomon_reader.specs.declared.instance.Node.{Node}
-use Rattle.travel_table.specs.Travel.{node_at, travel_at}
+use Rattle.travel_table.specs.Travel.{node_at}
 use Rattle.plan_sums.specs.declared.row.Row.{Row}
 use Rattle.plan_sums.specs.declared.tour.Tour.{Tour}
 use Rattle.plan_sums.specs.declared.visit.Visit.{Visit}
-use Rattle.plan_sums.specs.Places.{Places}
+use Rattle.plan_sums.specs.Places.{Places, travel_of}
 use Rattle.plan_sums.specs.Rows.{row_at, is_planned}
 use Rattle.plan_sums.specs.Visits.{visit_at}
 use Rattle.plan_sums.specs.Tours.{tours_of}
@@ -39,7 +39,7 @@ place_of p l i = point_of l.frame (node_at p.nodes i)
 -- ---- the ways
 
 abbrev pub leg_of : Places → Layout → ℕ → ℕ → ℕ → Mark
-leg_of p l vehicle i j = marks.Leg (record { vehicle = vehicle; from = i; to = j; start = place_of p l i; end = place_of p l j; way = travel_at p.travel i j })
+leg_of p l vehicle i j = marks.Leg (record { vehicle = vehicle; from = i; to = j; start = place_of p l i; end = place_of p l j; way = travel_of p i j })
 
 -- the way to a stop, where the node before is known
 abbrev pub leg_from : Places → Layout → Row → Option ℕ → List Mark
@@ -126,11 +126,12 @@ ticks_before l n = map (tick_at l) (range_with_len 0 n)
 abbrev pub lanes_before : Places → Layout → List Row → ℕ → List Mark
 lanes_before p l rows n = flat_map (λ k. lanes_of l k (visit_at p rows k)) (range_with_len 0 n)
 
--- All marks, the lower ones first: on the map the ways, the depot, a mark for each row and its number; then the table; then the timelines.
+-- All marks, the lower ones first: on the map the ways, a mark for each row, the depot over them, and the numbers; then the table; then the
+-- timelines.
 abbrev pub marks_of : Places → Layout → List Row → List Tour → List Mark
 marks_of p l rows tours = legs_before p l rows (length rows)
-    ++ (depot_mark p l ∷ [])
     ++ customers_before p l rows (length rows)
+    ++ (depot_mark p l ∷ [])
     ++ labels_before p l rows (length rows)
     ++ entries_before p tours (length tours)
     ++ ticks_before l 5

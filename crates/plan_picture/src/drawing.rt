@@ -335,8 +335,8 @@ fn push_lanes(
 
 // ---- the picture
 
-/// The marks of the picture of a listing, with its layout and its sums, the lower ones first: on the map the ways of the vehicles, the depot, a
-/// mark for each row of the listing, and their numbers; then the table; then the timelines. No other customer is drawn.
+/// The marks of the picture of a listing, with its layout and its sums, the lower ones first: on the map the ways of the vehicles, a mark for each
+/// row of the listing, the depot over them, and their numbers; then the table; then the timelines. No other customer is drawn.
 pub fn picture(
     alloc: Global,
     roads: &Roads,
@@ -351,8 +351,8 @@ pub fn picture(
 {
     let mut marks = Vec::new(alloc);
     push_all_legs(&mut marks, roads, layout, rows)?;
-    marks.push(depot_mark(roads, layout))?;
     push_customers(&mut marks, roads, layout, rows)?;
+    marks.push(depot_mark(roads, layout))?;
     push_labels(&mut marks, roads, layout, rows)?;
     push_entries(&mut marks, roads, tours)?;
     push_ticks(&mut marks, layout)?;

@@ -14,7 +14,7 @@ text{fill:#222;font-family:sans-serif;font-size:125px}
 .y{text-anchor:middle}
 .n{font-size:100px}
 .g{fill:none;stroke:#ccc;stroke-width:8}
-.d{fill:#222}
+.d{fill:none;stroke:#222;stroke-width:44}
 .s{stroke:#fff;stroke-width:8}
 .o{fill:none;stroke:#777;stroke-width:16}
 .l{fill:none;stroke-width:22}
@@ -39,7 +39,7 @@ text{fill:#222;font-family:sans-serif;font-size:125px}
 .b{fill:#151515}
 text{fill:#ddd}
 .g{stroke:#444}
-.d{fill:#ddd}
+.d{stroke:#ddd}
 .s{stroke:#151515}
 .o{stroke:#aaa}
 .h{fill:#222}

@@ -8,7 +8,7 @@ use plan_sums::{Roads, Row, Tour, read_rows, tours};
 use solomon_reader::read;
 use std::alloc::Global;
 
-/// An instance with its travel, the rows of a listing, and the sums of each vehicle.
+/// An instance, the rows of a listing, and the sums of each vehicle.
 #[derive(Drop)]
 pub(crate) struct Plan {
     pub(crate) roads: Roads,
@@ -22,7 +22,7 @@ pub(crate) fn opened(alloc: Global, instance: &[u8], output: &[u8]) -> Result<Pl
     ensures err { IfErr result (IsUnopened instance.now output.now) }
 {
     let instance = read(alloc, instance)?;
-    let roads = Roads::new(alloc, instance)?;
+    let roads = Roads::new(instance);
     let rows = read_rows(alloc, &roads, output)?;
     let tours = tours(alloc, &roads, rows.as_slice())?;
     Ok(Plan { roads, rows, tours })

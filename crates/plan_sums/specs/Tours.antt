@@ -1,10 +1,10 @@
 -- The sums of each vehicle of a listing.
 use Rattle.std.specs.Prelude.{ℕ, zero, suc, ◌+◌, ◌-◌, Bool, ◌&&◌, ◌==◌, if◌then◌else◌, List, [], ◌∷◌, length, Option, Some, None}
 use Rattle.std.specs.List.{flat_map, range_with_len, sum_by}
-use Rattle.travel_table.specs.Travel.{node_at, travel_at}
+use Rattle.travel_table.specs.Travel.{node_at}
 use Rattle.plan_sums.specs.declared.row.Row.{Row}
 use Rattle.plan_sums.specs.declared.tour.Tour.{Tour}
-use Rattle.plan_sums.specs.Places.{Places, time_between}
+use Rattle.plan_sums.specs.Places.{Places, time_between, travel_of}
 use Rattle.plan_sums.specs.Rows.{row_at, is_planned}
 use Rattle.plan_sums.specs.Visits.{is_first, is_last, way_at}
 
@@ -30,7 +30,7 @@ tour_of p rows first last = record {
   load = (row_at rows last).load + (node_at p.nodes (row_at rows last).customer).demand;
   start = start_of p (row_at rows first);
   back = (row_at rows last).early + time_between p (row_at rows last).customer 0;
-  distance = ways p rows first (last + 1) + travel_at p.travel (row_at rows last).customer 0;
+  distance = ways p rows first (last + 1) + travel_of p (row_at rows last).customer 0;
 }
 
 -- the row at a place is the last of a vehicle

@@ -1,9 +1,9 @@
 -- What a listing shows of a stop: from where the vehicle comes, when it is there, and where it goes.
 use Rattle.std.specs.Prelude.{ℕ, ◌+◌, ◌-◌, ◌*◌, ◌<◌, ◌≤◌, Bool, not, nat_lt, ◌==◌, ◌&&◌, ◌||◌, if◌then◌else◌, List, length, Option, Some, None, IfSome}
-use Rattle.travel_table.specs.Travel.{node_at, travel_at}
+use Rattle.travel_table.specs.Travel.{node_at}
 use Rattle.plan_sums.specs.declared.row.Row.{Row}
 use Rattle.plan_sums.specs.declared.visit.Visit.{Visit}
-use Rattle.plan_sums.specs.Places.{Places, time_between}
+use Rattle.plan_sums.specs.Places.{Places, time_between, travel_of}
 use Rattle.plan_sums.specs.Rows.{row_at, is_planned}
 
 -- two rows of one vehicle
@@ -43,7 +43,7 @@ arrival_at p rows k =
 -- the travel to a stop, where the node before is shown
 abbrev pub way_from : Places → Option ℕ → ℕ → ℕ
 way_from p None c = 0
-way_from p (Some i) c = travel_at p.travel i c
+way_from p (Some i) c = travel_of p i c
 
 abbrev pub way_at : Places → List Row → ℕ → ℕ
 way_at p rows k = way_from p (from_at rows k) (row_at rows k).customer
@@ -57,7 +57,7 @@ visit_at p rows k = record {
   way = way_at p rows k;
   arrival = arrival_at p rows k;
   leave = (row_at rows k).early + (node_at p.nodes (row_at rows k).customer).service * 10;
-  home = travel_at p.travel (row_at rows k).customer 0;
+  home = travel_of p (row_at rows k).customer 0;
   is_last = is_last rows k;
 }
 

@@ -1,20 +1,19 @@
-//! An instance with the travel between its nodes.
+//! An instance, and the travel between its nodes.
 
-ghost use Rattle.std.specs.Prelude.{◌≡◌, ◌*◌, ◌<◌, ◌≤◌, All, IfOk, length, string_bytes};
+ghost use Rattle.std.specs.Prelude.{◌≡◌, ◌*◌, ◌<◌, ◌≤◌, length, string_bytes};
 ghost use Rattle.solomon_reader.specs.Instances.{view, IsSound};
-ghost use Rattle.travel_table.specs.Travel.{node_at, travel_at};
-ghost use Rattle.plan_sums.specs.Places.{ArePlaces, time_between};
+ghost use Rattle.travel_table.specs.Travel.{IsNear, node_at};
+ghost use Rattle.plan_sums.specs.Places.{ArePlaces, time_between, travel_of};
 
 use solomon_reader::{Instance, Node};
-use std::alloc::{AllocError, Global};
 use std::marker::Model;
-use travel_table::Travel;
+use travel_table::travel_between;
 
-/// An instance, and the travel between its nodes. Node 0 is the depot.
+/// An instance, and the travel between its nodes. Node 0 is the depot. No table of the travel is made, since a view of a plan asks for few
+/// pairs.
 #[derive(Drop)]
 pub struct Roads {
     instance: Instance,
-    travel: Travel,
 }
 
 impl Model for Roads {
@@ -23,23 +22,22 @@ impl Model for Roads {
 
     ghost Value = { Places };
 
-    ghost view = { λ a. record { name = string_bytes a.instance.name; vehicles = a.instance.vehicles; capacity = a.instance.capacity; nodes = a.instance.nodes.items; travel = a.travel } };
+    ghost view = { λ a. record { name = string_bytes a.instance.name; vehicles = a.instance.vehicles; capacity = a.instance.capacity; nodes = a.instance.nodes.items } };
 
-    ghost invariant = { λ a. ArePlaces (record { name = string_bytes a.instance.name; vehicles = a.instance.vehicles; capacity = a.instance.capacity; nodes = a.instance.nodes.items; travel = a.travel }) };
+    ghost invariant = { λ a. ArePlaces (record { name = string_bytes a.instance.name; vehicles = a.instance.vehicles; capacity = a.instance.capacity; nodes = a.instance.nodes.items }) };
 }
 
 impl Roads {
-    /// The roads of an instance, whose travel is made here. Memory may run out.
-    pub fn new(alloc: Global, instance: Instance) -> Result<Roads, AllocError>
+    /// The roads of an instance.
+    pub fn new(instance: Instance) -> Roads
         requires { IsSound (view instance) }
-        ensures name { IfOk result (λ roads. roads.name ≡ string_bytes instance.name) }
-        ensures vehicles { IfOk result (λ roads. roads.vehicles ≡ instance.vehicles) }
-        ensures capacity { IfOk result (λ roads. roads.capacity ≡ instance.capacity) }
-        ensures nodes { IfOk result (λ roads. roads.nodes ≡ instance.nodes.items) }
-        ensures sound { IfOk result ArePlaces }
+        ensures name { result.name ≡ string_bytes instance.name }
+        ensures vehicles { result.vehicles ≡ instance.vehicles }
+        ensures capacity { result.capacity ≡ instance.capacity }
+        ensures nodes { result.nodes ≡ instance.nodes.items }
+        ensures sound { ArePlaces result }
     {
-        let travel = Travel::of(alloc, &instance)?;
-        Ok(Roads { instance, travel })
+        Roads { instance }
     }
 
     /// The instance's name.
@@ -90,6 +88,7 @@ impl Roads {
         ensures ready { result.ready ≤ result.due }
         ensures due { result.due ≤ 9999999 }
         ensures service { result.service ≤ 9999999 }
+        ensures near { IsNear result }
     {
         self.instance.nodes[node as usize]
     }
@@ -107,10 +106,10 @@ impl Roads {
     pub fn travel(&self, from: u32, to: u32) -> u64
         requires from { from < length self.now.nodes }
         requires to { to < length self.now.nodes }
-        ensures value { result ≡ travel_at self.now.travel from to }
+        ensures value { result ≡ travel_of self.now from to }
         ensures small { result ≤ 141421342 }
     {
-        u64::from(self.travel.get(from, to))
+        u64::from(travel_between(&self.node(from), &self.node(to)))
     }
 
     /// The service at the node that is left and the travel to the next, in tenths.

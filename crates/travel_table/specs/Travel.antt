@@ -1,7 +1,7 @@
 use Rattle.std.specs.Prelude.{◌≡◌, ℕ, ◌+◌, ◌*◌, ◌<◌, ◌≤◌, List, length, slice_index, slice_index_or}
 use Rattle.std.specs.Int.{abs_diff}
 use Rattle.solomon_reader.specs.declared.instance.Node.{Node}
-use Rattle.travel_table.specs.Root.{IsRoot}
+use Rattle.travel_table.specs.Root.{IsRoot, root_of}
 
 -- the node at a number, and one at the origin where there is none
 abbrev pub node_at : List Node → ℕ → Node
@@ -10,6 +10,10 @@ node_at nodes i = slice_index_or nodes i (record { x = 0; y = 0; demand = 0; rea
 -- how far two nodes are apart, squared, in hundredths of a squared unit: the square of tenths
 abbrev pub square_between : Node → Node → ℕ
 square_between a b = 100 * (abs_diff a.x b.x * abs_diff a.x b.x + abs_diff a.y b.y * abs_diff a.y b.y)
+
+-- the travel between two nodes: the greatest whole number of tenths that is at most the straight way
+abbrev pub travel_between : Node → Node → ℕ
+travel_between a b = root_of (square_between a b)
 
 -- t is the travel from node i to node j: the greatest whole number of tenths that is at most the straight way
 abbrev pub IsTravel : List Node → ℕ → ℕ → ℕ → Type 0

@@ -2,7 +2,7 @@ ghost use Rattle.std.specs.Prelude.{◌≡◌, ℕ, ◌+◌, ◌*◌, ◌<◌, �
 ghost use Rattle.std.specs.Int.{abs_diff};
 ghost use Rattle.solomon_reader.specs.declared.instance.Node.{Node};
 ghost use Rattle.travel_table.specs.Root.{IsRoot};
-ghost use Rattle.travel_table.specs.Travel.{square_between, IsNear, IsTravel, IsTravelOf, AreKnown, Distances, travel_at};
+ghost use Rattle.travel_table.specs.Travel.{square_between, IsNear, IsTravel, IsTravelOf, AreKnown, Distances, node_at, travel_at, travel_between};
 
 use crate::square_root::{UP, root_near, whole_part};
 use solomon_reader::{Instance, Node};
@@ -51,11 +51,13 @@ fn apart(a: &Node, b: &Node) -> u64
     dx * dx + dy * dy
 }
 
-/// The travel from one node to another.
+/// The travel from one node to another, of which no coordinate may be above 9,999,999, in tenths of a distance unit. It needs no table, and
+/// takes no memory.
 #[inline(always)]
-fn travel_between(a: &Node, b: &Node) -> u32
+pub fn travel_between(a: &Node, b: &Node) -> u32
     requires from { IsNear a.now }
     requires to { IsNear b.now }
+    ensures value { result ≡ travel_between a.now b.now }
     ensures root { IsRoot (square_between a.now b.now) result }
     ensures small { result ≤ 141421342 }
 {
@@ -122,6 +124,11 @@ impl Travel {
         self.entries[i as usize * self.size + j as usize]
     }
 }
+
+/// A law of the definitions: a table has the travel between any two of its nodes.
+pub fn tables_have_the_travel()
+    ensures { (nodes : List Node) (d : Distances) (i j : ℕ) → IsTravelOf nodes d → i < length nodes → j < length nodes → travel_at d i j ≡ travel_between (node_at nodes i) (node_at nodes j) }
+{}
 
 /// A law of the definitions: travel is the same both ways.
 pub fn travel_is_symmetric()

@@ -1,0 +1,3 @@
+pub mod Dims
+pub mod Rest
+pub mod Verdict

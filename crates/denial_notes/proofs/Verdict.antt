@@ -1,0 +1,36 @@
+-- What the denial of a move by a bound says.
+use Rattle.std.proofs.Common.{◌≡◌, ℕ, ◌≤◌, arith, refl, sym, subst, List, [], ◌∷◌, length}
+use Rattle.std.specs.Prelude.{Bool, true, false, Option, Some, None, if◌then◌else◌}
+use Rattle.dimension_core.specs.Feasible.{FitsAll}
+use Rattle.dimension_core.specs.NewRoutes.{Changes, IsOut}
+use Rattle.dimension_core.specs.Setting.{Setting}
+use Rattle.plan_core.specs.Plan.{PlanState}
+use Rattle.move_core.specs.declared.moves.Move.{Move}
+use Rattle.move_core.specs.Moves.{changes_by, is_possible}
+use Rattle.board_rules.specs.declared.reply.Denial.TheVariants as denials
+use Rattle.board_rules.specs.Rules.{Basis, IsVerdictBy}
+
+by_test : (X : Type 0) (x : X) (p : Bool) → (if p then Some x else None) ≡ Some x → p ≡ true
+by_test X x true e = refl
+by_test X x false e = grind arith
+
+out_range : (s : Setting) (changes : Changes) (v d : ℕ) → IsOut s changes v d → (1 ≤ d → d ≤ length s.dimensions → ⊥) → ⊥
+out_range s [] v d o stuck = o
+out_range s (c ∷ cs) v d o stuck =
+    let misfit : FitsAll s c.0 c.1 → ⊥ = λ f. out_range s cs v d (o.1 f) stuck in
+    let q = o.0 misfit in
+    stuck q.1.low q.1.high
+
+-- the move has an effect, and the dimension is there
+pub bound_says : (s : Setting) (plan : PlanState) (b : Basis) (base : ℕ) (mv : Move) (v d : ℕ) → plan.customers ≡ s.customers → b.routes ≡ plan.routes
+    → IsVerdictBy s b base mv (Some (denials.Bound v d)) → (is_possible plan.customers plan.routes mv ≡ true → 1 ≤ d → d ≤ length s.dimensions → ⊥) → ⊥
+bound_says s plan b base mv v d sized same verdict stuck =
+    let test = by_test Changes (changes_by b.routes mv) (is_possible s.customers b.routes mv) verdict.0.0.0.0.1 in
+    let there = subst (λ (routes : List (List ℕ)). is_possible s.customers routes mv ≡ true) same test in
+    let possible = subst (λ (n : ℕ). is_possible n plan.routes mv ≡ true) (sym sized) there in
+    out_range s (changes_by b.routes mv) v d verdict.1 (λ low high. stuck possible low high)
+
+-- a new route is out of bounds
+pub bound_out : (s : Setting) (plan : PlanState) (b : Basis) (base : ℕ) (mv : Move) (v d : ℕ) → b.routes ≡ plan.routes
+    → IsVerdictBy s b base mv (Some (denials.Bound v d)) → IsOut s (changes_by plan.routes mv) v d
+bound_out s plan b base mv v d same verdict = subst (λ (routes : List (List ℕ)). IsOut s (changes_by routes mv) v d) same verdict.1

@@ -1,0 +1,3 @@
+pub mod Causes
+pub mod Notes
+pub mod Texts
