@@ -1,0 +1,200 @@
+//! Three desks of one board, each in a thread of its own.
+ghost use Rattle.std.specs.Prelude.{◌≡◌};
+ghost use Rattle.dimension_core.specs.Setup.{setting};
+
+use crate::tasks::{Search, join_search, start_search};
+use board_lines::{Command, read_line};
+use board_lock::{Anteroom, Naming, Seat, View, open_seats};
+use board_rules::{Call, Reply};
+use dimension_core::Setup;
+use std::alloc::Global;
+use std::sync::{Arc, Wait};
+use std::thread::Threads;
+
+/// What desk 1 does first: rights, a session for each worker, and a plan that can be made shorter.
+const PREPARED: &[&str] = &[
+    "1 grant root pin customer 1 6",
+    "1 grant root move vehicle 1 2",
+    "1 grant root move customer 1 6",
+    "1 add-user worker",
+    "1 add-role worker",
+    "1 assign worker worker",
+    "1 grant worker move vehicle 1 2",
+    "1 grant worker move customer 1 6",
+    "1 open worker worker",
+    "1 open worker worker",
+    "1 insert 1 1 1 0",
+    "1 insert 5 1 2 1",
+    "1 insert 3 1 3 2",
+    "1 insert 6 2 1 3",
+    "1 insert 2 2 2 4",
+    "1 insert 4 2 3 5",
+];
+
+/// The call that a line says.
+fn call_of(alloc: Global, line: &str) -> Option<Call> {
+    match read_line(alloc, line.as_bytes()) {
+        Ok(Command::Submit(call)) => Some(call),
+        _ => None,
+    }
+}
+
+/// Submits the calls that some lines say.
+fn play<N: Naming, R: Wait + Drop, W: Wait>(
+    rt: &W,
+    alloc: Global,
+    setup: &Setup,
+    seat: &mut Seat<N, R>,
+    lines: &[&str],
+)
+    requires { setting setup.now ≡ N.opening.setting }
+{
+    for line in lines {
+        if let Some(call) = call_of(alloc, line) {
+            let _reply = seat.submit(rt, setup, call);
+        }
+    }
+}
+
+/// How it ended: the stops of the plan, the customers that are pinned to the vehicle that serves them, whether each version that the
+/// dispatcher saw was no lower than the one before, and whether all desks then saw one version.
+#[derive(Clone, Copy, Drop)]
+pub(crate) struct End {
+    pub stops: usize,
+    pub pins: usize,
+    pub rose: bool,
+    pub agreed: bool,
+}
+
+/// How many stops a plan has, and how many of them are pinned where they are.
+fn counted(view: &View) -> (usize, usize) {
+    let mut stops = 0usize;
+    let mut pins = 0usize;
+    let mut vehicle = 0u32;
+    for route in &view.routes {
+        vehicle = vehicle.saturating_add(1);
+        for customer in route.customers() {
+            stops = stops.saturating_add(1);
+            let pin = view.pinned.get((*customer as usize).wrapping_sub(1));
+            if pin == Some(&Some(vehicle)) {
+                pins = pins.saturating_add(1);
+            }
+        }
+    }
+    (stops, pins)
+}
+
+/// The version of the published plan. No lock is taken.
+fn version<N: Naming, R: Wait + Drop>(seat: &mut Seat<N, R>) -> Option<u32> {
+    seat.refresh().ok()?;
+    Some(seat.view()?.version)
+}
+
+/// The dispatcher pins each customer where it is, and looks at the plan after each pin. Whether each pin was set, and no version was below
+/// the one before.
+fn pin_all<N: Naming, R: Wait + Drop, W: Wait>(rt: &W, setup: &Setup, seat: &mut Seat<N, R>) -> bool
+    requires { setting setup.now ≡ N.opening.setting }
+{
+    let mut last = 0u32;
+    let mut rose = true;
+    for before in 0..setup.customers() {
+        let call = Call::Pin {
+            session: 1,
+            customer: before + 1,
+        };
+        let pinned = seat.submit(rt, setup, call) == Ok(Reply::Done);
+        let next = version(seat).unwrap_or(0);
+        rose = rose && pinned && last <= next;
+        last = next;
+    }
+    rose
+}
+
+/// The seats of three desks.
+#[derive(Drop)]
+struct Three<N: Naming, R: Wait + Drop> {
+    one: Seat<N, R>,
+    two: Seat<N, R>,
+    three: Seat<N, R>,
+}
+
+/// Opens three desks.
+fn opened<N: Naming, R: Wait + Drop>(alloc: Global, room: Anteroom<R>) -> Option<Three<N, R>>
+    requires opening { room.opening ≡ N.opening }
+    requires book { room.book ≡ N.book }
+{
+    let Ok(mut seats) = open_seats::<N, R>(alloc, room) else {
+        return None;
+    };
+    let three = seats.pop()?;
+    let two = seats.pop()?;
+    let one = seats.pop()?;
+    Some(Three { one, two, three })
+}
+
+/// The second and the third desk search while the first one pins. Whether its pins were set and the versions rose.
+fn all_at_once<
+    N: Naming + Send + Sync + 'static,
+    R: Wait + Drop + Send + Sync + 'static,
+    W: Threads + Wait + Copy + Send + Sync + 'static,
+>(rt: W, alloc: Global, setup: &Arc<Setup>, seats: Three<N, R>) -> Option<(Three<N, R>, bool)>
+    requires { setting setup.now.value ≡ N.opening.setting }
+{
+    let Three {
+        mut one,
+        two,
+        three,
+    } = seats;
+    let second = start_search(rt, Search { alloc, session: 2 }, setup, two);
+    let third = start_search(rt, Search { alloc, session: 3 }, setup, three);
+    let rose = pin_all(&rt, setup, &mut one);
+    let two = join_search(&rt, second);
+    let three = join_search(&rt, third);
+    match (two, three) {
+        (Some(two), Some(three)) => Some((Three { one, two, three }, rose)),
+        _ => None,
+    }
+}
+
+/// The version of a copy of the published plan.
+fn copied<N: Naming, R: Wait + Drop>(seat: &mut Seat<N, R>) -> Option<u32> {
+    Some(seat.snapshot().ok()?.version)
+}
+
+/// Has the desks meet, and compares what they then see.
+fn met<N: Naming, R: Wait + Drop, W: Wait>(rt: &W, seats: Three<N, R>, rose: bool) -> Option<End> {
+    let Three {
+        mut one,
+        mut two,
+        mut three,
+    } = seats;
+    one.meet(rt, &mut two);
+    one.meet(rt, &mut three);
+    let seconds = copied(&mut two);
+    let thirds = copied(&mut three);
+    let view = one.snapshot().ok()?;
+    let (stops, pins) = counted(&view);
+    let version = Some(view.version);
+    Some(End {
+        stops,
+        pins,
+        rose,
+        agreed: seconds == version && thirds == version,
+    })
+}
+
+/// Opens three desks and has the first one plan. Then the other two search while it pins, and in the end they meet.
+pub(crate) fn three_desks<
+    N: Naming + Send + Sync + 'static,
+    R: Wait + Drop + Send + Sync + 'static,
+    W: Threads + Wait + Copy + Send + Sync + 'static,
+>(rt: W, alloc: Global, setup: Arc<Setup>, room: Anteroom<R>) -> Option<End>
+    requires opening { room.opening ≡ N.opening }
+    requires book { room.book ≡ N.book }
+    requires setup { setting setup.value ≡ room.opening.setting }
+{
+    let mut seats = opened::<N, R>(alloc, room)?;
+    play(&rt, alloc, &setup, &mut seats.one, PREPARED);
+    let (seats, rose) = all_at_once(rt, alloc, &setup, seats)?;
+    met(&rt, seats, rose)
+}
