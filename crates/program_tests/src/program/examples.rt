@@ -319,6 +319,95 @@ fly
 1 active 9
 1 active 1
 1 audit
+
+# What has left, and what was promised.
+1 freeze 1 1
+1 remove 1 1 2
+1 thaw 1 0
+1 pin 2
+1 pin 2
+1 remove 1 2 2
+
+# Sets of roles.
+1 add-role a
+1 add-role b
+1 add-user u
+1 assign u a
+1 ssd-create s 3 a b
+1 ssd-create s 2 a b
+1 assign u b
+1 ssd-delete s
+1 assign u b
+1 dsd-create d1 2 a b
+1 open u a b
+1 open u root
+1 delete-role a
+
+# There may be 64 sets.
+1 dsd-create d2 2 a b
+1 dsd-create d3 2 a b
+1 dsd-create d4 2 a b
+1 dsd-create d5 2 a b
+1 dsd-create d6 2 a b
+1 dsd-create d7 2 a b
+1 dsd-create d8 2 a b
+1 dsd-create d9 2 a b
+1 dsd-create d10 2 a b
+1 dsd-create d11 2 a b
+1 dsd-create d12 2 a b
+1 dsd-create d13 2 a b
+1 dsd-create d14 2 a b
+1 dsd-create d15 2 a b
+1 dsd-create d16 2 a b
+1 dsd-create d17 2 a b
+1 dsd-create d18 2 a b
+1 dsd-create d19 2 a b
+1 dsd-create d20 2 a b
+1 dsd-create d21 2 a b
+1 dsd-create d22 2 a b
+1 dsd-create d23 2 a b
+1 dsd-create d24 2 a b
+1 dsd-create d25 2 a b
+1 dsd-create d26 2 a b
+1 dsd-create d27 2 a b
+1 dsd-create d28 2 a b
+1 dsd-create d29 2 a b
+1 dsd-create d30 2 a b
+1 dsd-create d31 2 a b
+1 dsd-create d32 2 a b
+1 dsd-create d33 2 a b
+1 dsd-create d34 2 a b
+1 dsd-create d35 2 a b
+1 dsd-create d36 2 a b
+1 dsd-create d37 2 a b
+1 dsd-create d38 2 a b
+1 dsd-create d39 2 a b
+1 dsd-create d40 2 a b
+1 dsd-create d41 2 a b
+1 dsd-create d42 2 a b
+1 dsd-create d43 2 a b
+1 dsd-create d44 2 a b
+1 dsd-create d45 2 a b
+1 dsd-create d46 2 a b
+1 dsd-create d47 2 a b
+1 dsd-create d48 2 a b
+1 dsd-create d49 2 a b
+1 dsd-create d50 2 a b
+1 dsd-create d51 2 a b
+1 dsd-create d52 2 a b
+1 dsd-create d53 2 a b
+1 dsd-create d54 2 a b
+1 dsd-create d55 2 a b
+1 dsd-create d56 2 a b
+1 dsd-create d57 2 a b
+1 dsd-create d58 2 a b
+1 dsd-create d59 2 a b
+1 dsd-create d60 2 a b
+1 dsd-create d61 2 a b
+1 dsd-create d62 2 a b
+1 dsd-create d63 2 a b
+1 dsd-create d64 2 a b
+1 dsd-create d65 2 a b
 ",
         "bad number
 bad word
@@ -400,6 +489,89 @@ event 27 1 27 | 1 close 7 | refused not-there
 event 28 1 28 | 1 ssd-number x 2 | refused no-set
 event 29 1 29 | 1 grant root audit board | done
 end
+done
+denied frozen 1
+done
+done
+refused already
+denied pinned 1 2
+done
+done
+done
+done
+refused number
+done
+refused ssd s
+done
+done
+done
+refused dsd d1
+refused not-authorized
+refused in-set
+done
+done
+done
+done
+done
+done
+done
+done
+done
+done
+done
+done
+done
+done
+done
+done
+done
+done
+done
+done
+done
+done
+done
+done
+done
+done
+done
+done
+done
+done
+done
+done
+done
+done
+done
+done
+done
+done
+done
+done
+done
+done
+done
+done
+done
+done
+done
+done
+done
+done
+done
+done
+done
+done
+done
+done
+done
+done
+done
+done
+done
+done
+done
+refused full
 ",
     ),
     (
