@@ -22,6 +22,8 @@ use Rattle.board_lines.specs.declared.word.SetWord.TheVariants as sets
 use Rattle.board_lines.specs.declared.word.SessionWord.TheVariants as sessions
 use Rattle.board_lines.specs.declared.word.AskWord.TheVariants as asks
 use Rattle.board_lines.specs.declared.reading.Head.{Head}
+use Rattle.board_lines.specs.declared.reading.Proposed.{Proposed}
+use Rattle.board_lines.specs.declared.reading.Order.{Order}
 use Rattle.board_lines.specs.declared.reading.Head.TheVariants as heads
 use Rattle.board_lines.specs.Table.{row_of, word_of}
 use Rattle.board_lines.specs.Arguments.{Arguments, no_more, the_object, the_range, the_names, a_number, a_name, an_operation, ◌>>=◌, number_arg, arguments_of}
@@ -37,8 +39,18 @@ SaysAs f (Ok x) read = read ≡ Ok (f x)
 SaysAs f (Err NoMemory) read = Unit {0}
 SaysAs f (Err (Line fault)) read = read ≡ Err fault
 
+-- What a function returned is the proposal, or the fault, that was to be read.
+abbrev pub Proposes : Result Proposed LineFault → Result Command LineFault → Type 0
+Proposes (Ok p) read = read ≡ Ok (Submit (calls.Propose p.session p.base p.mv))
+Proposes (Err fault) read = read ≡ Err fault
+
 abbrev pub by_policy : ℕ → PolicyCommand → Command
 by_policy session command = Submit (calls.Policy session command)
+
+-- What a function returned is the change of the policy, or the fault, that was to be read.
+abbrev pub Orders : Result Order LineFault → Result Command LineFault → Type 0
+Orders (Ok o) read = read ≡ Ok (by_policy o.session o.command)
+Orders (Err fault) read = read ≡ Err fault
 
 -- ---- the command of a word and its arguments; nothing else follows
 

@@ -26,6 +26,7 @@ fn name_argument(word: &[u8]) -> Result<Name, LineFault>
     Name::new(word).ok_or(LineFault::Name)
 }
 
+#[inline(always)]
 fn operation_argument(word: &[u8]) -> Result<Operation, LineFault>
     ensures { result ≡ operation_arg word.now }
 {
@@ -124,6 +125,7 @@ fn numbers_of_six(
 
 /// Whether the right number of words follows the kind of an object: none after `board`, and `each` after `vehicle` and `customer`. The
 /// words after another kind are not counted.
+#[inline(always)]
 fn is_counted(each: usize, kind: &[u8], numbers: &[&[u8]]) -> bool
     ensures { result ≡ is_counted each kind.now (map (λ w. w.now) numbers.now) }
 {
@@ -136,6 +138,7 @@ fn is_counted(each: usize, kind: &[u8], numbers: &[&[u8]]) -> bool
     }
 }
 
+#[inline(always)]
 fn one_argument(numbers: &[&[u8]]) -> Result<u32, LineFault>
     ensures { result ≡ one_arg (map (λ w. w.now) numbers.now) }
 {
@@ -156,6 +159,7 @@ fn pair_argument(numbers: &[&[u8]]) -> Result<(u32, u32), LineFault>
     Ok((first, last))
 }
 
+#[inline(always)]
 fn object_argument(kind: &[u8], numbers: &[&[u8]]) -> Result<Object, LineFault>
     ensures { result ≡ object_arg kind.now (map (λ w. w.now) numbers.now) }
 {
@@ -346,6 +350,7 @@ pub(crate) fn permission(arguments: &[&[u8]]) -> Result<(Name, Operation, Object
 
 /// An operation and the object to which it would be done.
 #[tactic(auto, unfolding(crate::specs::Arguments::arguments_of))]
+#[inline(always)]
 pub(crate) fn access(arguments: &[&[u8]]) -> Result<(Operation, Object), LineFault>
     ensures { read_as (λ a. an_operation a.0 (the_object a.1)) result
         ≡ arguments_of (operation object) (map (λ w. w.now) arguments.now) }

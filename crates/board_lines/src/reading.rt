@@ -4,9 +4,10 @@ ghost use Rattle.std.specs.Prelude.{◌≡◌, map};
 ghost use Rattle.board_rules.specs.declared.call.Call.TheVariants as calls;
 ghost use Rattle.board_lines.specs.declared.command.Command.TheVariants.{Submit};
 ghost use Rattle.board_lines.specs.declared.word.Word.TheVariants.{Propose, Hold, Manage, Separate, Session, Ask};
+ghost use Rattle.board_lines.specs.declared.word.ManageWord.TheVariants as manages;
 ghost use Rattle.board_lines.specs.declared.word.Separation.TheVariants.{Static, Dynamic};
 ghost use Rattle.text_words.specs.Words.{words as line_words, AreFirstOf};
-ghost use Rattle.board_lines.specs.Reading.{Says, Begins, by_policy, after_word, words_read, read_of};
+ghost use Rattle.board_lines.specs.Reading.{Says, Proposes, Orders, Begins, by_policy, after_word, words_read, read_of};
 
 use crate::arguments::{
     access, five_numbers, four_numbers, name_and_names, name_and_number, name_number_and_names,
@@ -25,11 +26,36 @@ use text_words::keep_all_words;
 
 // ---- each family of commands, by the words after the command's word; one function each, since each fills a large result
 
+/// A proposal, as a line makes it.
+#[derive(Clone, Copy, Drop)]
+pub struct Proposed {
+    pub session: u32,
+    pub base: u32,
+    pub mv: Move,
+}
+
+/// A change of the policy, as a line asks for it.
+#[derive(Drop)]
+pub struct Order {
+    pub session: u32,
+    pub command: PolicyCommand,
+}
+
 #[inline(always)]
-fn proposed(session: u32, base: u32, mv: Move) -> Command
-    ensures { result ≡ Submit (calls.Propose session base mv) }
+fn order_of(session: u32, command: PolicyCommand) -> Order
+    ensures session { result.session ≡ session }
+    ensures command { result.command ≡ command }
 {
-    Command::Submit(Call::Propose { session, base, mv })
+    Order { session, command }
+}
+
+#[inline(always)]
+fn proposal_of(session: u32, base: u32, mv: Move) -> Proposed
+    ensures session { result.session ≡ session }
+    ensures base { result.base ≡ base }
+    ensures mv { result.mv ≡ mv }
+{
+    Proposed { session, base, mv }
 }
 
 #[inline(always)]
@@ -39,15 +65,21 @@ fn by_policy(session: u32, command: PolicyCommand) -> Command
     Command::Submit(Call::Policy { session, command })
 }
 
+/// What a line proposes, or its first fault, where its session and the word of a move are known, by the words after that. A proposal is much
+/// shorter than a command, which has room for names.
 #[tactic(auto, unfolding(crate::specs::Reading::command_of))]
 #[inline(never)]
-fn proposal(session: u32, word: MoveWord, arguments: &[&[u8]]) -> Result<Command, ReadFault>
-    ensures { Says result (after_word session (Propose word) (map (λ w. w.now) arguments.now)) }
+pub fn read_proposal(
+    session: u32,
+    word: MoveWord,
+    arguments: &[&[u8]],
+) -> Result<Proposed, LineFault>
+    ensures { Proposes result (after_word session (Propose word) (map (λ w. w.now) arguments.now)) }
 {
     match word {
         MoveWord::Insert => {
             let (customer, vehicle, place, base) = four_numbers(arguments)?;
-            Ok(proposed(
+            Ok(proposal_of(
                 session,
                 base,
                 Move::Insert {
@@ -59,11 +91,11 @@ fn proposal(session: u32, word: MoveWord, arguments: &[&[u8]]) -> Result<Command
         }
         MoveWord::Remove => {
             let (vehicle, place, base) = three_numbers(arguments)?;
-            Ok(proposed(session, base, Move::Remove { vehicle, place }))
+            Ok(proposal_of(session, base, Move::Remove { vehicle, place }))
         }
         MoveWord::Shift => {
             let (vehicle, place, length, to, at, base) = six_numbers(arguments)?;
-            Ok(proposed(
+            Ok(proposal_of(
                 session,
                 base,
                 Move::Shift {
@@ -77,7 +109,7 @@ fn proposal(session: u32, word: MoveWord, arguments: &[&[u8]]) -> Result<Command
         }
         MoveWord::Swap => {
             let (vehicle, place, other, at, base) = five_numbers(arguments)?;
-            Ok(proposed(
+            Ok(proposal_of(
                 session,
                 base,
                 Move::Swap {
@@ -90,7 +122,7 @@ fn proposal(session: u32, word: MoveWord, arguments: &[&[u8]]) -> Result<Command
         }
         MoveWord::Reverse => {
             let (vehicle, first, last, base) = four_numbers(arguments)?;
-            Ok(proposed(
+            Ok(proposal_of(
                 session,
                 base,
                 Move::Reverse {
@@ -102,7 +134,7 @@ fn proposal(session: u32, word: MoveWord, arguments: &[&[u8]]) -> Result<Command
         }
         MoveWord::Cross => {
             let (vehicle, keep, other, keep_other, base) = five_numbers(arguments)?;
-            Ok(proposed(
+            Ok(proposal_of(
                 session,
                 base,
                 Move::Cross {
@@ -114,6 +146,14 @@ fn proposal(session: u32, word: MoveWord, arguments: &[&[u8]]) -> Result<Command
             ))
         }
     }
+}
+
+#[inline(never)]
+fn proposal(session: u32, word: MoveWord, arguments: &[&[u8]]) -> Result<Command, ReadFault>
+    ensures { Says result (after_word session (Propose word) (map (λ w. w.now) arguments.now)) }
+{
+    let Proposed { session, base, mv } = read_proposal(session, word, arguments)?;
+    Ok(Command::Submit(Call::Propose { session, base, mv }))
 }
 
 #[tactic(auto, unfolding(crate::specs::Reading::command_of))]
@@ -149,71 +189,119 @@ fn hold(session: u32, word: HoldWord, arguments: &[&[u8]]) -> Result<Command, Re
     }
 }
 
+// Two names and permissions are read out of line, so that the other lines do not pay for their room.
+
 #[tactic(auto, unfolding(crate::specs::Reading::command_of))]
 #[inline(never)]
-fn manage(session: u32, word: ManageWord, arguments: &[&[u8]]) -> Result<Command, ReadFault>
-    ensures { Says result (after_word session (Manage word) (map (λ w. w.now) arguments.now)) }
+fn assignment(session: u32, arguments: &[&[u8]]) -> Result<Order, LineFault>
+    ensures { Orders result (after_word session (Manage manages.Assign) (map (λ w. w.now) arguments.now)) }
+{
+    let (user, role) = two_names(arguments)?;
+    Ok(order_of(session, PolicyCommand::AssignUser { user, role }))
+}
+
+#[tactic(auto, unfolding(crate::specs::Reading::command_of))]
+#[inline(never)]
+fn deassignment(session: u32, arguments: &[&[u8]]) -> Result<Order, LineFault>
+    ensures { Orders result (after_word session (Manage manages.Deassign) (map (λ w. w.now) arguments.now)) }
+{
+    let (user, role) = two_names(arguments)?;
+    Ok(order_of(session, PolicyCommand::DeassignUser { user, role }))
+}
+
+#[tactic(auto, unfolding(crate::specs::Reading::command_of))]
+#[inline(never)]
+fn grant(session: u32, arguments: &[&[u8]]) -> Result<Order, LineFault>
+    ensures { Orders result (after_word session (Manage manages.Grant) (map (λ w. w.now) arguments.now)) }
+{
+    let (role, operation, range) = permission(arguments)?;
+    Ok(order_of(
+        session,
+        PolicyCommand::GrantPermission {
+            role,
+            operation,
+            range,
+        },
+    ))
+}
+
+#[tactic(auto, unfolding(crate::specs::Reading::command_of))]
+#[inline(never)]
+fn revocation(session: u32, arguments: &[&[u8]]) -> Result<Order, LineFault>
+    ensures { Orders result (after_word session (Manage manages.Revoke) (map (λ w. w.now) arguments.now)) }
+{
+    let (role, operation, range) = permission(arguments)?;
+    Ok(order_of(
+        session,
+        PolicyCommand::RevokePermission {
+            role,
+            operation,
+            range,
+        },
+    ))
+}
+
+#[tactic(auto, unfolding(crate::specs::Reading::command_of))]
+#[inline(never)]
+fn inheritance(session: u32, arguments: &[&[u8]]) -> Result<Order, LineFault>
+    ensures { Orders result (after_word session (Manage manages.Inherit) (map (λ w. w.now) arguments.now)) }
+{
+    let (senior, junior) = two_names(arguments)?;
+    Ok(order_of(session, PolicyCommand::AddInheritance { senior, junior }))
+}
+
+#[tactic(auto, unfolding(crate::specs::Reading::command_of))]
+#[inline(never)]
+fn disinheritance(session: u32, arguments: &[&[u8]]) -> Result<Order, LineFault>
+    ensures { Orders result (after_word session (Manage manages.Uninherit) (map (λ w. w.now) arguments.now)) }
+{
+    let (senior, junior) = two_names(arguments)?;
+    Ok(order_of(session, PolicyCommand::DeleteInheritance { senior, junior }))
+}
+
+/// What a line asks of users, roles, assignments, permissions or pairs, or its first fault, where its session and the command's word are
+/// known, by the words after that.
+#[tactic(auto, unfolding(crate::specs::Reading::command_of))]
+#[inline(never)]
+pub fn read_order(session: u32, word: ManageWord, arguments: &[&[u8]]) -> Result<Order, LineFault>
+    ensures { Orders result (after_word session (Manage word) (map (λ w. w.now) arguments.now)) }
 {
     match word {
         ManageWord::AddUser => {
             let user = one_name(arguments)?;
-            Ok(by_policy(session, PolicyCommand::AddUser { user }))
+            Ok(order_of(session, PolicyCommand::AddUser { user }))
         }
         ManageWord::DeleteUser => {
             let user = one_name(arguments)?;
-            Ok(by_policy(session, PolicyCommand::DeleteUser { user }))
+            Ok(order_of(session, PolicyCommand::DeleteUser { user }))
         }
         ManageWord::AddRole => {
             let role = one_name(arguments)?;
-            Ok(by_policy(session, PolicyCommand::AddRole { role }))
+            Ok(order_of(session, PolicyCommand::AddRole { role }))
         }
         ManageWord::DeleteRole => {
             let role = one_name(arguments)?;
-            Ok(by_policy(session, PolicyCommand::DeleteRole { role }))
+            Ok(order_of(session, PolicyCommand::DeleteRole { role }))
         }
-        ManageWord::Assign => {
-            let (user, role) = two_names(arguments)?;
-            Ok(by_policy(session, PolicyCommand::AssignUser { user, role }))
-        }
-        ManageWord::Deassign => {
-            let (user, role) = two_names(arguments)?;
-            Ok(by_policy(session, PolicyCommand::DeassignUser { user, role }))
-        }
-        ManageWord::Grant => {
-            let (role, operation, range) = permission(arguments)?;
-            Ok(by_policy(
-                session,
-                PolicyCommand::GrantPermission {
-                    role,
-                    operation,
-                    range,
-                },
-            ))
-        }
-        ManageWord::Revoke => {
-            let (role, operation, range) = permission(arguments)?;
-            Ok(by_policy(
-                session,
-                PolicyCommand::RevokePermission {
-                    role,
-                    operation,
-                    range,
-                },
-            ))
-        }
-        ManageWord::Inherit => {
-            let (senior, junior) = two_names(arguments)?;
-            Ok(by_policy(session, PolicyCommand::AddInheritance { senior, junior }))
-        }
-        ManageWord::Uninherit => {
-            let (senior, junior) = two_names(arguments)?;
-            Ok(by_policy(session, PolicyCommand::DeleteInheritance { senior, junior }))
-        }
+        ManageWord::Assign => assignment(session, arguments),
+        ManageWord::Deassign => deassignment(session, arguments),
+        ManageWord::Grant => grant(session, arguments),
+        ManageWord::Revoke => revocation(session, arguments),
+        ManageWord::Inherit => inheritance(session, arguments),
+        ManageWord::Uninherit => disinheritance(session, arguments),
         ManageWord::Migrate => {
             no_arguments(arguments)?;
-            Ok(by_policy(session, PolicyCommand::Migrate))
+            Ok(order_of(session, PolicyCommand::Migrate))
         }
     }
+}
+
+#[inline(never)]
+fn manage(session: u32, word: ManageWord, arguments: &[&[u8]]) -> Result<Command, ReadFault>
+    ensures { Says result (after_word session (Manage word) (map (λ w. w.now) arguments.now)) }
+{
+    let Order { session, command } = read_order(session, word, arguments)?;
+    Ok(by_policy(session, command))
 }
 
 #[tactic(auto, unfolding(crate::specs::Reading::command_of))]

@@ -95,6 +95,7 @@ pub enum AskWord {
     Active,
 }
 
+#[inline(always)]
 fn of_a(word: &[u8]) -> Option<Word>
     ensures { result ≡ lookup (bytes_eq word.now) (of_letter 97) }
 {
@@ -115,6 +116,7 @@ fn of_a(word: &[u8]) -> Option<Word>
     }
 }
 
+#[inline(always)]
 fn of_c(word: &[u8]) -> Option<Word>
     ensures { result ≡ lookup (bytes_eq word.now) (of_letter 99) }
 {
@@ -129,6 +131,7 @@ fn of_c(word: &[u8]) -> Option<Word>
     }
 }
 
+#[inline(always)]
 fn of_d(word: &[u8]) -> Option<Word>
     ensures { result ≡ lookup (bytes_eq word.now) (of_letter 100) }
 {
@@ -155,6 +158,7 @@ fn of_d(word: &[u8]) -> Option<Word>
     }
 }
 
+#[inline(always)]
 fn of_f(word: &[u8]) -> Option<Word>
     ensures { result ≡ lookup (bytes_eq word.now) (of_letter 102) }
 {
@@ -165,6 +169,7 @@ fn of_f(word: &[u8]) -> Option<Word>
     }
 }
 
+#[inline(always)]
 fn of_g(word: &[u8]) -> Option<Word>
     ensures { result ≡ lookup (bytes_eq word.now) (of_letter 103) }
 {
@@ -175,6 +180,7 @@ fn of_g(word: &[u8]) -> Option<Word>
     }
 }
 
+#[inline(always)]
 fn of_i(word: &[u8]) -> Option<Word>
     ensures { result ≡ lookup (bytes_eq word.now) (of_letter 105) }
 {
@@ -187,6 +193,7 @@ fn of_i(word: &[u8]) -> Option<Word>
     }
 }
 
+#[inline(always)]
 fn of_j(word: &[u8]) -> Option<Word>
     ensures { result ≡ lookup (bytes_eq word.now) (of_letter 106) }
 {
@@ -197,6 +204,7 @@ fn of_j(word: &[u8]) -> Option<Word>
     }
 }
 
+#[inline(always)]
 fn of_l(word: &[u8]) -> Option<Word>
     ensures { result ≡ lookup (bytes_eq word.now) (of_letter 108) }
 {
@@ -207,6 +215,7 @@ fn of_l(word: &[u8]) -> Option<Word>
     }
 }
 
+#[inline(always)]
 fn of_m(word: &[u8]) -> Option<Word>
     ensures { result ≡ lookup (bytes_eq word.now) (of_letter 109) }
 {
@@ -217,6 +226,7 @@ fn of_m(word: &[u8]) -> Option<Word>
     }
 }
 
+#[inline(always)]
 fn of_o(word: &[u8]) -> Option<Word>
     ensures { result ≡ lookup (bytes_eq word.now) (of_letter 111) }
 {
@@ -227,6 +237,7 @@ fn of_o(word: &[u8]) -> Option<Word>
     }
 }
 
+#[inline(always)]
 fn of_p(word: &[u8]) -> Option<Word>
     ensures { result ≡ lookup (bytes_eq word.now) (of_letter 112) }
 {
@@ -237,6 +248,7 @@ fn of_p(word: &[u8]) -> Option<Word>
     }
 }
 
+#[inline(always)]
 fn of_r(word: &[u8]) -> Option<Word>
     ensures { result ≡ lookup (bytes_eq word.now) (of_letter 114) }
 {
@@ -253,6 +265,7 @@ fn of_r(word: &[u8]) -> Option<Word>
     }
 }
 
+#[inline(always)]
 fn of_s(word: &[u8]) -> Option<Word>
     ensures { result ≡ lookup (bytes_eq word.now) (of_letter 115) }
 {
@@ -275,6 +288,7 @@ fn of_s(word: &[u8]) -> Option<Word>
     }
 }
 
+#[inline(always)]
 fn of_t(word: &[u8]) -> Option<Word>
     ensures { result ≡ lookup (bytes_eq word.now) (of_letter 116) }
 {
@@ -285,6 +299,7 @@ fn of_t(word: &[u8]) -> Option<Word>
     }
 }
 
+#[inline(always)]
 fn of_u(word: &[u8]) -> Option<Word>
     ensures { result ≡ lookup (bytes_eq word.now) (of_letter 117) }
 {
@@ -301,6 +316,7 @@ fn of_u(word: &[u8]) -> Option<Word>
 
 impl Word {
     /// The command that the word names, in lower case exactly. The word is compared only with those of the same first letter.
+    #[inline(always)]
     pub fn of(word: &[u8]) -> Option<Word>
         ensures { result ≡ word_of word.now }
     {

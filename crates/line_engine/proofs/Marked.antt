@@ -5,7 +5,10 @@ use Rattle.board_lines.specs.declared.command.Command.TheVariants as commands
 use Rattle.board_lines.specs.declared.command.LineFault.{LineFault}
 use Rattle.board_lines.specs.declared.command.ReadFault.{ReadFault}
 use Rattle.board_lines.specs.declared.command.ReadFault.TheVariants.{Line, NoMemory}
-use Rattle.board_lines.specs.Reading.{Says}
+use Rattle.board_lines.specs.declared.reading.Proposed.{Proposed}
+use Rattle.board_lines.specs.declared.reading.Order.{Order}
+use Rattle.board_lines.specs.Reading.{Says, Proposes, Orders, by_policy}
+use Rattle.board_rules.specs.declared.call.Call.TheVariants as calls
 use Rattle.line_front.specs.Answers.{Answer}
 use Rattle.line_engine.specs.Outcomes.{Said, Bad}
 use Rattle.line_engine.specs.Leaving.{Does, Gives, Fails, Drops, Loses, RunsOut, as_json, asked}
@@ -56,6 +59,30 @@ dropped step refuses old new read command is (Err e) h = elim h [
   | inl r ↦ inr (inl (subst (λ (x : Result Command LineFault). RunsOut refuses old x new) (sym is) r))
   | inr o ↦ inr (inr (o.0, subst (λ (x : Result Command LineFault). Gives step old x o.0 new) (sym is) o.1))
 ]
+
+-- a line that was read as a command which the front answers itself
+module _ {S E : Type 0} (step : S → Command → Answer → S → Type 0) (refuses : S → Command → S → Type 0) (old new : S) (read : Result Command LineFault) (command : Command) (is : read ≡ Ok command) (plain : IsPlain step old command new) where
+  pub answered : (text : List ℕ) (r : Result Mark E) → IfOk r (Tells step old command new text) → IfOk r (Marks (λ outcome. Gives step old read outcome new) text)
+  answered text (Ok mark) t =
+      record { outcome = Said t.0; holds = subst (λ (x : Result Command LineFault). Gives step old x (Said t.0) new) (sym is) (plain t.0 t.1); told = t.2; replied = t.3; refused = t.4 }
+  answered text (Err e) t = tt
+
+  pub unanswered : asked command ≡ command → (r : Result Mark E) → OnErr r (Loses step refuses old command new) → OnErr r (Drops step refuses old read new)
+  unanswered same r h = dropped step refuses old new read command is r (failed step refuses old new command command refl same plain r h)
+
+-- what was to be read, by what reading a proposal returned
+pub proposed : (r : Result Proposed LineFault) (read : Result Command LineFault) (p : Proposed) → r ≡ Ok p → Proposes r read → read ≡ Ok (commands.Submit (calls.Propose p.session p.base p.mv))
+proposed r read p is h = subst (λ (x : Result Proposed LineFault). Proposes x read) is h
+
+-- and by what reading a change of the policy returned
+pub ordered : (r : Result Order LineFault) (read : Result Command LineFault) (o : Order) → r ≡ Ok o → Orders r read → read ≡ Ok (by_policy o.session o.command)
+ordered r read o is h = subst (λ (x : Result Order LineFault). Orders x read) is h
+
+pub not_ordered : (r : Result Order LineFault) (read : Result Command LineFault) (fault : LineFault) → r ≡ Err fault → Orders r read → read ≡ Err fault
+not_ordered r read fault is h = subst (λ (x : Result Order LineFault). Orders x read) is h
+
+pub not_proposed : (r : Result Proposed LineFault) (read : Result Command LineFault) (fault : LineFault) → r ≡ Err fault → Proposes r read → read ≡ Err fault
+not_proposed r read fault is h = subst (λ (x : Result Proposed LineFault). Proposes x read) is h
 
 -- a line that is not a command
 pub untold : {S E : Type 0} (step : S → Command → Answer → S → Type 0) (old : S) (read : Result Command LineFault) (got : Result Command ReadFault) (fault : ReadFault) → got ≡ Err fault → Says got read

@@ -74,7 +74,8 @@ fn refused_line(text: &mut String, fault: AskFault) -> Result<(), AllocError>
 
 // ---- commands, each with an empty text before
 
-fn reply<R, F: Front<R>>(
+#[inline(always)]
+pub(crate) fn reply<R, F: Front<R>>(
     rt: &R,
     front: &mut F,
     text: &mut String,
@@ -107,7 +108,7 @@ fn reply<R, F: Front<R>>(
 }
 
 #[inline(always)]
-fn propose<R, F: Front<R>>(
+pub(crate) fn propose<R, F: Front<R>>(
     rt: &R,
     front: &mut F,
     text: &mut String,
@@ -140,25 +141,6 @@ fn propose<R, F: Front<R>>(
             fault_line(text, Fault::Full)?;
             Ok(Mark::Text(true))
         }
-    }
-}
-
-#[inline(always)]
-fn submit<R, F: Front<R>>(
-    rt: &R,
-    front: &mut F,
-    text: &mut String,
-    call: Call,
-) -> Result<Mark, OutOfMemory>
-    requires ready { F.ready front.old }
-    requires none { string_bytes text.old ≡ [] }
-    ensures ready { F.ready front.new }
-    ensures ok { IfOk result (Tells F.step (F.seen front.old) (Command.Submit call) (F.seen front.new) (string_bytes text.new)) }
-    ensures err { OnErr result (Loses F.step F.refuses (F.seen front.old) (Command.Submit call) (F.seen front.new)) }
-{
-    match call {
-        Call::Propose { session, base, mv } => propose(rt, front, text, session, base, mv),
-        call => reply(rt, front, text, call),
     }
 }
 
@@ -298,7 +280,7 @@ pub(crate) fn obey<R, F: Front<R>>(
 {
     match command {
         Command::Skip => Ok(Mark::Nothing),
-        Command::Submit(call) => submit(rt, front, text, call),
+        Command::Submit(call) => reply(rt, front, text, call),
         Command::List { session } => list(rt, front, text, session),
         Command::Json { session } => json(rt, front, text, session),
         Command::Audit { session } => audit(rt, front, text, session),

@@ -4,16 +4,21 @@ ghost use Rattle.std.specs.Prelude.{◌≡◌, ◌+◌, ◌<◌, ◌≤◌, ◌�
 ghost use Rattle.std.specs.Io.KnownBytes.{Appends};
 ghost use Rattle.text_words.specs.Words.{words as line_words};
 ghost use Rattle.board_lines.specs.Reading.{after_word, read_of, words_read};
+ghost use Rattle.board_lines.specs.declared.word.Word.TheVariants.{Propose, Manage};
 ghost use Rattle.line_engine.specs.Leaving.{Gives, Drops};
 ghost use Rattle.line_engine.specs.Marks.{Marks};
 ghost use Rattle.line_engine.specs.Running.{body, Grows, Served, ServeBroken, Progress, Broken, IsLine, HasNoEnd, BrokenWithin, EndsLast, Finished, Reaches, last_line};
 ghost use Rattle.line_engine.specs.WholeRuns.{IsAnswered, IsStopped};
 
-use crate::answer::{OutOfMemory, obey, unread};
+use crate::answer::{OutOfMemory, obey, propose, reply, unread};
 use crate::mark::Mark;
 use crate::outbox::Outbox;
 use crate::run_fault::{Counts, RunFault};
-use board_lines::{Head, Word, read_command, read_head};
+use board_lines::{
+    Head, ManageWord, MoveWord, Order, Proposed, Word, read_command, read_head, read_order,
+    read_proposal,
+};
+use board_rules::Call;
 use line_front::Front;
 use std::alloc::Global;
 use std::io::{Read, Write};
@@ -43,6 +48,54 @@ fn ask<R, F: Front<R>>(
     }
 }
 
+/// Submits to the front the proposal of a line whose session and word of a move are known, and replaces `text` by the text of the answer.
+// Out of line as well; apart from `ask`, so that no line that makes a proposal pays for the room of other commands.
+#[inline(never)]
+fn ask_move<R, F: Front<R>>(
+    rt: &R,
+    front: &mut F,
+    text: &mut String,
+    session: u32,
+    word: MoveWord,
+    arguments: &[&[u8]],
+) -> Result<Mark, OutOfMemory>
+    requires ready { F.ready front.old }
+    ensures ready { F.ready front.new }
+    ensures ok { IfOk result (Marks (λ outcome. Gives F.step (F.seen front.old) (after_word session (Propose word) (map (λ w. w.now) arguments.now)) outcome (F.seen front.new)) (string_bytes text.new)) }
+    ensures err { OnErr result (Drops F.step F.refuses (F.seen front.old) (after_word session (Propose word) (map (λ w. w.now) arguments.now)) (F.seen front.new)) }
+{
+    text.clear();
+    match read_proposal(session, word, arguments) {
+        Ok(Proposed { session, base, mv }) => propose(rt, front, text, session, base, mv),
+        Err(fault) => Ok(Mark::Bad(fault)),
+    }
+}
+
+/// Submits to the front the change of the policy of a line whose session and word are known, and replaces `text` by the text of the answer.
+// Apart from `ask` for the same reason.
+#[inline(never)]
+fn ask_order<R, F: Front<R>>(
+    rt: &R,
+    front: &mut F,
+    text: &mut String,
+    session: u32,
+    word: ManageWord,
+    arguments: &[&[u8]],
+) -> Result<Mark, OutOfMemory>
+    requires ready { F.ready front.old }
+    ensures ready { F.ready front.new }
+    ensures ok { IfOk result (Marks (λ outcome. Gives F.step (F.seen front.old) (after_word session (Manage word) (map (λ w. w.now) arguments.now)) outcome (F.seen front.new)) (string_bytes text.new)) }
+    ensures err { OnErr result (Drops F.step F.refuses (F.seen front.old) (after_word session (Manage word) (map (λ w. w.now) arguments.now)) (F.seen front.new)) }
+{
+    text.clear();
+    match read_order(session, word, arguments) {
+        Ok(Order { session, command }) => {
+            reply(rt, front, text, Call::Policy { session, command })
+        }
+        Err(fault) => Ok(Mark::Bad(fault)),
+    }
+}
+
 /// Asks the front what a line of these words says, and replaces `text` by the text of the answer.
 #[inline(always)]
 fn answer_words<R, F: Front<R>>(
@@ -59,6 +112,20 @@ fn answer_words<R, F: Front<R>>(
 {
     match read_head(words) {
         Ok(Head::Skip) => Ok(Mark::Nothing),
+        Ok(
+            Head::Asks {
+                session,
+                word: Word::Propose(word),
+                arguments,
+            },
+        ) => ask_move(rt, front, text, session, word, arguments),
+        Ok(
+            Head::Asks {
+                session,
+                word: Word::Manage(word),
+                arguments,
+            },
+        ) => ask_order(rt, front, text, session, word, arguments),
         Ok(
             Head::Asks {
                 session,

@@ -2,6 +2,7 @@
 
 ghost use Rattle.std.specs.Prelude.{◌≡◌, ◌+◌, ◌<◌, ◌++◌, [], if◌then◌else◌, nat_le, length, OnOk, OnErr, IfOk, IfErr, string_bytes};
 ghost use Rattle.std.specs.Io.KnownBytes.{Appends};
+ghost use Rattle.board_lines.specs.Replies.{ended, line_fault_text};
 ghost use Rattle.line_engine.specs.Marks.{mark_text, mark_has_reply, mark_is_refusal};
 ghost use Rattle.line_engine.specs.Running.{AppendsFront, Reaches, MayBeWrite};
 
@@ -28,6 +29,21 @@ pub(crate) struct Outbox {
     pub(crate) text: String,
 }
 
+/// The reply to a bad line.
+#[inline(always)]
+fn bad_text(fault: LineFault) -> &'static [u8]
+    ensures { result.now ≡ ended (line_fault_text fault) }
+{
+    match fault {
+        LineFault::Number => b"bad number\n".as_slice(),
+        LineFault::Word => b"bad word\n".as_slice(),
+        LineFault::Count => b"bad count\n".as_slice(),
+        LineFault::Name => b"bad name\n".as_slice(),
+        LineFault::Op => b"bad op\n".as_slice(),
+        LineFault::Object => b"bad object\n".as_slice(),
+    }
+}
+
 impl Outbox {
     pub(crate) fn new(alloc: Global) -> Result<Outbox, AllocError>
         ensures held { IfOk result (λ outbox. outbox.held.items ≡ []) }
@@ -49,30 +65,8 @@ impl Outbox {
         self.held.len() >= FULL_BYTES
     }
 
-    /// Appends what is written for a line to the replies that are held. Running out of memory changes nothing.
-    #[inline(always)]
-    fn hold(&mut self, mark: Mark) -> Result<(), AllocError>
-        ensures text { OnOk result (self.new.held.items ≡ self.old.held.items ++ mark_text mark (string_bytes self.old.text)) }
-        ensures err { OnErr result (self.new.held.items ≡ self.old.held.items) }
-        ensures tally { self.new.tally ≡ self.old.tally }
-    {
-        match mark {
-            Mark::Nothing => Ok(()),
-            Mark::Text(_) => self.held.extend_from_slice(self.text.as_bytes()),
-            Mark::Done => self.held.extend_from_slice(b"done\n"),
-            Mark::Checked(true) => self.held.extend_from_slice(b"yes\n"),
-            Mark::Checked(false) => self.held.extend_from_slice(b"no\n"),
-            Mark::NoSession => self.held.extend_from_slice(b"denied no-session\n"),
-            Mark::Bad(LineFault::Number) => self.held.extend_from_slice(b"bad number\n"),
-            Mark::Bad(LineFault::Word) => self.held.extend_from_slice(b"bad word\n"),
-            Mark::Bad(LineFault::Count) => self.held.extend_from_slice(b"bad count\n"),
-            Mark::Bad(LineFault::Name) => self.held.extend_from_slice(b"bad name\n"),
-            Mark::Bad(LineFault::Op) => self.held.extend_from_slice(b"bad op\n"),
-            Mark::Bad(LineFault::Object) => self.held.extend_from_slice(b"bad object\n"),
-        }
-    }
-
     /// Appends the text of a line's answer to the replies that are held, and counts it. Running out of memory changes neither.
+    // Each short reply has an arm of its own, since the copy of a text of a known length takes a few instructions.
     #[inline(always)]
     pub(crate) fn put(&mut self, mark: Mark) -> Result<(), AllocError>
         requires { self.old.tally.seen < 4294967296 }
@@ -82,8 +76,37 @@ impl Outbox {
         ensures refused { OnOk result (self.new.tally.refused ≡ self.old.tally.refused + (if mark_is_refusal mark then 1 else 0)) }
         ensures err { OnErr result (self.new.held.items ≡ self.old.held.items) }
     {
-        self.hold(mark)?;
-        self.tally.count(mark.has_reply(), mark.is_refusal());
+        match mark {
+            Mark::Nothing => self.tally.count(false, false),
+            Mark::Text(is_refusal) => {
+                self.held.extend_from_slice(self.text.as_bytes())?;
+                self.tally.count(true, is_refusal);
+            }
+            Mark::Done => {
+                self.held.extend_from_slice(b"done\n")?;
+                self.tally.count(true, false);
+            }
+            Mark::Checked(true) => {
+                self.held.extend_from_slice(b"yes\n")?;
+                self.tally.count(true, false);
+            }
+            Mark::Checked(false) => {
+                self.held.extend_from_slice(b"no\n")?;
+                self.tally.count(true, false);
+            }
+            Mark::NoSession => {
+                self.held.extend_from_slice(b"denied no-session\n")?;
+                self.tally.count(true, true);
+            }
+            Mark::Bad(LineFault::Word) => {
+                self.held.extend_from_slice(b"bad word\n")?;
+                self.tally.count(true, true);
+            }
+            Mark::Bad(fault) => {
+                self.held.extend_from_slice(bad_text(fault))?;
+                self.tally.count(true, true);
+            }
+        }
         Ok(())
     }
 

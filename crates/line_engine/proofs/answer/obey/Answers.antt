@@ -3,10 +3,10 @@ use Rattle.line_engine.proofs.Marked.{obeyed, failed, obeyed_json, failed_json}
 use Rattle.line_engine.proofs.answer.obey.Goals as goal
 
 pub returns-in-Submit-clause-ok : goal.returns-in-Submit-clause-ok
-returns-in-Submit-clause-ok g c = obeyed g.F.Front.step g.F.Front.refuses _ _ _ _ c.in-Submit.is (λ answer s. (answer, refl, s)) _ _ c.submit.ensures.ok
+returns-in-Submit-clause-ok g c = obeyed g.F.Front.step g.F.Front.refuses _ _ _ _ c.in-Submit.is (λ answer s. (answer, refl, s)) _ _ c.reply.ensures.ok
 
 pub returns-in-Submit-clause-err : goal.returns-in-Submit-clause-err
-returns-in-Submit-clause-err g c = failed g.F.Front.step g.F.Front.refuses _ _ _ _ c.in-Submit.is refl (λ answer s. (answer, refl, s)) _ c.submit.ensures.err
+returns-in-Submit-clause-err g c = failed g.F.Front.step g.F.Front.refuses _ _ _ _ c.in-Submit.is refl (λ answer s. (answer, refl, s)) _ c.reply.ensures.err
 
 pub returns-in-List-clause-ok : goal.returns-in-List-clause-ok
 returns-in-List-clause-ok g c = obeyed g.F.Front.step g.F.Front.refuses _ _ _ _ c.in-List.is (λ answer s. (answer, refl, s)) _ _ c.list.ensures.ok
