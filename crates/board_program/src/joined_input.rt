@@ -31,10 +31,24 @@ fn run_joined<R, I: Read, W: Write>(
     let instance = read(alloc, instance.as_slice())?;
     if goes_on {
         let mut script = behind.as_slice().chain(reader);
-        run_board(rt, alloc, instance, &mut script, writer)
+        run_board(
+            rt,
+            alloc,
+            instance,
+            &mut script,
+            writer,
+            None::<&mut Vec<u8>>,
+        )
     } else {
         let mut script = behind.as_slice();
-        run_board(rt, alloc, instance, &mut script, writer)
+        run_board(
+            rt,
+            alloc,
+            instance,
+            &mut script,
+            writer,
+            None::<&mut Vec<u8>>,
+        )
     }
 }
 

@@ -7,9 +7,10 @@ ghost use Rattle.program_parts.specs.Network.{demand_at, time_between};
 ghost use Rattle.board_program.specs.Joined.{IsRun, IsUnfinished};
 
 use board_core::Board;
-use board_text::{BoardFront, Counts, run_board_lines};
+use board_text::{BoardFront, Counts};
 use callback_store::{Registry, Transit, Unary};
 use dimension_core::Setup;
+use explained_lines::run_noted_lines;
 use program_parts::{Network, Stop, standard_pair};
 use solomon_reader::Instance;
 use std::alloc::Global;
@@ -19,15 +20,16 @@ use std::sync::Arc;
 /// How many events the board's journal holds.
 const MAX_EVENTS: u32 = 1_000_000;
 
-/// Opens the board of an instance, and answers the lines of a script on its desk 1.
+/// Opens the board of an instance, and answers the lines of a script on its desk 1, with notes where there is a stream for them.
 ///
 /// Its callbacks answer from the instance; they are made here, and nothing that holds them leaves.
-pub(crate) fn run_board<R, I: Read, W: Write>(
+pub(crate) fn run_board<R, I: Read, W: Write, E: Write>(
     rt: &R,
     alloc: Global,
     instance: Instance,
     script: &mut I,
     writer: &mut W,
+    notes: Option<&mut E>,
 ) -> Result<Counts, Stop>
     requires { IsSound (view instance) }
     ensures ok { IfOk result (λ counts. IsRun (view instance) (I.remaining script.old) (I.remaining script.new)
@@ -82,5 +84,5 @@ pub(crate) fn run_board<R, I: Read, W: Write>(
         desk: 1,
         turn: 1,
     };
-    Ok(run_board_lines(rt, alloc, &mut front, script, writer)?)
+    Ok(run_noted_lines(rt, alloc, &mut front, script, writer, notes)?)
 }

@@ -15,13 +15,14 @@ use std::io::{Read, Write};
 use std::rt::Files;
 
 /// Answers a script on the board of an instance, with the status and the fault line that `scripted` has.
-fn answered<R, I: Read, W: Write, F: Write>(
+fn answered<R, I: Read, W: Write, F: Write, E: Write>(
     rt: &R,
     alloc: Global,
     instance: Instance,
     script: &mut I,
     writer: &mut W,
     faults: &mut F,
+    notes: Option<&mut E>,
 ) -> u8
     requires { IsSound (view instance) }
     ensures status { (result ≡ 0) ⊎ (result ≡ 1) ⊎ (result ≡ 3) }
@@ -30,7 +31,10 @@ fn answered<R, I: Read, W: Write, F: Write>(
     ensures ran { (bytes : List ℕ) × Says (Ok (view instance)) bytes
         (streams_of (W.contents writer.old) (W.contents writer.new) (F.contents faults.old) (F.contents faults.new)) result }
 {
-    ended(faults, run_board(rt, alloc, instance, script, writer))
+    ended(
+        faults,
+        run_board(rt, alloc, instance, script, writer, notes),
+    )
 }
 
 /// The program over two inputs: the bytes of an instance in Solomon's format, and a script of lines for desk 1. The replies
@@ -54,21 +58,31 @@ pub fn scripted<R, I: Read, W: Write, F: Write>(
         (streams_of (W.contents writer.old) (W.contents writer.new) (F.contents faults.old) (F.contents faults.new)) result }
 {
     match read(alloc, instance) {
-        Ok(instance) => answered(rt, alloc, instance, script, writer, faults),
+        Ok(instance) => answered(
+            rt,
+            alloc,
+            instance,
+            script,
+            writer,
+            faults,
+            None::<&mut Vec<u8>>,
+        ),
         Err(fault) => stopped(faults, Stop::from(fault)),
     }
 }
 
 /// `dispatch run` of two files: the instance is read and judged before the script is opened. A file that cannot be opened,
 /// and an instance's file that fails while it is read or has more than 16,777,216 bytes, give `dispatch: cannot read PATH`
-/// and status 3; else it is as `scripted` has it.
-pub fn run_files<R: Files, W: Write, F: Write>(
+/// and status 3; else it is as `scripted` has it. Where there is a stream of notes, it gets one behind the reply of each line
+/// that counts as refused, as `run_explained_lines` has it.
+pub fn run_files<R: Files, W: Write, F: Write, E: Write>(
     rt: &R,
     alloc: Global,
     instance: &str,
     script: &str,
     writer: &mut W,
     faults: &mut F,
+    notes: Option<&mut E>,
 ) -> u8
     ensures status { (result ≡ 0) ⊎ (result ≡ 1) ⊎ (result ≡ 3) }
     ensures files { IsOfFiles instance.now script.now
@@ -83,7 +97,7 @@ pub fn run_files<R: Files, W: Write, F: Write>(
         Err(fault) => return stopped(faults, Stop::from(fault)),
     };
     match fs::open(rt, script) {
-        Ok(mut file) => answered(rt, alloc, judged, &mut file, writer, faults),
+        Ok(mut file) => answered(rt, alloc, judged, &mut file, writer, faults, notes),
         Err(error) => unread(faults, script, &error),
     }
 }

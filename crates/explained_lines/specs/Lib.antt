@@ -1,1 +1,3 @@
+pub mod Fed
 pub mod Numbered
+pub mod Pieces

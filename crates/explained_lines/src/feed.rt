@@ -1,88 +1,107 @@
 //! A script, cut into its lines.
 
-ghost use Rattle.std.specs.Prelude.{◌≡◌, ◌<◌, ◌≤◌, length, vec_len, IfOk, IfSome};
+ghost use Rattle.std.specs.Prelude.{◌≡◌, ◌++◌, [], false, MatchOption, IfOk, IfErr};
+ghost use Rattle.std.specs.Io.KnownBytes.{Consumes, IsAtEnd};
+ghost use Rattle.line_engine.specs.Running.{HasNoEnd};
+ghost use Rattle.explained_lines.specs.Pieces.{AreRead, IsCut, IsFirst, IsNext, IsUncut, IsUnread};
 
 use line_engine::RunFault;
 use std::alloc::{AllocError, Global};
 use std::io::Read;
+use std::mem;
+use text_words::keep_line;
 
-/// How many bytes are read at a time: as many as a line may have.
+/// The next part of a script.
+#[derive(Drop)]
+pub(crate) enum Piece {
+    /// A line, with its line end.
+    Line(Vec<u8>),
+    /// What follows the last line end. It may be nothing.
+    Last(Vec<u8>),
+    /// More bytes than a line may have come before the next line end.
+    Long,
+}
+
+/// How many bytes a line may have.
+const MOST_BYTES: usize = 4096;
+
+/// How many bytes are read at a time.
 const CHUNK_BYTES: usize = 4096;
 
-/// What was read of a script, and where the part begins that is not answered yet.
+/// The first line of some bytes, with its line end, and what follows it. None where they have no line end.
+fn cut(alloc: Global, bytes: &[u8]) -> Result<Option<(Vec<u8>, Vec<u8>)>, AllocError>
+    ensures { IfOk result (λ o. MatchOption o (HasNoEnd bytes.now) (λ p. IsCut bytes.now p.0.items p.1.items)) }
+{
+    let mut words = Vec::new(alloc);
+    let Some(end) = keep_line(&mut words, bytes)? else {
+        return Ok(None);
+    };
+    let line = Vec::from_slice(alloc, &bytes[..end + 1])?;
+    let rest = Vec::from_slice(alloc, &bytes[end + 1..])?;
+    Ok(Some((line, rest)))
+}
+
+/// What was read of a script and is not answered yet.
 #[derive(Drop)]
 pub(crate) struct Feed {
     held: Vec<u8>,
-    next: usize,
-    at_end: bool,
-    ghost within: { next ≤ vec_len held },
-}
-
-/// How many bytes a line takes, its line end with them, or none where it has none.
-fn line_length(bytes: &[u8]) -> Option<usize>
-    ensures { IfSome result (λ n. (0 < n) × (n ≤ length bytes.now)) }
-{
-    for (at, byte) in bytes.iter().enumerate() {
-        if *byte == b'\n' {
-            return Some(at + 1);
-        }
-    }
-    None
 }
 
 impl Feed {
     /// Nothing is read yet.
-    pub(crate) fn new(alloc: Global) -> Feed {
+    pub(crate) fn new(alloc: Global) -> Feed
+        ensures { result.held.items ≡ [] }
+    {
         Feed {
             held: Vec::new(alloc),
-            next: 0,
-            at_end: false,
         }
     }
 
-    /// Reads on, behind the part that is not answered yet.
-    fn read_on<I: Read>(&mut self, alloc: Global, reader: &mut I) -> Result<(), RunFault> {
+    /// The first line of what was read, if it is whole or too long.
+    fn first(&mut self, alloc: Global) -> Result<Option<Piece>, AllocError>
+        ensures { IfOk result (λ o. MatchOption o (IsUncut self.old.held.items self.new.held.items) (IsFirst self.old.held.items self.new.held.items)) }
+    {
+        let Some((line, rest)) = cut(alloc, self.held.as_slice())? else {
+            if self.held.len() > MOST_BYTES {
+                return Ok(Some(Piece::Long));
+            }
+            return Ok(None);
+        };
+        if line.len() > MOST_BYTES + 1 {
+            return Ok(Some(Piece::Long));
+        }
+        self.held = rest;
+        Ok(Some(Piece::Line(line)))
+    }
+
+    /// Reads on. Whether there was anything to read.
+    fn read_on<I: Read>(&mut self, reader: &mut I) -> Result<bool, RunFault>
+        ensures ok { IfOk result (λ more. AreRead more self.old.held.items self.new.held.items (I.remaining reader.old) (I.remaining reader.new)) }
+        ensures err { IfErr result (λ e. IsUnread e (I.remaining reader.old) (I.remaining reader.new)) }
+    {
         let mut chunk = [0u8; CHUNK_BYTES];
         let Ok(count) = reader.read(&mut chunk) else {
             return Err(RunFault::Read);
         };
-        if count == 0 {
-            self.at_end = true;
-            return Ok(());
+        if self.held.extend_from_slice(&chunk[..count]).is_err() {
+            return Err(RunFault::NoMemory);
         }
-        let mut held = Vec::new(alloc);
-        held.extend_from_slice(&self.held.as_slice()[self.next..])?;
-        held.extend_from_slice(&chunk[..count])?;
-        self.held = held;
-        self.next = 0;
-        Ok(())
+        Ok(count > 0)
     }
 
-    /// The next line with its line end, or what follows the last line end; also what is longer than any line may be. None at the end of the
-    /// script, and then always.
-    pub(crate) fn next_line<I: Read>(
-        &mut self,
-        alloc: Global,
-        reader: &mut I,
-    ) -> Result<Option<&[u8]>, RunFault> {
-        for _ in 0..u64::MAX {
-            let left = self.held.len() - self.next;
-            let found = line_length(&self.held.as_slice()[self.next..]);
-            let taken = match found {
-                Some(taken) => taken,
-                None if self.at_end || left > CHUNK_BYTES => left,
-                None => 0,
-            };
-            if taken > 0 {
-                let first = self.next;
-                self.next += taken;
-                return Ok(Some(&self.held.as_slice()[first..first + taken]));
+    /// The next part of the script.
+    pub(crate) fn next<I: Read>(&mut self, alloc: Global, reader: &mut I) -> Result<Piece, RunFault>
+        ensures { IsNext self.old.held.items self.new.held.items (I.remaining reader.old) (I.remaining reader.new) result }
+    {
+        'reads: for _ in 0..u64::MAX {
+            if let Some(piece) = self.first(alloc)? {
+                return Ok(piece);
             }
-            if self.at_end {
-                return Ok(None);
+            if !self.read_on(reader)? {
+                let rest = mem::replace(&mut self.held, Vec::new(alloc));
+                return Ok(Piece::Last(rest));
             }
-            self.read_on(alloc, reader)?;
         }
-        Err(RunFault::Read)
+        Err(RunFault::NoMemory)
     }
 }

@@ -9,4 +9,4 @@ mod run;
 mod word;
 
 pub use notes::Notes;
-pub use run::run_explained_lines;
+pub use run::{run_explained_lines, run_noted_lines};

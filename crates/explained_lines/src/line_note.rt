@@ -70,11 +70,8 @@ fn push_word(out: &mut String, word: &[u8]) -> Result<(), AllocError> {
             out.push_str("..")?;
             break;
         }
-        if byte.is_ascii_graphic() {
-            out.push(char::from(*byte))?;
-        } else {
-            out.push('?')?;
-        }
+        let shown = if byte.is_ascii_graphic() { *byte } else { b'?' };
+        out.push_str(str::from_utf8(&[shown]).unwrap_or("?"))?;
     }
     out.push_str("'")
 }

@@ -120,13 +120,13 @@ returns-clause-ok g c =
     record {
       sites = s;
       of = of;
-      new = desk_state (history c.run_board_lines.new.front.board) c.run_board_lines.new.front.desk c.run_board_lines.new.front.turn;
-      answered = subst (λ (h : History). IsAnswered IsBoardStep (desk_state h 1 1) (desk_state (history c.run_board_lines.new.front.board) c.run_board_lines.new.front.desk c.run_board_lines.new.front.turn) (g.I.Read.remaining c.args.script.now) (g.I.Read.remaining c.run_board_lines.new.reader) (g.W.Write.contents c.args.writer.now) (g.W.Write.contents c.run_board_lines.new.writer) c.in_ok-run_board_lines.field-0.lines c.in_ok-run_board_lines.field-0.refused) opens
-          c.in_ok-run_board_lines.ensures.ok;
+      new = desk_state (history c.run_noted_lines.new.front.board) c.run_noted_lines.new.front.desk c.run_noted_lines.new.front.turn;
+      answered = subst (λ (h : History). IsAnswered IsBoardStep (desk_state h 1 1) (desk_state (history c.run_noted_lines.new.front.board) c.run_noted_lines.new.front.desk c.run_noted_lines.new.front.turn) (g.I.Read.remaining c.args.script.now) (g.I.Read.remaining c.run_noted_lines.new.reader) (g.W.Write.contents c.args.writer.now) (g.W.Write.contents c.run_noted_lines.new.writer) c.in_ok-run_noted_lines.field-0.lines c.in_ok-run_noted_lines.field-0.refused) opens
+          c.in_ok-run_noted_lines.ensures.ok;
     }
 
-pub returns-in_err-run_board_lines-clause-err : goal.returns-in_err-run_board_lines-clause-err
-returns-in_err-run_board_lines-clause-err g c =
+pub returns-in_err-run_noted_lines-clause-err : goal.returns-in_err-run_noted_lines-clause-err
+returns-in_err-run_noted_lines-clause-err g c =
     let s = c.in_ok-new.field-0 in
     let net : c.in_ok-network.network.value ≡ s = c.in_ok-network.ensures.ok in
     let size : c.size-size.result ≡ length s.nodes = c.size-size.ensures.value ∙ ap (λ (x : Sites). length x.nodes) (c.deref.ensures ∙ net) in
@@ -173,12 +173,12 @@ returns-in_err-run_board_lines-clause-err g c =
     let opens : history c.in_ok-board.board ≡ (opened s).history =
     c.in_ok-board.ensures ∙ ap (λ (x : Setting). opening x) (ap (λ x. setting x) c.in_ok-new-2.ensures.ok ∙ standard) in
     let of : AreSitesOf (view c.args.instance) s = record { vehicles = c.in_ok-new.ensures.vehicles; capacity = c.in_ok-new.ensures.capacity; nodes = c.in_ok-new.ensures.nodes; network = c.in_ok-new.ensures.sound } in
-    let p = err_from_is_err_and c.from_residual-in_err-run_board_lines.result c.from_residual-in_err-run_board_lines.ensures.1 in
-    let cut : IsCutOff (view c.args.instance) (g.I.Read.remaining c.args.script.now) (g.I.Read.remaining c.run_board_lines.new.reader) (g.W.Write.contents c.args.writer.now) (g.W.Write.contents c.run_board_lines.new.writer) c.in_err-run_board_lines.field-0.0 = record {
+    let p = err_from_is_err_and c.from_residual-in_err-run_noted_lines.result c.from_residual-in_err-run_noted_lines.ensures.1 in
+    let cut : IsCutOff (view c.args.instance) (g.I.Read.remaining c.args.script.now) (g.I.Read.remaining c.run_noted_lines.new.reader) (g.W.Write.contents c.args.writer.now) (g.W.Write.contents c.run_noted_lines.new.writer) c.in_err-run_noted_lines.field-0.0 = record {
       sites = s;
       of = of;
-      new = desk_state (history c.run_board_lines.new.front.board) c.run_board_lines.new.front.desk c.run_board_lines.new.front.turn;
-      stopped = subst (λ (h : History). IsStopped IsBoardStep LacksMemory c.in_err-run_board_lines.field-0.0 (desk_state h 1 1) (desk_state (history c.run_board_lines.new.front.board) c.run_board_lines.new.front.desk c.run_board_lines.new.front.turn) (g.I.Read.remaining c.args.script.now) (g.I.Read.remaining c.run_board_lines.new.reader) (g.W.Write.contents c.args.writer.now) (g.W.Write.contents c.run_board_lines.new.writer)) opens
-          c.in_err-run_board_lines.ensures.err;
+      new = desk_state (history c.run_noted_lines.new.front.board) c.run_noted_lines.new.front.desk c.run_noted_lines.new.front.turn;
+      stopped = subst (λ (h : History). IsStopped IsBoardStep LacksMemory c.in_err-run_noted_lines.field-0.0 (desk_state h 1 1) (desk_state (history c.run_noted_lines.new.front.board) c.run_noted_lines.new.front.desk c.run_noted_lines.new.front.turn) (g.I.Read.remaining c.args.script.now) (g.I.Read.remaining c.run_noted_lines.new.reader) (g.W.Write.contents c.args.writer.now) (g.W.Write.contents c.run_noted_lines.new.writer)) opens
+          c.in_err-run_noted_lines.ensures.err;
     } in
     rw (p.1, p.2) cut

@@ -1,0 +1,4 @@
+mod Bytes
+mod Cuts
+mod Fed
+mod Pieces
