@@ -18,9 +18,9 @@ use Rattle.clap.proofs.OnLiterals.{clap_on_literals}
 use Rattle.clap.specs.declared.error.kind.ErrorKind.TheVariants as kind
 use Rattle.clap.specs.declared.builder.value_parser.Reading.TheVariants as reading
 use Rattle.clap.specs.declared.parser.matches.ValueSource.TheVariants.{CommandLine}
-use Rattle.command_line.specs.CommandLine.{option_rule, path_rule}
+use Rattle.command_line.specs.CommandLine.{option_rule, path_rule, switch_rule}
 use Rattle.command_line.specs.Words as grammar
-use Rattle.command_line.specs.Words.{Item, is_among, once, only, option, path, paths_of, values_of}
+use Rattle.command_line.specs.Words.{Item, is_among, on, once, only, option, path, paths_of, values_of}
 use Rattle.command_line.proofs.Flags.{Fails}
 
 -- ---- rows
@@ -98,6 +98,9 @@ path_at i id = with_index i (filled (path_rule id))
 abbrev pub option_of : Text → Rule
 option_of name = filled (option_rule name)
 
+abbrev pub switch_of : Text → Rule
+switch_of name = filled (switch_rule name)
+
 with_new : (id v : Text) (rows : List Row) → IsLook id rows None → at_row id (more_values CommandLine (v ∷ [])) (set_row id v ∷ []) (without id rows) ≡ rows ++ set_row id v ∷ []
 with_new id v rows e = ap (λ (rs : List Row). at_row id (more_values CommandLine (v ∷ [])) (set_row id v ∷ []) rs) (at_none id (λ r. []) [] rows e ∙ append-nil rows) ∙ at_none id (more_values CommandLine (v ∷ [])) (set_row id v ∷ []) rows e
 
@@ -108,6 +111,10 @@ path_used i id v rows e = with_new id v rows e
 pub option_used : (name v : Text) (rows : List Row) → IsLook name rows None → used (option_of name) (v ∷ []) rows ≡ rows ++ set_row name v ∷ []
 unfolding clap_on_literals
 option_used name v rows e = with_new name v rows e
+
+pub switch_used : (name : Text) (rows : List Row) → IsLook name rows None → used (switch_of name) [] rows ≡ rows ++ set_row name on ∷ []
+unfolding clap_on_literals
+switch_used name rows e = with_new name on rows e
 
 repeat : (t : Bool) → Kinds
 repeat t = or_else (if t && true then kind.ArgumentConflict ∷ [] else []) []
@@ -123,6 +130,14 @@ option_free name v rows e = ap repeat (has_is name rows None e)
 pub option_again : (name v : Text) (rows : List Row) (x : Text) → IsLook name rows (Some x) → Fails (use_fault false (option_of name) (v ∷ []) rows)
 unfolding clap_on_literals repeat
 option_again name v rows x e = subst Fails (sym (ap repeat (has_is name rows (Some x) e))) tt
+
+pub switch_free : (name : Text) (rows : List Row) → IsLook name rows None → use_fault false (switch_of name) [] rows ≡ []
+unfolding clap_on_literals repeat
+switch_free name rows e = ap repeat (has_is name rows None e)
+
+pub switch_again : (name : Text) (rows : List Row) (x : Text) → IsLook name rows (Some x) → Fails (use_fault false (switch_of name) [] rows)
+unfolding clap_on_literals repeat
+switch_again name rows x e = subst Fails (sym (ap repeat (has_is name rows (Some x) e))) tt
 
 pub option_wants : (name : Text) (rows : List Row) → Fails (use_fault false (option_of name) [] rows)
 unfolding clap_on_literals

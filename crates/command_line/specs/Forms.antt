@@ -1,5 +1,5 @@
 -- What the words of the command line ask for.
-use Rattle.std.specs.Prelude.{ℕ, ◌≤◌, nat_le, List, Option, Some, None, option_map, option_and_then, if◌then◌else◌, Result, Ok, Err}
+use Rattle.std.specs.Prelude.{ℕ, ◌≤◌, nat_le, Bool, List, Option, Some, None, is_some, option_map, option_and_then, if◌then◌else◌, Result, Ok, Err}
 use Rattle.text_words.specs.Words.{number}
 use Rattle.command_line.specs.Words.{Request, RunWords, requested}
 use Rattle.command_line.specs.Words as words
@@ -7,7 +7,7 @@ use Rattle.command_line.specs.declared.form.Options.{Options}
 use Rattle.command_line.specs.declared.form.Options.TheVariants as options
 use Rattle.command_line.specs.declared.form.NumberFault.{NumberFault}
 
--- a run: its files, and how many workers do how many rounds from which seed
+-- a run: its files, how many workers do how many rounds from which seed, and whether it reports how far they are, and what refusals mean
 pub record Run : Type 0 where
   pub instance : List ℕ
   pub script : List ℕ
@@ -15,6 +15,8 @@ pub record Run : Type 0 where
   pub rounds : ℕ
   pub seed : ℕ
   pub live : Option (List ℕ)
+  pub progress : Bool
+  pub explain : Bool
 
 -- what they ask for, without saying where a text lies in memory
 pub data Form : Type 0 where
@@ -29,8 +31,16 @@ form options.Joined = joined
 form (options.Check instance) = check instance.now
 form (options.Draw instance rows) = draw instance.now rows.now
 form (options.Sums instance rows) = sums instance.now rows.now
-form (options.Run instance script workers rounds seed live) =
-    run (record { instance = instance.now; script = script.now; workers = workers; rounds = rounds; seed = seed; live = option_map (λ s. s.now) live })
+form (options.Run instance script workers rounds seed live progress explain) = run (record {
+  instance = instance.now;
+  script = script.now;
+  workers = workers;
+  rounds = rounds;
+  seed = seed;
+  live = option_map (λ s. s.now) live;
+  progress = progress;
+  explain = explain;
+})
 
 -- the same of an answer that may be a fault
 abbrev pub form_in : Result Options NumberFault → Option Form
@@ -46,10 +56,22 @@ abbrev pub number_or : ℕ → ℕ → Option (List ℕ) → Option ℕ
 number_or most default None = Some default
 number_or most default (Some text) = option_and_then (up_to most) (number text)
 
+-- a run with these numbers
+abbrev pub with_numbers : RunWords → ℕ → ℕ → ℕ → Form
+with_numbers w workers rounds seed = run (record {
+  instance = w.instance;
+  script = w.script;
+  workers = workers;
+  rounds = rounds;
+  seed = seed;
+  live = w.live;
+  progress = is_some w.progress;
+  explain = is_some w.explain;
+})
+
 -- the numbers of a run
 abbrev pub numbered : RunWords → Option Form
-numbered w = option_and_then (λ workers. option_and_then (λ rounds. option_map (λ seed.
-    run (record { instance = w.instance; script = w.script; workers = workers; rounds = rounds; seed = seed; live = w.live }))
+numbered w = option_and_then (λ workers. option_and_then (λ rounds. option_map (λ seed. with_numbers w workers rounds seed)
     (number_or 4294967295 1 w.seed)) (number_or 1000000 100 w.rounds)) (number_or 63 0 w.workers)
 
 abbrev pub form_of : Request → Option Form
@@ -65,5 +87,5 @@ asked ws = option_and_then form_of (requested ws)
 
 -- the numbers of a run are in their ranges
 abbrev pub IsInRange : Options → Type 0
-IsInRange (options.Run instance script workers rounds seed live) = (workers ≤ 63) × (rounds ≤ 1000000) × (seed ≤ 4294967295)
+IsInRange (options.Run instance script workers rounds seed live progress explain) = (workers ≤ 63) × (rounds ≤ 1000000) × (seed ≤ 4294967295)
 IsInRange _ = Unit {0}

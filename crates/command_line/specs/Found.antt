@@ -11,4 +11,6 @@ run_words f = record {
   rounds = option_map (λ s. s.now) f.rounds;
   seed = option_map (λ s. s.now) f.seed;
   live = option_map (λ s. s.now) f.live;
+  progress = option_map (λ s. s.now) f.progress;
+  explain = option_map (λ s. s.now) f.explain;
 }

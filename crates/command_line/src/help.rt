@@ -23,18 +23,20 @@ What ends a run early is told on standard error:
 
 /// What `dispatch check` does.
 pub(crate) const CHECK: &str = "\
-Reads an instance and prints its name, sizes and horizon.
+Reads an instance and prints its name, sizes and horizon. Only the format is checked: a customer that no
+vehicle can carry, or reach in time, passes, and is denied by `bound` when it is inserted.
 
-INSTANCE may be /dev/stdin. `dispatch: cannot read INSTANCE`, with status 3, says that the file is
-not there, may not be read, is a folder, fails while it is read, or has more than 16,777,216 bytes.";
+INSTANCE may be /dev/stdin; a `-` names a file. `dispatch: cannot read INSTANCE`, with status 3, says
+that the file is not there, may not be read, is a folder, fails while it is read, or has more than
+16,777,216 bytes.";
 
 /// What `dispatch run` does.
 pub(crate) const RUN: &str = "\
 Opens the board of an instance, and answers the lines of a script.
 
-INSTANCE or SCRIPT may be /dev/stdin. `dispatch: cannot read PATH`, with status 3, says that the file
-is not there or may not be read, or, of INSTANCE alone, that it is a folder, fails while it is read,
-or has more than 16,777,216 bytes. `dispatch: run fault read` says that of a SCRIPT that could be
+INSTANCE or SCRIPT may be /dev/stdin; a `-` names a file. `dispatch: cannot read PATH`, with status 3,
+says that the file is not there or may not be read, or, of INSTANCE alone, that it is a folder, fails
+while it is read, or has more than 16,777,216 bytes. `dispatch: run fault read` says that of a SCRIPT that could be
 opened. The instance is judged before SCRIPT and the live file are opened, and each reply is written
 before the next read: with /dev/stdin as SCRIPT the board is worked at from a terminal.
 
@@ -51,7 +53,16 @@ if one saves any. At the end there is a line for each worker, and one for the pl
   worker I tried T committed C denied D refused R
   version V
 T of worker I's rounds proposed a move: C were committed, D denied, and R met a fault, as a full
-journal; in the others no move saved anything. V is the number of all commits. `dispatch: open fault` also says that workers could not be set up or started.";
+journal; in the others no move saved anything. V is the number of all commits. `dispatch: open fault`
+also says that workers could not be set up or started.
+
+Two switches write more to standard error, and change nothing else. With --progress it gets a line each
+time that another twentieth of all workers' rounds is done; COMMITS are the workers' commits so far:
+  progress ROUNDS of TOTAL rounds, COMMITS commits, SECONDS s
+With --explain it gets a line behind the reply of each line of SCRIPT that was denied, refused, faulty
+or bad, and where SCRIPT ends early, with the number of that line and what the reply means:
+  line N: MEANING
+Lines of the live file have no such note.";
 
 /// What an instance's path names.
 pub(crate) const INSTANCE_PATH: &str = "A file in Solomon's format, of at most 16,777,216 bytes";
@@ -65,6 +76,11 @@ pub(crate) const ROUNDS: &str = "How many rounds each worker does: 0 to 1000000 
 pub(crate) const SEED: &str = "Worker I draws by this number plus I: 0 to 4294967295 [default: 1]";
 
 pub(crate) const LIVE: &str = "A file of lines that are answered while the workers search";
+
+pub(crate) const PROGRESS: &str = "Say on standard error how far the workers are";
+
+pub(crate) const EXPLAIN: &str =
+    "Say on standard error what each refusal of a line of SCRIPT means";
 
 /// What the rows of a plan are.
 pub(crate) const ROWS_PATH: &str = "The output of a run, with a listing";

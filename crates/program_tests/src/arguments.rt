@@ -71,7 +71,31 @@ fn words_of_the_command_line(rt: HostRuntime) {
         let wanted = run("a", "b", *workers, *rounds, *seed, *live);
         compare(&rt, rt.alloc(), words, wanted);
     }
+    for (words, progress, explain) in SWITCHED {
+        let wanted = Options::Run {
+            instance: "a",
+            script: "b",
+            workers: 0,
+            rounds: 100,
+            seed: 1,
+            live: None,
+            progress: *progress,
+            explain: *explain,
+        };
+        compare(&rt, rt.alloc(), words, wanted);
+    }
 }
+
+/// Words of a run of `a` and `b`, with the switches that they turn on.
+const SWITCHED: &[(&[&str], bool, bool)] = &[
+    (&["dispatch", "run", "a", "--progress", "b"], true, false),
+    (&["dispatch", "run", "--explain", "a", "b"], false, true),
+    (
+        &["dispatch", "run", "a", "b", "--explain", "--progress", "--"],
+        true,
+        true,
+    ),
+];
 
 /// A run of these files with these options.
 fn run<'a>(
@@ -89,6 +113,8 @@ fn run<'a>(
         rounds,
         seed,
         live,
+        progress: false,
+        explain: false,
     }
 }
 
@@ -191,6 +217,21 @@ const NOTHING: &[(&[&str], u8, &str)] = &[
         &["dispatch", "run", "a", "b", "--rounds", "-5"],
         2,
         "error: unexpected argument '-5' found\n",
+    ),
+    (
+        &["dispatch", "run", "a", "b", "--progress=true"],
+        2,
+        "error: unexpected value 'true' for '--progress' found; no more were expected\n",
+    ),
+    (
+        &["dispatch", "run", "a", "b", "--explain", "--explain"],
+        2,
+        "error: the argument '--explain' cannot be used multiple times\n",
+    ),
+    (
+        &["dispatch", "run", "a", "b", "--live", "--explain"],
+        2,
+        "error: ",
     ),
     (
         &["dispatch", "run", "a", "b", "--seed", "1", "--seed=1"],

@@ -531,7 +531,15 @@ fn run_gives<H: AllocGlobal + Abort + Files>(
 ) {
     let mut output = Vec::new(rt.alloc());
     let mut faults = Vec::new(rt.alloc());
-    let status = run_files(rt, rt.alloc(), instance, script, &mut output, &mut faults);
+    let status = run_files(
+        rt,
+        rt.alloc(),
+        instance,
+        script,
+        &mut output,
+        &mut faults,
+        None::<&mut Vec<u8>>,
+    );
     compare(rt, output.as_slice(), faults.as_slice(), status, wanted);
 }
 
@@ -567,4 +575,111 @@ fn files_that_are_read(rt: HostRuntime) {
     }
     fs::remove_file(&rt, SCRIPT_FILE).expect(&rt, "a file");
     fs::remove_file(&rt, INSTANCE_FILE).expect(&rt, "a file");
+}
+
+/// A line of each kind of refusal. Customer 4 gets its rights late.
+const REFUSED: &str = "\
+1 grant root move vehicle 1 2\n\
+1 grant root move customer 1 3\n\
+# a comment is a line\n\
+1 insert 1 1 1 0\n\
+1 insert 4 1 2 1\n\
+1 insert 2 1 2 0\n\
+1 insert 2 1 2 9\n\
+1 insert 1 2 1 1\n\
+1 remove 1 1 1 1\n\
+1 fly\n\
+x list\n\
+1 open root planner\n\
+1 audit\n\
+1 grant root move customer 4 4\n\
+1 insert 2 1 2 1\n\
+1 insert 3 1 3 2\n\
+1 insert 4 1 4 3\n\
+1 remove 1 2 3\r\n\
+1 list\n";
+
+const REPLIES: &str = "\
+done\n\
+done\n\
+committed 1\n\
+denied access customer 1 2\n\
+denied stale 1\n\
+denied ahead\n\
+denied bad-place\n\
+bad count\n\
+bad word\n\
+bad number\n\
+refused no-role\n\
+refused no-access\n\
+done\n\
+committed 2\n\
+committed 3\n\
+denied bound 1 1\n\
+denied bound 1 2\n\
+end\n";
+
+const NOTES: &str = "\
+line 5: the session may not move customer 4, at place 2 of vehicle 1\n\
+line 6: commit 1 changed vehicle 1, and the version is 1\n\
+line 7: the version is 1\n\
+line 8: customer 1 is planned already\n\
+line 9: 'remove' has too few or too many words behind it\n\
+line 10: 'fly' is not a command\n\
+line 11: 'x' is not a number from 0 to 4294967295\n\
+line 12: there is no such role\n\
+line 13: the session lacks `audit` on the board\n\
+line 17: vehicle 1 would carry 15, 5 above its capacity 10\n\
+line 18: vehicle 1 would serve customer 3 at place 2 at 141 at the earliest, 1 after its due date 140\n";
+
+const NOTED_INSTANCE_FILE: &str = "program_tests_noted_instance";
+
+const NOTED_SCRIPT_FILE: &str = "program_tests_noted_script";
+
+/// The run of a script's file writes these replies, notes and faults.
+fn notes_give<H: AllocGlobal + Abort + Files>(
+    rt: &H,
+    script: &str,
+    notes: &str,
+    wanted: Wanted<'_>,
+) {
+    fs::write(rt, NOTED_SCRIPT_FILE, script).expect(rt, "a file");
+    let mut output = Vec::new(rt.alloc());
+    let mut faults = Vec::new(rt.alloc());
+    let mut heard = Vec::new(rt.alloc());
+    let status = run_files(
+        rt,
+        rt.alloc(),
+        NOTED_INSTANCE_FILE,
+        NOTED_SCRIPT_FILE,
+        &mut output,
+        &mut faults,
+        Some(&mut heard),
+    );
+    compare(rt, output.as_slice(), faults.as_slice(), status, wanted);
+    compare(rt, heard.as_slice(), b"", 0, (notes, "", 0));
+}
+
+/// Each refusal has its note, with the number of its line, and the replies are those of a run without notes.
+#[test]
+fn refusals_are_explained(rt: HostRuntime) {
+    fs::write(&rt, NOTED_INSTANCE_FILE, A).expect(&rt, "a file");
+    notes_give(&rt, REFUSED, NOTES, (REPLIES, "", 1));
+    run_gives(
+        &rt,
+        NOTED_INSTANCE_FILE,
+        NOTED_SCRIPT_FILE,
+        (REPLIES, "", 1),
+    );
+    notes_give(&rt, "\n1 list", "", ("end\n", "", 0));
+    let mut long = String::new(rt.alloc());
+    long.push_str("1 list\n").expect(&rt, "memory");
+    for _ in 0..4097u32 {
+        long.push('x').expect(&rt, "memory");
+    }
+    let note = "line 2: the line has more than 4096 bytes\n";
+    let fault = "dispatch: run fault long-line\n";
+    notes_give(&rt, long.as_str(), note, ("end\n", fault, 3));
+    fs::remove_file(&rt, NOTED_SCRIPT_FILE).expect(&rt, "a file");
+    fs::remove_file(&rt, NOTED_INSTANCE_FILE).expect(&rt, "a file");
 }

@@ -3,15 +3,23 @@ use Rattle.std.proofs.Common.{◌≡◌, ◌≤◌, ℕ, List, Option, Some, inl
 use Rattle.std.specs.Prelude.{◌⊎◌, ◌≢◌}
 use Rattle.program_parts.specs.Streams.{Streams}
 use Rattle.command_line.specs.CommandLine.{IsFault, status_of}
-use Rattle.command_line.specs.Forms.{Form}
+use Rattle.command_line.specs.Forms.{Form, Run}
+use Rattle.command_line.specs.Forms as forms
 use Rattle.command_line.specs.declared.form.OptionFault.{OptionFault}
 use Rattle.command_line.specs.declared.form.OptionFault.TheVariants as faults
 use Rattle.command_line.specs.declared.form.UsageFault.TheVariants as usage
+use Rattle.worker_runs.specs.Files.{IsOfPaths}
+use Rattle.worker_runs.specs.declared.orders.Orders.{Orders}
 use Rattle.program_words.specs.Performed.{IsDone, IsPerformed, IsSaid}
 
 -- what is asked for is done
 pub done : (wanted : Option Form) (form : Form) (left : Option (List ℕ)) (s : Streams) (status : ℕ) → wanted ≡ Some form → IsDone form left s status → IsPerformed wanted left s status
 done wanted form left s status e d = inl (form, e, d)
+
+-- a run that is asked for is done
+pub ran : (wanted : Option Form) (run : Run) (orders : Orders) (left : Option (List ℕ)) (s : Streams) (status : ℕ) → wanted ≡ Some (forms.run run) → orders.workers ≡ run.workers → orders.rounds ≡ run.rounds → orders.seed ≡ run.seed → orders.progress ≡ run.progress
+    → IsOfPaths run.instance run.script run.live orders s status → IsPerformed wanted left s status
+ran wanted run orders left s status e w r d p h = inl (forms.run run, e, (orders, record { workers = w; rounds = r; seed = d; progress = p }, h))
 
 abbrev IsZero : ℕ → Type 0
 IsZero n = n ≡ 0

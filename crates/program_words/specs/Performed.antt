@@ -10,9 +10,10 @@ use Rattle.program_parts.specs.Report.{IsChecked}
 use Rattle.program_parts.specs.Streams.{Streams, IsUnreadable, stop_line}
 use Rattle.program_parts.specs.declared.stop.Stop.TheVariants as stops
 use Rattle.board_program.specs.Joined.{IsJoined, IsOfHalves}
-use Rattle.command_line.specs.Forms.{Form, asked}
+use Rattle.command_line.specs.Forms.{Form, Run, asked}
 use Rattle.command_line.specs.Forms as forms
 use Rattle.worker_runs.specs.Files.{IsOfPaths, IsUnreadFile}
+use Rattle.worker_runs.specs.declared.orders.Orders.{Orders}
 
 -- an input of all that was asked for, whose bytes may be known
 abbrev pub IsOfInput : Option (List ℕ) → Streams → ℕ → Type 0
@@ -22,11 +23,18 @@ IsOfInput left s status = IfSome left (λ bytes. IsJoined bytes s status) × ((h
 abbrev pub IsCheckOfFile : List ℕ → Streams → ℕ → Type 0
 IsCheckOfFile path s status = IsUnreadFile path s status ⊎ ((bytes : List ℕ) × IsChecked (read_of bytes) s status)
 
+-- the workers of a run are told what the words say
+pub record AreOrdersOf (run : Run) (orders : Orders) : Type 0 where
+  pub workers : orders.workers ≡ run.workers
+  pub rounds : orders.rounds ≡ run.rounds
+  pub seed : orders.seed ≡ run.seed
+  pub progress : orders.progress ≡ run.progress
+
 -- what is asked for is done, on standard input and output
 abbrev pub IsDone : Form → Option (List ℕ) → Streams → ℕ → Type 0
 IsDone forms.joined left s status = IsOfInput left s status
 IsDone (forms.check path) left s status = IsCheckOfFile path s status
-IsDone (forms.run run) left s status = IsOfPaths run.instance run.script run.live s status
+IsDone (forms.run run) left s status = (orders : Orders) × AreOrdersOf run orders × IsOfPaths run.instance run.script run.live orders s status
 IsDone (forms.draw instance rows) left s status = IsViewOfFiles svg_text instance rows s status
 IsDone (forms.sums instance rows) left s status = IsViewOfFiles sums_text instance rows s status
 

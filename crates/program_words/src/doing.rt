@@ -10,24 +10,35 @@ use command_line::{Options, options, told};
 use plan_program::{draw_files, sums_files};
 use std::alloc::Global;
 use std::convert::AsStr;
-use std::io::{Read, Write};
+use std::io::{Eprint, Read, Write};
 use std::rt::Files;
 use std::sync::Wait;
 use std::thread::Threads;
+use std::time::Clock;
 use worker_runs::{Orders, Paths, run_paths};
 
 /// Does what the words of the command line ask for, of which the first is the program's own name, and gives the status that the program
-/// ends with. `input` and `output` are its standard streams, and `faults` is its standard error.
+/// ends with. `input` and `output` are its standard streams. `faults` and `notes` are both its standard error, on which runs report what
+/// ended them early, and, if they are asked to, what refusals mean.
 ///
 /// The status is 3 also where memory runs out while the words are read.
-#[tactic(auto, using(crate::proofs::Said::done, crate::proofs::Said::said))]
+#[tactic(auto, using(crate::proofs::Said::done, crate::proofs::Said::ran, crate::proofs::Said::said))]
 pub fn perform<
-    W: Threads + Wait + Files + Copy + Drop + Send + Sync + 'static,
+    W: Threads + Wait + Files + Clock + Eprint + Copy + Drop + Send + Sync + 'static,
     S: AsStr,
     I: Read,
     O: Write,
     F: Write,
->(rt: W, alloc: Global, words: &[S], input: &mut I, output: &mut O, faults: &mut F) -> u8
+    E: Write,
+>(
+    rt: W,
+    alloc: Global,
+    words: &[S],
+    input: &mut I,
+    output: &mut O,
+    faults: &mut F,
+    notes: &mut E,
+) -> u8
     ensures { IsPerformed (asked (drop 1 (map S.text words.now))) (I.remaining input.old)
         (streams_of (O.contents output.old) (O.contents output.new) (F.contents faults.old) (F.contents faults.new)) result }
 {
@@ -48,6 +59,8 @@ pub fn perform<
                 rounds,
                 seed,
                 live,
+                progress,
+                explain,
             },
         ) => {
             let paths = Paths {
@@ -59,8 +72,10 @@ pub fn perform<
                 workers,
                 rounds,
                 seed,
+                progress,
             };
-            run_paths(rt, alloc, paths, orders, output, faults)
+            let notes = if explain { Some(notes) } else { None };
+            run_paths(rt, alloc, paths, orders, output, faults, notes)
         }
         Err(fault) => told(&fault, output, faults),
     }

@@ -1,13 +1,14 @@
 //! Whole runs, from bytes to bytes.
 
 use crate::cases::{A, B, CASES, CROSSED, Case, GRANTED, LONG};
-use crate::devices::{Narrow, Torn};
+use crate::devices::{Narrow, Repeated, Tail, Torn};
 use std::alloc::Global;
-use std::io::Read;
+use std::io::{Eprint, Read};
 use std::process::Abort;
 use std::rt::Files;
 use std::sync::Wait;
 use std::thread::Threads;
+use std::time::Clock;
 use std::{fs, str};
 use worker_runs::{Orders, Paths, run_paths, scripted};
 
@@ -25,6 +26,7 @@ fn orders(rt: &impl Abort, numbers: (u32, u32, u32)) -> Orders {
         workers,
         rounds,
         seed,
+        progress: false,
     }
 }
 
@@ -38,7 +40,7 @@ fn text_of(alloc: Global, text: &str) -> Option<Vec<u8>> {
 
 /// Runs inputs: what was written and said, and the status.
 fn run<
-    H: Threads + Wait + AllocGlobal + Abort + Copy + Drop + Send + Sync + 'static,
+    H: Threads + Wait + Clock + Eprint + AllocGlobal + Abort + Copy + Drop + Send + Sync + 'static,
     I: Read,
     L: Read,
 >(rt: H, instance: &str, script: &mut I, live: &mut L, orders: Orders) -> (Vec<u8>, Vec<u8>, u8) {
@@ -58,10 +60,9 @@ fn run<
 }
 
 /// The run of a case gives what is wanted.
-fn gives<H: Threads + Wait + AllocGlobal + Abort + Copy + Drop + Send + Sync + 'static>(
-    rt: H,
-    case: &Case,
-) {
+fn gives<
+    H: Threads + Wait + Clock + Eprint + AllocGlobal + Abort + Copy + Drop + Send + Sync + 'static,
+>(rt: H, case: &Case) {
     let orders = orders(&rt, case.orders);
     let script = text_of(rt.alloc(), case.script).expect(&rt, "memory");
     let live = text_of(rt.alloc(), case.live).expect(&rt, "memory");
@@ -159,7 +160,18 @@ const SCRIPT_FILE: &str = "worker_run_tests_script";
 
 /// The run of files gives what is wanted.
 fn paths_give<
-    H: Threads + Wait + AllocGlobal + Abort + Files + Copy + Drop + Send + Sync + 'static,
+    H: Threads
+        + Wait
+        + Clock
+        + Eprint
+        + AllocGlobal
+        + Abort
+        + Files
+        + Copy
+        + Drop
+        + Send
+        + Sync
+        + 'static,
 >(rt: H, paths: (&str, &str, &str), wanted: (&str, &str, u8)) {
     let orders = orders(&rt, (1, 0, 1));
     let paths = Paths {
@@ -169,7 +181,15 @@ fn paths_give<
     };
     let mut written = Vec::new(rt.alloc());
     let mut faults = Vec::new(rt.alloc());
-    let status = run_paths(rt, rt.alloc(), paths, orders, &mut written, &mut faults);
+    let status = run_paths(
+        rt,
+        rt.alloc(),
+        paths,
+        orders,
+        &mut written,
+        &mut faults,
+        None::<&mut Vec<u8>>,
+    );
     compare(&rt, written.as_slice(), faults.as_slice(), status, wanted);
 }
 
@@ -202,4 +222,34 @@ fn files_are_opened_in_order(rt: HostRuntime) {
     }
     fs::remove_file(&rt, SCRIPT_FILE).expect(&rt, "a file");
     fs::remove_file(&rt, INSTANCE_FILE).expect(&rt, "a file");
+}
+
+/// A live script that fills the journal, of which the set-up took four entries: the next call is a fault, and the workers' lines are written.
+#[test]
+fn a_full_journal(rt: HostRuntime) {
+    let orders = orders(&rt, (1, 0, 1));
+    let mut live = Repeated {
+        line: b"1 remove 1 1 0\n",
+        times: 1_000_000 - 3,
+    };
+    let mut written = Tail {
+        bytes: Vec::new(rt.alloc()),
+    };
+    let mut faults = Vec::new(rt.alloc());
+    let status = scripted(
+        rt,
+        rt.alloc(),
+        A.as_bytes(),
+        &mut b"".as_slice(),
+        &mut live,
+        orders,
+        &mut written,
+        &mut faults,
+    );
+    let end =
+        b"denied access vehicle 1\nfault full\nworker 1 tried 0 committed 0 denied 0 refused 0\nversion 0\n";
+    let full = written.bytes.ends_with(end);
+    assert!(rt; full);
+    assert!(rt; faults.is_empty());
+    assert_eq!(rt; status, 1);
 }

@@ -1,9 +1,12 @@
 -- A run of files.
-use Rattle.std.specs.Prelude.{◌≡◌, ℕ, ◌⊎◌, List, Option, Some, None, Ok}
+use Rattle.std.specs.Prelude.{◌≡◌, ℕ, ◌⊎◌, List, Option, Some, None, Result, Ok}
+use Rattle.solomon_reader.specs.Checks.{Fault}
 use Rattle.solomon_reader.specs.Instances.{Plain}
 use Rattle.solomon_reader.specs.Reading.{read_of}
-use Rattle.program_parts.specs.Streams.{Streams, AgreesWithStatus, IsUnreadable}
+use Rattle.program_parts.specs.Streams.{Streams, IsUnreadable}
 use Rattle.board_program.specs.Joined.{IsOfFiles}
+use Rattle.worker_runs.specs.declared.orders.Orders.{Orders}
+use Rattle.worker_runs.specs.Scripted.{IsRunOfBytes, flow_of}
 
 -- a file that cannot be read is told, and nothing is written
 abbrev pub IsUnreadFile : List ℕ → Streams → ℕ → Type 0
@@ -17,10 +20,16 @@ IsUnreadLive (Some path) s status = IsUnreadFile path s status
 abbrev pub IsJudged : List ℕ → Type 0
 IsJudged bytes = (i : Plain) × (read_of bytes ≡ Ok i)
 
--- One of the files cannot be read: the instance's; or, once the instance is judged, the script's; or, after that, the live script's. Or all
--- were, and the status agrees with what is told. Without workers and a live script it is a run on a board of one thread.
-abbrev pub IsOfPaths : List ℕ → List ℕ → Option (List ℕ) → Streams → ℕ → Type 0
-IsOfPaths instance script live s status = IsOfFiles instance script s status
-    ⊎ (IsUnreadFile instance s status
-    ⊎ (((bytes : List ℕ) × IsJudged bytes × (IsUnreadFile script s status ⊎ IsUnreadLive live s status))
-    ⊎ AgreesWithStatus s.told_was s.told_now status))
+-- the run of these orders over what was read of an instance, a script and a live script, whatever the bytes of the two are
+abbrev pub IsRunOfSome : Result Plain Fault → Orders → Streams → ℕ → Type 0
+IsRunOfSome read orders s status = (script_old : Option (List ℕ)) × (script_new : Option (List ℕ)) × (live_old : Option (List ℕ)) × (live_new : Option (List ℕ))
+    × IsRunOfBytes read orders (flow_of script_old script_new live_old live_new s.was s.now) s.told_was s.told_now status
+
+-- once some bytes of an instance are read: they are judged, and the script or then the live script cannot be read; or it is the run of them
+abbrev pub IsOfInstance : List ℕ → List ℕ → Option (List ℕ) → Orders → Streams → ℕ → Type 0
+IsOfInstance bytes script live orders s status = (IsJudged bytes × (IsUnreadFile script s status ⊎ IsUnreadLive live s status)) ⊎ IsRunOfSome (read_of bytes) orders s status
+
+-- Without workers and a live script it is a run on a board of one thread. Else the instance's file cannot be read, or it is read first.
+abbrev pub IsOfPaths : List ℕ → List ℕ → Option (List ℕ) → Orders → Streams → ℕ → Type 0
+IsOfPaths instance script live orders s status = ((orders.workers ≡ 0) × (live ≡ None) × IsOfFiles instance script s status)
+    ⊎ (IsUnreadFile instance s status ⊎ ((bytes : List ℕ) × IsOfInstance bytes script live orders s status))

@@ -5,16 +5,17 @@ ghost use Rattle.desk_text.specs.DeskRuns.{IsHeld, IsHeldAtStop};
 ghost use Rattle.worker_runs.specs.Halls.{AllSearched};
 
 use crate::orders::Orders;
-use crate::search::{Searched, join_all, start_all};
+use crate::search::{Searched, join_all, start_crew};
 use crate::setups::{By, Setups};
 use board_lock::{Naming, Seat};
 use desk_text::{Seated, run_desk_lines};
 use dimension_core::Setup;
 use line_engine::{Counts, RunFault};
 use std::alloc::Global;
-use std::io::{Read, Write};
+use std::io::{Eprint, Read, Write};
 use std::sync::{Arc, Wait};
 use std::thread::Threads;
+use std::time::Clock;
 
 /// What comes of the live lines, and of the workers, if all of them were started.
 pub(crate) type Both<N, D> = (Result<Counts, RunFault>, Option<Searched<N, D>>);
@@ -24,7 +25,7 @@ pub(crate) fn beside<
     N: Naming + Send + Sync + 'static,
     D: Wait + Drop + Send + Sync + 'static,
     S: Setups + Drop,
-    W: Threads + Wait + Copy + Send + Sync + 'static,
+    W: Threads + Wait + Clock + Eprint + Copy + Send + Sync + 'static,
     I: Read,
     O: Write,
 >(
@@ -46,7 +47,7 @@ pub(crate) fn beside<
         (O.contents writer.old) (O.contents writer.new)) }
     ensures searched { IfSome result.1 (λ s. AllSearched N.opening orders others.items s.seats.items s.tallies.items) }
 {
-    let crew = start_all(rt, alloc, setup, others, orders);
+    let crew = start_crew(rt, alloc, setup, others, orders);
     let answered = run_desk_lines(&rt, alloc, front, live, writer);
     let searched = join_all(&rt, alloc, crew);
     (answered, searched)

@@ -18,9 +18,10 @@ use dimension_core::Setup;
 use line_engine::{Counts, RunFault};
 use program_parts::Stop;
 use std::alloc::Global;
-use std::io::{Read, Write};
+use std::io::{Eprint, Read, Write};
 use std::sync::{Arc, Wait};
 use std::thread::Threads;
+use std::time::Clock;
 
 /// The seat of desk 1, and those of the workers.
 fn seats_of<N: Naming, D: Wait + Drop>(
@@ -108,7 +109,7 @@ fn counted(answered: Result<Counts, RunFault>) -> Result<u64, Stop>
 pub(crate) fn hall_run<
     N: Naming + Send + Sync + 'static,
     S: Setups + Drop,
-    W: Threads + Wait + Copy + Drop + Send + Sync + 'static,
+    W: Threads + Wait + Clock + Eprint + Copy + Drop + Send + Sync + 'static,
     I: Read,
     O: Write,
 >(

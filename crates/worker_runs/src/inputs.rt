@@ -7,42 +7,44 @@ ghost use Rattle.solomon_reader.specs.Reading.{read_of};
 ghost use Rattle.worker_runs.specs.Files.{IsOfPaths};
 ghost use Rattle.worker_runs.specs.Scripted.{IsRunOfBytes, flow_of};
 
-use crate::opened::run_with;
+use crate::opened::{Job, run_with};
 use crate::orders::Orders;
 use board_program::run_files;
 use program_parts::{Stop, read_path, stopped, unread};
 use solomon_reader::{Instance, read};
 use std::alloc::Global;
 use std::fs;
-use std::io::{Read, Write};
+use std::io::{Eprint, Read, Write};
 use std::rt::Files;
 use std::sync::Wait;
 use std::thread::Threads;
+use std::time::Clock;
 
 /// Runs on the board of an instance, and reports how that ended.
 fn answered<
-    W: Threads + Wait + Copy + Drop + Send + Sync + 'static,
+    W: Threads + Wait + Clock + Eprint + Copy + Drop + Send + Sync + 'static,
     I: Read,
     L: Read,
     O: Write,
     F: Write,
+    E: Write,
 >(
     rt: W,
     alloc: Global,
-    instance: Instance,
-    orders: Orders,
+    job: Job,
     script: &mut I,
     live: &mut L,
     writer: &mut O,
     faults: &mut F,
+    notes: Option<&mut E>,
 ) -> u8
-    requires { IsSound (view instance) }
+    requires { IsSound (view job.instance) }
     ensures status { (result ≡ 0) ⊎ (result ≡ 1) ⊎ (result ≡ 3) }
     ensures told { AgreesWithStatus (F.contents faults.old) (F.contents faults.new) result }
-    ensures run { IsRunOfBytes (Ok (view instance)) orders (flow_of (I.remaining script.old) (I.remaining script.new)
+    ensures run { IsRunOfBytes (Ok (view job.instance)) job.orders (flow_of (I.remaining script.old) (I.remaining script.new)
         (L.remaining live.old) (L.remaining live.new) (O.contents writer.old) (O.contents writer.new)) (F.contents faults.old) (F.contents faults.new) result }
 {
-    match run_with(rt, alloc, instance, orders, script, live, writer) {
+    match run_with(rt, alloc, job, script, live, writer, notes) {
         Ok(refused) => u8::from(refused),
         Err(stop) => stopped(faults, stop),
     }
@@ -58,7 +60,7 @@ fn answered<
 /// not be set up or started; or `run fault KIND`. After a run fault of the script neither the live script nor the workers run. After one of
 /// the live script the lines of the workers and of the version are written, but not where the writer failed.
 pub fn scripted<
-    W: Threads + Wait + Copy + Drop + Send + Sync + 'static,
+    W: Threads + Wait + Clock + Eprint + Copy + Drop + Send + Sync + 'static,
     I: Read,
     L: Read,
     O: Write,
@@ -79,7 +81,19 @@ pub fn scripted<
         (L.remaining live.old) (L.remaining live.new) (O.contents writer.old) (O.contents writer.new)) (F.contents faults.old) (F.contents faults.new) result }
 {
     match read(alloc, instance) {
-        Ok(instance) => answered(rt, alloc, instance, orders, script, live, writer, faults),
+        Ok(instance) => {
+            let job = Job { instance, orders };
+            answered(
+                rt,
+                alloc,
+                job,
+                script,
+                live,
+                writer,
+                faults,
+                None::<&mut Vec<u8>>,
+            )
+        }
         Err(fault) => stopped(faults, Stop::from(fault)),
     }
 }
@@ -95,18 +109,36 @@ pub struct Paths<'a> {
 /// `dispatch run` of files: the instance is read and judged, then the script and the live script are opened, in this order, and then the
 /// board. A file that cannot be opened, and an instance's file that fails while it is read or has more than 16,777,216 bytes, give
 /// `dispatch: cannot read PATH` and status 3; else it is as `scripted` has it. Without workers and a live script it runs on a board of one
-/// thread.
+/// thread. Where there is a stream of notes, it gets one behind the reply of each line of the script that counts as refused, as
+/// `run_explained_lines` has it.
 pub fn run_paths<
-    W: Threads + Wait + Files + Copy + Drop + Send + Sync + 'static,
+    W: Threads + Wait + Files + Clock + Eprint + Copy + Drop + Send + Sync + 'static,
     O: Write,
     F: Write,
->(rt: W, alloc: Global, paths: Paths<'_>, orders: Orders, writer: &mut O, faults: &mut F) -> u8
+    E: Write,
+>(
+    rt: W,
+    alloc: Global,
+    paths: Paths<'_>,
+    orders: Orders,
+    writer: &mut O,
+    faults: &mut F,
+    notes: Option<&mut E>,
+) -> u8
     ensures status { (result ≡ 0) ⊎ (result ≡ 1) ⊎ (result ≡ 3) }
-    ensures files { IsOfPaths paths.entry.instance.now paths.entry.script.now (option_map (λ s. s.now) paths.entry.live)
+    ensures files { IsOfPaths paths.entry.instance.now paths.entry.script.now (option_map (λ s. s.now) paths.entry.live) orders
         (streams_of (O.contents writer.old) (O.contents writer.new) (F.contents faults.old) (F.contents faults.new)) result }
 {
     if orders.workers == 0 && paths.live.is_none() {
-        return run_files(&rt, alloc, paths.instance, paths.script, writer, faults);
+        return run_files(
+            &rt,
+            alloc,
+            paths.instance,
+            paths.script,
+            writer,
+            faults,
+            notes,
+        );
     }
     let text = match read_path(&rt, alloc, paths.instance) {
         Ok(text) => text,
@@ -120,29 +152,33 @@ pub fn run_paths<
         Ok(file) => file,
         Err(error) => return unread(faults, paths.script, &error),
     };
+    let job = Job {
+        instance: judged,
+        orders,
+    };
     let Some(path) = paths.live else {
         let mut nothing = b"".as_slice();
         return answered(
             rt,
             alloc,
-            judged,
-            orders,
+            job,
             &mut script,
             &mut nothing,
             writer,
             faults,
+            notes,
         );
     };
     match fs::open(&rt, path) {
         Ok(mut live) => answered(
             rt,
             alloc,
-            judged,
-            orders,
+            job,
             &mut script,
             &mut live,
             writer,
             faults,
+            notes,
         ),
         Err(error) => unread(faults, path, &error),
     }

@@ -7,6 +7,7 @@ mod hall_run;
 mod inputs;
 mod opened;
 mod orders;
+mod progress;
 mod search;
 mod set_up;
 mod setups;

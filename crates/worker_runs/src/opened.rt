@@ -12,17 +12,19 @@ use crate::orders::Orders;
 use crate::set_up::set_up;
 use board_core::Board;
 use board_lock::{Foyer, make_foyer};
-use board_text::{BoardFront, run_board_lines};
+use board_text::BoardFront;
 use callback_store::{Registry, Transit, Unary};
 use dimension_core::Setup;
+use explained_lines::run_noted_lines;
 use program_parts::{Network, Stop, standard_pair};
 use solomon_reader::Instance;
 use std::alloc::Global;
-use std::io::{Read, Write};
+use std::io::{Eprint, Read, Write};
 use std::marker::Brand;
 use std::snapshot::Snapshot;
 use std::sync::{Arc, Wait};
 use std::thread::Threads;
+use std::time::Clock;
 
 /// How many events the board's journal holds.
 const MAX_EVENTS: u32 = 1_000_000;
@@ -37,6 +39,13 @@ fn either(first: u64, hall: Result<u64, Stop>) -> Result<bool, Stop>
     }
 }
 
+/// A board that is to be opened, and what its workers are told.
+#[derive(Drop)]
+pub(crate) struct Job {
+    pub instance: Instance,
+    pub orders: Orders,
+}
+
 /// A law: what is known of a board that was just opened. It does nothing.
 fn opened_for(board: &Board, instance: &Snapshot<Instance>, orders: Orders)
     requires { IsOpened (view instance.now.value) orders (history board.now) }
@@ -44,29 +53,31 @@ fn opened_for(board: &Board, instance: &Snapshot<Instance>, orders: Orders)
 {}
 
 /// Opens the board of an instance, with a desk more than workers, sets the workers up, and answers the lines of a script on its desk 1
-/// alone. Then it answers live lines there while the workers search, and writes what their rounds came to. Whether a line counted as
+/// alone, with notes where there is a stream for them. Then it answers live lines there while the workers search, and writes what their rounds came to. Whether a line counted as
 /// refused.
 ///
 /// Its callbacks answer from the instance; they are made here, and nothing that holds them leaves.
 pub(crate) fn run_with<
-    W: Threads + Wait + Copy + Drop + Send + Sync + 'static,
+    W: Threads + Wait + Clock + Eprint + Copy + Drop + Send + Sync + 'static,
     I: Read,
     L: Read,
     O: Write,
+    E: Write,
 >(
     rt: W,
     alloc: Global,
-    instance: Instance,
-    orders: Orders,
+    job: Job,
     script: &mut I,
     live: &mut L,
     writer: &mut O,
+    notes: Option<&mut E>,
 ) -> Result<bool, Stop>
-    requires { IsSound (view instance) }
+    requires { IsSound (view job.instance) }
     ensures { MatchResult result
-        (IsRunOf (view instance) orders (flow_of (I.remaining script.old) (I.remaining script.new) (L.remaining live.old) (L.remaining live.new) (O.contents writer.old) (O.contents writer.new)))
-        (IsUnrun (view instance) orders (flow_of (I.remaining script.old) (I.remaining script.new) (L.remaining live.old) (L.remaining live.new) (O.contents writer.old) (O.contents writer.new))) }
+        (IsRunOf (view job.instance) job.orders (flow_of (I.remaining script.old) (I.remaining script.new) (L.remaining live.old) (L.remaining live.new) (O.contents writer.old) (O.contents writer.new)))
+        (IsUnrun (view job.instance) job.orders (flow_of (I.remaining script.old) (I.remaining script.new) (L.remaining live.old) (L.remaining live.new) (O.contents writer.old) (O.contents writer.new))) }
 {
+    let Job { instance, orders } = job;
     let first = Snapshot::of(&instance);
     let network = Arc::new(alloc, Network::new(alloc, instance)?)?;
     let size = network.size();
@@ -121,7 +132,7 @@ pub(crate) fn run_with<
     let Ok(()) = set_up(&rt, alloc, &mut front, orders) else {
         return Err(Stop::Open);
     };
-    let counts = match run_board_lines(&rt, alloc, &mut front, script, writer) {
+    let counts = match run_noted_lines(&rt, alloc, &mut front, script, writer, notes) {
         Ok(counts) => counts,
         Err(fault) => return Err(Stop::Run(fault)),
     };

@@ -8,14 +8,17 @@ ghost use Rattle.dimension_core.specs.Setup.{setting};
 ghost use Rattle.worker_runs.specs.Halls.{AreDone, post, posts};
 
 use crate::orders::Orders;
+use crate::progress::{Copied, Quiet, Report};
 use board_lock::{DeskOf, Naming, Seat};
 use dimension_core::Setup;
-use search_workers::{OpenGate, Share, Tally, work};
+use search_workers::{Gate, Share, Tally, work};
 use std::alloc::{AllocError, Global};
+use std::io::Eprint;
 use std::snapshot::Snapshot;
 use std::sync::{Arc, Wait};
 use std::thread;
 use std::thread::{Promise, PromisedHandle, Threads};
+use std::time::Clock;
 
 /// What a thread does with two things that it is given.
 trait Task<W, A, B, C> {
@@ -87,13 +90,19 @@ impl<N: Naming, D: Wait + Drop> Promise<Done<N, D>> for WorkOf<N, D> {
 /// A worker's thread.
 type Thread<N, D> = PromisedHandle<Done<N, D>, WorkOf<N, D>>;
 
-/// The rounds of a worker, past a gate that never holds.
+/// The rounds of a worker, past a gate.
 #[derive(Drop)]
-struct Rounds {
+struct Rounds<G> {
     alloc: Global,
+    gate: G,
 }
 
-impl<N: Naming, D: Wait + Drop, W: Wait> Task<W, Arc<Setup>, Errand<N, D>, Done<N, D>> for Rounds {
+impl<N: Naming, D: Wait + Drop, W: Wait, G: Gate<W> + Drop> Task<
+    W,
+    Arc<Setup>,
+    Errand<N, D>,
+    Done<N, D>,
+> for Rounds<G> {
     ghost use Rattle.std.specs.Prelude.{◌≡◌};
     ghost use Rattle.dimension_core.specs.Setup.{setting};
     ghost use Rattle.worker_runs.specs.Halls.{IsDone, post};
@@ -118,7 +127,7 @@ impl<N: Naming, D: Wait + Drop, W: Wait> Task<W, Arc<Setup>, Errand<N, D>, Done<
             session,
             seed,
             orders.rounds,
-            &OpenGate,
+            &self.gate,
         );
         let DeskOf { setup: _, seat } = desk;
         Done { seat, tally }
@@ -130,17 +139,21 @@ fn start_one<
     N: Naming + Send + Sync + 'static,
     D: Wait + Drop + Send + Sync + 'static,
     W: Threads + Wait + Copy + Send + Sync + 'static,
->(rt: W, alloc: Global, setup: &Arc<Setup>, errand: Errand<N, D>) -> Option<Thread<N, D>>
+    G: Gate<W> + Copied + Send + Drop + 'static,
+>(rt: W, alloc: Global, setup: &Arc<Setup>, errand: Errand<N, D>, gate: &G) -> Option<Thread<N, D>>
     requires { setting setup.now.value ≡ N.opening.setting }
     ensures { IfSome result (λ h. h.promise.errand.value ≡ errand) }
 {
     let Ok(theirs) = Arc::try_clone(setup) else {
         return None;
     };
+    let Some(gate) = gate.copied() else {
+        return None;
+    };
     let promise = WorkOf {
         errand: Snapshot::of(&errand),
     };
-    start(rt, promise, Rounds { alloc }, theirs, errand)
+    start(rt, promise, Rounds { alloc, gate }, theirs, errand)
 }
 
 /// The threads of the workers that were started, in their order, and whether all were.
@@ -178,12 +191,21 @@ fn with_one<N: Naming, D: Wait + Drop, W: Threads>(
     }
 }
 
-/// Starts a worker for each of the seats: worker i, counted from 1, proposes by session i plus 1 and draws by the seed plus i.
-pub(crate) fn start_all<
+/// Starts a worker for each of the seats, with a copy of a gate: worker i, counted from 1, proposes by session i plus 1 and draws by the
+/// seed plus i.
+fn start_all<
     N: Naming + Send + Sync + 'static,
     D: Wait + Drop + Send + Sync + 'static,
     W: Threads + Wait + Copy + Send + Sync + 'static,
->(rt: W, alloc: Global, setup: &Arc<Setup>, seats: Vec<Seat<N, D>>, orders: Orders) -> Crew<N, D>
+    G: Gate<W> + Copied + Send + Drop + 'static,
+>(
+    rt: W,
+    alloc: Global,
+    setup: &Arc<Setup>,
+    seats: Vec<Seat<N, D>>,
+    orders: Orders,
+    gate: &G,
+) -> Crew<N, D>
     requires setup { setting setup.now.value ≡ N.opening.setting }
     requires few { length seats.items ≤ 63 }
     ensures { result.whole ≡ true → map (λ h. post h.promise.errand.value.worker h.promise.errand.value.orders h.promise.errand.value.seat) result.threads.items ≡ posts orders 0 seats.items }
@@ -196,7 +218,7 @@ pub(crate) fn start_all<
         };
     };
     let worker = seats.len() as u32 + 1;
-    let crew = start_all(rt, alloc, setup, seats, orders);
+    let crew = start_all(rt, alloc, setup, seats, orders, gate);
     if !crew.whole {
         return crew;
     }
@@ -205,8 +227,31 @@ pub(crate) fn start_all<
         worker,
         orders,
     };
-    let thread = start_one(rt, alloc, setup, errand);
+    let thread = start_one(rt, alloc, setup, errand, gate);
     with_one(&rt, crew, thread)
+}
+
+/// Starts the workers, who report how far they are if they are told to. Reports that there is no memory for are as workers that cannot be
+/// started.
+pub(crate) fn start_crew<
+    N: Naming + Send + Sync + 'static,
+    D: Wait + Drop + Send + Sync + 'static,
+    W: Threads + Wait + Clock + Eprint + Copy + Send + Sync + 'static,
+>(rt: W, alloc: Global, setup: &Arc<Setup>, seats: Vec<Seat<N, D>>, orders: Orders) -> Crew<N, D>
+    requires setup { setting setup.now.value ≡ N.opening.setting }
+    requires few { length seats.items ≤ 63 }
+    ensures { result.whole ≡ true → map (λ h. post h.promise.errand.value.worker h.promise.errand.value.orders h.promise.errand.value.seat) result.threads.items ≡ posts orders 0 seats.items }
+{
+    if !orders.progress {
+        return start_all(rt, alloc, setup, seats, orders, &Quiet);
+    }
+    match Report::new(&rt, alloc, orders) {
+        Ok(report) => start_all(rt, alloc, setup, seats, orders, &report),
+        Err(_) => Crew {
+            threads: Vec::new(alloc),
+            whole: false,
+        },
+    }
 }
 
 /// What workers give back: their seats and their tallies, in their order.

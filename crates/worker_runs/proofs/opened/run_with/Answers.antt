@@ -113,39 +113,39 @@ opened_for-requires g c =
     c.in_ok-setup.ensures.ok size (c.vehicles.ensures ∙ ap (λ (x : Sites). x.vehicles) (c.deref-3.ensures ∙ sym c.deref-2.ensures)) (c.deref-2.ensures ∙ net)
     c.new-registry.ensures c.in_ok-demand-2.ensures.ok c.in_ok-way-2.ensures.ok c.in_ok-cost.ensures.ok
     first second third c.in_ok-pair.ensures.ok c.in_ok-demand-2.ensures.id c.in_ok-way-2.ensures.id c.in_ok-cost.ensures.id in
-    let opens : history c.in_ok-board.board ≡ opened_for s c.args.orders =
-    c.in_ok-board.ensures ∙ ap (λ (x : Setting). opening x (c.args.orders.workers + 1)) (ap (λ x. setting x) c.in_ok-setup-2.ensures.ok ∙ standard) in
-    let of : AreSitesOf (view c.args.instance) s = record { vehicles = c.in_ok-new.ensures.vehicles; capacity = c.in_ok-new.ensures.capacity; nodes = c.in_ok-new.ensures.nodes; network = c.in_ok-new.ensures.sound } in
-    let same : c.of-first.result.value ≡ c.args.instance = search rules in
+    let opens : history c.in_ok-board.board ≡ opened_for s c.args.job.orders =
+    c.in_ok-board.ensures ∙ ap (λ (x : Setting). opening x (c.args.job.orders.workers + 1)) (ap (λ x. setting x) c.in_ok-setup-2.ensures.ok ∙ standard) in
+    let of : AreSitesOf (view c.args.job.instance) s = record { vehicles = c.in_ok-new.ensures.vehicles; capacity = c.in_ok-new.ensures.capacity; nodes = c.in_ok-new.ensures.nodes; network = c.in_ok-new.ensures.sound } in
+    let same : c.of-first.result.value ≡ c.args.job.instance = search rules in
     record { sites = s; of = subst (λ (x : Instance). AreSitesOf (view x) s) (sym same) of; opens = opens }
 
 pub returns-in-Err : goal.returns-in-Err
 returns-in-Err g c =
-    let same : c.of-first.result.value ≡ c.args.instance = search rules in
-    let k : IsOpened (view c.args.instance) c.args.orders (history c.in_ok-board.board) = subst (λ (x : Instance). IsOpened (view x) c.args.orders (history c.in_ok-board.board)) same c.opened_for.ensures in
-    script_short (view c.args.instance) c.args.orders _ (history c.in_ok-board.board) c.in-Err.fault _ _ k c.in-Ok.ensures.ok c.in-Err.ensures.err refl
+    let same : c.of-first.result.value ≡ c.args.job.instance = search rules in
+    let k : IsOpened (view c.args.job.instance) c.args.job.orders (history c.in_ok-board.board) = subst (λ (x : Instance). IsOpened (view x) c.args.job.orders (history c.in_ok-board.board)) same c.opened_for.ensures in
+    script_short (view c.args.job.instance) c.args.job.orders _ (history c.in_ok-board.board) c.in-Err.fault _ _ k c.in-Ok.ensures.ok c.in-Err.ensures.err refl
 
 pub returns-in_default-make_foyer : goal.returns-in_default-make_foyer
 returns-in_default-make_foyer g c =
-    let same : c.of-first.result.value ≡ c.args.instance = search rules in
-    let k : IsOpened (view c.args.instance) c.args.orders (history c.in_ok-board.board) = subst (λ (x : Instance). IsOpened (view x) c.args.orders (history c.in_ok-board.board)) same c.opened_for.ensures in
-    hall_unmade (view c.args.instance) c.args.orders _ (history c.in_ok-board.board) _ _ _ _ k c.in-Ok.ensures.ok c.in-Ok-run_board_lines.ensures.ok refl
+    let same : c.of-first.result.value ≡ c.args.job.instance = search rules in
+    let k : IsOpened (view c.args.job.instance) c.args.job.orders (history c.in_ok-board.board) = subst (λ (x : Instance). IsOpened (view x) c.args.job.orders (history c.in_ok-board.board)) same c.opened_for.ensures in
+    hall_unmade (view c.args.job.instance) c.args.job.orders _ (history c.in_ok-board.board) _ _ _ _ k c.in-Ok.ensures.ok c.in-Ok-run_noted_lines.ensures.ok refl
 
 pub hall_run-requires-clause-lines : goal.hall_run-requires-clause-lines
 hall_run-requires-clause-lines g c κs within =
-    let same = opening_by (history c.in_ok-board.board) c.args.orders _ _ _ _ _ _ _ _ c.in-Ok-make_foyer.foyer.room.opening c.in-Ok.ensures.ok c.in-Ok-run_board_lines.ensures.ok c.in-Ok-make_foyer.ensures.opening in
+    let same = opening_by (history c.in_ok-board.board) c.args.job.orders _ _ _ _ _ _ _ _ c.in-Ok-make_foyer.foyer.room.opening c.in-Ok.ensures.ok c.in-Ok-run_noted_lines.ensures.ok c.in-Ok-make_foyer.ensures.opening in
     ap (λ x. setting x) c.in_ok-lines.ensures.cases ∙ (ap (λ (x : History). x.opening.setting) (sym c.in_ok-board.ensures) ∙ ap (λ (x : Opening). x.setting) (sym same))
 
 pub hall_run-requires-clause-desks : goal.hall_run-requires-clause-desks
 hall_run-requires-clause-desks g c κs within =
-    let same : c.of-first.result.value ≡ c.args.instance = search rules in
-    let k : IsOpened (view c.args.instance) c.args.orders (history c.in_ok-board.board) = subst (λ (x : Instance). IsOpened (view x) c.args.orders (history c.in_ok-board.board)) same c.opened_for.ensures in
-    desks_by (view c.args.instance) c.args.orders (history c.in_ok-board.board) c.in-Ok-make_foyer.foyer.room.opening k
-    (opening_by (history c.in_ok-board.board) c.args.orders _ _ _ _ _ _ _ _ c.in-Ok-make_foyer.foyer.room.opening c.in-Ok.ensures.ok c.in-Ok-run_board_lines.ensures.ok c.in-Ok-make_foyer.ensures.opening)
+    let same : c.of-first.result.value ≡ c.args.job.instance = search rules in
+    let k : IsOpened (view c.args.job.instance) c.args.job.orders (history c.in_ok-board.board) = subst (λ (x : Instance). IsOpened (view x) c.args.job.orders (history c.in_ok-board.board)) same c.opened_for.ensures in
+    desks_by (view c.args.job.instance) c.args.job.orders (history c.in_ok-board.board) c.in-Ok-make_foyer.foyer.room.opening k
+    (opening_by (history c.in_ok-board.board) c.args.job.orders _ _ _ _ _ _ _ _ c.in-Ok-make_foyer.foyer.room.opening c.in-Ok.ensures.ok c.in-Ok-run_noted_lines.ensures.ok c.in-Ok-make_foyer.ensures.opening)
 
 pub returns : goal.returns
 returns g c =
-    let same : c.of-first.result.value ≡ c.args.instance = search rules in
-    let k : IsOpened (view c.args.instance) c.args.orders (history c.in_ok-board.board) = subst (λ (x : Instance). IsOpened (view x) c.args.orders (history c.in_ok-board.board)) same c.opened_for.ensures in
-    hall_made (view c.args.instance) c.args.orders _ (history c.in_ok-board.board) _ _ _ _ _ c.in-Ok-make_foyer.foyer.room.opening c.in-Ok-make_foyer.foyer.room.entries _ _
-    k c.in-Ok.ensures.ok c.in-Ok-run_board_lines.ensures.ok c.in-Ok-make_foyer.ensures.opening c.in-Ok-make_foyer.ensures.entries c.hall_run.ensures c.either.ensures
+    let same : c.of-first.result.value ≡ c.args.job.instance = search rules in
+    let k : IsOpened (view c.args.job.instance) c.args.job.orders (history c.in_ok-board.board) = subst (λ (x : Instance). IsOpened (view x) c.args.job.orders (history c.in_ok-board.board)) same c.opened_for.ensures in
+    hall_made (view c.args.job.instance) c.args.job.orders _ (history c.in_ok-board.board) _ _ _ _ _ c.in-Ok-make_foyer.foyer.room.opening c.in-Ok-make_foyer.foyer.room.entries _ _
+    k c.in-Ok.ensures.ok c.in-Ok-run_noted_lines.ensures.ok c.in-Ok-make_foyer.ensures.opening c.in-Ok-make_foyer.ensures.entries c.hall_run.ensures c.either.ensures
