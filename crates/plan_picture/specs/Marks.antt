@@ -87,7 +87,7 @@ entry_at p tours k = marks.Entry (record { y = 1300 + 190 * k; tour = slice_inde
 
 -- a line at the start, the end and each quarter
 abbrev pub tick_at : Layout → ℕ → Mark
-tick_at l i = marks.Tick (record { x = 1600 + 2750 * i; top = l.top - 60; bottom = l.bottom; time = l.clock.from + l.clock.span * i / 4 })
+tick_at l i = marks.Tick (record { x = 1600 + 2700 * i; top = l.top - 60; bottom = l.bottom; time = l.clock.from + l.clock.span * i / 4 })
 
 abbrev pub lane_of : Layout → ℕ → Visit → Lane
 lane_of l k v = record {

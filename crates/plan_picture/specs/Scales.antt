@@ -46,6 +46,6 @@ radius_of most n = 30 + n.demand * 40 / most
 abbrev pub clock_of : List Node → Clock
 clock_of nodes = record { from = (node_at nodes 0).ready * 10; span = max (((node_at nodes 0).due - (node_at nodes 0).ready) * 10) 1 }
 
--- where a time stands: the depot's horizon is 11,000 wide, from 1,600 on; what is later stands at its end
+-- where a time stands: the depot's horizon is 10,800 wide, from 1,600 on; what is later stands at its end
 abbrev pub x_of : Clock → ℕ → ℕ
-x_of c t = 1600 + min (t - c.from) c.span * 11000 / c.span
+x_of c t = 1600 + min (t - c.from) c.span * 10800 / c.span

@@ -124,9 +124,10 @@ label_text m = codes "<text class=\"n\" dx=\"80\" dy=\"-50\" x=\"" ++ (decimal m
 -- a line of the table: its vehicle; how many stops it has in the listing, with a plus sign where places between them are not in it; and its sums
 unfoldable pub entry_open : Entry → List ℕ
 entry_open m = codes "<g transform=\"translate(0 " ++ (decimal m.y
-    ++ (codes ")\"><use href=\"#r\" class=\"f" ++ (decimal (colour_of m.tour.vehicle)
+    ++ (codes ")\"><use href=\"#r\" class=\"r c" ++ (decimal (colour_of m.tour.vehicle)
+    ++ (codes " p" ++ (decimal (dash_of m.tour.vehicle)
     ++ (codes "\"/><text class=\"e\" x=\"7650\">" ++ (decimal m.tour.vehicle
-    ++ codes "</text><text class=\"e\" x=\"8350\">")))))
+    ++ codes "</text><text class=\"e\" x=\"8350\">")))))))
 
 unfoldable pub stops_text : Tour → List ℕ
 stops_text t = if t.hidden == 0 then decimal t.stops else decimal t.stops ++ codes "+"
@@ -160,8 +161,8 @@ unfoldable pub lane_open : Lane → List ℕ
 lane_open m = codes "<g transform=\"translate(0 " ++ (decimal m.y ++ codes ")\"><title>")
 
 unfoldable pub lane_names : Lane → List ℕ
-lane_names m = codes "</title><use href=\"#h\"/><text class=\"e\" x=\"800\" y=\"120\">" ++ (decimal m.visit.row.vehicle
-    ++ (codes "</text><text class=\"e\" x=\"1500\" y=\"120\">" ++ (decimal m.visit.row.customer ++ codes "</text>")))
+lane_names m = codes "</title><use href=\"#h\"/><text class=\"e\" x=\"650\" y=\"120\">" ++ (decimal m.visit.row.vehicle
+    ++ (codes "</text><text class=\"e\" x=\"1350\" y=\"120\">" ++ (decimal m.visit.row.customer ++ codes "</text>")))
 
 unfoldable pub lane_window : Lane → List ℕ
 lane_window m = codes "<rect class=\"w\" y=\"30\" height=\"100\" x=\"" ++ (decimal m.ready
@@ -228,8 +229,8 @@ heading_text name planned unplanned cost = codes "<text class=\"k\" x=\"200\" y=
 
 -- the headings of the timelines
 unfoldable pub lanes_heading : ℕ → List ℕ
-lanes_heading y = codes "<text class=\"e\" x=\"800\" y=\"" ++ (decimal y
-    ++ (codes "\">vehicle</text>\n<text class=\"e\" x=\"1500\" y=\"" ++ (decimal y ++ codes "\">customer</text>\n")))
+lanes_heading y = codes "<text class=\"e\" x=\"650\" y=\"" ++ (decimal y
+    ++ (codes "\">vehicle</text>\n<text class=\"e\" x=\"1350\" y=\"" ++ (decimal y ++ codes "\">customer</text>\n")))
 
 -- all that stands before the marks
 unfoldable pub head_text : Layout → List ℕ → List Row → List Tour → List ℕ

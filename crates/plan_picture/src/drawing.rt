@@ -251,7 +251,7 @@ fn tick_at(layout: &Layout, i: u64) -> Mark
     ensures { result ≡ tick_at layout.now i }
 {
     Mark::Tick(Tick {
-        x: 1600 + 2750 * i,
+        x: 1600 + 2700 * i,
         top: layout.top.saturating_sub(60),
         bottom: layout.bottom,
         time: layout.clock.from + layout.clock.span * i / 4,

@@ -89,7 +89,7 @@ fn push_lanes_heading(out: &mut String, y: u64) -> Result<(), AllocError>
 {
     write!(
         out,
-        "<text class=\"e\" x=\"800\" y=\"{}\">vehicle</text>\n<text class=\"e\" x=\"1500\" y=\"{}\">customer</text>\n",
+        "<text class=\"e\" x=\"650\" y=\"{}\">vehicle</text>\n<text class=\"e\" x=\"1350\" y=\"{}\">customer</text>\n",
         y, y
     )
 }

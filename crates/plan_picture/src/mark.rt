@@ -31,7 +31,7 @@ pub struct Spot {
     pub visit: Visit,
 }
 
-/// The depot on the map: a hollow square, over the customers, so that neither hides the other.
+/// The depot on the map: a square over the customers, through which they show, so that neither hides the other.
 #[derive(Clone, Copy)]
 pub struct Depot {
     /// Where it stands.

@@ -135,5 +135,5 @@ pub(crate) fn x_of(clock: &Clock, time: u64) -> u64
     requires few { clock.now.span ≤ 99999990 }
     ensures { result ≡ x_of clock.now time }
 {
-    1600 + time.saturating_sub(clock.from).min(clock.span) * 11_000 / clock.span
+    1600 + time.saturating_sub(clock.from).min(clock.span) * 10_800 / clock.span
 }

@@ -1,7 +1,7 @@
 //! What every picture has: its colours, the heads of its arrows, and the headings of its parts.
 //!
-//! The eight colours are those of Okabe and Ito, which people with any colour vision tell apart, with a brown for their yellow, which does not show
-//! on white, and with lighter ones on black. From the ninth vehicle on they come again with broken lines.
+//! The eight colours are those of Okabe and Ito, which people with any colour vision tell apart. On white a brown stands for their yellow, which
+//! does not show there, and on black a white for their black. From the ninth vehicle on they come again with broken lines.
 
 /// Colours and widths, by class, on a light background and on a dark one, and the heads of the arrows.
 pub const STYLE: &str = "\
@@ -14,11 +14,12 @@ text{fill:#222;font-family:sans-serif;font-size:125px}
 .y{text-anchor:middle}
 .n{font-size:100px}
 .g{fill:none;stroke:#ccc;stroke-width:8}
-.d{fill:none;stroke:#222;stroke-width:44}
+.d{fill:#fff;fill-opacity:.7;stroke:#222;stroke-width:44}
 .s{stroke:#fff;stroke-width:8}
 .o{fill:none;stroke:#777;stroke-width:16}
 .l{fill:none;stroke-width:22}
 .t{fill:none;stroke-width:26}
+.r{fill:none;stroke-width:60}
 .q{fill:none;stroke-width:12;stroke-dasharray:24 24}
 .v{fill:none;stroke-width:20}
 .h{fill:#f0f0f0}
@@ -39,24 +40,18 @@ text{fill:#222;font-family:sans-serif;font-size:125px}
 .b{fill:#151515}
 text{fill:#ddd}
 .g{stroke:#444}
-.d{stroke:#ddd}
+.d{fill:#151515;stroke:#ddd}
 .s{stroke:#151515}
 .o{stroke:#aaa}
 .h{fill:#222}
 .w{fill:#4c4c4c}
-.c0{stroke:#3f9bd6}.f0{fill:#3f9bd6}
-.c1{stroke:#ff8533}.f1{fill:#ff8533}
-.c2{stroke:#1fc296}.f2{fill:#1fc296}
-.c3{stroke:#e3a0c6}.f3{fill:#e3a0c6}
-.c4{stroke:#f2b733}.f4{fill:#f2b733}
-.c5{stroke:#8fd0f7}.f5{fill:#8fd0f7}
 .c6{stroke:#f0e442}.f6{fill:#f0e442}
 .c7{stroke:#fff}.f7{fill:#fff}
 }
 </style>
 <defs>
-<rect id=\"r\" x=\"6900\" y=\"-110\" width=\"260\" height=\"120\"/>
-<path id=\"h\" class=\"h\" d=\"M1600 10H12600V150H1600Z\"/>
+<path id=\"r\" d=\"M6800 -45H7220\"/>
+<path id=\"h\" class=\"h\" d=\"M1600 10H12400V150H1600Z\"/>
 <marker id=\"a0\" class=\"f0\" viewBox=\"0 0 10 10\" refX=\"5\" refY=\"5\" markerUnits=\"userSpaceOnUse\" markerWidth=\"110\" markerHeight=\"110\" orient=\"auto\"><path d=\"M0 0L10 5L0 10Z\"/></marker>
 <marker id=\"a1\" class=\"f1\" viewBox=\"0 0 10 10\" refX=\"5\" refY=\"5\" markerUnits=\"userSpaceOnUse\" markerWidth=\"110\" markerHeight=\"110\" orient=\"auto\"><path d=\"M0 0L10 5L0 10Z\"/></marker>
 <marker id=\"a2\" class=\"f2\" viewBox=\"0 0 10 10\" refX=\"5\" refY=\"5\" markerUnits=\"userSpaceOnUse\" markerWidth=\"110\" markerHeight=\"110\" orient=\"auto\"><path d=\"M0 0L10 5L0 10Z\"/></marker>

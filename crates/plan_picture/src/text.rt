@@ -193,9 +193,10 @@ fn push_entry_open(out: &mut String, entry: &Entry) -> Result<(), AllocError>
 {
     write!(
         out,
-        "<g transform=\"translate(0 {})\"><use href=\"#r\" class=\"f{}\"/><text class=\"e\" x=\"7650\">{}</text><text class=\"e\" x=\"8350\">",
+        "<g transform=\"translate(0 {})\"><use href=\"#r\" class=\"r c{} p{}\"/><text class=\"e\" x=\"7650\">{}</text><text class=\"e\" x=\"8350\">",
         entry.y,
         entry.tour.vehicle % 8,
+        entry.tour.vehicle / 8 % 4,
         entry.tour.vehicle
     )
 }
@@ -285,7 +286,7 @@ fn push_lane_names(out: &mut String, lane: &Lane) -> Result<(), AllocError>
 {
     write!(
         out,
-        "</title><use href=\"#h\"/><text class=\"e\" x=\"800\" y=\"120\">{}</text><text class=\"e\" x=\"1500\" y=\"120\">{}</text>",
+        "</title><use href=\"#h\"/><text class=\"e\" x=\"650\" y=\"120\">{}</text><text class=\"e\" x=\"1350\" y=\"120\">{}</text>",
         lane.visit.row.vehicle, lane.visit.row.customer
     )
 }
