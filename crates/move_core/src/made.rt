@@ -8,6 +8,7 @@ use crate::parts::{self, Changes};
 use plan_core::Plan;
 use std::alloc::{AllocError, Global};
 
+#[inline(always)]
 pub(crate) fn by_insert(
     room: Changes,
     alloc: Global,
@@ -23,6 +24,7 @@ pub(crate) fn by_insert(
     parts::one_change(room, vehicle, route)
 }
 
+#[inline(always)]
 pub(crate) fn by_remove(
     room: Changes,
     alloc: Global,
@@ -37,6 +39,7 @@ pub(crate) fn by_remove(
     parts::one_change(room, vehicle, route)
 }
 
+#[inline(always)]
 pub(crate) fn by_shift(
     room: Changes,
     alloc: Global,
@@ -65,6 +68,7 @@ pub(crate) fn by_shift(
     parts::two_changes(room, vehicle, rest, to, longer)
 }
 
+#[inline(always)]
 pub(crate) fn by_swap(
     room: Changes,
     alloc: Global,
@@ -88,6 +92,7 @@ pub(crate) fn by_swap(
     parts::two_changes(room, vehicle, first, other, second)
 }
 
+#[inline(always)]
 pub(crate) fn by_reverse(
     room: Changes,
     alloc: Global,
@@ -103,6 +108,7 @@ pub(crate) fn by_reverse(
     parts::one_change(room, vehicle, route)
 }
 
+#[inline(always)]
 pub(crate) fn by_cross(
     room: Changes,
     alloc: Global,

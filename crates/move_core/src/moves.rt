@@ -154,6 +154,8 @@ impl Move {
     }
 
     /// What `touches` gives, in the memory of a list that the caller gives up: more memory is taken only where that is too small.
+    // Inlined, with what it calls: every proposal takes this way, which shall cost it nothing that notes on denials call it too.
+    #[inline(always)]
     pub fn touches_in(&self, room: Vec<Touch>, plan: &Plan) -> Result<Vec<Touch>, AllocError>
         requires { is_possible plan.now.customers plan.now.routes self.now ≡ true }
         ensures { IfOk result (λ touched. touched.items ≡ touched_by plan.now.routes self.now) }
@@ -201,6 +203,8 @@ impl Move {
     }
 
     /// What `routes` gives, listed in the memory of a list that the caller gives up: the list takes more only where that is too small.
+    // Inlined, with what it calls, as `touches_in` is.
+    #[inline(always)]
     pub fn routes_in(
         &self,
         room: Vec<(u32, Arc<Route>)>,

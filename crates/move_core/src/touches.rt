@@ -8,6 +8,7 @@ use crate::parts;
 use plan_core::{Plan, Touch};
 use std::alloc::AllocError;
 
+#[inline(always)]
 pub(crate) fn of_insert(
     room: Vec<Touch>,
     plan: &Plan,
@@ -27,6 +28,7 @@ pub(crate) fn of_insert(
     Ok(touched)
 }
 
+#[inline(always)]
 pub(crate) fn of_remove(
     room: Vec<Touch>,
     plan: &Plan,
@@ -42,6 +44,7 @@ pub(crate) fn of_remove(
     Ok(touched)
 }
 
+#[inline(always)]
 pub(crate) fn of_shift(
     room: Vec<Touch>,
     plan: &Plan,
@@ -65,6 +68,7 @@ pub(crate) fn of_shift(
     Ok(touched)
 }
 
+#[inline(always)]
 pub(crate) fn of_swap(
     room: Vec<Touch>,
     plan: &Plan,
@@ -84,6 +88,7 @@ pub(crate) fn of_swap(
     Ok(touched)
 }
 
+#[inline(always)]
 pub(crate) fn of_reverse(
     room: Vec<Touch>,
     plan: &Plan,
@@ -106,6 +111,7 @@ pub(crate) fn of_reverse(
     Ok(touched)
 }
 
+#[inline(always)]
 pub(crate) fn of_cross(
     room: Vec<Touch>,
     plan: &Plan,
