@@ -175,9 +175,17 @@ impl<N: Naming, L: Drop> DeskOf<N, L> {
         ensures grows { IsPrefix self.old.seat.seen self.new.seat.seen }
         ensures legal { Legal N.opening self.new.seat.seen }
         ensures view { IfOk result (λ v. v ≡ view_of (state_after N.opening.setting self.new.seat.seen)) }
+        ensures viewed { OnOk result (self.new.seat.viewed ≡ Some self.new.seat.seen) }
         ensures closed { IsErrOf result SnapFault.Closed → self.new.seat ≡ self.old.seat }
     {
         self.seat.snapshot()
+    }
+
+    /// A law: the entries of which the view tells are the first of those that the desk has seen, and a legal history. It does nothing.
+    pub fn view_is_seen(&self)
+        ensures { MatchOption self.now.seat.viewed (Unit {0}) (λ es. Legal N.opening es × IsPrefix es self.now.seat.seen) }
+    {
+        self.seat.view_is_seen();
     }
 
     /// The desk's next turn.

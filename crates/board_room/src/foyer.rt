@@ -1,7 +1,8 @@
 //! An anteroom with the setup beside.
-ghost use Rattle.std.specs.Prelude.{◌≡◌, IfOk};
+ghost use Rattle.std.specs.Prelude.{◌≡◌, IfOk, IfErr};
 ghost use Rattle.dimension_core.specs.Setup.{setting};
 ghost use Rattle.board_core.specs.Boards.{history};
+ghost use Rattle.board_room.specs.declared.room.OpenFault.{OpenFault};
 
 use crate::room::{Anteroom, OpenFault, make_room};
 use board_core::Board;
@@ -20,6 +21,7 @@ pub struct Foyer<R: Wait + Drop> {
 pub fn make_foyer<R: Wait + Drop>(rt: R, alloc: Global, board: Board) -> Result<Foyer<R>, OpenFault>
     ensures opening { IfOk result (λ f. f.room.opening ≡ (history board).opening) }
     ensures entries { IfOk result (λ f. f.room.entries ≡ (history board).entries) }
+    ensures fault { IfErr result (λ f. f ≡ OpenFault.NoMemory) }
 {
     match make_room(rt, alloc, board) {
         Ok((setup, room)) => Ok(Foyer { setup, room }),

@@ -1,7 +1,8 @@
 //! The core of a board with its published copy.
-ghost use Rattle.std.specs.Prelude.{◌≡◌, IfOk};
+ghost use Rattle.std.specs.Prelude.{◌≡◌, IfOk, IfErr};
 ghost use Rattle.dimension_core.specs.Setup.{setting};
 ghost use Rattle.board_core.specs.Boards.{history};
+ghost use Rattle.board_room.specs.declared.room.OpenFault.{OpenFault};
 
 use crate::copies::view;
 use crate::opening::Opens;
@@ -76,6 +77,7 @@ pub(crate) fn make_room<R: Wait + Drop>(
 ) -> Result<(Arc<Setup>, Anteroom<R>), OpenFault>
     ensures start { IfOk result (λ t. (t.1.opening ≡ (history board).opening) × (t.1.entries ≡ (history board).entries)) }
     ensures setup { IfOk result (λ t. setting t.0.value ≡ t.1.opening.setting) }
+    ensures fault { IfErr result (λ f. f ≡ OpenFault.NoMemory) }
 {
     let _few = board.setup.max_events();
     let Ok(view) = view(alloc, &board.setup, &board.core) else {

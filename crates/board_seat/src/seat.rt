@@ -98,6 +98,7 @@ impl<N: Naming, L: Drop> SeatOf<N, L> {
         ensures grows { IsPrefix self.old.seen self.new.seen }
         ensures legal { Legal N.opening self.new.seen }
         ensures view { IfOk result (λ v. v ≡ view_of (state_after N.opening.setting self.new.seen)) }
+        ensures viewed { OnOk result (self.new.viewed ≡ Some self.new.seen) }
         ensures closed { IsErrOf result SnapFault.Closed → self.new ≡ self.old }
     {
         self.eye.snapshot(self.alloc)
@@ -108,6 +109,13 @@ impl<N: Naming, L: Drop> SeatOf<N, L> {
         ensures { result ≡ self.now.own + 1 }
     {
         self.own + 1
+    }
+
+    /// A law: the entries of which the view tells are the first of those that the desk has seen, and a legal history. It does nothing.
+    pub fn view_is_seen(&self)
+        ensures { MatchOption self.now.viewed (Unit {0}) (λ es. Legal N.opening es × IsPrefix es self.now.seen) }
+    {
+        self.eye.view_is_seen();
     }
 
     /// A law: the turns that the desk has had are among the entries that it has seen. It does nothing.

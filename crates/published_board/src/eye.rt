@@ -161,11 +161,19 @@ impl<N: Naming> Eye<N> {
         }
     }
 
+    /// A law: the entries of which the view tells are the first of those that were seen, and a legal history. It does nothing.
+    pub fn view_is_seen(&self)
+        ensures { MatchOption self.now.viewed (Unit {0}) (λ es. IsLegal (record { opening = N.opening; entries = es }) × IsPrefix es self.now.seen) }
+    {
+        let _kept = &self.kept;
+    }
+
     /// A copy of the view, brought up to what is published. It waits for nobody.
     pub fn snapshot(&mut self, alloc: Global) -> Result<View, SnapFault>
         ensures grows { IsPrefix self.old.seen self.new.seen }
         ensures legal { IsLegal (record { opening = N.opening; entries = self.new.seen }) }
         ensures view { IfOk result (λ v. v ≡ view_of (state_after N.opening.setting self.new.seen)) }
+        ensures viewed { OnOk result (self.new.viewed ≡ Some self.new.seen) }
         ensures closed { IsErrOf result SnapFault.Closed → self.new ≡ self.old }
     {
         match self.refresh(alloc) {
