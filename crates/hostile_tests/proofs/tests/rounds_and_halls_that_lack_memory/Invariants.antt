@@ -1,0 +1,5 @@
+use Rattle.hostile_tests.proofs.tests.rounds_and_halls_that_lack_memory.Given as goal
+
+-- the foyer that was just made
+abbrev pub ghosts-works_on : goal.ghosts-works_on
+ghosts-works_on a b = record { book = b.foyer.room.book; opening = b.foyer.room.opening }

@@ -1,0 +1,5 @@
+use Rattle.hostile_tests.proofs.tests.workers_whose_rights_change.Given as goal
+
+-- the foyer that was just made
+abbrev pub ghosts-works_held : goal.ghosts-works_held
+ghosts-works_held a b = record { book = b.foyer.room.book; opening = b.foyer.room.opening }

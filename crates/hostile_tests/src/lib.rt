@@ -1,0 +1,30 @@
+//! Tests of hostile use: memory that runs out at each place of a call, rights that change under running workers, and a board as large as
+//! it may be.
+#![tactic(auto)]
+
+#[cfg(test)]
+mod beside;
+#[cfg(test)]
+mod boards;
+#[cfg(test)]
+mod desks;
+#[cfg(test)]
+mod full;
+#[cfg(test)]
+mod held;
+#[cfg(test)]
+mod openings;
+#[cfg(test)]
+mod replay;
+#[cfg(test)]
+mod rounds;
+#[cfg(test)]
+mod rows;
+#[cfg(test)]
+mod runs;
+#[cfg(test)]
+mod scarce;
+#[cfg(test)]
+mod tests;
+#[cfg(test)]
+mod threads;
