@@ -92,6 +92,10 @@ const FAULTS: &[(&str, LineFault)] = &[
     ("1 insert 1 -1 1 1", LineFault::Number),
     ("1 ssd-create x y a!", LineFault::Number),
     ("1 add-user a!", LineFault::Name),
+    (
+        "1 add-user abcdefghijklmnopqrstuvwxyz1234567",
+        LineFault::Name,
+    ),
     ("1 grant d fly truck 1 2 3", LineFault::Op),
     ("1 check move truck 1 2", LineFault::Object),
     ("1 grant d move truck x", LineFault::Object),
@@ -194,8 +198,8 @@ fn texts_grow(rt: HostRuntime) {
     let mut text = String::from_str(rt.alloc(), "> ").expect(&rt, "memory");
     push_check(&mut text, true).expect(&rt, "memory");
     push_line_fault(&mut text, LineFault::Object).expect(&rt, "memory");
-    push_json(&mut text, &[]).expect(&rt, "memory");
-    compare_text(&rt, &text, "> yesbad object{\"rows\":[]}");
+    push_json(&mut text, &[Row::new(1, 3, 2, &[7])]).expect(&rt, "memory");
+    compare_text(&rt, &text, "> yesbad object{\"rows\":[[1,3,2,7]]}");
 }
 
 #[test]
