@@ -1,4 +1,6 @@
 //! Halls that are opened while memory runs out.
+ghost use Rattle.std.specs.Prelude.{◌≡◌};
+
 use crate::scarce::Hoard;
 use board_core::Board;
 use board_lock::{Foyer, Naming, OpenFault, make_foyer, open_hall};
