@@ -270,7 +270,7 @@ const NOTHING: &[(&[&str], u8, &str)] = &[
     (
         &["dispatch", "check", "--help"],
         0,
-        "Reads an instance and prints its name, sizes and horizon.\n",
+        "Reads an instance and prints its name, sizes and horizon. Only the format is checked:",
     ),
     (
         &["dispatch", "check", "-h"],
