@@ -22,6 +22,8 @@ pub use reading::{
     Head, Order, Proposed, read_command, read_head, read_kept, read_line, read_order,
     read_proposal, read_words,
 };
-pub use replies::{push_ask_fault, push_fault, push_line_fault, push_reply, reply_text};
+pub use replies::{
+    push_ask_fault, push_committed, push_fault, push_line_fault, push_reply, reply_text,
+};
 pub use spelling::{event_text, push_event};
 pub use word::{AskWord, HoldWord, ManageWord, MoveWord, Separation, SessionWord, SetWord, Word};

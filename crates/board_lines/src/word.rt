@@ -95,7 +95,6 @@ pub enum AskWord {
     Active,
 }
 
-#[inline(always)]
 fn of_a(word: &[u8]) -> Option<Word>
     ensures { result ≡ lookup (bytes_eq word.now) (of_letter 97) }
 {
@@ -116,7 +115,6 @@ fn of_a(word: &[u8]) -> Option<Word>
     }
 }
 
-#[inline(always)]
 fn of_c(word: &[u8]) -> Option<Word>
     ensures { result ≡ lookup (bytes_eq word.now) (of_letter 99) }
 {
@@ -131,7 +129,6 @@ fn of_c(word: &[u8]) -> Option<Word>
     }
 }
 
-#[inline(always)]
 fn of_d(word: &[u8]) -> Option<Word>
     ensures { result ≡ lookup (bytes_eq word.now) (of_letter 100) }
 {
@@ -158,7 +155,6 @@ fn of_d(word: &[u8]) -> Option<Word>
     }
 }
 
-#[inline(always)]
 fn of_f(word: &[u8]) -> Option<Word>
     ensures { result ≡ lookup (bytes_eq word.now) (of_letter 102) }
 {
@@ -169,7 +165,6 @@ fn of_f(word: &[u8]) -> Option<Word>
     }
 }
 
-#[inline(always)]
 fn of_g(word: &[u8]) -> Option<Word>
     ensures { result ≡ lookup (bytes_eq word.now) (of_letter 103) }
 {
@@ -180,7 +175,6 @@ fn of_g(word: &[u8]) -> Option<Word>
     }
 }
 
-#[inline(always)]
 fn of_i(word: &[u8]) -> Option<Word>
     ensures { result ≡ lookup (bytes_eq word.now) (of_letter 105) }
 {
@@ -193,7 +187,6 @@ fn of_i(word: &[u8]) -> Option<Word>
     }
 }
 
-#[inline(always)]
 fn of_j(word: &[u8]) -> Option<Word>
     ensures { result ≡ lookup (bytes_eq word.now) (of_letter 106) }
 {
@@ -204,7 +197,6 @@ fn of_j(word: &[u8]) -> Option<Word>
     }
 }
 
-#[inline(always)]
 fn of_l(word: &[u8]) -> Option<Word>
     ensures { result ≡ lookup (bytes_eq word.now) (of_letter 108) }
 {
@@ -215,7 +207,6 @@ fn of_l(word: &[u8]) -> Option<Word>
     }
 }
 
-#[inline(always)]
 fn of_m(word: &[u8]) -> Option<Word>
     ensures { result ≡ lookup (bytes_eq word.now) (of_letter 109) }
 {
@@ -226,7 +217,6 @@ fn of_m(word: &[u8]) -> Option<Word>
     }
 }
 
-#[inline(always)]
 fn of_o(word: &[u8]) -> Option<Word>
     ensures { result ≡ lookup (bytes_eq word.now) (of_letter 111) }
 {
@@ -237,7 +227,6 @@ fn of_o(word: &[u8]) -> Option<Word>
     }
 }
 
-#[inline(always)]
 fn of_p(word: &[u8]) -> Option<Word>
     ensures { result ≡ lookup (bytes_eq word.now) (of_letter 112) }
 {
@@ -248,7 +237,6 @@ fn of_p(word: &[u8]) -> Option<Word>
     }
 }
 
-#[inline(always)]
 fn of_r(word: &[u8]) -> Option<Word>
     ensures { result ≡ lookup (bytes_eq word.now) (of_letter 114) }
 {
@@ -265,7 +253,6 @@ fn of_r(word: &[u8]) -> Option<Word>
     }
 }
 
-#[inline(always)]
 fn of_s(word: &[u8]) -> Option<Word>
     ensures { result ≡ lookup (bytes_eq word.now) (of_letter 115) }
 {
@@ -288,7 +275,6 @@ fn of_s(word: &[u8]) -> Option<Word>
     }
 }
 
-#[inline(always)]
 fn of_t(word: &[u8]) -> Option<Word>
     ensures { result ≡ lookup (bytes_eq word.now) (of_letter 116) }
 {
@@ -299,7 +285,6 @@ fn of_t(word: &[u8]) -> Option<Word>
     }
 }
 
-#[inline(always)]
 fn of_u(word: &[u8]) -> Option<Word>
     ensures { result ≡ lookup (bytes_eq word.now) (of_letter 117) }
 {
@@ -316,6 +301,7 @@ fn of_u(word: &[u8]) -> Option<Word>
 
 impl Word {
     /// The command that the word names, in lower case exactly. The word is compared only with those of the same first letter.
+    // The words of a letter are out of line: with all of them written out this would be too large to be inlined.
     #[inline(always)]
     pub fn of(word: &[u8]) -> Option<Word>
         ensures { result ≡ word_of word.now }

@@ -6,6 +6,8 @@ mod boards;
 #[cfg(test)]
 mod calls;
 #[cfg(test)]
+mod faults;
+#[cfg(test)]
 mod many;
 #[cfg(test)]
 mod one_thread;

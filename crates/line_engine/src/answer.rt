@@ -12,7 +12,8 @@ ghost use Rattle.std.specs.Prelude.{◌≢◌};
 
 use crate::mark::Mark;
 use board_lines::{
-    Command, ReadFault, push_ask_fault, push_fault, push_json, push_list, push_reply, push_review,
+    Command, ReadFault, push_ask_fault, push_committed, push_fault, push_json, push_list,
+    push_reply, push_review,
 };
 use board_rules::{AskFault, Call, Denial, Fault, Reply, Review};
 use line_front::Front;
@@ -53,6 +54,14 @@ fn reply_line(text: &mut String, reply: Reply) -> Result<(), AllocError>
     ensures { OnOk result (string_bytes text.new ≡ string_bytes text.old ++ ended (reply_text reply)) }
 {
     push_reply(text, reply)?;
+    end_line(text)
+}
+
+// Apart from `reply_line`, since this reply comes most.
+fn committed_line(text: &mut String, version: u32) -> Result<(), AllocError>
+    ensures { OnOk result (string_bytes text.new ≡ string_bytes text.old ++ ended (reply_text (Reply.Committed version))) }
+{
+    push_committed(text, version)?;
     end_line(text)
 }
 
@@ -124,7 +133,7 @@ pub(crate) fn propose<R, F: Front<R>>(
 {
     match front.propose(rt, session, base, mv) {
         Ok(Ok(version)) => {
-            reply_line(text, Reply::Committed(version))?;
+            committed_line(text, version)?;
             Ok(Mark::Text(false))
         }
         Ok(Err(Denial::NoSession)) => Ok(Mark::NoSession),

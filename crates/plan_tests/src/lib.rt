@@ -6,6 +6,8 @@ mod callbacks;
 #[cfg(test)]
 mod dimensions;
 #[cfg(test)]
+mod faults;
+#[cfg(test)]
 mod moves;
 #[cfg(test)]
 mod new_routes;

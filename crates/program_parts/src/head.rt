@@ -1,6 +1,6 @@
 //! The head of a joined input: the instance, up to the line `%%`.
 
-ghost use Rattle.std.specs.Prelude.{ℕ, ◌≡◌, ◌≤◌, ◌++◌, ◌||◌, nat_lt, List, [], length, take, IfOk, IfErr, IfSome};
+ghost use Rattle.std.specs.Prelude.{ℕ, ◌≡◌, ◌≤◌, ◌++◌, List, [], length, take, IfOk, IfErr, IfSome};
 ghost use Rattle.std.specs.Str.{bytes_eq};
 ghost use Rattle.program_parts.specs.Stops.{IsUnread};
 ghost use Rattle.program_parts.specs.Head.{mark, ends_instance, halves, IsHead, IsMarked, Took, Fed, AreRead};
@@ -48,14 +48,6 @@ impl Head {
         }
     }
 
-    /// Whether more bytes than an instance may have stand before the line in work, or in it, so that no line `%%` can
-    /// come in time.
-    fn is_long(&self) -> bool
-        ensures { result ≡ (nat_lt 16777216 self.now.line || nat_lt 16777219 (length self.now.text.items)) }
-    {
-        self.line > MOST_BYTES || self.text.len() > MOST_BYTES + 3
-    }
-
     /// Takes one byte, and tells whether it ends the line `%%`, which is then left out.
     fn take(&mut self, byte: u8) -> Result<bool, Stop>
         requires head { IsHead self.old.text.items self.old.line }
@@ -71,8 +63,12 @@ impl Head {
         } else {
             self.text.push(byte)?;
             self.line = self.text.len();
+            if self.line > MOST_BYTES {
+                return Err(Stop::Run(RunFault::Read));
+            }
         }
-        if self.is_long() {
+        // A line `%%` that is still to come has at most three bytes before its end.
+        if self.text.len() > MOST_BYTES + 3 {
             return Err(Stop::Run(RunFault::Read));
         }
         Ok(false)

@@ -137,6 +137,8 @@ fn compare_board(rt: &impl Abort, board: &Board) {
     assert_eq!(rt; board.version(), 11);
     assert_eq!(rt; board.route(1).customers(), [5].as_slice());
     assert_eq!(rt; board.route(2).customers(), [1, 4, 2].as_slice());
+    assert_eq!(rt; board.plan().version(), 11);
+    assert_eq!(rt; board.plan().route(2).customers(), [1, 4, 2].as_slice());
     assert_eq!(rt; board.place_of(3), None);
     assert_eq!(rt; board.place_of(4), Some((2, 2)));
     assert_eq!(rt; board.pinned(4), None);

@@ -6,11 +6,10 @@ ghost use Rattle.std.specs.Prelude.{◌≡◌, ◌≤◌, IfOk, IfSome, map, len
 ghost use Rattle.dimension_core.specs.Setup.{setting};
 ghost use Rattle.search_workers.specs.Works.{AllWorked};
 
-use crate::gate::Gate;
-use crate::share::{Errand, Order, Share, Work, WorkFault, WorkOf};
-use crate::worker::work_at;
+use crate::share::{Share, WorkFault, WorkOf};
 use board_lock::{Desk, DeskOf, Naming};
 use dimension_core::Setup;
+use search_rounds::{Gate, Order, Work, Worker, work_at};
 use std::alloc::Global;
 use std::snapshot::Snapshot;
 use std::sync::{Arc, Wait};
@@ -64,7 +63,7 @@ fn start<
     Some(child)
 }
 
-/// The rounds of an errand, past a gate.
+/// The rounds of a worker, past a gate.
 #[derive(Drop)]
 struct Rounds<'g, G> {
     alloc: Global,
@@ -74,17 +73,17 @@ struct Rounds<'g, G> {
 impl<'g, N: Naming, R: Wait + Drop, W: Wait, G: Gate<W>> Task<
     W,
     Arc<Setup>,
-    Errand<N, R>,
+    Worker<N, R>,
     Work<N, R>,
 > for Rounds<'g, G> {
     ghost use Rattle.dimension_core.specs.Setup.{setting};
-    ghost use Rattle.search_workers.specs.Works.{Worked};
+    ghost use Rattle.search_rounds.specs.Works.{Worked};
 
-    ghost may = { λ setup errand. setting setup.value ≡ N.opening.setting };
+    ghost may = { λ setup worker. setting setup.value ≡ N.opening.setting };
 
-    ghost makes = { λ errand work. Worked N.opening errand.order.session errand.order.seed errand.order.rounds errand.seat work.seat work.tally };
+    ghost makes = { λ worker work. Worked N.opening worker.order.session worker.order.seed worker.order.rounds worker.seat work.seat work.tally };
 
-    fn run(self, rt: &W, first: Arc<Setup>, second: Errand<N, R>) -> Work<N, R> {
+    fn run(self, rt: &W, first: Arc<Setup>, second: Worker<N, R>) -> Work<N, R> {
         work_at(rt, self.alloc, &first, second, self.gate)
     }
 }
@@ -102,20 +101,20 @@ fn start_one<
     scope: &'s Scope<'s, E>,
     alloc: Global,
     setup: &Arc<Setup>,
-    errand: Errand<N, R>,
+    worker: Worker<N, R>,
     gate: &'s G,
 ) -> Result<PromisedHandle<Work<N, R>, WorkOf<N, R>>, WorkFault>
     requires { setting setup.now.value ≡ N.opening.setting }
-    ensures { IfOk result (λ h. h.promise.errand.value ≡ errand) }
+    ensures { IfOk result (λ h. h.promise.worker.value ≡ worker) }
 {
     let Ok(theirs) = Arc::try_clone(setup) else {
         return Err(WorkFault::NoMemory);
     };
     let promise = WorkOf {
-        errand: Snapshot::of(&errand),
+        worker: Snapshot::of(&worker),
     };
     let task = Rounds { alloc, gate };
-    match start(rt, scope, promise, task, theirs, errand) {
+    match start(rt, scope, promise, task, theirs, worker) {
         Some(child) => Ok(child),
         None => Err(WorkFault::Spawn),
     }
@@ -162,13 +161,13 @@ fn start_all<
         seed,
         rounds,
     };
-    let worker = desks.len() as u32 + 1;
-    let errand = Errand {
-        worker,
+    let number = desks.len() as u32 + 1;
+    let worker = Worker {
+        number,
         seat,
         order,
     };
-    let child = start_one(rt, scope, alloc, &setup, errand, gate)?;
+    let child = start_one(rt, scope, alloc, &setup, worker, gate)?;
     let rest = start_all(rt, scope, alloc, desks, sessions, seeds, rounds, gate);
     let Work { seat, tally } = child.join(rt);
     let mut shares = rest?;

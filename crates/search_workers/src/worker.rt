@@ -1,18 +1,11 @@
-//! A worker.
+//! One worker, in the caller's thread.
 ghost use Rattle.std.specs.Prelude.{◌≡◌};
 ghost use Rattle.dimension_core.specs.Setup.{setting};
-ghost use Rattle.search_workers.specs.Works.{Worked};
+ghost use Rattle.search_rounds.specs.Works.{Worked};
 
-use crate::draws::{draw_round, sow};
-use crate::finder::Finder;
-use crate::gate::Gate;
-use crate::round::{Place, one_round};
-use crate::share::{Errand, Order, Share, Work};
-use crate::skips::Skips;
-use crate::tally::Tally;
+use crate::share::Share;
 use board_lock::{Desk, DeskOf, Naming};
-use dimension_core::Setup;
-use rbac_core::{Object, Operation};
+use search_rounds::{Gate, Order, Work, Worker, work_at};
 use std::alloc::Global;
 use std::sync::Wait;
 
@@ -42,60 +35,14 @@ pub fn work<N: Naming, R: Wait + Drop, W: Wait, G: Gate<W>>(
         seed,
         rounds,
     };
-    let errand = Errand {
-        worker: 1,
+    let worker = Worker {
+        number: 1,
         seat,
         order,
     };
-    let Work { seat, tally } = work_at(rt, alloc, &setup, errand, gate);
+    let Work { seat, tally } = work_at(rt, alloc, &setup, worker, gate);
     Share {
         desk: DeskOf { setup, seat },
         tally,
     }
-}
-
-/// The rounds of an errand.
-pub(crate) fn work_at<N: Naming, R: Wait + Drop, W: Wait, G: Gate<W>>(
-    rt: &W,
-    alloc: Global,
-    setup: &Setup,
-    errand: Errand<N, R>,
-    gate: &G,
-) -> Work<N, R>
-    requires { setting setup.now ≡ N.opening.setting }
-    ensures { Worked N.opening errand.order.session errand.order.seed errand.order.rounds errand.seat result.seat result.tally }
-{
-    let Errand {
-        worker,
-        seat,
-        order,
-    } = errand;
-    let mut seat = seat;
-    seat.turns_are_seen();
-    let vehicles = setup.vehicles();
-    let mut rng = sow(order.seed);
-    let mut skips = Skips::new(alloc);
-    let mut finder = Finder::new(alloc);
-    let mut tally = Tally::new();
-    for done in 0..order.rounds {
-        let round = done + 1;
-        let place = Place { worker, round };
-        let (v, w) = draw_round(&mut rng, order.seed, vehicles, done);
-        let outcome = one_round(
-            rt,
-            &mut seat,
-            setup,
-            &mut skips,
-            &mut finder,
-            order,
-            v,
-            w,
-            gate,
-            place,
-        );
-        tally.count(outcome);
-        gate.done(rt, worker, round, outcome);
-    }
-    let _may = seat.check(rt, order.session, Operation::View, Object::Board);
-    Work { seat, tally }
 }

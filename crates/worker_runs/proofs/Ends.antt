@@ -11,7 +11,7 @@ use Rattle.line_engine.specs.declared.run_fault.Counts.{Counts}
 use Rattle.line_engine.specs.declared.run_fault.RunFault.{RunFault}
 use Rattle.line_engine.specs.declared.run_fault.RunFault.TheVariants as runs
 use Rattle.desk_text.specs.DeskRuns.{IsHeld, IsHeldAtStop}
-use Rattle.search_workers.specs.declared.tally.Tally.{Tally}
+use Rattle.search_rounds.specs.declared.tally.Tally.{Tally}
 use Rattle.program_parts.specs.declared.stop.Stop.{Stop}
 use Rattle.program_parts.specs.declared.stop.Stop.TheVariants as stops
 use Rattle.worker_runs.specs.declared.orders.Orders.{Orders}

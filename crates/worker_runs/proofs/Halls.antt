@@ -10,11 +10,11 @@ use Rattle.board_seat.specs.Watches.{Watch, watch_at, watches}
 use Rattle.line_engine.specs.Running.{AppendsFront}
 use Rattle.line_engine.specs.declared.run_fault.RunFault.{RunFault}
 use Rattle.line_engine.specs.declared.run_fault.RunFault.TheVariants as runs
-use Rattle.search_workers.specs.declared.tally.Tally.{Tally}
+use Rattle.search_rounds.specs.declared.tally.Tally.{Tally}
 use Rattle.program_parts.specs.declared.stop.Stop.{Stop}
 use Rattle.program_parts.specs.declared.stop.Stop.TheVariants as stops
 use Rattle.worker_runs.specs.declared.orders.Orders.{Orders}
-use Rattle.search_workers.specs.Jobs.{view_after}
+use Rattle.search_rounds.specs.Jobs.{view_after}
 use Rattle.worker_runs.specs.Closings.{IsWrittenShort}
 use Rattle.worker_runs.specs.Tallies.{closing_text}
 use Rattle.worker_runs.specs.Halls.{AreDone, AreMet, IsClosedShort, IsClosing, IsDone, Post, post, posts, worker_desks}

@@ -4,7 +4,7 @@ ghost use Rattle.std.specs.Io.KnownBytes.{Appends};
 ghost use mathlib.Core.List.{IsPrefix};
 ghost use Rattle.board_rules.specs.declared.call.Entry.{Entry};
 ghost use Rattle.line_engine.specs.Running.{AppendsFront};
-ghost use Rattle.search_workers.specs.Jobs.{view_after};
+ghost use Rattle.search_rounds.specs.Jobs.{view_after};
 ghost use Rattle.worker_runs.specs.Halls.{AreMet, IsClosing, IsClosedShort};
 ghost use Rattle.worker_runs.specs.Closings.{IsWrittenShort};
 ghost use Rattle.worker_runs.specs.Tallies.{closing_text};

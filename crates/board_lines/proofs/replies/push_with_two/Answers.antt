@@ -2,4 +2,4 @@ use Rattle.board_lines.proofs.Starting.{err_then}
 use Rattle.board_lines.proofs.replies.push_with_two.Goals as goal
 
 pub returns-clause-start : goal.returns-clause-start
-returns-clause-start c = err_then _ _ _ _ _ c.in_ok-push_with.ensures.ok c.push_spaced.ensures.start
+returns-clause-start c = err_then _ _ _ _ _ c.in_ok-push_with.ensures.ok c.push_second.ensures.start

@@ -1,0 +1,8 @@
+//! Torn and hostile input: instances that are cut and changed, devices that fail, scripts that are cut, and numbers at their ends.
+
+mod comparing;
+mod devices;
+mod instances;
+mod numbers;
+mod plain;
+mod scripts;

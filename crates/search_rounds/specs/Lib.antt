@@ -1,0 +1,10 @@
+pub mod Draws
+pub mod Kinds
+pub mod Counts
+pub mod Skips
+pub mod Jobs
+pub mod Rounds
+pub mod Works
+pub mod Steps
+pub mod Given
+pub mod Laws
