@@ -25,12 +25,13 @@ fn run_joined<R, I: Read, W: Write>(
 {
     let Parts {
         instance,
-        behind,
+        piece,
+        used,
         goes_on,
     } = read_parts(alloc, reader)?;
     let instance = read(alloc, instance.as_slice())?;
     if goes_on {
-        let mut script = behind.as_slice().chain(reader);
+        let mut script = (&piece[used..]).chain(reader);
         run_board(
             rt,
             alloc,
@@ -40,7 +41,7 @@ fn run_joined<R, I: Read, W: Write>(
             None::<&mut Vec<u8>>,
         )
     } else {
-        let mut script = behind.as_slice();
+        let mut script = &piece[used..];
         run_board(
             rt,
             alloc,

@@ -14,17 +14,17 @@ Status:
   3  a file or an instance is at fault, or a board could not be opened or run on
 
 What ends a run early is told on standard error:
-  dispatch: cannot read PATH             the file is not there or may not be read; of an INSTANCE also
-                                         a folder, one that fails while it is read, or is too long
+  dispatch: cannot read PATH             the file is not there or may not be read; of INSTANCE and ROWS
+                                         also a folder, one that fails while it is read, or is too long
   dispatch: instance fault KIND line N   `dispatch check --help` has the format
-  dispatch: open fault                   memory ran out before the script
+  dispatch: open fault                   memory ran out before or after the script, or for a worker
   dispatch: run fault KIND               read, write, long-line or no-memory, at some line
   dispatch: rows fault line N            of `dispatch draw` and `dispatch sums`: no such row, or no rows";
 
 /// What `dispatch check` does.
 pub(crate) const CHECK: &str = "\
 Reads an instance and prints its name, sizes and horizon. Only the format is checked: a customer that no
-vehicle can carry, or reach in time, passes, and is denied by `bound` when it is inserted.
+vehicle can carry, or reach in time, passes, and can never be planned.
 
 INSTANCE may be /dev/stdin; a `-` names a file. `dispatch: cannot read INSTANCE`, with status 3, says
 that the file is not there, may not be read, is a folder, fails while it is read, or has more than
@@ -36,9 +36,10 @@ Opens the board of an instance, and answers the lines of a script.
 
 INSTANCE or SCRIPT may be /dev/stdin; a `-` names a file. `dispatch: cannot read PATH`, with status 3,
 says that the file is not there or may not be read, or, of INSTANCE alone, that it is a folder, fails
-while it is read, or has more than 16,777,216 bytes. `dispatch: run fault read` says that of a SCRIPT that could be
-opened. The instance is judged before SCRIPT and the live file are opened, and each reply is written
-before the next read: with /dev/stdin as SCRIPT the board is worked at from a terminal.
+while it is read, or has more than 16,777,216 bytes. `dispatch: run fault read` says that a SCRIPT of
+any size is a folder or fails while it is read. The instance is judged before SCRIPT and the live file
+are opened, and each reply is written before the next read: with /dev/stdin as SCRIPT the board is
+worked at from a terminal.
 
 With --workers N the board has N workers beside it, each with a desk and a session of its own. Before
 SCRIPT, session 1 makes the user `worker` and the role `worker`, and opens session 2 for worker 1,
@@ -48,13 +49,13 @@ SCRIPT grants it, as here two vehicles and four customers:
   1 grant worker move customer 1 4
 
 SCRIPT runs alone. Then each worker does its rounds, while the lines of --live FILE are answered. In a
-round a worker draws two vehicles, looks for the move near them that saves most way, and proposes it,
-if one saves any. At the end there is a line for each worker, and one for the plan:
+round a worker draws two vehicles, looks for the allowed move near them that saves most way, and
+proposes it, if one saves any. At the end there is a line for each worker, and one for the plan:
   worker I tried T committed C denied D refused R
   version V
-T of worker I's rounds proposed a move: C were committed, D denied, and R met a fault, as a full
-journal; in the others no move saved anything. V is the number of all commits. `dispatch: open fault`
-also says that workers could not be set up or started.
+T of worker I's rounds were not idle: C proposed a move that was committed, D one that was denied, and
+R met a fault, as a full journal; in the others no allowed move saved anything. V is the number of all
+commits. `dispatch: open fault` also says that workers could not be set up or started.
 
 Two switches write more to standard error, and change nothing else. With --progress it gets a line each
 time that another twentieth of all workers' rounds is done; COMMITS are the workers' commits so far:
@@ -83,20 +84,21 @@ pub(crate) const EXPLAIN: &str =
     "Say on standard error what each refusal of a line of SCRIPT means";
 
 /// What the rows of a plan are.
-pub(crate) const ROWS_PATH: &str = "The output of a run, with a listing";
+pub(crate) const ROWS_PATH: &str =
+    "The output of a run, with a listing, of at most 16,777,216 bytes";
 
 pub(crate) const DRAW_SHORT: &str = "Draws the plan that a run listed last";
 
 pub(crate) const DRAW: &str = "\
 Draws the plan that a run listed last, as one SVG: a map, a table and a timeline.
 
-ROWS is the output of a run, in a file or on /dev/stdin. Its last listing is drawn, from `row` lines up
-to `end`, and all other lines are skipped:
+ROWS is the output of a run, in a file or on /dev/stdin. Its last listing with a row is drawn, from
+`row` lines up to `end`, and all other lines are skipped:
   dispatch run INSTANCE SCRIPT | dispatch draw INSTANCE /dev/stdin > plan.svg
 
 `dispatch: rows fault line N`, with status 3, says that line N is a row that the instance cannot have:
-a vehicle, customer or place that is not there, a customer twice, or rows out of order. Where there is
-no listing, N is the number of lines plus 1.";
+a vehicle, customer or place that is not there, a customer twice, or rows out of order. Where no
+listing has a row, N is the number of lines plus 1.";
 
 pub(crate) const SUMS_SHORT: &str = "Sums up the plan that a run listed last";
 
@@ -104,13 +106,13 @@ pub(crate) const SUMS: &str = "\
 Sums up the plan that a run listed last: a line for each vehicle that has a stop, with its stops, load,
 start, return and distance, and one for the plan. Times and distances are tenths.
 
-ROWS is the output of a run, in a file or on /dev/stdin. Its last listing is summed up, from `row` lines
-up to `end`, and all other lines are skipped:
+ROWS is the output of a run, in a file or on /dev/stdin. Its last listing with a row is summed up, from
+`row` lines up to `end`, and all other lines are skipped:
   dispatch run INSTANCE SCRIPT | dispatch sums INSTANCE /dev/stdin
 
 `dispatch: rows fault line N`, with status 3, says that line N is a row that the instance cannot have:
-a vehicle, customer or place that is not there, a customer twice, or rows out of order. Where there is
-no listing, N is the number of lines plus 1.";
+a vehicle, customer or place that is not there, a customer twice, or rows out of order. Where no
+listing has a row, N is the number of lines plus 1.";
 
 /// The format of an instance.
 pub(crate) const INSTANCE: &str = "\
@@ -172,6 +174,7 @@ Replies:
 
 Limits:
   a line 4,096 bytes; an instance 16,777,216 bytes, 1,000 customers, 1,000 vehicles; a board 1,000,000
-  events (lines that are no questions), 1,024 users, 256 roles, 64 sets of each kind, 1,024 sessions
+  events (lines that are neither questions nor bad), 1,024 users, 256 roles, 64 sets of each kind,
+  1,024 sessions
 
 docs/SCRIPT.md has every command and reply, and docs/INSTANCES.md the format of instances.";

@@ -1,6 +1,6 @@
 //! The head of a joined input: the instance, up to the line `%%`.
 
-ghost use Rattle.std.specs.Prelude.{ℕ, ◌≡◌, ◌≤◌, ◌++◌, List, [], length, take, IfOk, IfErr, IfSome};
+ghost use Rattle.std.specs.Prelude.{ℕ, ◌≡◌, ◌≤◌, ◌++◌, List, [], length, take, drop, IfOk, IfErr, IfSome};
 ghost use Rattle.std.specs.Str.{bytes_eq};
 ghost use Rattle.program_parts.specs.Stops.{IsUnread};
 ghost use Rattle.program_parts.specs.Head.{mark, ends_instance, halves, IsHead, IsMarked, Took, Fed, AreRead};
@@ -112,8 +112,10 @@ impl Head {
 pub struct Parts {
     /// The bytes before the line `%%`.
     pub instance: Vec<u8>,
-    /// What was read behind that line.
-    pub behind: Vec<u8>,
+    /// The last piece that was read, in which that line ends.
+    pub piece: Vec<u8>,
+    /// How many bytes of that piece lie before the script.
+    pub used: usize,
     /// Whether the script may go on in the reader.
     pub goes_on: bool,
 }
@@ -123,7 +125,8 @@ pub struct Parts {
 ///
 /// A read that fails before that line, and more than 16,777,216 bytes before it, are the fault of reading.
 pub fn read_parts<I: Read>(alloc: Global, reader: &mut I) -> Result<Parts, Stop>
-    ensures parts { IfOk result (λ parts. AreRead (I.remaining reader.old) (I.remaining reader.new) parts.instance.items parts.behind.items parts.goes_on) }
+    ensures parts { IfOk result (λ parts. AreRead (I.remaining reader.old) (I.remaining reader.new) parts.instance.items (drop parts.used parts.piece.items) parts.goes_on) }
+    ensures within { IfOk result (λ parts. parts.used ≤ length parts.piece.items) }
     ensures short { IfOk result (λ parts. length parts.instance.items ≤ 16777216) }
     ensures fault { IfErr result IsUnread }
 {
@@ -136,14 +139,17 @@ pub fn read_parts<I: Read>(alloc: Global, reader: &mut I) -> Result<Parts, Stop>
         if count == 0 {
             return Ok(Parts {
                 instance: head.finish()?,
-                behind: Vec::new(alloc),
+                piece: Vec::new(alloc),
+                used: 0,
                 goes_on: false,
             });
         }
         if let Some(used) = head.feed(&chunk[..count])? {
+            chunk.truncate(count);
             return Ok(Parts {
                 instance: head.text,
-                behind: Vec::from_slice(alloc, &chunk[used..count])?,
+                piece: chunk,
+                used,
                 goes_on: true,
             });
         }

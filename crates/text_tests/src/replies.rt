@@ -1,10 +1,11 @@
 use crate::comparing::compare_written;
 use board_rules::{
     AskFault, Fault, Refusal, calls_keep_the_rest, changes_by_stamps, commands_by_parts,
-    current_vehicles_keep_their_routes, customers_have_one_spot, histories_grow_by_entries,
-    histories_settle_policies, legal_histories_leave_good_states, listings_are_determined,
-    pins_by_touches, plans_are_judged_by_new_routes, proposals_commit_exactly,
-    replies_are_determined, right_replies_keep_good_states, separation_of_duty_holds,
+    current_vehicles_keep_their_routes, customers_have_one_spot, histories_go_on,
+    histories_grow_by_entries, histories_settle_policies, legal_histories_leave_good_states,
+    listings_are_determined, pins_by_touches, plans_are_judged_by_new_routes,
+    prefixes_of_legal_histories_are_legal, proposals_commit_exactly, replies_are_determined,
+    right_replies_keep_good_states, separation_of_duty_holds, session_numbers_rise_in_histories,
     spots_change_on_named_vehicles, verdicts_by_agreeing_facts,
 };
 use rbac_core::Refusal as PolicyRefusal;
@@ -57,6 +58,9 @@ fn laws_are_called() {
     legal_histories_leave_good_states();
     listings_are_determined();
     histories_grow_by_entries();
+    histories_go_on();
+    prefixes_of_legal_histories_are_legal();
+    session_numbers_rise_in_histories();
     histories_settle_policies();
     separation_of_duty_holds();
     spots_change_on_named_vehicles();

@@ -1,8 +1,8 @@
 use Rattle.std.proofs.Common.{arith, ap, subst, ◌≡◌, ◌∙◌, ◌<◌, ◌≤◌, ◌++◌, ℕ, List, length, take, drop, Option, refl}
 use Rattle.std.specs.Prelude.{IfSome}
-use Rattle.std.proofs.lemmas.List.{length-take}
+use Rattle.std.proofs.lemmas.List.{length-take, length-take-le}
 use Rattle.program_parts.specs.Head.{Fed, IsMarked}
-use Rattle.program_parts.proofs.Halves.{head_none, taken_none, short_none, taken_more, behind_mark, drop_of_take, given_front, Keeps-end}
+use Rattle.program_parts.proofs.Halves.{head_none, taken_none, short_none, taken_more, behind_mark, chunk_front, given_front, Keeps-end}
 use Rattle.program_parts.proofs.head.read_parts.Goals as goal
 
 pub loop-init : goal.loop-init
@@ -40,12 +40,23 @@ returns-in-Some-clause-parts g c =
     let given = take n c.read.new.buf in
     let piece = take n c.deref.result.now in
     let front : piece ≡ given = given_front c.in-Ok.count c.loop.chunk.len (length c.as_mut_slice.result.now) c.read.new.buf (drop (length c.read.new.buf) c.loop.chunk.items) c.deref.result.now c.deref.ensures.value c.deref.ensures.len c.read.auto.buf c.as_mut_slice.ensures.len c.in-Ok.ensures.bound.0 in
-    let again : take n c.deref-in-Some.result.now ≡ given = given_front c.in-Ok.count c.loop.chunk.len (length c.as_mut_slice.result.now) c.read.new.buf (drop (length c.read.new.buf) c.loop.chunk.items) c.deref-in-Some.result.now c.deref-in-Some.ensures.value c.deref-in-Some.ensures.len c.read.auto.buf c.as_mut_slice.ensures.len c.in-Ok.ensures.bound.0 in
     let fed = subst (λ (u : Option ℕ). Fed text c.feed.new.self.text.items c.feed.new.self.line piece u) c.in-Some.is c.in_ok-used.ensures.fed in
     let within = subst (λ (u : Option ℕ). IfSome u (λ k. k ≤ length piece)) c.in-Some.is c.in_ok-used.ensures.within in
     let fits : used ≤ n = omega (arith, within, length-take n c.deref.result.now) in
-    let behind : c.in_ok-from_slice.field-0.items ≡ drop used given = c.in_ok-from_slice.ensures.items ∙ drop_of_take used n c.deref-in-Some.result.now fits ∙ ap (λ (xs : List ℕ). drop used xs) again in (
+    let kept : c.truncate.new.self.items ≡ given = c.truncate.ensures.items ∙ chunk_front n c.loop.chunk.len c.read.new.buf (drop (length c.read.new.buf) c.loop.chunk.items) c.in-Ok.ensures.bound.0 (omega (arith, c.read.auto.buf, c.as_mut_slice.ensures.len, c.in-Ok.ensures.bound.0)) in
+    let behind : drop used c.truncate.new.self.items ≡ drop used given = ap (λ (xs : List ℕ). drop used xs) kept in (
       text ++ given,
       taken_more (g.I.Read.remaining c.args.reader.now) (g.I.Read.remaining c.loop.reader) (g.I.Read.remaining c.read.new.self) text (text ++ given) given given c.loop.invariant.taken c.in-Ok.ensures.bytes.0 refl refl,
-      behind_mark text given c.in_ok-from_slice.field-0.items c.feed.new.self.text.items used behind (subst (λ (xs : List ℕ). IsMarked (text ++ take used xs) c.feed.new.self.text.items) front fed.0),
+      behind_mark text given (drop used c.truncate.new.self.items) c.feed.new.self.text.items used behind (subst (λ (xs : List ℕ). IsMarked (text ++ take used xs) c.feed.new.self.text.items) front fed.0),
     )
+
+pub returns-in-Some-clause-within : goal.returns-in-Some-clause-within
+returns-in-Some-clause-within g c =
+    let n = c.in-Ok.count in
+    let used = c.in-Some.used in
+    let kept : c.truncate.new.self.items ≡ take n c.read.new.buf = c.truncate.ensures.items ∙ chunk_front n c.loop.chunk.len c.read.new.buf (drop (length c.read.new.buf) c.loop.chunk.items) c.in-Ok.ensures.bound.0 (omega (arith, c.read.auto.buf, c.as_mut_slice.ensures.len, c.in-Ok.ensures.bound.0)) in
+    let within = subst (λ (u : Option ℕ). IfSome u (λ k. k ≤ length (take n c.deref.result.now))) c.in-Some.is c.in_ok-used.ensures.within in
+    let fits : used ≤ n = omega (arith, within, length-take n c.deref.result.now) in
+    let long : length c.truncate.new.self.items ≡ length (take n c.read.new.buf) = ap length kept in
+    let most : length (take n c.read.new.buf) ≡ n = length-take-le n c.read.new.buf c.in-Ok.ensures.bound.0 in
+    omega (arith, fits, long, most)
