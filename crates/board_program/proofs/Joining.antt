@@ -1,5 +1,6 @@
 -- From the parts of the input and what came of its board to all bytes.
-use Rattle.std.proofs.Common.{◌≡◌, ◌∙◌, ℕ, ◌≤◌, Bool, true, false, eqb, List, [], ◌++◌, length, Option, Some, None, Result, Ok, Err, refl, sym, ap, subst, append_assoc, append-nil, inl, inr, arith}
+use Rattle.std.proofs.Common.{◌≡◌, ◌∙◌, ℕ, ◌≤◌, Bool, true, false, eqb, List, [], ◌++◌, ◌-◌, length, take, drop, Option, Some, None, Result, Ok, Err, refl, sym, ap, subst, append_assoc, append-nil, inl, inr, arith}
+use Rattle.std.proofs.lemmas.List.{length-drop, take_all}
 use Rattle.std.specs.Prelude.{◌⊎◌, ◌==◌, IfOk, IfErr, IfSome, MatchResult, count_by, if◌then◌else◌}
 use Rattle.std.specs.Io.KnownBytes.{Keeps, Consumes, IsAtEnd}
 use Rattle.std.specs.Fmt.{option_append}
@@ -100,6 +101,10 @@ parts_on bytes (Some left) instance behind h = (behind ++ left, ap halves h.1 �
 pub parts_off : (bytes : List ℕ) (left : Option (List ℕ)) (instance behind : List ℕ) → AreRead (Some bytes) left instance behind false → (halves bytes ≡ record { instance = instance; script = [] }) × (Some behind ≡ Some [])
 parts_off bytes None instance behind h = absurd h.1
 parts_off bytes (Some left) instance behind h = (ap halves (all_given bytes (Some left) h.0 h.1 h.2.0) ∙ h.2.2, ap (λ (x : List ℕ). Some x) h.2.1)
+
+-- what stands behind a place of a piece
+pub behind_used : (used : ℕ) (piece given : List ℕ) → given ≡ piece → take (length given - used) (drop used given) ≡ drop used piece
+behind_used used piece given e = take_all (length given - used) (drop used given) (omega (arith, length-drop used given)) ∙ ap (λ (xs : List ℕ). drop used xs) e
 
 -- what came of the board
 pub board_end : (result : Result Counts Stop) (h : Halves) (i : Plain) (instance script : List ℕ) (left now_left was now : Option (List ℕ)) → h ≡ record { instance = instance; script = script } → read_of instance ≡ Ok i → length instance ≤ 16777216 → left ≡ Some script → IfOk result (λ counts. IsRun i left now_left was now counts) → IfErr result (λ stop. IsUnfinished i left now_left was now stop) → IsEnd h was now result

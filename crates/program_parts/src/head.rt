@@ -123,7 +123,7 @@ pub struct Parts {
 /// Reads up to the first line that is exactly `%%`. One carriage return before its line feed is dropped, and at the end
 /// of the input it needs no line feed.
 ///
-/// A read that fails before that line, and more than 16,777,216 bytes before it, are the fault of reading.
+/// A read that fails before that line, more than 16,777,216 bytes before it, and 2^64 - 1 reads are the fault of reading.
 pub fn read_parts<I: Read>(alloc: Global, reader: &mut I) -> Result<Parts, Stop>
     ensures parts { IfOk result (λ parts. AreRead (I.remaining reader.old) (I.remaining reader.new) parts.instance.items (drop parts.used parts.piece.items) parts.goes_on) }
     ensures within { IfOk result (λ parts. parts.used ≤ length parts.piece.items) }

@@ -8,7 +8,7 @@ use board_program::{
     Stop, check_bytes, check_file, joined, read_file, run_files, scripted, stopped,
 };
 use board_text::RunFault;
-use devices::{make_drip, make_line_by_line, make_narrow};
+use devices::{Narrow, make_drip, make_line_by_line, make_narrow};
 use examples::EXAMPLES;
 use solomon_reader::Kind;
 use std::io::{Read, Write};
@@ -44,12 +44,17 @@ fn compare_front(rt: &impl Abort, output: &[u8], replies: &str, fits: bool) {
     assert!(rt; fits);
 }
 
+/// A stream of faults that takes a byte a write: a line comes whole all the same.
+fn make_faults<H: AllocGlobal>(rt: &H) -> Narrow {
+    make_narrow(Vec::new(rt.alloc()), 1, usize::MAX, usize::MAX)
+}
+
 /// The run of a joined input gives what is wanted.
 fn joined_gives<H: AllocGlobal + Abort, I: Read>(rt: &H, reader: &mut I, wanted: Wanted<'_>) {
     let mut output = Vec::new(rt.alloc());
-    let mut faults = Vec::new(rt.alloc());
+    let mut faults = make_faults(rt);
     let status = joined(rt, rt.alloc(), reader, &mut output, &mut faults);
-    compare(rt, output.as_slice(), faults.as_slice(), status, wanted);
+    compare(rt, output.as_slice(), &faults.taken, status, wanted);
 }
 
 /// The run of an instance and what stands behind it gives what is wanted.
@@ -334,6 +339,18 @@ fn the_most_customers(rt: HostRuntime) {
     has_fault(&rt, &large(&rt, 1001), fault);
 }
 
+/// More than two million reads before the line `%%` are no fault.
+#[test]
+fn two_million_reads_before_a_script(rt: HostRuntime) {
+    let mut input = vec![in rt.alloc(); b'\n'; 2_000_000].expect(&rt, "memory");
+    input.extend_from_slice(A.as_bytes()).expect(&rt, "memory");
+    input
+        .extend_from_slice(b"%%\n1 list\n")
+        .expect(&rt, "memory");
+    let mut reader = make_drip(input.as_slice(), 1, usize::MAX);
+    joined_gives(&rt, &mut reader, ("end\n", "", 0));
+}
+
 /// An instance with one part exchanged is the same instance, to a check and before a script.
 fn is_the_same<H: AllocGlobal + Abort>(rt: &H, part: &str, other: &str) {
     let text = A.replace(rt.alloc(), part, other).expect(rt, "memory");
@@ -530,7 +547,7 @@ fn run_gives<H: AllocGlobal + Abort + Files>(
     wanted: Wanted<'_>,
 ) {
     let mut output = Vec::new(rt.alloc());
-    let mut faults = Vec::new(rt.alloc());
+    let mut faults = make_faults(rt);
     let status = run_files(
         rt,
         rt.alloc(),
@@ -540,7 +557,7 @@ fn run_gives<H: AllocGlobal + Abort + Files>(
         &mut faults,
         None::<&mut Vec<u8>>,
     );
-    compare(rt, output.as_slice(), faults.as_slice(), status, wanted);
+    compare(rt, output.as_slice(), &faults.taken, status, wanted);
 }
 
 /// The instance is judged before the script is opened.

@@ -8,6 +8,8 @@ mod devices;
 #[cfg(test)]
 mod runs;
 #[cfg(test)]
+mod stops;
+#[cfg(test)]
 mod torn;
 #[cfg(test)]
 mod words;

@@ -7,7 +7,7 @@ use Rattle.program_parts.specs.Head.{halves, AreRead}
 use Rattle.program_parts.specs.Stops.{IsUnread}
 use Rattle.program_parts.specs.declared.stop.Stop.{Stop}
 use Rattle.board_program.specs.Joined.{IsEnd}
-use Rattle.board_program.proofs.Joining.{if_known, parts_on, parts_off, board_end, board_ran, unread_ended, instance_ended}
+use Rattle.board_program.proofs.Joining.{if_known, parts_on, parts_off, behind_used, board_end, board_ran, unread_ended, instance_ended}
 use Rattle.board_program.proofs.joined_input.run_joined.Goals as goal
 
 pub returns-then-goes_on-clause-known : goal.returns-then-goes_on-clause-known
@@ -17,7 +17,7 @@ returns-then-goes_on-clause-known g c =
     if_known (g.I.Read.remaining c.args.reader.now) (λ bytes. IsEnd (halves bytes) (g.W.Write.contents c.args.writer.now) (g.W.Write.contents c.run_board.new.writer) c.run_board.result) (λ bytes e.
     let here = subst (λ (k : Option (List ℕ)). AreRead k (g.I.Read.remaining c.read_parts.new.reader) c.in_ok-instance.field-0.instance.items (drop c.in_ok-instance.field-0.used c.in_ok-instance.field-0.piece.items) true) e parts in
     let p = parts_on bytes (g.I.Read.remaining c.read_parts.new.reader) c.in_ok-instance.field-0.instance.items (drop c.in_ok-instance.field-0.used c.in_ok-instance.field-0.piece.items) here in
-    let left = c.chain-script.ensures.bytes ∙ ap (λ (xs : List ℕ). option_append (Some xs) (g.I.Read.remaining c.read_parts.new.reader)) c.as_slice-then-goes_on.ensures.value ∙ p.2 in
+    let left = c.chain-script.ensures.bytes ∙ ap (λ (xs : List ℕ). option_append (Some xs) (g.I.Read.remaining c.read_parts.new.reader)) (behind_used c.in_ok-instance.field-0.used c.in_ok-instance.field-0.piece.items c.deref.result.now c.deref.ensures.value) ∙ p.2 in
     board_end c.run_board.result (halves bytes) (view c.in_ok-instance-2.instance) c.in_ok-instance.field-0.instance.items p.0 _ _ _ _ p.1 read c.in_ok-instance.ensures.short left c.run_board.ensures.ok c.run_board.ensures.err)
 
 pub returns-clause-known : goal.returns-clause-known
@@ -27,7 +27,7 @@ returns-clause-known g c =
     if_known (g.I.Read.remaining c.args.reader.now) (λ bytes. IsEnd (halves bytes) (g.W.Write.contents c.args.writer.now) (g.W.Write.contents c.run_board-else-goes_on.new.writer) c.run_board-else-goes_on.result) (λ bytes e.
     let here = subst (λ (k : Option (List ℕ)). AreRead k (g.I.Read.remaining c.read_parts.new.reader) c.in_ok-instance.field-0.instance.items (drop c.in_ok-instance.field-0.used c.in_ok-instance.field-0.piece.items) false) e parts in
     let p = parts_off bytes (g.I.Read.remaining c.read_parts.new.reader) c.in_ok-instance.field-0.instance.items (drop c.in_ok-instance.field-0.used c.in_ok-instance.field-0.piece.items) here in
-    board_end c.run_board-else-goes_on.result (halves bytes) (view c.in_ok-instance-2.instance) c.in_ok-instance.field-0.instance.items [] _ _ _ _ p.0 read c.in_ok-instance.ensures.short (ap (λ (xs : List ℕ). Some xs) c.as_slice-script.ensures.value ∙ p.1) c.run_board-else-goes_on.ensures.ok c.run_board-else-goes_on.ensures.err)
+    board_end c.run_board-else-goes_on.result (halves bytes) (view c.in_ok-instance-2.instance) c.in_ok-instance.field-0.instance.items [] _ _ _ _ p.0 read c.in_ok-instance.ensures.short (ap (λ (xs : List ℕ). Some xs) (behind_used c.in_ok-instance.field-0.used c.in_ok-instance.field-0.piece.items c.deref-else-goes_on.result.now c.deref-else-goes_on.ensures.value) ∙ p.1) c.run_board-else-goes_on.ensures.ok c.run_board-else-goes_on.ensures.err)
 
 pub returns-then-goes_on-clause-ran : goal.returns-then-goes_on-clause-ran
 returns-then-goes_on-clause-ran g c =
