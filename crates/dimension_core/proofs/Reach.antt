@@ -38,7 +38,7 @@ go_pop t d v i x (j ∷ js) k [] g = absurd g
 go_pop t d v i x (j ∷ js) k (z ∷ zs) g = let r = go_pop t d v j z js k zs g.1 in (z ∷ r.0, (g.0, r.1), r.2)
 
 -- and for the first nodes alone
-go_front : (t : Table) (d : Bounds) (v i x : ℕ) (js ks zs : List ℕ) → GoOn t d v i x (js ++ ks) zs → (ys : List ℕ) × GoOn t d v i x js ys
+pub go_front : (t : Table) (d : Bounds) (v i x : ℕ) (js ks zs : List ℕ) → GoOn t d v i x (js ++ ks) zs → (ys : List ℕ) × GoOn t d v i x js ys
 go_front t d v i x [] ks zs g = ([], tt)
 go_front t d v i x (j ∷ js) ks [] g = absurd g
 go_front t d v i x (j ∷ js) ks (z ∷ zs) g = let r = go_front t d v j z js ks zs g.1 in (z ∷ r.0, (g.0, r.1))

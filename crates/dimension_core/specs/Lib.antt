@@ -1,6 +1,7 @@
 pub mod Cumuls
 pub mod Feasible
 pub mod Laws
+pub mod Misses
 pub mod NewRoutes
 pub mod Onward
 pub mod Setting

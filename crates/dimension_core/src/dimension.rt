@@ -1,10 +1,11 @@
-ghost use Rattle.std.specs.Prelude.{◌≡◌, ℕ, ◌+◌, ◌<◌, ◌≤◌, ◌↔◌, true, false, List, length, IfSome, OnSome, IfOk, IsTrue, Some, None, All};
-ghost use Rattle.std.specs.Bool.{OnTrue};
+ghost use Rattle.std.specs.Prelude.{◌≡◌, ℕ, ◌+◌, ◌<◌, ◌≤◌, ◌↔◌, true, false, List, length, IfSome, OnSome, IfOk, IsTrue, Some, None, All, [], ◌∷◌, ◌++◌, IfNone};
+ghost use Rattle.std.specs.Bool.{OnTrue, OnFalse};
 ghost use Rattle.std.specs.Result.{result_err};
 ghost use Rattle.callback_store.specs.Meter.{after_ask, AsksJust, AsksAtMost};
 ghost use Rattle.callback_store.specs.Registry.{tables};
 ghost use Rattle.callback_store.specs.Tables.{Table, entry};
 ghost use Rattle.dimension_core.specs.Cumuls.{Bounds, IsStart, IsStep, IsWithin, IsSpan, IsServed, cap_of, range_of, IsInBounds, Reaches, table_of, last_of, dimension_refusal, is_in_range, are_caps, are_ranges, is_sized, IsEarly, route_asks};
+ghost use Rattle.dimension_core.specs.Misses.{IsFirstMiss};
 ghost use Rattle.dimension_core.specs.Onward.{IsBefore};
 
 use crate::range::Range;
@@ -307,8 +308,9 @@ impl Dimension {
     }
 
     /// The cumuls that a vehicle may have at the last of some nodes on its way from the depot, and none where there are
-    /// none. The first of them is the early value at that node. It asks the callback once for each node, and stops asking where there are
-    /// none.
+    /// none. The first of them is the early value at that node.
+    ///
+    /// It asks the callback once for each node up to the first without a cumul, and not at all where there is none at the depot.
     #[tactic(auto, using(crate::proofs::Reach::span_early))]
     pub fn reach(
         &self,
@@ -324,6 +326,7 @@ impl Dimension {
         ensures span { IsSpan result (Reaches (table_of (tables registry.now) self.now) self.now vehicle nodes.now) }
         ensures asks { AsksAtMost meter.old meter.new (length nodes.now) }
         ensures whole { OnSome result (AsksJust meter.old meter.new (length nodes.now)) }
+        ensures missed { IfNone result ((k : ℕ) × IsFirstMiss (table_of (tables registry.now) self.now) self.now vehicle nodes.now k × AsksJust meter.old meter.new k) }
         ensures early { IfSome result (λ r. IsEarly (table_of (tables registry.now) self.now) self.now vehicle nodes.now r.lo) }
         ensures small { IfSome result (λ r. r.hi ≤ 1000000000000) }
     {
@@ -338,8 +341,8 @@ impl Dimension {
 
     /// Whether a vehicle's route is in bounds: it is empty, or there are cumuls for its stops.
     ///
-    /// It asks the callback once for each customer and once for the return, and not at all where the route is empty. It stops asking where
-    /// there are no cumuls.
+    /// It asks the callback once for each customer and once for the return, up to the first stop without a cumul, and not at all where the
+    /// route is empty or there is none at the depot.
     pub fn in_bounds(
         &self,
         registry: &Registry,
@@ -354,6 +357,7 @@ impl Dimension {
         ensures bounds { IsTrue result ↔ IsInBounds (table_of (tables registry.now) self.now) self.now vehicle route.now }
         ensures asks { AsksAtMost meter.old meter.new (route_asks route.now) }
         ensures whole { OnTrue result (AsksJust meter.old meter.new (route_asks route.now)) }
+        ensures missed { OnFalse result ((k : ℕ) × IsFirstMiss (table_of (tables registry.now) self.now) self.now vehicle (route.now ++ 0 ∷ []) k × AsksJust meter.old meter.new k) }
     {
         if route.is_empty() {
             return true;

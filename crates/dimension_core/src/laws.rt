@@ -3,6 +3,7 @@ ghost use Rattle.std.specs.Prelude.{ℕ, ◌↔◌, List};
 ghost use Rattle.callback_store.specs.Tables.{Table};
 ghost use Rattle.dimension_core.specs.Cumuls.{Bounds, AreCumuls, AreCumulsByPlace};
 ghost use Rattle.dimension_core.specs.Laws.{SpansGoOn, SpansMeet};
+ghost use Rattle.dimension_core.specs.Misses.{MissesAreFound};
 
 /// The span of a route is carried along with `Dimension::start` and `Dimension::extend`.
 pub fn spans_go_on()
@@ -13,6 +14,11 @@ pub fn spans_go_on()
 /// front.
 pub fn spans_meet()
     ensures { SpansMeet }
+{}
+
+/// The first stop without a cumul is found with `Dimension::start` and `Dimension::extend`: it is the first with no span.
+pub fn misses_are_found()
+    ensures { MissesAreFound }
 {}
 
 /// A law of the definitions: cumuls by recursion, stop by stop, are cumuls by places.

@@ -11,6 +11,6 @@ mod setup;
 pub use dimension::{Dimension, DimensionFault};
 pub use fault::SetupFault;
 pub use feasible::{first_out, first_out_is_alone};
-pub use laws::{cumuls_are_by_place, spans_go_on, spans_meet};
+pub use laws::{cumuls_are_by_place, misses_are_found, spans_go_on, spans_meet};
 pub use range::Range;
 pub use setup::Setup;

@@ -6,7 +6,7 @@ ghost use Rattle.dimension_core.specs.Setup.{setting};
 use callback_store::{Meter, Registry, Transit, TransitId, Unary};
 use dimension_core::{
     Dimension, DimensionFault, Range, Setup, SetupFault, cumuls_are_by_place, first_out,
-    first_out_is_alone, spans_go_on, spans_meet,
+    first_out_is_alone, misses_are_found, spans_go_on, spans_meet,
 };
 use std::alloc::Global;
 use std::process::Abort;
@@ -265,6 +265,7 @@ fn what_transits_of_ten_allow(rt: HostRuntime) {
 fn laws_are_called() {
     cumuls_are_by_place();
     first_out_is_alone();
+    misses_are_found();
     spans_go_on();
     spans_meet();
 }

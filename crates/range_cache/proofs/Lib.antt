@@ -1,5 +1,6 @@
 pub mod Caches
 pub mod FirstAsks
 pub mod Judged
+pub mod Misses
 pub mod Rows
 pub mod Tracks

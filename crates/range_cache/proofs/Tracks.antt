@@ -43,9 +43,9 @@ module _ (law : SpansGoOn) (s : Setting) (k v : ℕ) (route : List ℕ) (place f
   next_at within here =
       law.next (table_of s.tables (dimension_at s k)) (dimension_at s k) v route place from to r o within span last here (step_at s k v from to ts ds d r o et ed h e n)
 
-  -- and whether the route is in bounds, by that at the return
-  pub return_at : length route ≤ place → 0 < length route → to ≡ 0 → IsTrue (is_some o) ↔ FitsIn s k v route
-  return_at end some home =
+  -- that at the return
+  pub back_at : length route ≤ place → to ≡ 0 → IsSpanAt s k v (route ++ 0 ∷ []) o
+  back_at end home =
       let t : Table = table_of s.tables (dimension_at s k) in
       let b : Bounds = dimension_at s k in
       let whole : take place route ≡ route = take_all place route end in
@@ -53,7 +53,11 @@ module _ (law : SpansGoOn) (s : Setting) (k v : ℕ) (route : List ℕ) (place f
       let m = step_at s k v from to ts ds d r o et ed h e n in
       let m1 = subst (λ (i : ℕ). IsSpan o (λ y. (x : ℕ) × IsWithin (Some r) x × IsStep t b v i x to y)) (last ∙ ap (last_of 0) whole) m in
       let m2 = subst (λ (j : ℕ). IsSpan o (λ y. (x : ℕ) × IsWithin (Some r) x × IsStep t b v (last_of 0 route) x j y)) home m1 in
-      law.bounds t b v route o some (law.push t b v route 0 r o at m2)
+      law.push t b v route 0 r o at m2
+
+  -- and whether the route is in bounds, by it
+  pub return_at : length route ≤ place → 0 < length route → to ≡ 0 → IsTrue (is_some o) ↔ FitsIn s k v route
+  return_at end some home = law.bounds (table_of s.tables (dimension_at s k)) (dimension_at s k) v route o some (back_at end home)
 
 -- a route is out of bounds where no cumul is left at some place
 pub never : SpansGoOn → (s : Setting) (k v : ℕ) (route : List ℕ) (n : ℕ) → 0 < length route → IsSpanAt s k v (take n route) None → FitsIn s k v route → ⊥

@@ -1,5 +1,10 @@
 -- How often judging new routes may ask.
-use Rattle.std.specs.Prelude.{ℕ, ◌+◌, ◌-◌, ◌*◌, ◌==◌, if◌then◌else◌, List, [], ◌∷◌, length, sum_by}
+use Rattle.std.specs.Prelude.{◌≡◌, ℕ, ◌+◌, ◌-◌, ◌*◌, ◌==◌, if◌then◌else◌, List, [], ◌∷◌, length, sum_by}
+use Rattle.callback_store.specs.declared.meter.Meter.{Meter}
+use Rattle.callback_store.specs.Meter.{AsksJust, AsksAtMost}
+use Rattle.dimension_core.specs.Feasible.{FitsAll}
+use Rattle.dimension_core.specs.Misses.{IsFirstMissIn}
+use Rattle.dimension_core.specs.Setting.{Setting}
 use Rattle.plan_core.specs.Front.{common_front}
 use Rattle.plan_core.specs.Plan.{Changes, route_at}
 use Rattle.range_cache.specs.declared.fault.JudgeFault.{JudgeFault}
@@ -26,3 +31,23 @@ asks_before dimensions routes (c ∷ cs) vehicle d =
 abbrev pub fault_asks : ℕ → List (List ℕ) → Changes → JudgeFault → ℕ
 fault_asks dimensions routes changes (Bound vehicle d) = asks_before dimensions routes changes vehicle d
 fault_asks dimensions routes changes NoMemory = 0
+
+-- n asks are made for the vehicle's new route where it is out of bounds first in dimension d, from 1 on: all those in the dimensions before
+-- it, and in it one for each stop after the longest common prefix, up to the first at which no cumul is left
+abbrev pub IsAskedToMiss : Setting → List ℕ → ℕ → List ℕ → ℕ → ℕ → Type 0
+IsAskedToMiss s old vehicle new d n =
+    (k : ℕ) × IsFirstMissIn s (d - 1) vehicle new k × (n ≡ (d - 1) * walk_asks old new + (k - common_front old new))
+
+-- n asks are made for new routes of a plan where the first of them that is out of bounds is so first in dimension d, from 1 on: all those for
+-- the new routes before it, and for its own those up to the first stop at which no cumul is left
+abbrev pub IsAskedTo : Setting → List (List ℕ) → Changes → ℕ → ℕ → Type 0
+IsAskedTo s routes [] d n = ⊥
+IsAskedTo s routes (c ∷ cs) d n =
+    (¬ FitsAll s c.0 c.1 → IsAskedToMiss s (route_at routes c.0) c.0 c.1 d n)
+    × (FitsAll s c.0 c.1 → (m : ℕ) × IsAskedTo s routes cs d m × (n ≡ length s.dimensions * walk_asks (route_at routes c.0) c.1 + m))
+
+-- From the old meter to the new one exactly these asks are counted where the judgement ends with a bound. Where memory runs out they are at
+-- most all.
+abbrev pub AsksToFault : Setting → List (List ℕ) → Changes → Meter → Meter → JudgeFault → Type 0
+AsksToFault s routes changes from to (Bound vehicle d) = (n : ℕ) × IsAskedTo s routes changes d n × AsksJust from to n
+AsksToFault s routes changes from to NoMemory = AsksAtMost from to (judge_asks (length s.dimensions) routes changes)

@@ -7,10 +7,10 @@ ghost use Rattle.dimension_core.specs.Setting.{Setting, dimension_at};
 ghost use Rattle.dimension_core.specs.Setup.{setting};
 ghost use Rattle.plan_core.specs.Cost.{route_asks, asks_of};
 ghost use Rattle.plan_core.specs.Plan.{route_at, changes_of, with_routes};
-ghost use Rattle.range_cache.specs.Asks.{judge_asks, walk_asks, fault_asks};
+ghost use Rattle.range_cache.specs.Asks.{judge_asks, walk_asks, fault_asks, AsksToFault};
 ghost use Rattle.range_cache.specs.Cache.{IsRowOf, IsCacheOf, HasEarly};
 ghost use Rattle.range_cache.specs.Pending.{AreNewRows, IsJudgeFault, with_rows};
-ghost use Rattle.range_cache.specs.Row.{IsRowFault, row_asks};
+ghost use Rattle.range_cache.specs.Row.{IsRowFault, AsksToRowFault, row_asks};
 
 use crate::fault::JudgeFault;
 use crate::pending::{Pending, Room};
@@ -83,7 +83,7 @@ impl Cache {
     /// Each dimension of a new route is walked from the end of the longest common prefix of the old and the new route on, and no other
     /// vehicle's route is looked at. It asks the callback of each dimension once for each customer after the common prefix and once for the
     /// return, and not at all for an empty route. Where a new route is out of bounds it has asked for all that comes before that dimension of
-    /// that route, and stops within it. It also stops where memory runs out.
+    /// that route, and in it up to the first stop at which no cumul is left. It also stops where memory runs out.
     pub fn judge(
         &self,
         setup: &Setup,
@@ -102,6 +102,7 @@ impl Cache {
         ensures whole { OnOk result (AsksJust meter.old meter.new (judge_asks (length (setting setup.now).dimensions) plan.now.routes (changes_of changes.now))) }
         ensures least { IfErr result (λ f. Asks meter.old meter.new (fault_asks (length (setting setup.now).dimensions) plan.now.routes (changes_of changes.now) f)
             (judge_asks (length (setting setup.now).dimensions) plan.now.routes (changes_of changes.now))) }
+        ensures missed { IfErr result (AsksToFault (setting setup.now) plan.now.routes (changes_of changes.now) meter.old meter.new) }
     {
         let alloc = *self.rows.allocator();
         self.judge_in(&mut Room::new(alloc), setup, plan, changes, meter)
@@ -128,6 +129,7 @@ impl Cache {
         ensures whole { OnOk result (AsksJust meter.old meter.new (judge_asks (length (setting setup.now).dimensions) plan.now.routes (changes_of changes.now))) }
         ensures least { IfErr result (λ f. Asks meter.old meter.new (fault_asks (length (setting setup.now).dimensions) plan.now.routes (changes_of changes.now) f)
             (judge_asks (length (setting setup.now).dimensions) plan.now.routes (changes_of changes.now))) }
+        ensures missed { IfErr result (AsksToFault (setting setup.now) plan.now.routes (changes_of changes.now) meter.old meter.new) }
     {
         room.hold(changes.len())?;
         for k in 0..changes.len() {
@@ -161,6 +163,7 @@ impl Cache {
         ensures asks { AsksAtMost meter.old meter.new (length (setting setup.now).dimensions * walk_asks (route_at plan.now.routes vehicle) route.now) }
         ensures whole { OnOk result (AsksJust meter.old meter.new (length (setting setup.now).dimensions * walk_asks (route_at plan.now.routes vehicle) route.now)) }
         ensures least { IfErr result (λ f. Asks meter.old meter.new (row_asks (walk_asks (route_at plan.now.routes vehicle) route.now) f) (length (setting setup.now).dimensions * walk_asks (route_at plan.now.routes vehicle) route.now)) }
+        ensures missed { IfErr result (AsksToRowFault (setting setup.now) (route_at plan.now.routes vehicle) vehicle route.now meter.old meter.new) }
     {
         let old = plan.route(vehicle).customers();
         let kept = &self.rows[vehicle as usize - 1];

@@ -5,7 +5,7 @@ ghost use Rattle.dimension_core.specs.Feasible.{FitsAll, IsFirstOut};
 ghost use Rattle.dimension_core.specs.Setup.{setting};
 ghost use Rattle.range_cache.specs.Asks.{walk_asks};
 ghost use Rattle.range_cache.specs.Cache.{IsRowOf, range_at};
-ghost use Rattle.range_cache.specs.Row.{IsRowFault, row_asks};
+ghost use Rattle.range_cache.specs.Row.{IsRowFault, AsksToRowFault, row_asks};
 
 use crate::fault::JudgeFault;
 use crate::walk::walk;
@@ -64,7 +64,8 @@ impl Row {
     /// common prefix on. It stops at the first dimension in which the new route is out of bounds.
     ///
     /// It asks the callback of each dimension once for each customer after the common prefix and once for the return, and not at all where
-    /// the new route is empty. It stops asking where the new route is out of bounds. Out of line, so that its loops have the registers to themselves.
+    /// the new route is empty. Where the new route is out of bounds it asks up to the first stop at which no cumul is left, in the first such
+    /// dimension. Out of line, so that its loops have the registers to themselves.
     #[inline(never)]
     pub(crate) fn change(
         &self,
@@ -86,6 +87,7 @@ impl Row {
         ensures asks { AsksAtMost meter.old meter.new (length (setting setup.now).dimensions * walk_asks old.now new.now) }
         ensures whole { OnOk result (AsksJust meter.old meter.new (length (setting setup.now).dimensions * walk_asks old.now new.now)) }
         ensures least { IfErr result (λ f. Asks meter.old meter.new (row_asks (walk_asks old.now new.now) f) (length (setting setup.now).dimensions * walk_asks old.now new.now)) }
+        ensures missed { IfErr result (AsksToRowFault (setting setup.now) old.now vehicle new.now meter.old meter.new) }
     {
         let count = setup.dimensions().len();
         row.stops = new.len() as u32;

@@ -1,15 +1,16 @@
 //! A walk along a route in one dimension, from a kept range on.
-ghost use Rattle.std.specs.Prelude.{◌≡◌, ◌+◌, ◌-◌, ◌<◌, ◌≤◌, ◌↔◌, ◌++◌, [], List, length, take, None, All, IfOk, OnOk, IfSome, IsTrue, MatchOption, vec_len, vec_capacity};
+ghost use Rattle.std.specs.Prelude.{◌≡◌, ℕ, ◌+◌, ◌-◌, ◌<◌, ◌≤◌, ◌↔◌, ◌++◌, [], List, length, take, None, All, IfOk, OnOk, IfSome, IsTrue, false, MatchOption, vec_len, vec_capacity};
 ghost use Rattle.callback_store.specs.Meter.{AsksJust, AsksAtMost};
 ghost use Rattle.dimension_core.specs.Cumuls.{last_of};
 ghost use Rattle.dimension_core.specs.Feasible.{FitsIn};
+ghost use Rattle.dimension_core.specs.Misses.{IsFirstMissIn};
 ghost use Rattle.dimension_core.specs.Setup.{setting};
 ghost use Rattle.dimension_core.specs.Spans.{IsSpanOf};
 ghost use Rattle.dimension_core.specs.declared.range.Range.{Range};
 ghost use Rattle.range_cache.specs.Track.{IsSpanAt, IsTrack};
 
 use callback_store::Meter;
-use dimension_core::{Range, Setup, spans_go_on};
+use dimension_core::{Range, Setup, misses_are_found, spans_go_on};
 use std::alloc::AllocError;
 
 /// The range from which a walk goes on, and its node: those of the last kept range, or those of the depot; none where no cumul is left
@@ -58,8 +59,8 @@ fn push_kept(ranges: &mut Vec<Range>, kept: &[Range]) -> Result<(), AllocError>
 /// Walks along a route that is not empty in one dimension, from the customer after the kept ranges to the return. True where the route is
 /// in bounds; the range of each of its customers then follows the others, and there is room for them. Dimensions count from 0.
 ///
-/// It asks the callback once for each customer after the kept ranges and once for the return, and stops at the first stop at which there is
-/// no cumul.
+/// It asks the callback once for each customer after the kept ranges and once for the return, up to the first stop at which no cumul is
+/// left, and that one too.
 pub(crate) fn walk(
     setup: &Setup,
     dimension: usize,
@@ -81,8 +82,10 @@ pub(crate) fn walk(
     ensures capacity { vec_capacity ranges.old ≤ vec_capacity ranges.new }
     ensures asks { AsksAtMost meter.old meter.new (length route.now + 1 - length kept.now) }
     ensures whole { IfOk result (λ is_in. IsTrue is_in → AsksJust meter.old meter.new (length route.now + 1 - length kept.now)) }
+    ensures missed { IfOk result (λ is_in. is_in ≡ false → (k : ℕ) × IsFirstMissIn (setting setup.now) dimension vehicle route.now k × AsksJust meter.old meter.new (k - length kept.now)) }
 {
     spans_go_on();
+    misses_are_found();
     let Some((mut range, mut from)) = begin(setup, dimension, vehicle, route, kept) else {
         return Ok(false);
     };

@@ -1,7 +1,8 @@
 use Rattle.std.proofs.Common.{◌≡◌, ◌<◌, arith, length, [], ◌∷◌, inl, refl}
 use Rattle.std.proofs.lemmas.Grind.{common_steps}
 use Rattle.std.proofs.lemmas.List.{nil_from_length}
-use Rattle.callback_store.specs.Meter.{asks_after, asks_both, asks_wider}
+use Rattle.callback_store.specs.Meter.{asks_after, asks_both, asks_then, asks_wider}
+use Rattle.dimension_core.proofs.Misses.{miss_outward, miss_return}
 use Rattle.dimension_core.proofs.Reach.{bounds_found, span_none, span_push, last_of-index, asks_some, on_true}
 use Rattle.dimension_core.proofs.dimension.Dimension.in_bounds.Goals as goal
 
@@ -37,3 +38,14 @@ pub returns-then-is_empty-clause-bounds : goal.returns-then-is_empty-clause-boun
 returns-then-is_empty-clause-bounds g c =
     let none : length c.args.route.now ≡ 0 = grind (arith, common_steps) in
     (λ p. ∣ inl (nil_from_length c.args.route.now none) ∣₁, λ b. refl)
+
+pub returns-in-None-clause-missed : goal.returns-in-None-clause-missed
+returns-in-None-clause-missed g c = miss_outward _ _ _ c.args.route.now _ _ c.in-None.ensures.missed
+
+pub returns-in-Some-clause-missed : goal.returns-in-Some-clause-missed
+returns-in-Some-clause-missed g c =
+    let some : 0 < length c.args.route.now = grind (arith, common_steps) in
+    let last = last_of-index c.args.route.now _ some refl in
+    let back = span_push _ _ _ c.args.route.now 0 _ _ c.in-Some.ensures.span (rw (← last) c.extend.ensures.span) in
+    rw c.is_some.ensures
+    (miss_return _ _ _ _ _ _ _ _ c.in-Some.ensures.span back (asks_then _ _ _ _ _ _ _ c.in-Some.ensures.whole c.extend.ensures.one))

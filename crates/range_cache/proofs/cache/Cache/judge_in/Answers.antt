@@ -7,8 +7,9 @@ use Rattle.dimension_core.specs.Setup.{setting}
 use Rattle.plan_core.specs.Plan.{changes_of, route_at}
 use Rattle.range_cache.specs.Asks.{walk_asks}
 use Rattle.range_cache.specs.Cache.{IsRowOf}
-use Rattle.range_cache.specs.Row.{IsRowFault, row_asks}
+use Rattle.range_cache.specs.Row.{IsRowFault, AsksToRowFault, row_asks}
 use Rattle.range_cache.proofs.Judged.{rest_next, rest_fault, rest_none, rows_within, asked_next, asked_out, asked_stop, asked_all}
+use Rattle.range_cache.proofs.Misses.{asked_to_next, asked_to_fault}
 use Rattle.range_cache.proofs.cache.Cache.judge_in.Goals as goal
 
 pub returns-in_err-change_row-clause-fault : goal.returns-in_err-change_row-clause-fault
@@ -49,6 +50,20 @@ returns-in_err-change_row-clause-least g c =
     let p = err_from_is_err_and c.from_residual-in_err-change_row.result c.from_residual-in_err-change_row.ensures.1 in
     rw (p.1, p.2) asked
 
+pub returns-in_err-change_row-clause-missed : goal.returns-in_err-change_row-clause-missed
+returns-in_err-change_row-clause-missed g c =
+    let s = setting c.args.setup.now in
+    let item = c.index-changes-k in
+    let i = c.loop-k.k in
+    let next : drop i c.args.changes.now ≡ item.result ∷ drop (i + 1) c.args.changes.now =
+    rw add-one (drop-cons c.args.changes.now i item.result c.loop-k-test.true ∙ ap (λ x. x ∷ drop (Prim.Native.Nat.suc i) c.args.changes.now) (sym item.is)) in
+    let asked = asked_to_fault s c.args.plan.now.routes (changes_of c.args.changes.now) (changes_of (drop i c.args.changes.now)) (changes_of (drop (i + 1) c.args.changes.now))
+    (item.result.0, item.result.1.value) c.in_err-change_row.field-0.0 _ _ _ c.loop-k.invariant.asks c.loop-k.invariant.asked_to (ap (λ xs. changes_of xs) next)
+    (subst (λ (r : List ℕ). IsRowFault s item.result.0 r c.in_err-change_row.field-0.0) c.deref.ensures c.in_err-change_row.ensures.fault)
+    (subst (λ (r : List ℕ). AsksToRowFault s (route_at c.args.plan.now.routes item.result.0) item.result.0 r c.loop-k.meter c.change_row.new.meter c.in_err-change_row.field-0.0) c.deref.ensures c.in_err-change_row.ensures.missed) in
+    let p = err_from_is_err_and c.from_residual-in_err-change_row.result c.from_residual-in_err-change_row.ensures.1 in
+    rw (p.1, p.2) asked
+
 pub loop-k-preserved : goal.loop-k-preserved
 loop-k-preserved g c =
     let s = setting c.args.setup.now in
@@ -65,6 +80,10 @@ loop-k-preserved g c =
           (subst (λ (r : List ℕ). IsRowOf s item.result.0 r c.change_row.new.row) c.deref.ensures c.in_ok-change_row.ensures.row));
       asks = asked_next (length s.dimensions) c.args.plan.now.routes (changes_of c.args.changes.now) (changes_of (drop i c.args.changes.now)) (changes_of (drop (i + 1) c.args.changes.now))
           (item.result.0, item.result.1.value) _ _ _ c.loop-k.invariant.asks (ap (λ xs. changes_of xs) next)
+          (subst (λ (r : List ℕ). AsksJust c.loop-k.meter c.change_row.new.meter (length s.dimensions * walk_asks (route_at c.args.plan.now.routes item.result.0) r)) c.deref.ensures c.in_ok-change_row.ensures.whole);
+      asked_to = asked_to_next s c.args.plan.now.routes (changes_of c.args.changes.now) (changes_of (drop i c.args.changes.now)) (changes_of (drop (i + 1) c.args.changes.now))
+          (item.result.0, item.result.1.value) _ _ _ c.loop-k.invariant.asked_to (ap (λ xs. changes_of xs) next)
+          (subst (λ (r : List ℕ). FitsAll s item.result.0 r) c.deref.ensures c.in_ok-change_row.ensures.fits)
           (subst (λ (r : List ℕ). AsksJust c.loop-k.meter c.change_row.new.meter (length s.dimensions * walk_asks (route_at c.args.plan.now.routes item.result.0) r)) c.deref.ensures c.in_ok-change_row.ensures.whole);
     }
 

@@ -3,6 +3,7 @@ use Rattle.std.proofs.lemmas.Grind.{common_steps}
 use Rattle.std.proofs.lemmas.Result.{err_from_is_err_and}
 use Rattle.std.specs.Prelude.{vec_len}
 use Rattle.dimension_core.specs.Setup.{setting}
+use Rattle.range_cache.proofs.Misses.{row_missed}
 use Rattle.range_cache.proofs.Rows.{kept_track, kept_long, out_at, asks_more, asks_out, asks_stop, ranges_more, room_for}
 use Rattle.range_cache.proofs.row.Row.change.Goals as goal
 
@@ -21,6 +22,14 @@ pub returns-then-not-branch-clause-fault : goal.returns-then-not-branch-clause-f
 returns-then-not-branch-clause-fault g c =
     (refl, out_at (setting c.args.setup.now) c.args.vehicle c.loop-dimension.dimension c.args.new.now _ (search rules) c.loop-dimension.invariant.fits c.in_ok-walk.ensures.bounds c.if-not-branch.true)
 
+pub returns-then-not-branch-clause-asks : goal.returns-then-not-branch-clause-asks
+returns-then-not-branch-clause-asks g c =
+    let s = setting c.args.setup.now in
+    let i = c.loop-dimension.invariant in
+    let long = kept_long s c.args.vehicle c.args.old.now c.args.self.now c.loop-dimension.dimension c.common_front-front.result _
+    c.requires.row (search rules) c.common_front-front.ensures.front.left c.front-kept.ensures in
+    asks_stop _ _ _ (length s.dimensions) c.loop-dimension.dimension c.common_front-front.result _ c.args.old.now c.args.new.now (search rules) i.asks c.walk.ensures.asks long c.common_front-front.ensures.value (grind (arith, common_steps))
+
 pub returns-then-not-branch-clause-least : goal.returns-then-not-branch-clause-least
 returns-then-not-branch-clause-least g c =
     let s = setting c.args.setup.now in
@@ -31,6 +40,24 @@ returns-then-not-branch-clause-least g c =
 
 pub returns-in_err-walk-clause-least : goal.returns-in_err-walk-clause-least
 returns-in_err-walk-clause-least g c =
+    let s = setting c.args.setup.now in
+    let i = c.loop-dimension.invariant in
+    let long = kept_long s c.args.vehicle c.args.old.now c.args.self.now c.loop-dimension.dimension c.common_front-front.result _
+    c.requires.row (search rules) c.common_front-front.ensures.front.left c.front-kept.ensures in
+    let asked = asks_stop _ _ _ (length s.dimensions) c.loop-dimension.dimension c.common_front-front.result _ c.args.old.now c.args.new.now (search rules) i.asks c.walk.ensures.asks long c.common_front-front.ensures.value (grind (arith, common_steps)) in
+    let p = err_from_is_err_and c.from_residual-in_err-walk.result c.from_residual-in_err-walk.ensures.1 in
+    rw (p.1, p.2) asked
+
+pub returns-then-not-branch-clause-missed : goal.returns-then-not-branch-clause-missed
+returns-then-not-branch-clause-missed g c =
+    let s = setting c.args.setup.now in
+    let i = c.loop-dimension.invariant in
+    let long = kept_long s c.args.vehicle c.args.old.now c.args.self.now c.loop-dimension.dimension c.common_front-front.result _
+    c.requires.row (search rules) c.common_front-front.ensures.front.left c.front-kept.ensures in
+    row_missed s c.args.vehicle c.loop-dimension.dimension c.common_front-front.result _ c.args.old.now c.args.new.now _ _ _ i.asks (c.in_ok-walk.ensures.missed c.if-not-branch.true) long c.common_front-front.ensures.value
+
+pub returns-in_err-walk-clause-missed : goal.returns-in_err-walk-clause-missed
+returns-in_err-walk-clause-missed g c =
     let s = setting c.args.setup.now in
     let i = c.loop-dimension.invariant in
     let long = kept_long s c.args.vehicle c.args.old.now c.args.self.now c.loop-dimension.dimension c.common_front-front.result _
