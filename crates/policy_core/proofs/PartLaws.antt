@@ -1,10 +1,11 @@
 -- What is copied back, and what stays.
-use Rattle.std.proofs.Common.{◌≡◌, Bool, true, false, Option, Some, None, sym, refl, ap, ◌∙◌, subst}
-use Rattle.std.specs.Prelude.{unwrap_or}
+use Rattle.std.proofs.Common.{◌≡◌, Bool, true, false, ◌||◌, Option, Some, None, sym, refl, ap, ◌∙◌, subst}
+use Rattle.std.specs.Prelude.{unwrap_or, Result, Ok, Err, OnErr}
 use Rattle.std.specs.Option.{option_map}
+use Rattle.std.proofs.lemmas.Bool.{or_left}
 use Rattle.policy_core.specs.declared.parts.Parts.{Parts}
 use Rattle.policy_core.specs.State.{PolicyState}
-use Rattle.policy_core.specs.Parts.{DifferIn, chosen}
+use Rattle.policy_core.specs.Parts.{DifferIn, chosen, is_copied}
 
 pub moved : (parts : Parts) (p q a b : PolicyState) → p ≡ a → q ≡ b → DifferIn parts a b → DifferIn parts p q
 moved parts p q a b is_a is_b differ =
@@ -24,3 +25,17 @@ pub restored_whole : {X : Type 0} (own new : X) (copy : Option X) (part : Bool) 
     new ≡ unwrap_or copy own → copy ≡ chosen part x → (part ≡ false → own ≡ x) → new ≡ x
 restored_whole own new copy true x put is same = put ∙ ap (λ o. unwrap_or o own) is
 restored_whole own new copy false x put is same = put ∙ ap (λ o. unwrap_or o own) is ∙ same refl
+
+or_late : (x y : Bool) → y ≡ true → (x || y) ≡ true
+or_late true y h = refl
+or_late false y h = h
+
+pub sessions_copied : (parts : Parts) → parts.sessions ≡ true → is_copied parts ≡ true
+sessions_copied parts h = or_late _ parts.sessions h
+
+pub dsd_copied : (parts : Parts) → parts.dsd ≡ true → is_copied parts ≡ true
+dsd_copied parts h = or_left _ parts.sessions (or_late _ parts.dsd h)
+
+pub on_err : {T E P : Type 0} (r : Result T E) → P → OnErr r P
+on_err (Ok x) p = tt
+on_err (Err e) p = p

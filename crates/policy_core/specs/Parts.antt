@@ -1,5 +1,5 @@
 -- In which parts a policy may differ from another.
-use Rattle.std.specs.Prelude.{◌≡◌, ℕ, ◌%◌, ◌^◌, Bool, false, if◌then◌else◌, List, Option, Some, None}
+use Rattle.std.specs.Prelude.{◌≡◌, ℕ, ◌%◌, ◌^◌, Bool, false, ◌||◌, if◌then◌else◌, List, Option, Some, None}
 use Rattle.permission_core.specs.Permissions.{Rows, rows_cleared}
 use Rattle.policy_core.specs.State.{PolicyState, slot_of}
 use Rattle.policy_core.specs.declared.parts.Parts.{Parts}
@@ -30,3 +30,7 @@ chosen is_chosen x = if is_chosen then Some x else None
 -- no part is marked
 abbrev pub no_parts : Parts
 no_parts = record { users = false; roles = false; order = false; grants = None; ssd = false; dsd = false; sessions = false }
+
+-- whether a part is marked that takes memory to copy: any but the permissions
+abbrev pub is_copied : Parts → Bool
+is_copied parts = parts.users || parts.roles || parts.order || parts.ssd || parts.dsd || parts.sessions

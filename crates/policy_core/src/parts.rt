@@ -1,7 +1,7 @@
 //! Which parts of a policy may differ from another's, and how those alone are copied back.
-ghost use Rattle.std.specs.Prelude.{◌≡◌, IfOk, OnOk, OnErr, unwrap_or};
+ghost use Rattle.std.specs.Prelude.{◌≡◌, true, IfOk, OnOk, OnErr, unwrap_or};
 ghost use Rattle.std.specs.Option.{option_map};
-ghost use Rattle.policy_core.specs.Parts.{DifferIn, chosen, no_parts};
+ghost use Rattle.policy_core.specs.Parts.{DifferIn, chosen, no_parts, is_copied};
 
 use crate::policy::{Policy, copy_roles, copy_sessions, copy_users};
 use crate::rows::restore_grants;
@@ -49,13 +49,15 @@ impl Parts {
 
 impl Policy {
     /// Makes the policy equal to `from`, by copies of those parts alone. The contract requires that it differs in no other. Each copy takes
-    /// memory, except that of the permissions. Where memory runs out the policy stays as it was.
+    /// memory, except that of the permissions: where no other part is marked, memory cannot run out. Where it does, the policy stays as it
+    /// was.
     // Out of line, since the stack space for the copies is cleared wherever they may be made.
     #[inline(never)]
     pub fn restore(&mut self, from: &Policy, parts: Parts) -> Result<(), AllocError>
         requires { DifferIn parts self.old from.now }
         ensures ok { OnOk result (self.new ≡ from.now) }
         ensures err { OnErr result (self.new ≡ self.old) }
+        ensures lacking { OnErr result (is_copied parts ≡ true) }
     {
         let users = users_if(parts.users, &from.users)?;
         let roles = roles_if(parts.roles, &from.roles)?;
@@ -91,7 +93,8 @@ fn users_if(
     part: bool,
     users: &IndexMap<Name, RoleSet>,
 ) -> Result<Option<IndexMap<Name, RoleSet>>, AllocError>
-    ensures { IfOk result (λ copy. option_map (λ c. c.entries) copy ≡ chosen part users.now.entries) }
+    ensures copy { IfOk result (λ copy. option_map (λ c. c.entries) copy ≡ chosen part users.now.entries) }
+    ensures lacking { OnErr result (part ≡ true) }
 {
     if !part {
         return Ok(None);
@@ -103,7 +106,8 @@ fn roles_if(
     part: bool,
     roles: &IndexMap<Name, u8>,
 ) -> Result<Option<IndexMap<Name, u8>>, AllocError>
-    ensures { IfOk result (λ copy. option_map (λ c. c.entries) copy ≡ chosen part roles.now.entries) }
+    ensures copy { IfOk result (λ copy. option_map (λ c. c.entries) copy ≡ chosen part roles.now.entries) }
+    ensures lacking { OnErr result (part ≡ true) }
 {
     if !part {
         return Ok(None);
@@ -112,7 +116,8 @@ fn roles_if(
 }
 
 fn order_if(part: bool, order: &Hierarchy) -> Result<Option<Hierarchy>, AllocError>
-    ensures { IfOk result (λ copy. copy ≡ chosen part order.now) }
+    ensures copy { IfOk result (λ copy. copy ≡ chosen part order.now) }
+    ensures lacking { OnErr result (part ≡ true) }
 {
     if !part {
         return Ok(None);
@@ -121,7 +126,8 @@ fn order_if(part: bool, order: &Hierarchy) -> Result<Option<Hierarchy>, AllocErr
 }
 
 fn sets_if(part: bool, sets: &Sets) -> Result<Option<Sets>, AllocError>
-    ensures { IfOk result (λ copy. copy ≡ chosen part sets.now) }
+    ensures copy { IfOk result (λ copy. copy ≡ chosen part sets.now) }
+    ensures lacking { OnErr result (part ≡ true) }
 {
     if !part {
         return Ok(None);
@@ -133,7 +139,8 @@ fn sessions_if(
     part: bool,
     sessions: &IndexMap<u32, Session>,
 ) -> Result<Option<IndexMap<u32, Session>>, AllocError>
-    ensures { IfOk result (λ copy. option_map (λ c. c.entries) copy ≡ chosen part sessions.now.entries) }
+    ensures copy { IfOk result (λ copy. option_map (λ c. c.entries) copy ≡ chosen part sessions.now.entries) }
+    ensures lacking { OnErr result (part ≡ true) }
 {
     if !part {
         return Ok(None);

@@ -94,11 +94,57 @@ impl Policy {
         ensures refused { IfErr result (λ e. Says e (inherit_refusal self.old senior junior)) }
     {
         let (above, below) = self.judge_inherit(senior, junior)?;
+        self.link(senior, junior, above, below);
+        Ok(())
+    }
+
+    /// AddInheritance of a pair that nothing refuses, as is known of a policy that is equal to one on which it was carried out: no set is
+    /// looked at, and it takes no memory.
+    pub fn add_inheritance_again(&mut self, senior: Name, junior: Name)
+        requires { inherit_refusal self.old senior junior ≡ None }
+        ensures { self.new ≡ inherited self.old senior junior }
+    {
+        let (above, below) = self.slots_of_pair(senior, junior);
+        self.link(senior, junior, above, below);
+    }
+
+    /// The slots of the roles of a pair that nothing refuses.
+    #[tactic(auto, unfolding(crate::specs::Commands::inherit_refusal))]
+    fn slots_of_pair(&self, senior: Name, junior: Name) -> (u8, u8)
+        requires { inherit_refusal self.now senior junior ≡ None }
+        ensures slots { result ≡ (slot_of self.now senior, slot_of self.now junior) }
+        ensures senior { is_there self.now.order result.0 ≡ true }
+        ensures junior { is_there self.now.order result.1 ≡ true }
+        ensures new { stands self.now.order result.0 result.1 ≡ false }
+        ensures apart { has (juniors_of self.now.order result.1) result.0 ≡ false }
+        ensures whole { broken (inherited self.now senior junior) ≡ None }
+    {
+        self.is_policy();
+        let Some(above) = self.slot_of(senior) else {
+            unreachable!()
+        };
+        let Some(below) = self.slot_of(junior) else {
+            unreachable!()
+        };
+        (above, below)
+    }
+
+    /// Puts the pair into the order.
+    #[inline(always)]
+    fn link(&mut self, senior: Name, junior: Name, above: u8, below: u8)
+        requires above { above ≡ slot_of self.old senior }
+        requires below { below ≡ slot_of self.old junior }
+        requires senior { is_there self.old.order above ≡ true }
+        requires junior { is_there self.old.order below ≡ true }
+        requires new { stands self.old.order above below ≡ false }
+        requires apart { has (juniors_of self.old.order below) above ≡ false }
+        requires whole { broken (inherited self.old senior junior) ≡ None }
+        ensures { self.new ≡ inherited self.old senior junior }
+    {
         self.order.is_order();
         let Ok(()) = self.order.add_inheritance(above, below) else {
             unreachable!()
         };
-        Ok(())
     }
 
     /// The slots of the two roles.

@@ -72,6 +72,36 @@ impl Policy {
         Ok(())
     }
 
+    /// AssignUser where nothing refuses it, as is known of a policy that is equal to one on which it was carried out: no set is looked at.
+    pub fn assign_user_again(&mut self, user: Name, role: Name)
+        requires { assign_refusal self.old user role ≡ None }
+        ensures { self.new ≡ assigned self.old user role }
+    {
+        let roles = self.wider_roles(user, role);
+        self.put_roles(user, roles);
+    }
+
+    /// The roles that the user would have, where nothing refuses the new one.
+    #[tactic(auto, unfolding(crate::specs::Commands::assign_refusal))]
+    fn wider_roles(&self, user: Name, role: Name) -> RoleSet
+        requires { assign_refusal self.now user role ≡ None }
+        ensures there { is_user self.now user ≡ true }
+        ensures roles { with_roles self.now user result ≡ assigned self.now user role }
+        ensures whole { broken_ssd (assigned self.now user role) ≡ None }
+        ensures used { AreThere self.now.order result }
+    {
+        self.is_policy();
+        let Some(held) = self.roles_of(user) else {
+            unreachable!()
+        };
+        let Some(slot) = self.slot_of(role) else {
+            unreachable!()
+        };
+        let mut roles = held;
+        roles.insert(slot);
+        roles
+    }
+
     /// The roles that the user would have.
     #[tactic(auto, unfolding(crate::specs::Commands::assign_refusal))]
     fn judge_assign(&self, user: Name, role: Name) -> Result<RoleSet, Refusal>

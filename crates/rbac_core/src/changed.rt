@@ -11,7 +11,8 @@ use separation_core::Name;
 
 /// The parts in which a policy after the command may differ from the one before it.
 pub(crate) fn changed(command: &Command) -> Parts
-    ensures { (p : PolicyState) → DifferIn result (after p command.now) p }
+    ensures parts { result ≡ parts_of command.now }
+    ensures differ { (p : PolicyState) → DifferIn result (after p command.now) p }
 {
     parts_of(command)
 }

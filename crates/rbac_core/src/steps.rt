@@ -1,5 +1,5 @@
 //! One step of a policy: the guard, and then the command.
-ghost use Rattle.std.specs.Prelude.{◌≡◌, ◌≢◌, Some, OnOk, OnErr, IfOk, IfErr, None, Ok, Err, false};
+ghost use Rattle.std.specs.Prelude.{true, ◌≡◌, ◌≢◌, Some, OnOk, OnErr, IfOk, IfErr, None, Ok, Err, false};
 ghost use Rattle.std.specs.Result.{result_err};
 ghost use Rattle.policy_core.specs.Commands.{Says};
 ghost use Rattle.policy_core.specs.Access.{has_access};
@@ -119,6 +119,24 @@ pub(crate) fn change(policy: &mut Policy, command: &Command) -> Result<(), Refus
         Command::DropActiveRole { session, role } => policy.drop_active_role(*session, *role),
         Command::Migrate => policy.migrate(),
     }
+}
+
+/// Carries out a command that the policy does not refuse, as another policy did before: for a new pair or role of a user the sets are not
+/// looked at again.
+pub(crate) fn change_again(policy: &mut Policy, command: &Command) -> Result<(), Refusal>
+    requires { refusal_of policy.old command.now ≡ None }
+    ensures ok { OnOk result (policy.new ≡ after policy.old command.now) }
+    ensures err { OnErr result (policy.new ≡ policy.old) }
+    ensures lacking { OnErr result (takes_memory command.now ≡ true) }
+{
+    match command {
+        Command::AssignUser { user, role } => policy.assign_user_again(*user, *role),
+        Command::AddInheritance { senior, junior } => policy.add_inheritance_again(
+            *senior, *junior,
+        ),
+        _ => return change(policy, command),
+    }
+    Ok(())
 }
 
 /// Carries out the command, whoever gives it. `NoMemory` may come in place of any answer, but not for a command that takes no memory: only

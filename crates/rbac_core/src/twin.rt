@@ -1,12 +1,17 @@
 //! A policy with a spare one, on which a command is tried.
-ghost use Rattle.std.specs.Prelude.{◌≡◌, None, OnOk, OnErr, IfOk, IfErr, true, false};
+ghost use Rattle.std.specs.Prelude.{◌≡◌, ◌≢◌, None, OnOk, OnErr, IfOk, IfErr, true, false, not, if◌then◌else◌};
+ghost use Rattle.std.specs.Result.{result_err};
 ghost use Rattle.policy_core.specs.Commands.{Says};
-ghost use Rattle.rbac_core.specs.Step.{refusal_of, after, outcome_of, guard, guard_by};
-ghost use Rattle.rbac_core.specs.Twins.{Follows, tried_of};
+ghost use Rattle.policy_core.specs.Parts.{is_copied};
+ghost use Rattle.policy_core.specs.declared.refusal.Refusal.TheVariants.{NoMemory};
+ghost use Rattle.rbac_core.specs.Changed.{parts_of};
+ghost use Rattle.rbac_core.specs.Step.{refusal_of, after, takes_memory, outcome_of, guard, guard_by};
+ghost use Rattle.rbac_core.specs.Tried.{idle};
+ghost use Rattle.rbac_core.specs.Twins.{Follows, tried_of, level_of, trying_of};
 
 use crate::changed::{changed, lacking};
 use crate::command::{Command, Outcome};
-use crate::steps::{carry_out, change, guard};
+use crate::steps::{carry_out, change_again, guard};
 use policy_core::{Parts, Policy, Refusal};
 use std::alloc::{AllocError, Global};
 use std::marker::Model;
@@ -29,7 +34,9 @@ enum Lag {
 /// lacks that command, and is brought up to date with it before the next command is tried. So no command copies a policy. After a command
 /// that was tried and not kept, the next one copies back only the parts that the former may have changed.
 ///
-/// Contracts see the policy, and the state that `settle` would make: the policy itself where nothing is tried.
+/// Contracts see the policy (`now`), the state that `settle` would make (`tried`: the policy itself where nothing is tried), whether a
+/// command is tried (`trying`), and whether the spare policy can be made equal to the policy without memory (`level`): it is equal, or lacks
+/// only a command that takes none, or differs only in permissions.
 pub struct Twin {
     // Boxed, so that the two are exchanged by exchanging two words.
     policy: Box<Policy>,
@@ -53,9 +60,14 @@ impl Model for Twin {
 
     ghost Value = { Tried };
 
-    ghost use Rattle.rbac_core.specs.Twins.{Follows, tried_of};
+    ghost use Rattle.rbac_core.specs.Twins.{Follows, tried_of, level_of, trying_of};
 
-    ghost view = { λ a. record { now = a.policy.value; tried = tried_of a.lag a.spare.value a.policy.value } };
+    ghost view = { λ a. record {
+      now = a.policy.value;
+      tried = tried_of a.lag a.spare.value a.policy.value;
+      level = level_of a.lag;
+      trying = trying_of a.lag;
+    } };
 
     ghost invariant = { λ a. Follows a.lag a.spare.value a.policy.value };
 }
@@ -63,7 +75,7 @@ impl Model for Twin {
 impl Twin {
     /// The policy with a spare copy.
     pub fn new(alloc: Global, policy: Policy) -> Result<Twin, AllocError>
-        ensures { IfOk result (λ twin. twin ≡ record { now = policy; tried = policy }) }
+        ensures { IfOk result (λ twin. twin ≡ idle policy true) }
     {
         let spare = Box::new(alloc, policy.copy()?)?;
         let policy = Box::new(alloc, policy)?;
@@ -92,7 +104,8 @@ impl Twin {
     }
 
     /// Tries the command on the spare policy, which is first made equal to the other, whoever gives the command. The policy stays as it is.
-    /// After a refusal nothing is tried.
+    /// After a refusal nothing is tried. `NoMemory` may come in place of any answer, but not where the spare policy is level and the command
+    /// takes no memory. The spare policy is level after every refusal but `NoMemory`, and after that one where it was before.
     #[inline(always)]
     pub fn prepare(&mut self, command: &Command) -> Result<Outcome, Refusal>
         ensures now { self.new.now ≡ self.old.now }
@@ -101,6 +114,12 @@ impl Twin {
         ensures allowed { OnOk result (refusal_of self.old.now command.now ≡ None) }
         ensures err { OnErr result (self.new.tried ≡ self.old.now) }
         ensures refused { IfErr result (λ e. Says e (refusal_of self.old.now command.now)) }
+        ensures exact { self.old.level ≡ true → takes_memory command.now ≡ false → result_err result ≡ refusal_of self.old.now command.now }
+        ensures trying { OnOk result (self.new.trying ≡ true) }
+        ensures idle { OnErr result (self.new.trying ≡ false) }
+        ensures ahead { OnOk result (self.new.level ≡ not (is_copied (parts_of command.now))) }
+        ensures level { self.old.level ≡ true → OnErr result (self.new.level ≡ true) }
+        ensures levelled { IfErr result (λ e. e ≢ NoMemory → self.new.level ≡ true) }
     {
         if !even_out(&self.policy, &mut self.spare, &mut self.lag) {
             return Err(Refusal::NoMemory);
@@ -111,9 +130,9 @@ impl Twin {
     }
 
     /// Gives up the command that was tried, if there is one: nothing is tried any more. It takes no memory, and copies nothing; the next
-    /// command that is tried first copies back the parts that this one may have changed.
+    /// command that is tried first copies back the parts that this one may have changed, which takes memory except for permissions.
     pub fn give_up(&mut self)
-        ensures { self.new ≡ record { now = self.old.now; tried = self.old.now } }
+        ensures { self.new ≡ idle self.old.now self.old.level }
     {
         if let Lag::Ahead(parts) = self.lag {
             self.lag = Lag::Apart(parts);
@@ -121,11 +140,12 @@ impl Twin {
     }
 
     /// Exchanges the two policies: what was tried is kept. It takes no memory. The contract requires that the policy does not refuse this
-    /// command, and that `tried` is the policy after it, as the last `prepare` promises where it answers `Ok`.
+    /// command, and that `tried` is the policy after it, as the last `prepare` promises where it answers `Ok`. Where nothing is tried, this
+    /// says that the command changes nothing, and `settle` does nothing.
     pub fn settle(&mut self, command: Command)
         requires allowed { refusal_of self.old.now command ≡ None }
         requires tried { self.old.tried ≡ after self.old.now command }
-        ensures { self.new ≡ record { now = self.old.tried; tried = self.old.tried } }
+        ensures { self.new ≡ idle self.old.tried (if self.old.trying then not (takes_memory command) else self.old.level) }
     {
         if let Lag::Ahead(_) = self.lag {
             mem::swap(&mut self.policy, &mut self.spare);
@@ -134,12 +154,14 @@ impl Twin {
     }
 
     /// As `settle`, but the spare policy gets the command at once, so that no copy of the command is kept. Where memory runs out for that,
-    /// the next command that is tried first copies what the spare one lacks.
+    /// the next command that is tried first copies what the spare one lacks. For a command that takes no memory it does not run out.
     #[inline(always)]
     pub fn keep(&mut self, command: &Command)
         requires allowed { refusal_of self.old.now command.now ≡ None }
         requires tried { self.old.tried ≡ after self.old.now command.now }
-        ensures { self.new ≡ record { now = self.old.tried; tried = self.old.tried } }
+        ensures kept { self.new ≡ idle self.old.tried self.new.level }
+        ensures level { takes_memory command.now ≡ false → self.new.level ≡ (if self.old.trying then true else self.old.level) }
+        ensures same { self.old.trying ≡ false → self.new.level ≡ self.old.level }
     {
         if let Lag::Ahead(_) = self.lag {
             mem::swap(&mut self.policy, &mut self.spare);
@@ -153,8 +175,10 @@ fn follow(spare: &mut Policy, command: &Command) -> Lag
     requires { refusal_of spare.old command.now ≡ None }
     ensures follows { Follows result spare.new (after spare.old command.now) }
     ensures nothing { tried_of result spare.new (after spare.old command.now) ≡ after spare.old command.now }
+    ensures idle { trying_of result ≡ false }
+    ensures level { takes_memory command.now ≡ false → level_of result ≡ true }
 {
-    match change(spare, command) {
+    match change_again(spare, command) {
         Ok(()) => Lag::Even,
         Err(_) => Lag::Apart(lacking(command)),
     }
@@ -167,10 +191,13 @@ fn even_out(policy: &Policy, spare: &mut Policy, lag: &mut Lag) -> bool
     ensures follows { Follows lag.new spare.new policy.now }
     ensures nothing { tried_of lag.new spare.new policy.now ≡ policy.now }
     ensures even { (result ≡ true) → spare.new ≡ policy.now }
+    ensures idle { trying_of lag.new ≡ false }
+    ensures level { level_of lag.new ≡ result }
+    ensures free { level_of lag.old ≡ true → result ≡ true }
 {
     let even = match lag {
         Lag::Even => true,
-        Lag::Behind(command) => change(spare, command).is_ok(),
+        Lag::Behind(command) => change_again(spare, command).is_ok(),
         Lag::Ahead(parts) => spare.restore(policy, *parts).is_ok(),
         Lag::Apart(parts) => spare.restore(policy, *parts).is_ok(),
     };
