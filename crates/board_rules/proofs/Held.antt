@@ -3,10 +3,14 @@ use Rattle.std.proofs.Common.{◌≡◌, ℕ, zero, suc, ◌<◌, Bool, false, L
 use Rattle.std.specs.Prelude.{cond, Contains, slice_index_or}
 use Rattle.std.specs.List.{list_any}
 use Rattle.std.proofs.lemmas.Bool.{or_parts}
-use Rattle.role_hierarchy.specs.Below.{closed}
+use Rattle.role_hierarchy.specs.Below.{closed, IsOrder}
+use Rattle.role_hierarchy.specs.BelowLaws.{has-closed}
 use Rattle.separation_core.specs.Groups.{Groups, is_broken, first_broken, first_breaking, HoldsFor}
 use Rattle.separation_core.specs.GroupLaws.{first_broken-holds}
 use Rattle.policy_core.specs.declared.session.Session.{Session}
+use Rattle.policy_core.specs.declared.session.Counting.{Counting}
+use Rattle.policy_core.specs.declared.session.Counting.TheVariants.{Active, Inherited}
+use Rattle.policy_core.specs.Authority.{AreCounted}
 use Rattle.policy_core.specs.State.{PolicyState, counted}
 use Rattle.board_rules.specs.Separate.{IsSeparated}
 use Rattle.board_rules.proofs.Breaking.{not_broken}
@@ -28,8 +32,20 @@ module _ {E : Type 0} (g : E → ℕ) where
   holds_at : (es : List E) (groups : Groups) (e : E) → first_breaking (map g es) groups ≡ None → Contains es e → HoldsFor (g e) groups
   holds_at es groups e none there = first_broken-holds (g e) groups (not_broken_at es groups e none there)
 
-pub separated : (p : PolicyState) → IsSeparate p → IsSeparated p
-separated p is = record {
-  users = λ user assigned there. holds_at (λ (u : List ℕ × ℕ). closed p.order u.1) p.users p.ssd (user, assigned) is.ssd there;
-  sessions = λ number session there. holds_at (λ (e : ℕ × Session). counted p.counting p.order e.1.active) p.sessions p.dsd (number, session) is.dsd there;
+are_counted : (p : PolicyState) → IsOrder p.order → (counting : Counting) (active : ℕ) → AreCounted p counting active (counted counting p.order active)
+are_counted p order Active active = refl
+are_counted p order Inherited active = has-closed p.order order active
+
+pub separated : (p : PolicyState) → IsOrder p.order → IsSeparate p → IsSeparated p
+separated p order is = record {
+  users = λ user assigned there. (
+    closed p.order assigned,
+    has-closed p.order order assigned,
+    holds_at (λ (u : List ℕ × ℕ). closed p.order u.1) p.users p.ssd (user, assigned) is.ssd there,
+  );
+  sessions = λ number session there. (
+    counted p.counting p.order session.active,
+    are_counted p order p.counting session.active,
+    holds_at (λ (e : ℕ × Session). counted p.counting p.order e.1.active) p.sessions p.dsd (number, session) is.dsd there,
+  );
 }
