@@ -14,7 +14,7 @@ use Rattle.board_rules.specs.Good.{IsGood}
 use Rattle.board_rules.specs.History.{Opening, state_after, turns_of, is_turn, IsNext, IsLegal}
 use Rattle.board_rules.specs.State.{BoardState}
 use Rattle.board_rules.specs.Step.{IsReply, after}
-use Rattle.board_state.specs.Changes.{Tries, WillHold}
+use Rattle.board_state.specs.Changes.{Tries, GivesUp, WillHold}
 use Rattle.board_state.specs.Held.{HeldState, Holds, IsOpening, IsReady}
 use Rattle.board_core.specs.Kept.{CoreState, IsKept}
 use Rattle.board_core.specs.Prepared.{PreparedState, Makes}
@@ -62,6 +62,16 @@ kept_same s old new kept journal turns tries =
       some_desk = kept.some_desk;
       few_desks = kept.few_desks;
     })
+
+-- what was tried is given up
+pub gives_up_tries : (old new : HeldState) → GivesUp old new → Tries old new
+gives_up_tries old new e = λ i. record {
+  policy = record new.policy { now = ap (λ (h : HeldState). h.policy.now) e i };
+  tables = record (ap (λ (h : HeldState). h.tables) e i) { room = new.tables.room };
+  plan = ap (λ (h : HeldState). h.plan) e i;
+  pins = ap (λ (h : HeldState). h.pins) e i;
+  cache = ap (λ (h : HeldState). h.cache) e i;
+}
 
 -- one more entry
 pub kept_after : (s : Setting) (core new : CoreState) (e : Entry)

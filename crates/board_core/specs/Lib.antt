@@ -8,6 +8,7 @@ pub use Rattle.board_rules.specs.Listing
 pub use Rattle.board_rules.specs.Delta
 pub use Rattle.board_rules.specs.Questions
 pub use Rattle.board_rules.specs.Good
+pub use Rattle.board_state.specs.Changes
 pub use Rattle.board_state.specs.Differences
 pub mod Kept
 pub mod Taking

@@ -1,5 +1,5 @@
 //! A board: a setup and the core that was opened with it.
-ghost use Rattle.std.specs.Prelude.{◌≡◌, ◌≢◌, ◌≤◌, ◌↔◌, ◌∷◌, ◌++◌, [], true, false, length, Some, None, IfOk, OnOk, IfErr, OnErr, IsErrOf};
+ghost use Rattle.std.specs.Prelude.{◌≡◌, ◌≢◌, ◌≤◌, ◌↔◌, ◌∷◌, ◌++◌, [], true, false, length, Some, None, IfOk, OnOk, IfErr, OnErr, IsErrOf, MatchResult};
 ghost use Rattle.std.specs.Result.{result_err};
 ghost use Rattle.dimension_core.specs.Setup.{setting};
 ghost use Rattle.plan_core.specs.Plan.{route_at};
@@ -15,6 +15,7 @@ ghost use Rattle.board_rules.specs.History.{is_turn, turns_of, IsLegal};
 ghost use Rattle.board_rules.specs.Delta.{spot_in};
 ghost use Rattle.board_rules.specs.Listing.{IsListing};
 ghost use Rattle.board_rules.specs.Questions.{MayAsk, list_fault, audit_fault, review_fault, review_of, check_of};
+ghost use Rattle.board_state.specs.Changes.{IsGivenUp, GivesUp};
 ghost use Rattle.board_state.specs.Work.{WorksAtMost, IsWorkOf, call_asks, call_probes};
 
 use crate::body::Core;
@@ -71,12 +72,13 @@ impl Board {
     }
 
     /// Judges an event, and makes every growth that it needs; the history stays as it is. Faults, in order: `OutOfTurn`, `Full`,
-    /// `NoMemory`.
+    /// `NoMemory`. What was prepared is to be settled or given up.
     pub fn prepare(&mut self, event: Event, meter: &mut Meter) -> Result<Prepared, Fault>
         ensures history { history self.new ≡ history self.old }
         ensures of { IfOk result (λ prepared. prepared.of ≡ self.new.core) }
         ensures entry { IfOk result (λ prepared. prepared.entry ≡ entry_of event prepared.entry.reply) }
         ensures makes { IfOk result (Makes (history self.old).opening.setting) }
+        ensures untried { self.old.core.held.policy.tried ≡ self.old.core.held.policy.now → MatchResult result (λ prepared. IsGivenUp prepared.judged.change self.new.core.held.policy) (λ _. self.new.core.held.policy.tried ≡ self.new.core.held.policy.now) }
         ensures out_of_turn { IsErrOf result Fault.OutOfTurn ↔ (is_turn (history self.old).opening.desks (history self.old).entries event.desk event.turn ≡ false) }
         ensures full { IsErrOf result Fault.Full ↔ ((is_turn (history self.old).opening.desks (history self.old).entries event.desk event.turn ≡ true) × (length (history self.old).entries ≡ (history self.old).opening.setting.max_events)) }
         ensures untaken { IfErr result (λ fault. fault ≢ Fault.NoMemory → meter.new ≡ meter.old) }
@@ -90,20 +92,32 @@ impl Board {
 
     /// Puts a judged event in place: it is journaled with its reply. It takes no memory.
     ///
-    /// The contract requires that the board's core still is, as contracts see it, the one for which the event was judged (`of`), and that
-    /// the entry may come next (`makes`). The last `prepare` promises both of what it answered. Contracts see of a core what it holds, its
-    /// journal, its turns, what was tried on the spare policy and the room for growth, and a later `prepare` may change the last two also
-    /// where it answers a fault. So pass what the last `prepare` of this very board answered, with no `prepare`, `settle` or `apply` in
-    /// between.
+    /// The contract requires that the board's core is equal, as contracts see it, to the one that `prepare` left when it judged the event
+    /// (`of`), and that the entry may come next (`makes`). `prepare` promises both of what it answered. Contracts see of a core what it
+    /// holds, what is tried on the spare policy, its journal, its turns and the room for growth. So pass what the last `prepare` of this
+    /// board answered, and settle nothing in between: after a `settle`, `apply`, `give_up` or another `prepare` the core may be another one,
+    /// also after a fault.
     pub fn settle(&mut self, prepared: Prepared) -> Reply
         requires of { prepared.of ≡ self.old.core }
         requires makes { Makes (history self.old).opening.setting prepared }
         ensures entries { (history self.new).entries ≡ (history self.old).entries ++ prepared.entry ∷ [] }
         ensures opening { (history self.new).opening ≡ (history self.old).opening }
         ensures legal { IsLegal (history self.new) }
+        ensures untried { IsGivenUp prepared.judged.change self.old.core.held.policy → self.new.core.held.policy.tried ≡ self.new.core.held.policy.now }
         ensures reply { result ≡ prepared.entry.reply }
     {
         self.core.settle(prepared)
+    }
+
+    /// Gives up the policy command that is tried, if there is one: nothing is tried any more, and all else stays. Call it where an event was
+    /// prepared and is not to be settled. It takes no memory.
+    pub fn give_up(&mut self)
+        ensures held { GivesUp self.old.core.held self.new.core.held }
+        ensures others { self.new.core ≡ record self.old.core { held = self.new.core.held } }
+        ensures history { history self.new ≡ history self.old }
+        ensures untried { self.new.core.held.policy.tried ≡ self.new.core.held.policy.now }
+    {
+        self.core.give_up();
     }
 
     /// The rows of the whole plan that the session may read: by vehicle and place, and then the unassigned customers by number, with

@@ -1,9 +1,10 @@
 //! The data of a board: what is held of its state, its journal and the turns of its desks.
-ghost use Rattle.std.specs.Prelude.{◌≡◌, ◌≢◌, ◌≤◌, ◌<◌, ◌↔◌, ◌∷◌, ◌++◌, [], true, false, length, IfOk, IfErr, OnOk, IsErrOf, MatchOption};
+ghost use Rattle.std.specs.Prelude.{◌≡◌, ◌≢◌, ◌≤◌, ◌<◌, ◌↔◌, ◌∷◌, ◌++◌, [], true, false, length, IfOk, IfErr, OnOk, IsErrOf, MatchOption, MatchResult};
 ghost use Rattle.dimension_core.specs.Setup.{setting};
 ghost use Rattle.dimension_core.specs.Setting.{Setting};
 ghost use Rattle.board_rules.specs.declared.reply.Fault.{Fault};
 ghost use Rattle.board_rules.specs.History.{is_turn, state_after};
+ghost use Rattle.board_state.specs.Changes.{IsGivenUp, GivesUp};
 ghost use Rattle.board_state.specs.Work.{WorksAtMost, IsWorkOf, call_asks, call_probes};
 ghost use Rattle.board_core.specs.Kept.{IsKept, history_of, entry_of};
 ghost use Rattle.board_core.specs.Prepared.{Makes};
@@ -91,7 +92,8 @@ impl Core {
 
     /// Judges an event, and makes every growth that it needs. The setup is the one with which the core was opened. Faults, in order:
     /// `OutOfTurn`, `Full`, `NoMemory`. The journal and the turns stay as they are; what was tried on the spare policy and the room for
-    /// growth may differ afterwards, also after a fault.
+    /// growth may differ afterwards, also after a fault. Where nothing was tried before, nothing is tried afterwards, unless the event is a
+    /// policy command that is answered otherwise than by a refusal: then it stays tried until it is settled or given up.
     pub fn prepare(
         &mut self,
         setup: &Setup,
@@ -105,6 +107,7 @@ impl Core {
         ensures of { IfOk result (λ prepared. prepared.of ≡ self.new) }
         ensures entry { IfOk result (λ prepared. prepared.entry ≡ entry_of event prepared.entry.reply) }
         ensures makes { IfOk result (Makes (setting setup.now)) }
+        ensures untried { self.old.held.policy.tried ≡ self.old.held.policy.now → MatchResult result (λ prepared. IsGivenUp prepared.judged.change self.new.held.policy) (λ _. self.new.held.policy.tried ≡ self.new.held.policy.now) }
         ensures out_of_turn { IsErrOf result Fault.OutOfTurn ↔ (is_turn (length self.old.turns) self.old.journal event.desk event.turn ≡ false) }
         ensures full { IsErrOf result Fault.Full ↔ ((is_turn (length self.old.turns) self.old.journal event.desk event.turn ≡ true) × (length self.old.journal ≡ (setting setup.now).max_events)) }
         ensures untaken { IfErr result (λ fault. fault ≢ Fault.NoMemory → meter.new ≡ meter.old) }
@@ -137,6 +140,7 @@ impl Core {
         ensures of { IfOk result (λ prepared. prepared.of ≡ self.new) }
         ensures entry { IfOk result (λ prepared. prepared.entry ≡ entry_of event prepared.entry.reply) }
         ensures makes { IfOk result (Makes (setting setup.now)) }
+        ensures untried { self.old.held.policy.tried ≡ self.old.held.policy.now → MatchResult result (λ prepared. IsGivenUp prepared.judged.change self.new.held.policy) (λ _. self.new.held.policy.tried ≡ self.new.held.policy.now) }
         ensures work { IfOk result (λ prepared. IsWorkOf (setting setup.now) (state_after (setting setup.now) self.old.journal).pins (state_after (setting setup.now) self.old.journal).routes event.call prepared.entry.reply meter.old meter.new) }
         ensures most { WorksAtMost meter.old meter.new
             (call_asks (setting setup.now) (state_after (setting setup.now) self.old.journal).routes event.call)
@@ -159,14 +163,16 @@ impl Core {
 
     /// Puts a judged event in place: it is journaled with its reply. It takes no memory.
     ///
-    /// The contract requires that the core still is, as contracts see it, the one for which the event was judged. So pass what the last
-    /// `prepare` of this very core answered, with no `prepare`, `settle` or `apply` in between: each of them may leave another core,
-    /// `prepare` also where it answers a fault. The core keeps its history where the entry may come next (`Makes`), as `prepare` promises.
+    /// The contract requires that the core is equal, as contracts see it, to the one that `prepare` left when it judged the event. Contracts
+    /// see what is held, what is tried on the spare policy, the journal, the turns, and the room for growth. So pass what the last `prepare`
+    /// of this core answered, and settle nothing in between: after a `settle`, `apply`, `propose`, `give_up` or another `prepare` the core
+    /// may be another one, also after a fault. The core keeps its history where the entry may come next (`Makes`), as `prepare` promises.
     pub fn settle(&mut self, prepared: Prepared) -> Reply
         requires { prepared.of ≡ self.old }
         ensures journal { self.new.journal ≡ self.old.journal ++ prepared.entry ∷ [] }
         ensures desks { length self.new.turns ≡ length self.old.turns }
         ensures kept { (s : Setting) → IsKept s self.old → Makes s prepared → IsKept s self.new }
+        ensures untried { IsGivenUp prepared.judged.change self.old.held.policy → self.new.held.policy.tried ≡ self.new.held.policy.now }
         ensures reply { result ≡ prepared.entry.reply }
     {
         histories_grow_by_entries();
@@ -182,6 +188,17 @@ impl Core {
         let answer = copy_of(&reply);
         self.journal.push(Event { desk, turn, call }, reply);
         answer
+    }
+
+    /// Gives up the policy command that is tried, if there is one: nothing is tried any more, and all else stays. Call it where an event was
+    /// prepared and is not to be settled. It takes no memory.
+    pub fn give_up(&mut self)
+        ensures held { GivesUp self.old.held self.new.held }
+        ensures others { self.new ≡ record self.old { held = self.new.held } }
+        ensures untried { self.new.held.policy.tried ≡ self.new.held.policy.now }
+        ensures kept { (s : Setting) → IsKept s self.old → IsKept s self.new }
+    {
+        self.state.give_up();
     }
 }
 

@@ -90,7 +90,8 @@ pub(crate) fn make_room<R: Wait + Drop>(
     ) else {
         return Err(OpenFault::NoMemory);
     };
-    let Board { setup, core } = board;
+    let Board { setup, mut core } = board;
+    core.give_up();
     let room = Anteroom {
         core,
         publication,

@@ -1,6 +1,6 @@
 -- Policy commands: what the compiled permissions and the spare policy say of the step.
 use Rattle.std.proofs.Common.{◌≡◌, ℕ, ◌↔◌, ◌∷◌, List, not, find, ◌&&◌, if◌then◌else◌, Bool, true, false, Option, Some, None, Result, Ok, Err, refl, sym, ap, ◌∙◌, subst}
-use Rattle.std.specs.Result.{IfOk}
+use Rattle.std.specs.Result.{IfOk, MatchResult}
 use Rattle.std.specs.Option.{option_or, is_some}
 use Rattle.std.proofs.Math.Logic.{∥∥₁_elim}
 use Rattle.std.proofs.Math.Bool.{Bool-set}
@@ -22,8 +22,8 @@ use Rattle.board_rules.specs.declared.reply.Reply.{Reply}
 use Rattle.board_rules.specs.declared.reply.Reply.TheVariants.{Refused}
 use Rattle.board_rules.specs.Policies.{board_refusal, reply_of, policy_reply, policy_after}
 use Rattle.board_state.specs.declared.change.Change.{Change}
-use Rattle.board_state.specs.declared.change.Change.TheVariants.{Nothing}
-use Rattle.board_state.specs.Changes.{PolicyWillBe}
+use Rattle.board_state.specs.declared.change.Change.TheVariants.{Nothing, Replace, Pins, Command as CommandChange}
+use Rattle.board_state.specs.Changes.{PolicyWillBe, IsGivenUp, policy_made}
 
 -- the tables say what the test says
 pub allows_access : (t : TablesState) (p : PolicyState) → ∥ AreCompiled t p ∥₁ → (session : ℕ) (operation : Operation) (object : Object)
@@ -151,3 +151,22 @@ refused_alone p policy tables session command e (Ok r) says now compiled sizes d
 pub if_ok : {A E : Type 0} (P Q : A → Type 0) (r : Result A E) → ((x : A) → P x → Q x) → IfOk r P → IfOk r Q
 if_ok P Q (Ok x) f h = f x h
 if_ok P Q (Err e) f h = tt
+
+-- where nothing is tried, each change leaves nothing tried
+pub untried_change : (change : Change) (policy : Tried) → policy.tried ≡ policy.now → IsGivenUp change policy
+untried_change Nothing policy e = e
+untried_change (Replace commit) policy e = e
+untried_change (Pins change) policy e = e
+untried_change (CommandChange rows command) policy e = tt
+
+pub untried_answer : {E : Type 0} (result : Result (Reply × Change) E) (policy : Tried) → policy.tried ≡ policy.now
+    → MatchResult result (λ r. IsGivenUp r.1 policy) (λ _. policy.tried ≡ policy.now)
+untried_answer (Ok r) policy e = untried_change r.1 policy e
+untried_answer (Err x) policy e = e
+
+-- a change that is in place leaves nothing tried
+pub settled_untried : (policy new : Tried) (change : Change) → new.now ≡ policy_made policy change → new.tried ≡ policy.tried → IsGivenUp change policy → new.tried ≡ new.now
+settled_untried policy new Nothing now tried given = tried ∙ given ∙ sym now
+settled_untried policy new (Replace commit) now tried given = tried ∙ given ∙ sym now
+settled_untried policy new (Pins change) now tried given = tried ∙ given ∙ sym now
+settled_untried policy new (CommandChange rows command) now tried given = tried ∙ sym now

@@ -11,7 +11,7 @@ use Rattle.move_core.specs.Moves.{vehicles_of, effect}
 use Rattle.move_core.specs.Touched.{touched_by}
 use Rattle.range_cache.specs.Cache.{IsCacheOf}
 use Rattle.range_cache.specs.Pending.{AreNewRows}
-use Rattle.rbac_core.specs.Tried.{Tried}
+use Rattle.rbac_core.specs.Tried.{Tried, idle}
 use Rattle.rbac_core.specs.Step.{refusal_of, after}
 use Rattle.policy_core.specs.State.{PolicyState}
 use Rattle.permission_table.specs.Tables.{TablesState}
@@ -141,7 +141,7 @@ pub record PolicyWillBe (policy : Tried) (tables : TablesState) (change : Change
 -- nothing that is held differs, except what was tried on the spare policy, and how many more rows there is room for
 abbrev pub Tries : HeldState → HeldState → Type 0
 Tries old new = new ≡ record old {
-  policy = record { now = old.policy.now; tried = new.policy.tried };
+  policy = record new.policy { now = old.policy.now };
   tables = record old.tables { room = new.tables.room };
 }
 
@@ -149,3 +149,7 @@ Tries old new = new ≡ record old {
 abbrev pub IsGivenUp : Change → Tried → Type 0
 IsGivenUp (Command rows command) policy = Unit {0}
 IsGivenUp _ policy = policy.tried ≡ policy.now
+
+-- nothing that is held differs, except that nothing is tried on the spare policy any more
+abbrev pub GivesUp : HeldState → HeldState → Type 0
+GivesUp old new = new ≡ record old { policy = idle old.policy.now old.policy.level }

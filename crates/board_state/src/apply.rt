@@ -117,8 +117,8 @@ impl State {
         }
     }
 
-    /// The same for a policy command, as `prepare` and then `settle` do, but with no copy of the command. Where memory runs out, contracts
-    /// see no change, except in what is tried on the spare policy and in how many rows there is room for.
+    /// The same for a policy command, as `prepare` and then `settle` do, but with no copy of the command. Nothing is tried on the spare
+    /// policy afterwards. Where memory runs out, contracts see no other change, except in how many rows there is room for.
     #[inline(always)]
     pub fn command(
         &mut self,
@@ -132,7 +132,7 @@ impl State {
         ensures reply { (s : Setting) (state : BoardState) → Holds s self.old state → IfOk result (λ reply. ∥ IsReply s state (Policy session command.now) reply ∥₁) }
         ensures holds { (s : Setting) (state : BoardState) → Holds s self.old state → IfOk result (λ reply. Holds s self.new (after state (Policy session command.now) reply)) }
         ensures err { OnErr result (Tries self.old self.new) }
-        ensures given_up { OnErr result (self.new.policy.tried ≡ self.new.policy.now) }
+        ensures given_up { self.new.policy.tried ≡ self.new.policy.now }
         ensures work { WorksJust meter.old meter.new 0 1 }
     {
         self.carry_out(alloc, session, command, meter)

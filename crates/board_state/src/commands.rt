@@ -69,7 +69,8 @@ impl State {
         try_command(alloc, &mut self.policy, &mut self.tables, command)
     }
 
-    /// Judges a policy command by trying it on the spare policy, and keeps what was tried, with no copy of the command.
+    /// Judges a policy command by trying it on the spare policy, and keeps what was tried, with no copy of the command. Nothing is tried any
+    /// more afterwards, whatever the answer.
     pub(crate) fn carry_out(
         &mut self,
         alloc: Global,
@@ -83,7 +84,7 @@ impl State {
         ensures reply { IfOk result (λ reply. reply ≡ policy_reply self.old.policy.now session command.now) }
         ensures made { IfOk result (λ _. PolicyWillBe self.new.policy self.new.tables Nothing (policy_after self.old.policy.now session command.now)) }
         ensures err { OnErr result (Tries self.old self.new) }
-        ensures given_up { OnErr result (self.new.policy.tried ≡ self.new.policy.now) }
+        ensures given_up { self.new.policy.tried ≡ self.new.policy.now }
         ensures work { WorksJust meter.old meter.new 0 1 }
     {
         if let Some(refusal) = self.command_guard(session, command, meter) {
@@ -106,7 +107,8 @@ fn keep_command(
     requires sizes { HasSizes policy.old.now tables.old }
     ensures reply { (session : ℕ) → guard policy.old.now session command.now ≡ None → IfOk result (λ reply. reply ≡ policy_reply policy.old.now session command.now) }
     ensures made { (session : ℕ) → guard policy.old.now session command.now ≡ None → IfOk result (λ _. PolicyWillBe policy.new tables.new Nothing (policy_after policy.old.now session command.now)) }
-    ensures policy { OnErr result (policy.new ≡ record { now = policy.old.now; tried = policy.old.now }) }
+    ensures policy { OnErr result (policy.new.now ≡ policy.old.now) }
+    ensures given_up { policy.new.tried ≡ policy.new.now }
     ensures tables { OnErr result (tables.new ≡ record tables.old { room = tables.new.room }) }
 {
     match policy.prepare(command) {
@@ -132,7 +134,8 @@ fn keep_tried(
     requires allowed { refusal_of policy.old.now command.now ≡ None }
     requires tried { policy.old.tried ≡ after policy.old.now command.now }
     ensures made { OnOk result (PolicyWillBe policy.new tables.new Nothing (after policy.old.now command.now)) }
-    ensures policy { OnErr result (policy.new ≡ record { now = policy.old.now; tried = policy.old.now }) }
+    ensures policy { OnErr result (policy.new.now ≡ policy.old.now) }
+    ensures given_up { policy.new.tried ≡ policy.new.now }
     ensures tables { OnErr result (tables.new ≡ record tables.old { room = tables.new.room }) }
 {
     sizes_stay();
@@ -195,7 +198,8 @@ fn keep_with_rows(
     requires allowed { refusal_of policy.old.now command.now ≡ None }
     requires tried { policy.old.tried ≡ after policy.old.now command.now }
     ensures made { OnOk result (PolicyWillBe policy.new tables.new Nothing (after policy.old.now command.now)) }
-    ensures policy { OnErr result (policy.new ≡ record { now = policy.old.now; tried = policy.old.now }) }
+    ensures policy { OnErr result (policy.new.now ≡ policy.old.now) }
+    ensures given_up { policy.new.tried ≡ policy.new.now }
     ensures tables { OnErr result (tables.new ≡ record tables.old { room = tables.new.room }) }
 {
     match new_rows(alloc, policy, tables, command) {

@@ -29,7 +29,8 @@ use std::snapshot::Snapshot;
 impl State {
     /// Judges a call, and makes every growth that it needs. Contracts see no change, except in what is tried on the spare policy and in how
     /// many rows there is room for; those may change also where memory runs out. After a policy command that is refused, or given up where
-    /// memory runs out, nothing is tried. What it requires of the setup and of what is held is `IsReady`.
+    /// memory runs out, nothing is tried; any other call leaves what is tried as it is. What it requires of the setup and of what is held is
+    /// `IsReady`.
     pub fn prepare(
         &mut self,
         alloc: Global,
@@ -43,6 +44,7 @@ impl State {
         ensures reply { (state : BoardState) → Holds (setting setup.now) self.old state → IfOk result (λ judged. ∥ IsReply (setting setup.now) state call.now judged.reply ∥₁) }
         ensures change { (state : BoardState) → Holds (setting setup.now) self.old state → IfOk result (λ judged. WillHold (setting setup.now) self.new judged.change (after state call.now judged.reply)) }
         ensures given_up { (session : ℕ) (command : Command) → call.now ≡ Policy session command → MatchResult result (λ judged. IsGivenUp judged.change self.new.policy) (λ _. self.new.policy.tried ≡ self.new.policy.now) }
+        ensures untried { self.old.policy.tried ≡ self.old.policy.now → MatchResult result (λ judged. IsGivenUp judged.change self.new.policy) (λ _. self.new.policy.tried ≡ self.new.policy.now) }
         ensures work { IfOk result (λ judged. IsWorkOf (setting setup.now) self.old.pins self.old.plan.routes call.now judged.reply meter.old meter.new) }
         ensures most { WorksAtMost meter.old meter.new (call_asks (setting setup.now) self.old.plan.routes call.now) (call_probes self.old.pins self.old.plan.routes call.now) }
     {
@@ -78,6 +80,7 @@ impl State {
         ensures reply { (state : BoardState) → Holds (setting setup.now) self.old state → IfOk result (λ r. ∥ IsReply (setting setup.now) state call.now r.0 ∥₁) }
         ensures change { (state : BoardState) → Holds (setting setup.now) self.old state → IfOk result (λ r. WillHold (setting setup.now) self.new r.1 (after state call.now r.0)) }
         ensures given_up { (session : ℕ) (command : Command) → call.now ≡ Policy session command → MatchResult result (λ r. IsGivenUp r.1 self.new.policy) (λ _. self.new.policy.tried ≡ self.new.policy.now) }
+        ensures untried { self.old.policy.tried ≡ self.old.policy.now → MatchResult result (λ r. IsGivenUp r.1 self.new.policy) (λ _. self.new.policy.tried ≡ self.new.policy.now) }
         ensures work { IfOk result (λ r. IsWorkOf (setting setup.now) self.old.pins self.old.plan.routes call.now r.0 meter.old meter.new) }
         ensures most { WorksAtMost meter.old meter.new (call_asks (setting setup.now) self.old.plan.routes call.now) (call_probes self.old.pins self.old.plan.routes call.now) }
     {

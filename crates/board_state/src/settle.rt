@@ -9,7 +9,7 @@ ghost use Rattle.policy_core.specs.State.{PolicyState};
 ghost use Rattle.permission_table.specs.Compiled.{AreCompiled};
 ghost use Rattle.board_rules.specs.State.{BoardState};
 ghost use Rattle.board_state.specs.Held.{Holds};
-ghost use Rattle.board_state.specs.Changes.{WillHold, WillCompile, WillKeep, ArePlaceableRoutes, IsSettleable, policy_made, plan_after, pins_after};
+ghost use Rattle.board_state.specs.Changes.{WillHold, WillCompile, WillKeep, ArePlaceableRoutes, IsSettleable, IsGivenUp, GivesUp, policy_made, plan_after, pins_after};
 
 use crate::change::{Change, Judged, NewRoutes, PinChange, Workspace};
 use crate::state::State;
@@ -18,12 +18,14 @@ use board_rules::Reply;
 impl State {
     /// Puts a judged call in place, and gives its reply. It takes no memory.
     ///
-    /// The contract requires that the state still is, as contracts see it, the one on which the call was judged. So pass what the last
-    /// `prepare` of this very state answered, with no `prepare`, `settle` or `apply` in between: each of them may leave another state,
-    /// `prepare` also where memory runs out.
+    /// The contract requires that the state is equal, as contracts see it, to the one that `prepare` left when it judged the call. Contracts
+    /// see what is held, what is tried on the spare policy, and how many rows there is room for. So pass what the last `prepare` of this
+    /// state answered, and settle nothing in between: after a `settle`, `propose`, `hold`, `command`, `give_up` or another `prepare` the
+    /// state may be another one, after `command` and `prepare` also where memory runs out.
     pub fn settle(&mut self, judged: Judged) -> Reply
         requires { judged.of ≡ self.old }
         ensures holds { (s : Setting) (next : BoardState) → WillHold s self.old judged.change next → Holds s self.new next }
+        ensures untried { IsGivenUp judged.change self.old.policy → self.new.policy.tried ≡ self.new.policy.now }
         ensures reply { result ≡ judged.reply }
     {
         let Judged { reply, change, .. } = judged;
@@ -31,11 +33,20 @@ impl State {
         reply
     }
 
+    /// Gives up the policy command that is tried, if there is one: nothing is tried any more, and all else stays. It takes no memory.
+    pub fn give_up(&mut self)
+        ensures all { GivesUp self.old self.new }
+        ensures untried { self.new.policy.tried ≡ self.new.policy.now }
+    {
+        self.policy.give_up();
+    }
+
     /// Puts a change in place. What is held then stands for the state to which the change leads.
     #[inline(always)]
     pub(crate) fn enact(&mut self, change: Change)
         requires { IsSettleable self.old change }
-        ensures { (s : Setting) (next : BoardState) → WillHold s self.old change next → Holds s self.new next }
+        ensures holds { (s : Setting) (next : BoardState) → WillHold s self.old change next → Holds s self.new next }
+        ensures untried { IsGivenUp change self.old.policy → self.new.policy.tried ≡ self.new.policy.now }
     {
         self.put(change);
     }
@@ -45,6 +56,7 @@ impl State {
     fn put(&mut self, change: Change)
         requires { IsSettleable self.old change }
         ensures policy { self.new.policy.now ≡ policy_made self.old.policy change }
+        ensures tried { self.new.policy.tried ≡ self.old.policy.tried }
         ensures compiled { (p : PolicyState) → WillCompile self.old.tables change p → AreCompiled self.new.tables p }
         ensures customers { self.new.tables.customers ≡ self.old.tables.customers }
         ensures vehicles { self.new.tables.vehicles ≡ self.old.tables.vehicles }

@@ -1,11 +1,12 @@
 //! What lies under the lock: the board, and the writer of the copy that desks read.
-ghost use Rattle.std.specs.Prelude.{◌≡◌, ◌↔◌, ◌+◌, ◌≤◌, ◌++◌, ◌∷◌, [], Some, None, length, IfOk, IfErr, OnOk, OnErr, IsErrOf};
+ghost use Rattle.std.specs.Prelude.{◌≡◌, ◌↔◌, ◌+◌, ◌≤◌, ◌++◌, ◌∷◌, [], Some, None, length, IfOk, IfErr, OnOk, OnErr, IsErrOf, MatchResult};
 ghost use mathlib.Core.List.{IsPrefix};
 ghost use Rattle.dimension_core.specs.Setup.{setting};
 ghost use Rattle.board_rules.specs.declared.reply.AskFault.{AskFault};
 ghost use Rattle.board_rules.specs.History.{state_after, turns_of, IsLegal};
 ghost use Rattle.board_rules.specs.Listing.{IsListing};
 ghost use Rattle.board_rules.specs.Questions.{MayAsk, list_fault, audit_fault, review_fault, review_of, check_of};
+ghost use Rattle.board_core.specs.Changes.{IsGivenUp};
 ghost use Rattle.board_core.specs.Kept.{IsKept, entry_of};
 ghost use Rattle.board_core.specs.Prepared.{Makes};
 ghost use Rattle.published_board.specs.Changed.{IsChangeBy};
@@ -71,55 +72,29 @@ impl<N: Naming, R: Wait + Drop> Locked<N, R> {
         }
     }
 
-    /// Judges a call, journals it and publishes it.
+    /// Judges a call, journals it and publishes it. Afterwards nothing is tried: a policy command that is not journaled is given up.
     fn commit(&mut self, setup: &Setup, event: Event) -> Result<Reply, Fault>
         requires { setting setup.now ≡ N.opening.setting }
         ensures ok { IfOk result (λ r. IsCommitted N.opening self.old.journal (entry_of event r) self.new.journal) }
         ensures err { IfErr result (λ f. (self.new.journal ≡ self.old.journal) × IsFault N.opening self.old.journal event.desk event.turn f) }
     {
-        let prepared = match self.judge(setup, event) {
+        let prepared = match judge::<N>(&mut self.core, setup, event) {
             Ok(prepared) => prepared,
             Err(fault) => return Err(fault),
         };
         let Ok(change) = change_of(&prepared) else {
+            self.core.give_up();
             return Err(Fault::NoMemory);
         };
-        match self.publish(prepared, change) {
-            Ok(reply) => Ok(reply),
-            Err(_) => Err(Fault::NoMemory),
-        }
-    }
-
-    /// Judges a call, with every growth that the core needs.
-    fn judge(&mut self, setup: &Setup, event: Event) -> Result<Prepared, Fault>
-        requires { setting setup.now ≡ N.opening.setting }
-        ensures journal { self.new.journal ≡ self.old.journal }
-        ensures kept { IsKept N.opening.setting self.new }
-        ensures of { IfOk result (λ prepared. prepared.of ≡ self.new) }
-        ensures entry { IfOk result (λ prepared. prepared.entry ≡ entry_of event prepared.entry.reply) }
-        ensures makes { IfOk result (Makes N.opening.setting) }
-        ensures fault { IfErr result (λ f. IsFault N.opening self.old.journal event.desk event.turn f) }
-    {
-        let mut meter = Meter::new();
-        self.core.prepare(setup, event, &mut meter)
-    }
-
-    /// Puts a judged call in place and publishes it, or nothing where there is no memory for it.
-    fn publish(&mut self, prepared: Prepared, change: Change) -> Result<Reply, AllocError>
-        requires of { prepared.of ≡ self.old }
-        requires makes { Makes N.opening.setting prepared }
-        requires change { IsChangeBy N.opening.setting (state_after N.opening.setting self.old.journal) prepared.entry change }
-        ensures journal { OnOk result (self.new.journal ≡ self.old.journal ++ prepared.entry ∷ []) }
-        ensures kept { IsKept N.opening.setting self.new }
-        ensures desks { length self.new.turns ≡ N.opening.desks }
-        ensures reply { IfOk result (λ r. r ≡ prepared.entry.reply) }
-        ensures err { OnErr result (self.new ≡ self.old) }
-    {
-        let entries = self.core.events() as u64 + 1;
-        self.publication
-            .stage::<Prepared, Settles, R>(&self.rt, &prepared, change, entries)?;
-        let reply = self.core.settle(prepared);
-        self.publication.publish(&self.rt);
+        let Ok(reply) = publish::<N, R>(
+            &mut self.core,
+            &mut self.publication,
+            &self.rt,
+            prepared,
+            change,
+        ) else {
+            return Err(Fault::NoMemory);
+        };
         Ok(reply)
     }
 
@@ -250,5 +225,67 @@ impl<N: Naming, R: Wait + Drop> Locked<N, R> {
         ensures { result ≡ check_of (state_after N.opening.setting self.now.journal) session operation object }
     {
         self.core.check(session, operation, object)
+    }
+}
+
+/// Judges a call, with every growth that the core needs.
+fn judge<N: Naming>(core: &mut Core, setup: &Setup, event: Event) -> Result<Prepared, Fault>
+    requires setting { setting setup.now ≡ N.opening.setting }
+    requires kept { IsKept N.opening.setting core.old }
+    requires desks { length core.old.turns ≡ N.opening.desks }
+    requires untried { core.old.held.policy.tried ≡ core.old.held.policy.now }
+    ensures kept { IsKept N.opening.setting core.new }
+    ensures journal { core.new.journal ≡ core.old.journal }
+    ensures turns { core.new.turns ≡ core.old.turns }
+    ensures of { IfOk result (λ prepared. prepared.of ≡ core.new) }
+    ensures entry { IfOk result (λ prepared. prepared.entry ≡ entry_of event prepared.entry.reply) }
+    ensures makes { IfOk result (Makes N.opening.setting) }
+    ensures untried { MatchResult result (λ prepared. IsGivenUp prepared.judged.change core.new.held.policy) (λ _. core.new.held.policy.tried ≡ core.new.held.policy.now) }
+    ensures fault { IfErr result (λ f. IsFault N.opening core.old.journal event.desk event.turn f) }
+{
+    let mut meter = Meter::new();
+    core.prepare(setup, event, &mut meter)
+}
+
+/// Puts a judged call in place and publishes it. Where there is no memory for it, it is given up, and nothing is published.
+fn publish<N: Naming, R: Wait>(
+    core: &mut Core,
+    publication: &mut Publication,
+    rt: &R,
+    prepared: Prepared,
+    change: Change,
+) -> Result<Reply, AllocError>
+    requires kept { IsKept N.opening.setting core.old }
+    requires desks { length core.old.turns ≡ N.opening.desks }
+    requires few { N.opening.setting.max_events ≤ 16777216 }
+    requires opening { publication.old.opening ≡ N.opening }
+    requires entries { publication.old.entries ≡ core.old.journal }
+    requires shown { publication.old.shown ≡ core.old.journal }
+    requires of { prepared.of ≡ core.old }
+    requires makes { Makes N.opening.setting prepared }
+    requires untried { IsGivenUp prepared.judged.change core.old.held.policy }
+    requires change { IsChangeBy N.opening.setting (state_after N.opening.setting core.old.journal) prepared.entry change }
+    ensures kept { IsKept N.opening.setting core.new }
+    ensures desks { length core.new.turns ≡ N.opening.desks }
+    ensures untried { core.new.held.policy.tried ≡ core.new.held.policy.now }
+    ensures book { publication.new.book ≡ publication.old.book }
+    ensures opening { publication.new.opening ≡ N.opening }
+    ensures entries { publication.new.entries ≡ core.new.journal }
+    ensures shown { publication.new.shown ≡ core.new.journal }
+    ensures journal { OnOk result (core.new.journal ≡ core.old.journal ++ prepared.entry ∷ []) }
+    ensures reply { IfOk result (λ r. r ≡ prepared.entry.reply) }
+    ensures err { OnErr result (core.new.journal ≡ core.old.journal) }
+{
+    let entries = core.events() as u64 + 1;
+    match publication.stage::<Prepared, Settles, R>(rt, &prepared, change, entries) {
+        Ok(()) => {
+            let reply = core.settle(prepared);
+            publication.publish(rt);
+            Ok(reply)
+        }
+        Err(error) => {
+            core.give_up();
+            Err(error)
+        }
     }
 }

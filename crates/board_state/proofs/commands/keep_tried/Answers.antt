@@ -14,7 +14,7 @@ pub returns-in-GrantPermission-clause-made : goal.returns-in-GrantPermission-cla
 returns-in-GrantPermission-clause-made c =
     let a = c.args in
     let p : PolicyState = a.policy.now.now in
-    let made = ap (λ (t : Tried). t.now) c.keep.ensures ∙ c.requires.tried in
+    let made = ap (λ (t : Tried). t.now) c.keep.ensures.kept ∙ c.requires.tried in
     let q : PolicyState = c.policy.result.now in
     let next : q ≡ after p a.command.now = c.policy.ensures ∙ made in
     let given : q ≡ granted p c.in-GrantPermission.role c.in-GrantPermission.operation c.in-GrantPermission.range = next ∙ ap (after p) c.in-GrantPermission.is in
@@ -33,7 +33,7 @@ pub returns-in-RevokePermission-clause-made : goal.returns-in-RevokePermission-c
 returns-in-RevokePermission-clause-made c =
     let a = c.args in
     let p : PolicyState = a.policy.now.now in
-    let made = ap (λ (t : Tried). t.now) c.keep-in-RevokePermission.ensures ∙ c.requires.tried in
+    let made = ap (λ (t : Tried). t.now) c.keep-in-RevokePermission.ensures.kept ∙ c.requires.tried in
     let q : PolicyState = c.policy-in-RevokePermission.result.now in
     let next : q ≡ after p a.command.now = c.policy-in-RevokePermission.ensures ∙ made in
     let given : q ≡ revoked p c.in-RevokePermission.role c.in-RevokePermission.operation c.in-RevokePermission.range = next ∙ ap (after p) c.in-RevokePermission.is in
@@ -52,7 +52,7 @@ pub returns-in-AddInheritance-clause-made : goal.returns-in-AddInheritance-claus
 returns-in-AddInheritance-clause-made c =
     let a = c.args in
     let p : PolicyState = a.policy.now.now in
-    let made = ap (λ (t : Tried). t.now) c.keep-in-AddInheritance.ensures ∙ c.requires.tried in
+    let made = ap (λ (t : Tried). t.now) c.keep-in-AddInheritance.ensures.kept ∙ c.requires.tried in
     let q : PolicyState = c.policy-in-AddInheritance-2.result.now in
     let next : q ≡ after p a.command.now = c.policy-in-AddInheritance-2.ensures ∙ made in
     let given : q ≡ inherited p c.in-AddInheritance.senior c.in-AddInheritance.junior = next ∙ ap (after p) c.in-AddInheritance.is in
@@ -71,7 +71,7 @@ pub returns-in-DeleteInheritance-clause-made : goal.returns-in-DeleteInheritance
 returns-in-DeleteInheritance-clause-made c =
     let a = c.args in
     let p : PolicyState = a.policy.now.now in
-    let made = ap (λ (t : Tried). t.now) c.keep-in-DeleteInheritance.ensures ∙ c.requires.tried in
+    let made = ap (λ (t : Tried). t.now) c.keep-in-DeleteInheritance.ensures.kept ∙ c.requires.tried in
     let q : PolicyState = c.policy-in-DeleteInheritance.result.now in
     let next : q ≡ after p a.command.now = c.policy-in-DeleteInheritance.ensures ∙ made in
     let given : q ≡ uninherited p c.in-DeleteInheritance.senior c.in-DeleteInheritance.junior = next ∙ ap (after p) c.in-DeleteInheritance.is in
@@ -90,7 +90,7 @@ pub returns-in-DeleteRole-clause-made : goal.returns-in-DeleteRole-clause-made
 returns-in-DeleteRole-clause-made c =
     let a = c.args in
     let p : PolicyState = a.policy.now.now in
-    let made = ap (λ (t : Tried). t.now) c.keep-in-DeleteRole.ensures ∙ c.requires.tried in
+    let made = ap (λ (t : Tried). t.now) c.keep-in-DeleteRole.ensures.kept ∙ c.requires.tried in
     let q : PolicyState = c.policy-in-DeleteRole-2.result.now in
     let next : q ≡ after p a.command.now = c.policy-in-DeleteRole-2.ensures ∙ made in
     let given : q ≡ role_gone p c.in-DeleteRole.role = next ∙ ap (after p) c.in-DeleteRole.is in

@@ -12,7 +12,7 @@ returns-in-Ok-clause-made c =
     let sizes = c.in-Ok.ensures.sizes in
     record {
       ready = tt;
-      made = ap (λ (t : Tried). t.now) c.keep.ensures ∙ c.requires.tried;
+      made = ap (λ (t : Tried). t.now) c.keep.ensures.kept ∙ c.requires.tried;
       compiled = ∥∥₁_map c.in-Ok.ensures.compiled (λ (will : WillBeCompiled c.in-Ok.rows next). c.put.ensures.compiled next will);
       sizes = record {
         customers = sizes.customers ∙ sym (ap (λ (t : TablesState). t.customers) c.put.ensures.kept);

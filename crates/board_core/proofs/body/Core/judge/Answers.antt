@@ -1,4 +1,4 @@
-use Rattle.std.proofs.Common.{◌+◌, ◌<◌, ◌≤◌, length, vec_capacity, arith, refl, sym, ap, subst, ◌∙◌}
+use Rattle.std.proofs.Common.{◌≡◌, ◌+◌, ◌<◌, ◌≤◌, length, vec_capacity, arith, refl, sym, ap, subst, ◌∙◌}
 use Rattle.dimension_core.specs.Setup.{setting}
 use Rattle.board_rules.specs.History.{state_after}
 use Rattle.board_state.specs.Changes.{Tries}
@@ -47,3 +47,7 @@ returns-clause-makes g c =
     makes_of s c.args.self.now _ _ c.of.ensures
     (c.make_room.ensures.entries ∙ ap (λ (x : CoreState). x.journal) c.self.view_is) (ap (λ (x : CoreState). x.turns) c.self.view_is)
     c.requires.taken.due c.requires.taken.space (c.in_ok-judged.ensures.reply state holds) (c.in_ok-judged.ensures.change state holds)
+
+pub returns-clause-untried : goal.returns-clause-untried
+returns-clause-untried g c tried =
+    c.in_ok-judged.ensures.untried (subst (λ (x : CoreState). x.held.policy.tried ≡ x.held.policy.now) (sym c.self.view_is) tried)

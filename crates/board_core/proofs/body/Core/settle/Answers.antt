@@ -3,7 +3,7 @@ use Rattle.std.specs.Prelude.{slice_set}
 use Rattle.board_rules.specs.declared.call.Entry.{Entry}
 use Rattle.board_rules.specs.History.{state_after, IsNext}
 use Rattle.board_rules.specs.Step.{after}
-use Rattle.board_state.specs.Changes.{WillHold}
+use Rattle.board_state.specs.Changes.{WillHold, IsGivenUp}
 use Rattle.board_core.specs.Kept.{CoreState, history_of}
 use Rattle.board_core.specs.Prepared.{PreparedState, Makes}
 use Rattle.board_core.proofs.Keeping.{kept_after}
@@ -27,3 +27,9 @@ returns-clause-kept c s kept makes =
     ∙ ap (λ (x : CoreState). x.journal ++ e ∷ []) c.self.view_is)
     (ap (λ (x : CoreState). slice_set x.turns (i.desk - 1) i.turn) c.self.view_is)
     (c.settle-reply.ensures.holds s (after (state_after s core.journal) e.call e.reply) held)
+
+pub returns-clause-untried : goal.returns-clause-untried
+returns-clause-untried c given =
+    let i = c.prepared.inside in
+    let change = subst (λ (q : PreparedState). IsGivenUp q.judged.change c.args.self.now.held.policy) (sym c.prepared.view_is) given in
+    c.settle-reply.ensures.untried (subst (λ (x : CoreState). IsGivenUp i.judged.change x.held.policy) (sym c.self.view_is) change)

@@ -9,7 +9,7 @@ use Rattle.board_state.proofs.state.State.finish.Goals as goal
 
 pub returns-in-Ok-clause-holds : goal.returns-in-Ok-clause-holds
 returns-in-Ok-clause-holds c s next will =
-    c.enact.ensures s next
+    c.enact.ensures.holds s next
     (subst (λ (x : Result PinChange HoldRefusal). MatchResult x (λ change. WillHold s c.args.self.now (Pins change) next) (λ refusal. Holds s c.args.self.now next)) c.in-Ok.is will)
 
 pub returns-in-Err-clause-holds : goal.returns-in-Err-clause-holds

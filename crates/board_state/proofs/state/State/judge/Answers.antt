@@ -1,5 +1,5 @@
 use Rattle.std.proofs.Common.{◌≡◌, ◌∙◌, ℕ, List, None, refl, sym, ap, subst}
-use Rattle.std.specs.Result.{IfOk}
+use Rattle.std.specs.Result.{IfOk, MatchResult}
 use Rattle.dimension_core.specs.Setup.{setting}
 use Rattle.pin_core.specs.Pins.{PinState, with_pin, with_front}
 use Rattle.board_rules.specs.declared.call.Call.{Call}
@@ -7,9 +7,10 @@ use Rattle.board_rules.specs.declared.call.Call.TheVariants.{Pin, Unpin, Freeze,
 use Rattle.board_rules.specs.Pinning.{pinned}
 use Rattle.board_rules.specs.Rules.{basis_of}
 use Rattle.board_rules.specs.Step.{IsReply, after, refused_by}
-use Rattle.board_state.specs.Changes.{WillHold}
-use Rattle.board_state.specs.Held.{held_basis}
+use Rattle.board_state.specs.Changes.{WillHold, IsGivenUp}
+use Rattle.board_state.specs.Held.{HeldState, held_basis}
 use Rattle.board_state.specs.Work.{WorksAtMost, IsWorkOf, call_asks, call_probes}
+use Rattle.board_state.proofs.Commanding.{untried_change, untried_answer}
 use Rattle.board_state.proofs.Stepping.{pin_same, unpin_same, freeze_same, thaw_same, pins_call, policy_call}
 use Rattle.board_state.proofs.state.State.judge.Goals as goal
 
@@ -90,3 +91,23 @@ pub returns-in-Policy-clause-change : goal.returns-in-Policy-clause-change
 returns-in-Policy-clause-change g c state holds =
     policy_call (setting c.args.setup.now) c.args.self.now c.judge_command.new.self state c.args.call.now c.in-Policy.session c.in-Policy.command c.judge_command.result c.in-Policy.is holds
     c.judge_command.ensures.kept c.judge_command.ensures.reply c.judge_command.ensures.change
+
+pub returns-in-Propose-clause-untried : goal.returns-in-Propose-clause-untried
+returns-in-Propose-clause-untried g c tried =
+    subst (λ (h : HeldState). MatchResult c.answer_proposal.result (λ r. IsGivenUp r.1 h.policy) (λ _. h.policy.tried ≡ h.policy.now)) (sym c.answer_proposal.ensures.same)
+    (untried_answer c.answer_proposal.result c.args.self.now.policy tried)
+
+pub returns-in-Pin-clause-untried : goal.returns-in-Pin-clause-untried
+returns-in-Pin-clause-untried g c tried = untried_change c.answered.result.1 c.args.self.now.policy tried
+
+pub returns-in-Unpin-clause-untried : goal.returns-in-Unpin-clause-untried
+returns-in-Unpin-clause-untried g c tried = untried_change c.answered-in-Unpin.result.1 c.args.self.now.policy tried
+
+pub returns-in-Freeze-clause-untried : goal.returns-in-Freeze-clause-untried
+returns-in-Freeze-clause-untried g c tried = untried_change c.answered-in-Freeze.result.1 c.args.self.now.policy tried
+
+pub returns-in-Thaw-clause-untried : goal.returns-in-Thaw-clause-untried
+returns-in-Thaw-clause-untried g c tried = untried_change c.answered-in-Thaw.result.1 c.args.self.now.policy tried
+
+pub returns-in-Policy-clause-untried : goal.returns-in-Policy-clause-untried
+returns-in-Policy-clause-untried g c tried = c.judge_command.ensures.given_up

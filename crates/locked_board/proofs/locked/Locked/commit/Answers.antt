@@ -10,19 +10,20 @@ use Rattle.locked_board.proofs.locked.Locked.commit.Goals as goal
 pub publish-requires-clause-change : goal.publish-requires-clause-change
 publish-requires-clause-change g c =
     let s : Setting = g.N.Naming.opening.setting in
-    let of : c.in-Ok.prepared.of ≡ c.judge.new.self = c.in-Ok.ensures.of in
+    let of : c.in-Ok.prepared.of ≡ c.judge.new.core = c.in-Ok.ensures.of in
     subst (λ (k : CoreState). IsChangeBy s (state_after s k.journal) c.in-Ok.prepared.entry c.in-Ok-change_of.change) of
     (c.in-Ok-change_of.ensures s (subst (λ (k : CoreState). IsKept s k) (sym of) c.in-Ok.ensures.kept) c.in-Ok.ensures.makes)
 
-pub returns-in-Ok-publish-clause-ok : goal.returns-in-Ok-publish-clause-ok
-returns-in-Ok-publish-clause-ok g c =
+pub returns-clause-ok : goal.returns-clause-ok
+returns-clause-ok g c =
     let s : Setting = g.N.Naming.opening.setting in
     let made : Entry = c.in-Ok.prepared.entry in
-    let journal : c.publish.new.self.journal ≡ c.judge.new.self.journal ++ made ∷ [] = on_ok c.publish.result _ c.in-Ok-publish.reply c.in-Ok-publish.is c.publish.ensures.journal in
+    let before : c.judge.new.core.journal ≡ c.args.self.now.journal = c.judge.ensures.journal ∙ ap (λ (k : CoreState). k.journal) c.self.view_is in
+    let journal : c.publish.new.core.journal ≡ c.judge.new.core.journal ++ made ∷ [] = on_ok c.publish.result _ c.in-Ok-publish.reply c.in-Ok-publish.is c.publish.ensures.journal in
     let reply : c.in-Ok-publish.reply ≡ made.reply = if_ok c.publish.result (λ r. r ≡ made.reply) c.in-Ok-publish.reply c.in-Ok-publish.is c.publish.ensures.reply in
     let e : made ≡ entry_of c.args.event c.in-Ok-publish.reply = c.in-Ok.ensures.entry ∙ ap (entry_of c.args.event) (sym reply) in
     record {
-      room = subst (λ (es : List Entry). length es < s.max_events) (ap (λ (k : CoreState). k.journal) c.in-Ok.ensures.of ∙ c.in-Ok.ensures.journal) c.in-Ok.ensures.makes.space;
-      after_is = journal ∙ (λ i. c.in-Ok.ensures.journal i ++ e i ∷ []);
-      legal = subst (λ (n : ℕ). IsLegal (record { opening = record { setting = s; desks = n }; entries = c.publish.new.self.journal })) c.publish.ensures.desks c.publish.ensures.kept.legal;
+      room = subst (λ (es : List Entry). length es < s.max_events) (ap (λ (k : CoreState). k.journal) c.in-Ok.ensures.of ∙ before) c.in-Ok.ensures.makes.space;
+      after_is = journal ∙ (λ i. before i ++ e i ∷ []);
+      legal = subst (λ (n : ℕ). IsLegal (record { opening = record { setting = s; desks = n }; entries = c.publish.new.core.journal })) c.publish.ensures.desks c.publish.ensures.kept.legal;
     }
