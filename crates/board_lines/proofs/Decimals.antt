@@ -55,3 +55,20 @@ pub digit_first : {A E : Type 0} (r : Result A E) (old now : List ℕ) (n : ℕ)
 digit_first (Ok x) old now zero e is = absurd cc
 digit_first (Ok x) old now (suc n) e is = is
 digit_first (Err x) old now n e is = tt
+
+-- the digits of a number, part by part
+pub leading_whole : (n : ℕ) → 1 ≤ n → n < 2 ^ 64 → leading n ≡ leading (n / 10) ++ decimal (n % 10)
+leading_whole n ge small = leading_is n ge ∙ sym (after_leading n small)
+
+pub few_whole : (n : ℕ) → 10 ≤ n → n < 2 ^ 64 → decimal n ≡ leading (n / 100) ++ (decimal (n % 100 / 10) ++ decimal (n % 100 % 10))
+few_whole n ge small =
+    let above : n / 10 / 10 ≡ n / 100 = omega arith in
+    let below : n / 10 % 10 ≡ n % 100 / 10 = omega arith in
+    let end : n % 10 ≡ n % 100 % 10 = omega arith in
+    let high : n / 10 < 2 ^ 64 = omega (arith, small) in
+    sym (last_is n ge small)
+    ∙ ap (λ (l : List ℕ). l ++ decimal (n % 10)) (sym (after_leading (n / 10) high))
+    ∙ append_assoc (leading (n / 10 / 10)) (decimal (n / 10 % 10)) (decimal (n % 10))
+    ∙ ap (λ (k : ℕ). leading k ++ (decimal (n / 10 % 10) ++ decimal (n % 10))) above
+    ∙ ap (λ (k : ℕ). leading (n / 100) ++ (decimal k ++ decimal (n % 10))) below
+    ∙ ap (λ (k : ℕ). leading (n / 100) ++ (decimal (n % 100 / 10) ++ decimal k)) end

@@ -1,8 +1,8 @@
 -- A listing as JSON is the text of its rows, in brackets and separated by commas.
-use Rattle.std.proofs.Common.{◌≡◌, ℕ, List, [], ◌∷◌, ◌++◌, map, true, false, codes, refl, sym, ap, ◌∙◌}
+use Rattle.std.proofs.Common.{◌≡◌, ℕ, List, [], ◌∷◌, ◌++◌, ◌≤◌, ◌+◌, length, get_or, take, drop, map, true, false, codes, refl, sym, ap, ◌∙◌, arith}
 use Rattle.std.specs.List.{flat_map}
 use Rattle.std.specs.Fmt.{decimal}
-use Rattle.std.proofs.lemmas.List.{append_assoc}
+use Rattle.std.proofs.lemmas.List.{append_assoc, take_all, length-drop}
 use Rattle.serde_json.specs.View.{items_of}
 use Rattle.serde_json.specs.Written.{items_text, compact_text}
 use Rattle.serde_json.specs.Data.{string}
@@ -40,3 +40,13 @@ json_is rows =
     ap (λ (k : List ℕ). 123 ∷ (k ++ 58 ∷ ((91 ∷ items_text false (items_of (map row_data rows))) ++ 125 ∷ []))) key_text
     ∙ ap (λ (l : List ℕ). codes "{\"rows\":[" ++ (l ++ 125 ∷ [])) (rows_text rows)
     ∙ ap (λ (l : List ℕ). codes "{\"rows\":[" ++ l) (append_assoc (rows_json rows) (93 ∷ []) (125 ∷ []))
+
+rows_split : (rows : List RowShown) (d first : RowShown) → 1 ≤ length rows → first ≡ get_or rows 0 d → rows_json rows ≡ row_json first ++ flat_map comma_row (drop 1 rows)
+rows_split [] d first le is = absurd (omega (arith, le))
+rows_split (row ∷ rows) d first le is = ap (λ (r : RowShown). row_json r ++ flat_map comma_row rows) (sym is)
+
+-- the first row, and then all others
+pub rows_taken : (rows : List RowShown) (m : ℕ) (d first : RowShown) → 1 ≤ length rows → length rows ≤ m + 1 → first ≡ get_or rows 0 d
+    → rows_json rows ≡ row_json first ++ flat_map comma_row (take m (drop 1 rows))
+rows_taken rows m d first le few is =
+    rows_split rows d first le is ∙ ap (λ (l : List RowShown). row_json first ++ flat_map comma_row l) (sym (take_all m (drop 1 rows) (omega (arith, few, length-drop 1 rows))))

@@ -1,28 +1,55 @@
--- What a text begins with where memory ran out while it grew.
-use Rattle.std.proofs.Common.{◌≡◌, ◌∙◌, ◌≤◌, List, ℕ, ◌++◌, length, take, Result, Ok, Err, if◌then◌else◌, refl, sym, ap, subst, arith}
+-- What stands in a text where memory ran out while it grew.
+use Rattle.std.proofs.Common.{◌≡◌, ◌∙◌, ◌<◌, ◌≤◌, List, [], ℕ, ◌++◌, length, take, drop, get_or, Result, Ok, Err, if◌then◌else◌, refl, sym, ap, suc}
 use Rattle.std.specs.Prelude.{OnErr, is_ok}
-use Rattle.std.specs.Io.{StartsWith}
-use Rattle.std.proofs.lemmas.List.{take-take, take_at, length-append}
+use Rattle.std.specs.List.{flat_map}
+use Rattle.std.proofs.lemmas.List.{append-nil, append_assoc, take-append-drop, take_all}
+use Rattle.std.proofs.lemmas.Grind.{flat_map-append}
 use Rattle.std.proofs.lemmas.Result.{on_err_weaker}
-use Rattle.std.proofs.Math.Seq.{take-length}
-
-starts_same : (old new : List ℕ) → new ≡ old → StartsWith new old
-starts_same old new e = ap (take (length old)) e ∙ take-length old
-
--- it grew, and then memory ran out
-pub starts_then : (old mid new more : List ℕ) → mid ≡ old ++ more → StartsWith new mid → StartsWith new old
-starts_then old mid new more e s =
-    let le : length old ≤ length mid = omega (arith, ap length e, length-append old more) in
-    sym (take-take (length old) (length mid) new le) ∙ ap (take (length old)) s ∙ ap (take (length old)) e ∙ take_at old more (length old) refl
+use Rattle.std.proofs.Math.Seq.{drop-cons}
+use Rattle.board_lines.specs.Replies.{AppendsPrefix}
 
 pub on_err : {T E P : Type 0} (r : Result T E) → P → OnErr r P
 on_err (Ok x) p = tt
 on_err (Err e) p = p
 
-pub err_then : {T E : Type 0} (r : Result T E) (old mid new more : List ℕ) → mid ≡ old ++ more → OnErr r (StartsWith new mid) → OnErr r (StartsWith new old)
-err_then r old mid new more e h = on_err_weaker r (λ s. starts_then old mid new more e s) h
+-- more was to come
+pub cut_more : (old text more whole new : List ℕ) → AppendsPrefix old text new → whole ≡ text ++ more → AppendsPrefix old whole new
+cut_more old text more whole new s is = record {
+  part = s.part;
+  rest = s.rest ++ more;
+  whole = is ∙ ap (λ (l : List ℕ). l ++ more) s.whole ∙ append_assoc s.part s.rest more;
+  grew = s.grew;
+}
+
+-- the first part was appended, and then memory ran out
+pub cut_then : (old mid new first text whole : List ℕ) → mid ≡ old ++ first → AppendsPrefix mid text new → whole ≡ first ++ text → AppendsPrefix old whole new
+cut_then old mid new first text whole e s is = record {
+  part = first ++ s.part;
+  rest = s.rest;
+  whole = is ∙ ap (λ (l : List ℕ). first ++ l) s.whole ∙ sym (append_assoc first s.part s.rest);
+  grew = s.grew ∙ ap (λ (l : List ℕ). l ++ s.part) e ∙ append_assoc old first s.part;
+}
+
+pub err_then : {T E : Type 0} (r : Result T E) (old mid new first text whole : List ℕ) → mid ≡ old ++ first → OnErr r (AppendsPrefix mid text new) → whole ≡ first ++ text → OnErr r (AppendsPrefix old whole new)
+err_then r old mid new first text whole e h is = on_err_weaker r (λ s. cut_then old mid new first text whole e s is) h
 
 -- what std's texts say where they did not grow
-pub pushed : {T E : Type 0} (r : Result T E) (old new grown : List ℕ) → new ≡ (if is_ok r then grown else old) → OnErr r (StartsWith new old)
-pushed (Ok x) old new grown h = tt
-pushed (Err e) old new grown h = starts_same old new h
+pub pushed : {T E : Type 0} (r : Result T E) (old new grown text : List ℕ) → new ≡ (if is_ok r then grown else old) → OnErr r (AppendsPrefix old text new)
+pushed (Ok x) old new grown text h = tt
+pushed (Err e) old new grown text h = record { part = []; rest = text; whole = refl; grew = h ∙ sym (append-nil old) }
+
+-- a loop had appended the texts of the elements before one, and then memory ran out
+pub cut_loop : {X : Type 0} (f : X → List ℕ) (xs : List X) (i : ℕ) (d x : X) (old mid new : List ℕ) → i < length xs → x ≡ get_or xs i d → mid ≡ old ++ flat_map f (take i xs)
+    → AppendsPrefix mid (f x) new → AppendsPrefix old (flat_map f xs) new
+cut_loop {X = X} f xs i d x old mid new lt is e s =
+    let more = flat_map f (drop (suc i) xs) in
+    let split : flat_map f xs ≡ flat_map f (take i xs) ++ (f x ++ more) =
+    ap (flat_map f) (sym (take-append-drop i xs))
+    ∙ flat_map-append f (take i xs) (drop i xs)
+    ∙ ap (λ (l : List X). flat_map f (take i xs) ++ flat_map f l) (drop-cons xs i d lt)
+    ∙ ap (λ (y : X). flat_map f (take i xs) ++ (f y ++ more)) (sym is) in
+    cut_then old mid new (flat_map f (take i xs)) (f x ++ more) (flat_map f xs) e (cut_more mid (f x) more (f x ++ more) new s refl) split
+
+-- a loop appended the texts of all elements
+pub loop_done : {X : Type 0} (f : X → List ℕ) (xs : List X) (i : ℕ) (more : List ℕ) → length xs ≤ i → flat_map f xs ++ more ≡ flat_map f (take i xs) ++ more
+loop_done {X = X} f xs i more le = ap (λ (l : List X). flat_map f l ++ more) (sym (take_all i xs le))

@@ -1,5 +1,5 @@
 -- The texts of replies and faults.
-use Rattle.std.specs.Prelude.{ℕ, zero, suc, List, [], ◌∷◌, ◌++◌, codes}
+use Rattle.std.specs.Prelude.{◌≡◌, ℕ, zero, suc, List, [], ◌∷◌, ◌++◌, codes}
 use Rattle.std.specs.Fmt.{decimal}
 use Rattle.board_rules.specs.declared.reply.Denial.{Denial}
 use Rattle.board_rules.specs.declared.reply.Denial.TheVariants as denials
@@ -14,16 +14,23 @@ use Rattle.board_rules.specs.declared.reply.AskFault.TheVariants as asks
 use Rattle.board_lines.specs.declared.command.LineFault.{LineFault}
 use Rattle.board_lines.specs.declared.command.LineFault.TheVariants as lines
 
+-- the old text, and then a prefix of what was to be appended
+pub record AppendsPrefix (old text new : List ℕ) : Type 0 where
+  pub part : List ℕ
+  pub rest : List ℕ
+  pub whole : text ≡ part ++ rest
+  pub grew : new ≡ old ++ part
+
 -- a line with its line end
 abbrev pub ended : List ℕ → List ℕ
 ended line = line ++ 10 ∷ []
 
--- a space and the number
 -- the digits of a number, and none for 0: those that stand before other digits
 abbrev pub leading : ℕ → List ℕ
 leading zero = []
 leading (suc n) = decimal (suc n)
 
+-- a space and the number
 abbrev pub spaced : ℕ → List ℕ
 spaced n = 32 ∷ decimal n
 

@@ -1,10 +1,9 @@
 //! Numbers, appended to a text.
 
 ghost use Rattle.std.specs.Prelude.{◌≡◌, ◌≤◌, ◌<◌, ◌++◌, [], ◌∷◌, OnOk, OnErr, string_bytes};
-ghost use Rattle.std.specs.Io.{StartsWith};
 ghost use Rattle.std.specs.List.{flat_map};
 ghost use Rattle.std.specs.Fmt.{decimal};
-ghost use Rattle.board_lines.specs.Replies.{spaced, leading};
+ghost use Rattle.board_lines.specs.Replies.{AppendsPrefix, spaced, leading};
 
 use itoa::Buffer;
 use std::alloc::AllocError;
@@ -14,7 +13,7 @@ use std::alloc::AllocError;
 pub(crate) fn push_ascii(out: &mut String, ch: char) -> Result<(), AllocError>
     requires { ch < 128 }
     ensures ok { OnOk result (string_bytes out.new ≡ string_bytes out.old ++ ch ∷ []) }
-    ensures start { OnErr result (StartsWith (string_bytes out.new) (string_bytes out.old)) }
+    ensures left { OnErr result (AppendsPrefix (string_bytes out.old) (ch ∷ []) (string_bytes out.new)) }
 {
     out.push(ch)
 }
@@ -23,7 +22,7 @@ pub(crate) fn push_ascii(out: &mut String, ch: char) -> Result<(), AllocError>
 #[inline(always)]
 pub(crate) fn push_text(out: &mut String, text: &str) -> Result<(), AllocError>
     ensures ok { OnOk result (string_bytes out.new ≡ string_bytes out.old ++ text.now) }
-    ensures start { OnErr result (StartsWith (string_bytes out.new) (string_bytes out.old)) }
+    ensures left { OnErr result (AppendsPrefix (string_bytes out.old) text.now (string_bytes out.new)) }
 {
     out.push_str(text)
 }
@@ -33,7 +32,7 @@ pub(crate) fn push_text(out: &mut String, text: &str) -> Result<(), AllocError>
 fn push_digit(out: &mut String, n: u64) -> Result<(), AllocError>
     requires { n < 10 }
     ensures ok { OnOk result (string_bytes out.new ≡ string_bytes out.old ++ decimal n) }
-    ensures start { OnErr result (StartsWith (string_bytes out.new) (string_bytes out.old)) }
+    ensures left { OnErr result (AppendsPrefix (string_bytes out.old) (decimal n) (string_bytes out.new)) }
 {
     out.push(char::from(b'0' + n as u8))
 }
@@ -43,7 +42,7 @@ fn push_digit(out: &mut String, n: u64) -> Result<(), AllocError>
 fn push_first(out: &mut String, n: u64) -> Result<(), AllocError>
     requires { n < 10 }
     ensures ok { OnOk result (string_bytes out.new ≡ string_bytes out.old ++ leading n) }
-    ensures start { OnErr result (StartsWith (string_bytes out.new) (string_bytes out.old)) }
+    ensures left { OnErr result (AppendsPrefix (string_bytes out.old) (leading n) (string_bytes out.new)) }
 {
     if n == 0 {
         return Ok(());
@@ -56,7 +55,7 @@ fn push_first(out: &mut String, n: u64) -> Result<(), AllocError>
 fn push_leading(out: &mut String, n: u64) -> Result<(), AllocError>
     requires { n < 100 }
     ensures ok { OnOk result (string_bytes out.new ≡ string_bytes out.old ++ leading n) }
-    ensures start { OnErr result (StartsWith (string_bytes out.new) (string_bytes out.old)) }
+    ensures left { OnErr result (AppendsPrefix (string_bytes out.old) (leading n) (string_bytes out.new)) }
 {
     if n == 0 {
         return Ok(());
@@ -71,7 +70,7 @@ fn push_few(out: &mut String, n: u64) -> Result<(), AllocError>
     requires low { 10 ≤ n }
     requires high { n < 10000 }
     ensures ok { OnOk result (string_bytes out.new ≡ string_bytes out.old ++ decimal n) }
-    ensures start { OnErr result (StartsWith (string_bytes out.new) (string_bytes out.old)) }
+    ensures left { OnErr result (AppendsPrefix (string_bytes out.old) (decimal n) (string_bytes out.new)) }
 {
     let hundreds = n / 100;
     let rest = n % 100;
@@ -84,7 +83,7 @@ fn push_few(out: &mut String, n: u64) -> Result<(), AllocError>
 #[inline(never)]
 fn push_large(out: &mut String, n: u64) -> Result<(), AllocError>
     ensures ok { OnOk result (string_bytes out.new ≡ string_bytes out.old ++ decimal n) }
-    ensures start { OnErr result (StartsWith (string_bytes out.new) (string_bytes out.old)) }
+    ensures left { OnErr result (AppendsPrefix (string_bytes out.old) (decimal n) (string_bytes out.new)) }
 {
     let mut digits = Buffer::new();
     push_text(out, digits.format(n))
@@ -95,7 +94,7 @@ fn push_large(out: &mut String, n: u64) -> Result<(), AllocError>
 #[inline(always)]
 pub(crate) fn push_decimal(out: &mut String, n: u64) -> Result<(), AllocError>
     ensures ok { OnOk result (string_bytes out.new ≡ string_bytes out.old ++ decimal n) }
-    ensures start { OnErr result (StartsWith (string_bytes out.new) (string_bytes out.old)) }
+    ensures left { OnErr result (AppendsPrefix (string_bytes out.old) (decimal n) (string_bytes out.new)) }
 {
     if n < 10 {
         push_digit(out, n)
@@ -110,7 +109,7 @@ pub(crate) fn push_decimal(out: &mut String, n: u64) -> Result<(), AllocError>
 #[inline(never)]
 pub(crate) fn push_number(out: &mut String, n: u64) -> Result<(), AllocError>
     ensures ok { OnOk result (string_bytes out.new ≡ string_bytes out.old ++ decimal n) }
-    ensures start { OnErr result (StartsWith (string_bytes out.new) (string_bytes out.old)) }
+    ensures left { OnErr result (AppendsPrefix (string_bytes out.old) (decimal n) (string_bytes out.new)) }
 {
     push_decimal(out, n)
 }
@@ -119,7 +118,7 @@ pub(crate) fn push_number(out: &mut String, n: u64) -> Result<(), AllocError>
 #[inline(always)]
 pub(crate) fn push_spaced(out: &mut String, n: u64) -> Result<(), AllocError>
     ensures ok { OnOk result (string_bytes out.new ≡ string_bytes out.old ++ spaced n) }
-    ensures start { OnErr result (StartsWith (string_bytes out.new) (string_bytes out.old)) }
+    ensures left { OnErr result (AppendsPrefix (string_bytes out.old) (spaced n) (string_bytes out.new)) }
 {
     push_ascii(out, ' ')?;
     push_decimal(out, n)
@@ -128,7 +127,7 @@ pub(crate) fn push_spaced(out: &mut String, n: u64) -> Result<(), AllocError>
 /// Appends some numbers, each with a space before it.
 pub(crate) fn push_each(out: &mut String, numbers: &[u32]) -> Result<(), AllocError>
     ensures ok { OnOk result (string_bytes out.new ≡ string_bytes out.old ++ flat_map spaced numbers.now) }
-    ensures start { OnErr result (StartsWith (string_bytes out.new) (string_bytes out.old)) }
+    ensures left { OnErr result (AppendsPrefix (string_bytes out.old) (flat_map spaced numbers.now) (string_bytes out.new)) }
 {
     for n in numbers {
         push_spaced(out, u64::from(*n))?;

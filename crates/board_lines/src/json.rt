@@ -1,9 +1,9 @@
 //! A listing as JSON.
 
 ghost use Rattle.std.specs.Prelude.{◌≡◌, ◌++◌, [], ◌∷◌, map, IfOk, OnOk, OnErr, string_bytes};
-ghost use Rattle.std.specs.Io.{StartsWith};
 ghost use Rattle.std.specs.List.{flat_map};
 ghost use Rattle.serde_json.specs.View.{view};
+ghost use Rattle.board_lines.specs.Replies.{AppendsPrefix};
 ghost use Rattle.board_lines.specs.Json.{number_data, cells, row_data, rows_data, json_text, comma_number, row_json, comma_row, rows_json, in_pieces};
 
 use crate::digits::{push_ascii, push_number, push_text};
@@ -71,7 +71,7 @@ pub fn list_json(alloc: Global, rows: &[Row]) -> Result<String, AllocError>
 
 fn push_comma(out: &mut String, n: u64) -> Result<(), AllocError>
     ensures ok { OnOk result (string_bytes out.new ≡ string_bytes out.old ++ comma_number n) }
-    ensures start { OnErr result (StartsWith (string_bytes out.new) (string_bytes out.old)) }
+    ensures left { OnErr result (AppendsPrefix (string_bytes out.old) (comma_number n) (string_bytes out.new)) }
 {
     push_ascii(out, ',')?;
     push_number(out, n)
@@ -79,7 +79,7 @@ fn push_comma(out: &mut String, n: u64) -> Result<(), AllocError>
 
 fn push_commas(out: &mut String, numbers: &[u64]) -> Result<(), AllocError>
     ensures ok { OnOk result (string_bytes out.new ≡ string_bytes out.old ++ flat_map comma_number numbers.now) }
-    ensures start { OnErr result (StartsWith (string_bytes out.new) (string_bytes out.old)) }
+    ensures left { OnErr result (AppendsPrefix (string_bytes out.old) (flat_map comma_number numbers.now) (string_bytes out.new)) }
 {
     for n in numbers {
         push_comma(out, *n)?;
@@ -89,7 +89,7 @@ fn push_commas(out: &mut String, numbers: &[u64]) -> Result<(), AllocError>
 
 fn push_cells(out: &mut String, row: &Row) -> Result<(), AllocError>
     ensures ok { OnOk result (string_bytes out.new ≡ string_bytes out.old ++ row_json row.now) }
-    ensures start { OnErr result (StartsWith (string_bytes out.new) (string_bytes out.old)) }
+    ensures left { OnErr result (AppendsPrefix (string_bytes out.old) (row_json row.now) (string_bytes out.new)) }
 {
     push_ascii(out, '[')?;
     push_number(out, u64::from(row.vehicle()))?;
@@ -101,7 +101,7 @@ fn push_cells(out: &mut String, row: &Row) -> Result<(), AllocError>
 
 fn push_more(out: &mut String, rows: &[Row]) -> Result<(), AllocError>
     ensures ok { OnOk result (string_bytes out.new ≡ string_bytes out.old ++ flat_map comma_row rows.now) }
-    ensures start { OnErr result (StartsWith (string_bytes out.new) (string_bytes out.old)) }
+    ensures left { OnErr result (AppendsPrefix (string_bytes out.old) (flat_map comma_row rows.now) (string_bytes out.new)) }
 {
     for row in rows {
         push_ascii(out, ',')?;
@@ -112,7 +112,7 @@ fn push_more(out: &mut String, rows: &[Row]) -> Result<(), AllocError>
 
 fn push_rows(out: &mut String, rows: &[Row]) -> Result<(), AllocError>
     ensures ok { OnOk result (string_bytes out.new ≡ string_bytes out.old ++ rows_json rows.now) }
-    ensures start { OnErr result (StartsWith (string_bytes out.new) (string_bytes out.old)) }
+    ensures left { OnErr result (AppendsPrefix (string_bytes out.old) (rows_json rows.now) (string_bytes out.new)) }
 {
     let [first, more @ ..] = rows else {
         return Ok(());
@@ -123,7 +123,7 @@ fn push_rows(out: &mut String, rows: &[Row]) -> Result<(), AllocError>
 
 fn push_pieces(out: &mut String, rows: &[Row]) -> Result<(), AllocError>
     ensures ok { OnOk result (string_bytes out.new ≡ string_bytes out.old ++ in_pieces rows.now) }
-    ensures start { OnErr result (StartsWith (string_bytes out.new) (string_bytes out.old)) }
+    ensures left { OnErr result (AppendsPrefix (string_bytes out.old) (in_pieces rows.now) (string_bytes out.new)) }
 {
     push_text(out, "{\"rows\":[")?;
     push_rows(out, rows)?;
@@ -133,7 +133,7 @@ fn push_pieces(out: &mut String, rows: &[Row]) -> Result<(), AllocError>
 /// Appends the text of a listing as JSON, the same as that of `list_json`, without building a value.
 pub fn push_json(out: &mut String, rows: &[Row]) -> Result<(), AllocError>
     ensures ok { OnOk result (string_bytes out.new ≡ string_bytes out.old ++ json_text rows.now) }
-    ensures start { OnErr result (StartsWith (string_bytes out.new) (string_bytes out.old)) }
+    ensures left { OnErr result (AppendsPrefix (string_bytes out.old) (json_text rows.now) (string_bytes out.new)) }
 {
     push_pieces(out, rows)
 }

@@ -1,13 +1,12 @@
 //! The texts of replies and faults.
 
 ghost use Rattle.std.specs.Prelude.{◌≡◌, ◌≢◌, ◌++◌, IfOk, OnOk, OnErr, string_bytes};
-ghost use Rattle.std.specs.Io.{StartsWith};
 ghost use Rattle.std.specs.Fmt.{decimal};
 ghost use Rattle.board_journal.specs.Records.{reply_of};
 ghost use Rattle.board_rules.specs.declared.reply.Reply.TheVariants.{Committed};
 ghost use Rattle.board_rules.specs.declared.reply.Fault.TheVariants as faults;
 ghost use Rattle.board_rules.specs.declared.reply.AskFault.TheVariants as asks;
-ghost use Rattle.board_lines.specs.Replies.{spaced, denial_text, refusal_text, reply_text, fault_text, ask_fault_text, line_fault_text};
+ghost use Rattle.board_lines.specs.Replies.{AppendsPrefix, spaced, denial_text, refusal_text, reply_text, fault_text, ask_fault_text, line_fault_text};
 
 use crate::command::LineFault;
 use crate::digits::{push_decimal, push_number, push_spaced, push_text};
@@ -18,7 +17,7 @@ use std::alloc::{AllocError, Global};
 /// Appends a text and a number. The text ends with the space between them, which is cheaper than one that is appended alone.
 fn push_with(out: &mut String, text: &str, number: u32) -> Result<(), AllocError>
     ensures ok { OnOk result (string_bytes out.new ≡ string_bytes out.old ++ (text.now ++ decimal number)) }
-    ensures start { OnErr result (StartsWith (string_bytes out.new) (string_bytes out.old)) }
+    ensures left { OnErr result (AppendsPrefix (string_bytes out.old) (text.now ++ decimal number) (string_bytes out.new)) }
 {
     push_text(out, text)?;
     push_number(out, u64::from(number))
@@ -28,14 +27,14 @@ fn push_with(out: &mut String, text: &str, number: u32) -> Result<(), AllocError
 #[inline(never)]
 fn push_second(out: &mut String, number: u32) -> Result<(), AllocError>
     ensures ok { OnOk result (string_bytes out.new ≡ string_bytes out.old ++ spaced number) }
-    ensures start { OnErr result (StartsWith (string_bytes out.new) (string_bytes out.old)) }
+    ensures left { OnErr result (AppendsPrefix (string_bytes out.old) (spaced number) (string_bytes out.new)) }
 {
     push_spaced(out, u64::from(number))
 }
 
 fn push_with_two(out: &mut String, text: &str, first: u32, second: u32) -> Result<(), AllocError>
     ensures ok { OnOk result (string_bytes out.new ≡ string_bytes out.old ++ (text.now ++ (decimal first ++ spaced second))) }
-    ensures start { OnErr result (StartsWith (string_bytes out.new) (string_bytes out.old)) }
+    ensures left { OnErr result (AppendsPrefix (string_bytes out.old) (text.now ++ (decimal first ++ spaced second)) (string_bytes out.new)) }
 {
     push_with(out, text, first)?;
     push_second(out, second)
@@ -43,7 +42,7 @@ fn push_with_two(out: &mut String, text: &str, first: u32, second: u32) -> Resul
 
 fn push_denial(out: &mut String, denial: Denial) -> Result<(), AllocError>
     ensures ok { OnOk result (string_bytes out.new ≡ string_bytes out.old ++ denial_text denial) }
-    ensures start { OnErr result (StartsWith (string_bytes out.new) (string_bytes out.old)) }
+    ensures left { OnErr result (AppendsPrefix (string_bytes out.old) (denial_text denial) (string_bytes out.new)) }
 {
     match denial {
         Denial::NoSession => push_text(out, "denied no-session"),
@@ -68,7 +67,7 @@ fn push_denial(out: &mut String, denial: Denial) -> Result<(), AllocError>
 
 fn push_refusal(out: &mut String, refusal: Refusal) -> Result<(), AllocError>
     ensures ok { OnOk result (string_bytes out.new ≡ string_bytes out.old ++ refusal_text refusal) }
-    ensures start { OnErr result (StartsWith (string_bytes out.new) (string_bytes out.old)) }
+    ensures left { OnErr result (AppendsPrefix (string_bytes out.old) (refusal_text refusal) (string_bytes out.new)) }
 {
     match refusal {
         Refusal::NoSession => push_text(out, "refused no-session"),
@@ -103,7 +102,7 @@ fn push_refusal(out: &mut String, refusal: Refusal) -> Result<(), AllocError>
 #[inline(always)]
 pub fn push_reply(out: &mut String, reply: Reply) -> Result<(), AllocError>
     ensures ok { OnOk result (string_bytes out.new ≡ string_bytes out.old ++ reply_text reply) }
-    ensures start { OnErr result (StartsWith (string_bytes out.new) (string_bytes out.old)) }
+    ensures left { OnErr result (AppendsPrefix (string_bytes out.old) (reply_text reply) (string_bytes out.new)) }
 {
     match reply {
         Reply::Done => push_text(out, "done"),
@@ -117,7 +116,7 @@ pub fn push_reply(out: &mut String, reply: Reply) -> Result<(), AllocError>
 /// Appends the text of the reply to a proposal that was committed, without a line end. It does so at less cost than `push_reply`.
 pub fn push_committed(out: &mut String, version: u32) -> Result<(), AllocError>
     ensures ok { OnOk result (string_bytes out.new ≡ string_bytes out.old ++ reply_text (Committed version)) }
-    ensures start { OnErr result (StartsWith (string_bytes out.new) (string_bytes out.old)) }
+    ensures left { OnErr result (AppendsPrefix (string_bytes out.old) (reply_text (Committed version)) (string_bytes out.new)) }
 {
     push_text(out, "committed ")?;
     push_decimal(out, u64::from(version))
@@ -126,7 +125,7 @@ pub fn push_committed(out: &mut String, version: u32) -> Result<(), AllocError>
 /// Appends the text of the reply to a proposal, as the journal keeps it.
 pub(crate) fn push_verdict(out: &mut String, answer: Answer) -> Result<(), AllocError>
     ensures ok { OnOk result (string_bytes out.new ≡ string_bytes out.old ++ reply_text (reply_of answer)) }
-    ensures start { OnErr result (StartsWith (string_bytes out.new) (string_bytes out.old)) }
+    ensures left { OnErr result (AppendsPrefix (string_bytes out.old) (reply_text (reply_of answer)) (string_bytes out.new)) }
 {
     match answer.verdict() {
         Ok(version) => push_with(out, "committed ", version),
@@ -147,7 +146,7 @@ pub fn reply_text(alloc: Global, reply: Reply) -> Result<String, AllocError>
 pub fn push_fault(out: &mut String, fault: Fault) -> Result<(), AllocError>
     requires { fault ≢ faults.NoMemory }
     ensures ok { OnOk result (string_bytes out.new ≡ string_bytes out.old ++ fault_text fault) }
-    ensures start { OnErr result (StartsWith (string_bytes out.new) (string_bytes out.old)) }
+    ensures left { OnErr result (AppendsPrefix (string_bytes out.old) (fault_text fault) (string_bytes out.new)) }
 {
     match fault {
         Fault::OutOfTurn => push_text(out, "fault out-of-turn"),
@@ -161,7 +160,7 @@ pub fn push_fault(out: &mut String, fault: Fault) -> Result<(), AllocError>
 pub fn push_ask_fault(out: &mut String, fault: AskFault) -> Result<(), AllocError>
     requires { fault ≢ asks.NoMemory }
     ensures ok { OnOk result (string_bytes out.new ≡ string_bytes out.old ++ ask_fault_text fault) }
-    ensures start { OnErr result (StartsWith (string_bytes out.new) (string_bytes out.old)) }
+    ensures left { OnErr result (AppendsPrefix (string_bytes out.old) (ask_fault_text fault) (string_bytes out.new)) }
 {
     match fault {
         AskFault::NoSession => push_text(out, "refused no-session"),
@@ -176,7 +175,7 @@ pub fn push_ask_fault(out: &mut String, fault: AskFault) -> Result<(), AllocErro
 /// Appends the text of a bad line's fault, without a line end.
 pub fn push_line_fault(out: &mut String, fault: LineFault) -> Result<(), AllocError>
     ensures ok { OnOk result (string_bytes out.new ≡ string_bytes out.old ++ line_fault_text fault) }
-    ensures start { OnErr result (StartsWith (string_bytes out.new) (string_bytes out.old)) }
+    ensures left { OnErr result (AppendsPrefix (string_bytes out.old) (line_fault_text fault) (string_bytes out.new)) }
 {
     match fault {
         LineFault::Number => push_text(out, "bad number"),

@@ -1,11 +1,10 @@
 //! The texts of calls.
 
 ghost use Rattle.std.specs.Prelude.{◌≡◌, ◌++◌, [], ◌∷◌, IfOk, OnOk, OnErr, string_bytes};
-ghost use Rattle.std.specs.Io.{StartsWith};
 ghost use Rattle.std.specs.List.{flat_map};
 ghost use Rattle.std.specs.Fmt.{decimal};
 ghost use Rattle.board_rules.specs.declared.call.Call.TheVariants.{Propose};
-ghost use Rattle.board_lines.specs.Replies.{spaced};
+ghost use Rattle.board_lines.specs.Replies.{AppendsPrefix, spaced};
 ghost use Rattle.board_lines.specs.Saying.{operation_word, range_words, behind, move_said, policy_said, after_number, event_text};
 
 use crate::digits::{push_ascii, push_each, push_number, push_text};
@@ -19,7 +18,7 @@ use std::alloc::{AllocError, Global};
 
 fn push_name(out: &mut String, name: &Name) -> Result<(), AllocError>
     ensures ok { OnOk result (string_bytes out.new ≡ string_bytes out.old ++ 32 ∷ name.now) }
-    ensures start { OnErr result (StartsWith (string_bytes out.new) (string_bytes out.old)) }
+    ensures left { OnErr result (AppendsPrefix (string_bytes out.old) (32 ∷ name.now) (string_bytes out.new)) }
 {
     push_ascii(out, ' ')?;
     push_text(out, name.as_str())
@@ -27,7 +26,7 @@ fn push_name(out: &mut String, name: &Name) -> Result<(), AllocError>
 
 fn push_names(out: &mut String, names: &[Name]) -> Result<(), AllocError>
     ensures ok { OnOk result (string_bytes out.new ≡ string_bytes out.old ++ behind names.now) }
-    ensures start { OnErr result (StartsWith (string_bytes out.new) (string_bytes out.old)) }
+    ensures left { OnErr result (AppendsPrefix (string_bytes out.old) (behind names.now) (string_bytes out.new)) }
 {
     for name in names {
         push_name(out, name)?;
@@ -38,7 +37,7 @@ fn push_names(out: &mut String, names: &[Name]) -> Result<(), AllocError>
 /// Appends a command's word, which begins with a space, and numbers.
 fn push_numbers(out: &mut String, word: &str, numbers: &[u32]) -> Result<(), AllocError>
     ensures ok { OnOk result (string_bytes out.new ≡ string_bytes out.old ++ (word.now ++ flat_map spaced numbers.now)) }
-    ensures start { OnErr result (StartsWith (string_bytes out.new) (string_bytes out.old)) }
+    ensures left { OnErr result (AppendsPrefix (string_bytes out.old) (word.now ++ flat_map spaced numbers.now) (string_bytes out.new)) }
 {
     push_text(out, word)?;
     push_each(out, numbers)
@@ -46,7 +45,7 @@ fn push_numbers(out: &mut String, word: &str, numbers: &[u32]) -> Result<(), All
 
 fn push_one_name(out: &mut String, word: &str, name: &Name) -> Result<(), AllocError>
     ensures ok { OnOk result (string_bytes out.new ≡ string_bytes out.old ++ (word.now ++ behind (name.now ∷ []))) }
-    ensures start { OnErr result (StartsWith (string_bytes out.new) (string_bytes out.old)) }
+    ensures left { OnErr result (AppendsPrefix (string_bytes out.old) (word.now ++ behind (name.now ∷ [])) (string_bytes out.new)) }
 {
     push_text(out, word)?;
     push_name(out, name)
@@ -59,7 +58,7 @@ fn push_two_names(
     second: &Name,
 ) -> Result<(), AllocError>
     ensures ok { OnOk result (string_bytes out.new ≡ string_bytes out.old ++ (word.now ++ behind (first.now ∷ second.now ∷ []))) }
-    ensures start { OnErr result (StartsWith (string_bytes out.new) (string_bytes out.old)) }
+    ensures left { OnErr result (AppendsPrefix (string_bytes out.old) (word.now ++ behind (first.now ∷ second.now ∷ [])) (string_bytes out.new)) }
 {
     push_text(out, word)?;
     push_name(out, first)?;
@@ -73,7 +72,7 @@ fn push_name_and_number(
     number: u32,
 ) -> Result<(), AllocError>
     ensures ok { OnOk result (string_bytes out.new ≡ string_bytes out.old ++ (word.now ++ behind (name.now ∷ decimal number ∷ []))) }
-    ensures start { OnErr result (StartsWith (string_bytes out.new) (string_bytes out.old)) }
+    ensures left { OnErr result (AppendsPrefix (string_bytes out.old) (word.now ++ behind (name.now ∷ decimal number ∷ [])) (string_bytes out.new)) }
 {
     push_text(out, word)?;
     push_name(out, name)?;
@@ -87,7 +86,7 @@ fn push_number_and_name(
     name: &Name,
 ) -> Result<(), AllocError>
     ensures ok { OnOk result (string_bytes out.new ≡ string_bytes out.old ++ (word.now ++ behind (decimal number ∷ name.now ∷ []))) }
-    ensures start { OnErr result (StartsWith (string_bytes out.new) (string_bytes out.old)) }
+    ensures left { OnErr result (AppendsPrefix (string_bytes out.old) (word.now ++ behind (decimal number ∷ name.now ∷ [])) (string_bytes out.new)) }
 {
     push_text(out, word)?;
     push_each(out, &[number])?;
@@ -96,7 +95,7 @@ fn push_number_and_name(
 
 fn push_operation(out: &mut String, operation: Operation) -> Result<(), AllocError>
     ensures ok { OnOk result (string_bytes out.new ≡ string_bytes out.old ++ 32 ∷ operation_word operation) }
-    ensures start { OnErr result (StartsWith (string_bytes out.new) (string_bytes out.old)) }
+    ensures left { OnErr result (AppendsPrefix (string_bytes out.old) (32 ∷ operation_word operation) (string_bytes out.new)) }
 {
     match operation {
         Operation::View => push_text(out, " view"),
@@ -111,7 +110,7 @@ fn push_operation(out: &mut String, operation: Operation) -> Result<(), AllocErr
 
 fn push_range(out: &mut String, range: ObjectRange) -> Result<(), AllocError>
     ensures ok { OnOk result (string_bytes out.new ≡ string_bytes out.old ++ behind (range_words range)) }
-    ensures start { OnErr result (StartsWith (string_bytes out.new) (string_bytes out.old)) }
+    ensures left { OnErr result (AppendsPrefix (string_bytes out.old) (behind (range_words range)) (string_bytes out.new)) }
 {
     match range {
         ObjectRange::Board => push_text(out, " board"),
@@ -129,7 +128,7 @@ fn push_permission(
 ) -> Result<(), AllocError>
     ensures ok { OnOk result (string_bytes out.new ≡ string_bytes out.old
         ++ (word.now ++ behind (role.now ∷ operation_word operation ∷ range_words range))) }
-    ensures start { OnErr result (StartsWith (string_bytes out.new) (string_bytes out.old)) }
+    ensures left { OnErr result (AppendsPrefix (string_bytes out.old) (word.now ++ behind (role.now ∷ operation_word operation ∷ range_words range)) (string_bytes out.new)) }
 {
     push_text(out, word)?;
     push_name(out, role)?;
@@ -146,7 +145,7 @@ fn push_set(
     roles: &[Name],
 ) -> Result<(), AllocError>
     ensures ok { OnOk result (string_bytes out.new ≡ string_bytes out.old ++ (word.now ++ behind (name.now ∷ decimal number ∷ roles.now))) }
-    ensures start { OnErr result (StartsWith (string_bytes out.new) (string_bytes out.old)) }
+    ensures left { OnErr result (AppendsPrefix (string_bytes out.old) (word.now ++ behind (name.now ∷ decimal number ∷ roles.now)) (string_bytes out.new)) }
 {
     push_name_and_number(out, word, name, number)?;
     push_names(out, roles)
@@ -156,7 +155,7 @@ fn push_set(
 
 fn push_move(out: &mut String, session: u32, base: u32, mv: Move) -> Result<(), AllocError>
     ensures ok { OnOk result (string_bytes out.new ≡ string_bytes out.old ++ after_number (move_said session base mv)) }
-    ensures start { OnErr result (StartsWith (string_bytes out.new) (string_bytes out.old)) }
+    ensures left { OnErr result (AppendsPrefix (string_bytes out.old) (after_number (move_said session base mv)) (string_bytes out.new)) }
 {
     match mv {
         Move::Insert {
@@ -194,7 +193,7 @@ fn push_move(out: &mut String, session: u32, base: u32, mv: Move) -> Result<(), 
 
 fn push_policy(out: &mut String, session: u32, command: &PolicyCommand) -> Result<(), AllocError>
     ensures ok { OnOk result (string_bytes out.new ≡ string_bytes out.old ++ after_number (policy_said session command.now)) }
-    ensures start { OnErr result (StartsWith (string_bytes out.new) (string_bytes out.old)) }
+    ensures left { OnErr result (AppendsPrefix (string_bytes out.old) (after_number (policy_said session command.now)) (string_bytes out.new)) }
 {
     match command {
         PolicyCommand::AddUser { user } => push_one_name(out, " add-user", user),
@@ -278,7 +277,7 @@ pub(crate) fn push_proposal(
     mv: Move,
 ) -> Result<(), AllocError>
     ensures ok { OnOk result (string_bytes out.new ≡ string_bytes out.old ++ event_text (Propose session base mv)) }
-    ensures start { OnErr result (StartsWith (string_bytes out.new) (string_bytes out.old)) }
+    ensures left { OnErr result (AppendsPrefix (string_bytes out.old) (event_text (Propose session base mv)) (string_bytes out.new)) }
 {
     push_number(out, u64::from(session))?;
     push_move(out, session, base, mv)
@@ -287,7 +286,7 @@ pub(crate) fn push_proposal(
 /// Appends the line of a call: single spaces, numbers without leading zeros, no line end.
 pub fn push_event(out: &mut String, call: &Call) -> Result<(), AllocError>
     ensures ok { OnOk result (string_bytes out.new ≡ string_bytes out.old ++ event_text call.now) }
-    ensures start { OnErr result (StartsWith (string_bytes out.new) (string_bytes out.old)) }
+    ensures left { OnErr result (AppendsPrefix (string_bytes out.old) (event_text call.now) (string_bytes out.new)) }
 {
     match call {
         Call::Propose { session, base, mv } => push_proposal(out, *session, *base, *mv),

@@ -3,7 +3,7 @@
 
 ghost use Rattle.std.specs.Prelude.{◌≡◌, if◌then◌else◌, Some, None, ◌<◌, ◌≤◌, ◌-◌, ◌==◌, ◌||◌, true, [], ◌∷◌, ◌++◌, ℕ, IfOk, IfSome, OnOk, OnErr, MatchOption, length, map, take, drop, slice_index};
 ghost use Rattle.std.specs.List.{slice_split};
-ghost use Rattle.text_words.specs.Words.{full_parts, words, number, is_gap, AreFirstOf, HasNoGap, HasNoFeed, HasNoLineFeed, IsLineEnd};
+ghost use Rattle.text_words.specs.Words.{full_parts, words, number, is_gap, AreFirstOf, HasNoGap, HasNoFeed, HasNoLineFeed, IsLineEnd, AreWordsUpTo};
 
 mod ends;
 
@@ -108,13 +108,14 @@ fn keep_part<'a>(
 }
 
 /// Makes `kept` the words of a text's first line, and gives the place of the line feed that ends it. Line and words are cut in one pass.
-/// Where the text has no line feed, there is no such place, and `kept` may contain anything. Where memory runs out, the first of the
-/// line's words are kept.
+/// Where the text has no line feed, there is no such place, and the words before its last gap are kept. Where memory runs out, the first of
+/// the line's words are kept.
 #[inline(always)]
 pub fn keep_line<'a>(kept: &mut Vec<&'a [u8]>, text: &'a [u8]) -> Result<Option<usize>, AllocError>
     ensures end { IfOk result (λ end. MatchOption end (HasNoLineFeed text.now) (IsLineEnd text.now)) }
     ensures words { IfOk result (λ end. IfSome end (λ i. map (λ w. w.now) kept.new.items ≡ words (take i text.now))) }
-    ensures left { OnErr result ((i : ℕ) → IsLineEnd text.now i → AreFirstOf (map (λ w. w.now) kept.new.items) (words (take i text.now))) }
+    ensures none { IfOk result (λ end. end ≡ None → (i : ℕ) × HasNoGap text.now i (length text.now) × AreWordsUpTo text.now i (map (λ w. w.now) kept.new.items)) }
+    ensures left { OnErr result ((i : ℕ) × AreWordsUpTo text.now i (map (λ w. w.now) kept.new.items)) }
 {
     kept.clear();
     let mut start = 0;

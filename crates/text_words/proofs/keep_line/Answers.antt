@@ -1,8 +1,7 @@
-use Rattle.std.proofs.Common.{arith, rules, drop, take, sym}
+use Rattle.std.proofs.Common.{◌≡◌, length, arith, rules}
 use Rattle.std.proofs.lemmas.Result.{err_from_is_err_and}
-use Rattle.text_words.specs.Words.{words as line_words}
 use Rattle.text_words.proofs.Lanes.{none_to_know}
-use Rattle.text_words.proofs.Parts.{kept_front, kept_last, no_feed_yet, no_feed_more, no_feed_then, front_has_none, gap_byte, no_gap_there, no_feed_there, no_feed_before}
+use Rattle.text_words.proofs.Parts.{kept_front, kept_last, words_before, no_feed_yet, no_feed_more, no_feed_then, front_has_none, gap_byte, no_gap_there, no_feed_there}
 use Rattle.text_words.proofs.keep_line.Goals as goal
 
 pub words-init : goal.words-init
@@ -10,6 +9,7 @@ words-init c = record {
   within = omega arith;
   ends = none_to_know c.args.text.now 0;
   feeds = no_feed_yet c.args.text.now 0 0 (omega arith);
+  whole = λ k e. absurd (omega (arith, e));
   found = λ n low high. search rules;
 }
 
@@ -32,8 +32,34 @@ returns-then-text-end-eq10-clause-words c =
 pub returns-in_err-keep_part-clause-left : goal.returns-in_err-keep_part-clause-left
 returns-in_err-keep_part-clause-left c =
     let v = c.words.invariant in
+    let text = c.args.text.now in
+    let start = c.words.start in
     let p = err_from_is_err_and c.from_residual.result c.from_residual.ensures.1 in
-    rw (p.1, c.in_err-keep_part.ensures.left) (λ i end. let from = no_feed_before c.args.text.now c.words.start i v.feeds end in (line_words (drop c.words.start (take i c.args.text.now)), sym (v.found i from (omega (arith, end.0)))))
+    rw (p.1, c.in_err-keep_part.ensures.left) (
+      start,
+      record {
+        within = v.within;
+        line = front_has_none text start v.feeds;
+        whole = v.whole;
+        words = words_before text start _ (v.found start (omega arith) v.within);
+      },
+    )
+
+pub returns-in_default-clause-none : goal.returns-in_default-clause-none
+returns-in_default-clause-none c =
+    let v = c.words.invariant in
+    let text = c.args.text.now in
+    let start = c.words.start in
+    λ e. (
+      start,
+      no_gap_there text start (length text) c.in_default.ensures.ends,
+      record {
+        within = v.within;
+        line = front_has_none text start v.feeds;
+        whole = v.whole;
+        words = words_before text start _ (v.found start (omega arith) v.within);
+      },
+    )
 
 pub words-preserved : goal.words-preserved
 words-preserved c =
@@ -46,5 +72,6 @@ words-preserved c =
       within = omega (arith, e.within);
       ends = e.ends;
       feeds = no_feed_more text 0 end (no_feed_then text 0 c.words.start end v.feeds (no_feed_there text c.words.start end e.none)) c.if-text-end-eq10.false;
+      whole = λ k h. let at : k ≡ end = omega (arith, h) in rw at gap;
       found = λ n low high. kept_front text c.words.start end n _ _ e.from (omega arith) high (no_gap_there text c.words.start end e.none) gap c.in_ok-keep_part.ensures.part (v.found n (omega (arith, e.from)) high);
     }

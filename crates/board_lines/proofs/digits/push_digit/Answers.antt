@@ -9,5 +9,5 @@ returns-clause-ok c =
     let small : c.from.result < 128 = omega arith in
     rw (text, ← c.from.ensures, ← c.push.ensures.ascii small) (search rules)
 
-pub returns-clause-start : goal.returns-clause-start
-returns-clause-start c = pushed _ _ _ _ c.push.ensures.bytes
+pub returns-clause-left : goal.returns-clause-left
+returns-clause-left c = pushed _ _ _ _ _ c.push.ensures.bytes

@@ -1,5 +1,10 @@
-use Rattle.board_lines.proofs.Starting.{err_then}
+use Rattle.std.proofs.Common.{rules, append_assoc}
+use Rattle.std.specs.Fmt.{decimal}
+use Rattle.board_lines.proofs.Starting.{on_err, cut_more, err_then}
 use Rattle.board_lines.proofs.replies.push_committed.Goals as goal
 
-pub returns-clause-start : goal.returns-clause-start
-returns-clause-start c = err_then _ _ _ _ _ c.in_ok-push_text.ensures.ok c.push_decimal.ensures.start
+pub returns-in_err-push_text-clause-left : goal.returns-in_err-push_text-clause-left
+returns-in_err-push_text-clause-left c = on_err _ (cut_more _ _ (decimal c.args.version) _ _ c.in_err-push_text.ensures.left (search rules))
+
+pub returns-clause-left : goal.returns-clause-left
+returns-clause-left c = err_then _ _ _ _ _ _ _ c.in_ok-push_text.ensures.ok c.push_decimal.ensures.left (search (rules, append_assoc))

@@ -1,8 +1,12 @@
-use Rattle.board_lines.proofs.Starting.{err_then, on_err, starts_then}
+use Rattle.std.proofs.Common.{rules, append_assoc, refl, ◌++◌, ◌∷◌}
+use Rattle.board_lines.proofs.Starting.{on_err, cut_more, cut_then, err_then}
 use Rattle.board_lines.proofs.spelling.push_two_names.Goals as goal
 
-pub returns-in_err-push_name-clause-start : goal.returns-in_err-push_name-clause-start
-returns-in_err-push_name-clause-start c = on_err _ (starts_then _ _ _ _ c.in_ok-push_text.ensures.ok c.in_err-push_name.ensures.start)
+pub returns-in_err-push_text-clause-left : goal.returns-in_err-push_text-clause-left
+returns-in_err-push_text-clause-left c = on_err _ (cut_more _ _ ((32 ∷ c.args.first.now) ++ (32 ∷ c.args.second.now)) _ _ c.in_err-push_text.ensures.left (search (rules, append_assoc)))
 
-pub returns-clause-start : goal.returns-clause-start
-returns-clause-start c = err_then _ _ _ _ _ c.in_ok-push_text.ensures.ok (err_then _ _ _ _ _ c.in_ok-push_name.ensures.ok c.push_name-2.ensures.start)
+pub returns-in_err-push_name-clause-left : goal.returns-in_err-push_name-clause-left
+returns-in_err-push_name-clause-left c = on_err _ (cut_then _ _ _ _ _ _ c.in_ok-push_text.ensures.ok (cut_more _ _ (32 ∷ c.args.second.now) _ _ c.in_err-push_name.ensures.left refl) (search (rules, append_assoc)))
+
+pub returns-clause-left : goal.returns-clause-left
+returns-clause-left c = err_then _ _ _ _ _ _ _ c.in_ok-push_text.ensures.ok (err_then _ _ _ _ _ _ _ c.in_ok-push_name.ensures.ok c.push_name-2.ensures.left refl) (search (rules, append_assoc))
