@@ -2,6 +2,7 @@
 
 use crate::cases::{A, B, CASES, CROSSED, Case, GRANTED, LONG};
 use crate::devices::{Narrow, Repeated, Tail, Torn};
+use program_parts::read_path;
 use std::alloc::Global;
 use std::io::{Eprint, Read};
 use std::process::Abort;
@@ -250,6 +251,59 @@ fn a_full_journal(rt: HostRuntime) {
         b"denied access vehicle 1\nfault full\nworker 1 tried 0 committed 0 denied 0 refused 0\nversion 0\n";
     let full = written.bytes.ends_with(end);
     assert!(rt; full);
+    assert!(rt; faults.is_empty());
+    assert_eq!(rt; status, 1);
+}
+
+/// The number behind a word, in a line of its own.
+fn number_behind(text: &str, word: &str) -> Option<u64> {
+    for line in text.lines() {
+        if let Some(rest) = line.strip_prefix(word) {
+            let (number, _unit) = rest.trim_start().split_once(" ")?;
+            return number.parse::<u64>().ok();
+        }
+    }
+    None
+}
+
+/// A number of this process's memory, in units of 1,024 bytes.
+fn memory<R: AllocGlobal + Abort + Files>(rt: &R, word: &str) -> u64 {
+    let status = read_path(rt, rt.alloc(), "/proc/self/status").expect(rt, "a file");
+    let text = str::from_utf8(status.as_slice()).expect(rt, "text");
+    number_behind(text, word).expect(rt, "a number")
+}
+
+fn compare_memory(rt: &impl Abort, taken: u64) {
+    assert!(rt; taken <= 78_125, "{taken}");
+}
+
+/// A million denied calls, with all else that a run keeps, take at most 80 megabytes. (Under `rt try` each allocation takes more, and this
+/// fails.)
+#[test]
+fn a_million_denied_calls(rt: HostRuntime) {
+    let before = memory(&rt, "VmRSS:");
+    let mut script = Repeated {
+        line: b"1 remove 1 1 0\n",
+        times: 1_000_000,
+    };
+    let mut written = Tail {
+        bytes: Vec::new(rt.alloc()),
+    };
+    let mut faults = Vec::new(rt.alloc());
+    let orders = orders(&rt, (0, 0, 1));
+    let status = scripted(
+        rt,
+        rt.alloc(),
+        A.as_bytes(),
+        &mut script,
+        &mut b"".as_slice(),
+        orders,
+        &mut written,
+        &mut faults,
+    );
+    compare_memory(&rt, memory(&rt, "VmHWM:").saturating_sub(before));
+    let denied = written.bytes.ends_with(b"denied access vehicle 1\n");
+    assert!(rt; denied);
     assert!(rt; faults.is_empty());
     assert_eq!(rt; status, 1);
 }
