@@ -1,7 +1,8 @@
 //! What every picture has: its colours, the heads of its arrows, and the headings of its parts.
 //!
 //! The eight colours are those of Okabe and Ito, which people with any colour vision tell apart. On white a brown stands for their yellow, which
-//! does not show there, and on black a white for their black. From the eighth vehicle on the lines of its ways are broken.
+//! does not show there, and on black a white for their black. The lines of ways are whole or broken in one of three ways, by turns of eight
+//! vehicles: whole for vehicles 1 to 7, and again for 32 to 39.
 
 /// Colours and widths, by class, on a light background and on a dark one, and the heads of the arrows.
 pub const STYLE: &str = "\

@@ -6,7 +6,7 @@ ghost use Rattle.worker_runs.specs.Halls.{AllSearched};
 
 use crate::orders::Orders;
 use crate::search::{Searched, join_all, start_crew};
-use crate::setups::{By, Setups};
+use crate::setups::{SetupOf, Setups};
 use board_lock::{Naming, Seat};
 use desk_text::{Seated, run_desk_lines};
 use dimension_core::Setup;
@@ -32,7 +32,7 @@ pub(crate) fn beside<
     rt: W,
     alloc: Global,
     setup: &Arc<Setup>,
-    front: &mut Seated<N, D, By<S>>,
+    front: &mut Seated<N, D, SetupOf<S>>,
     others: Vec<Seat<N, D>>,
     orders: Orders,
     live: &mut I,

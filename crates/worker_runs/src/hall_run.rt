@@ -11,7 +11,7 @@ use crate::beside::beside;
 use crate::closing::close;
 use crate::orders::Orders;
 use crate::search::Searched;
-use crate::setups::{By, Setups};
+use crate::setups::{SetupOf, Setups};
 use board_lock::{Anteroom, Naming, Seat, open_seats};
 use desk_text::{Seated, run_desk_lines};
 use dimension_core::Setup;
@@ -135,7 +135,7 @@ pub(crate) fn hall_run<
         return Err(Stop::Open);
     };
     let mut front = Seated {
-        setup: By { setup: lines },
+        setup: SetupOf { setup: lines },
         seat,
     };
     if orders.workers == 0 {

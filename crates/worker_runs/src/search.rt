@@ -61,7 +61,7 @@ fn start<
 
 /// What a worker is given, beside the setup: its desk, its number, from 1, and what all workers are told.
 #[derive(Drop)]
-struct Errand<N: Naming, D: Wait + Drop> {
+struct Assignment<N: Naming, D: Wait + Drop> {
     seat: Seat<N, D>,
     worker: u32,
     orders: Orders,
@@ -70,25 +70,25 @@ struct Errand<N: Naming, D: Wait + Drop> {
 
 /// What a worker gives back.
 #[derive(Drop)]
-struct Done<N: Naming, D: Wait + Drop> {
+struct WorkerResult<N: Naming, D: Wait + Drop> {
     seat: Seat<N, D>,
     tally: Tally,
 }
 
-/// A promise to do an errand.
+/// A promise of what a worker gives back for its assignment.
 #[derive(Drop)]
 struct WorkOf<N: Naming, D: Wait + Drop> {
-    errand: Snapshot<Errand<N, D>>,
+    assignment: Snapshot<Assignment<N, D>>,
 }
 
-impl<N: Naming, D: Wait + Drop> Promise<Done<N, D>> for WorkOf<N, D> {
+impl<N: Naming, D: Wait + Drop> Promise<WorkerResult<N, D>> for WorkOf<N, D> {
     ghost use Rattle.worker_runs.specs.Halls.{IsDone, post};
 
-    ghost kept_by = { λ p done. IsDone N.opening (post p.errand.value.worker p.errand.value.orders p.errand.value.seat) done.seat done.tally };
+    ghost kept_by = { λ p done. IsDone N.opening (post p.assignment.value.worker p.assignment.value.orders p.assignment.value.seat) done.seat done.tally };
 }
 
 /// A worker's thread.
-type Thread<N, D> = PromisedHandle<Done<N, D>, WorkOf<N, D>>;
+type Thread<N, D> = PromisedHandle<WorkerResult<N, D>, WorkOf<N, D>>;
 
 /// The rounds of a worker, past a gate.
 #[derive(Drop)]
@@ -100,19 +100,19 @@ struct Rounds<G> {
 impl<N: Naming, D: Wait + Drop, W: Wait, G: Gate<W> + Drop> Task<
     W,
     Arc<Setup>,
-    Errand<N, D>,
-    Done<N, D>,
+    Assignment<N, D>,
+    WorkerResult<N, D>,
 > for Rounds<G> {
     ghost use Rattle.std.specs.Prelude.{◌≡◌};
     ghost use Rattle.dimension_core.specs.Setup.{setting};
     ghost use Rattle.worker_runs.specs.Halls.{IsDone, post};
 
-    ghost may = { λ setup errand. setting setup.value ≡ N.opening.setting };
+    ghost may = { λ setup assignment. setting setup.value ≡ N.opening.setting };
 
-    ghost makes = { λ errand done. IsDone N.opening (post errand.worker errand.orders errand.seat) done.seat done.tally };
+    ghost makes = { λ assignment done. IsDone N.opening (post assignment.worker assignment.orders assignment.seat) done.seat done.tally };
 
-    fn run(self, rt: &W, first: Arc<Setup>, second: Errand<N, D>) -> Done<N, D> {
-        let Errand {
+    fn run(self, rt: &W, first: Arc<Setup>, second: Assignment<N, D>) -> WorkerResult<N, D> {
+        let Assignment {
             seat,
             worker,
             orders,
@@ -130,7 +130,7 @@ impl<N: Naming, D: Wait + Drop, W: Wait, G: Gate<W> + Drop> Task<
             &self.gate,
         );
         let DeskOf { setup: _, seat } = desk;
-        Done { seat, tally }
+        WorkerResult { seat, tally }
     }
 }
 
@@ -140,9 +140,15 @@ fn start_one<
     D: Wait + Drop + Send + Sync + 'static,
     W: Threads + Wait + Copy + Send + Sync + 'static,
     G: Gate<W> + Copied + Send + Drop + 'static,
->(rt: W, alloc: Global, setup: &Arc<Setup>, errand: Errand<N, D>, gate: &G) -> Option<Thread<N, D>>
+>(
+    rt: W,
+    alloc: Global,
+    setup: &Arc<Setup>,
+    assignment: Assignment<N, D>,
+    gate: &G,
+) -> Option<Thread<N, D>>
     requires { setting setup.now.value ≡ N.opening.setting }
-    ensures { IfSome result (λ h. h.promise.errand.value ≡ errand) }
+    ensures { IfSome result (λ h. h.promise.assignment.value ≡ assignment) }
 {
     let Ok(theirs) = Arc::try_clone(setup) else {
         return None;
@@ -151,9 +157,9 @@ fn start_one<
         return None;
     };
     let promise = WorkOf {
-        errand: Snapshot::of(&errand),
+        assignment: Snapshot::of(&assignment),
     };
-    start(rt, promise, Rounds { alloc, gate }, theirs, errand)
+    start(rt, promise, Rounds { alloc, gate }, theirs, assignment)
 }
 
 /// The threads of the workers that were started, in their order, and whether all were.
@@ -208,7 +214,7 @@ fn start_all<
 ) -> Crew<N, D>
     requires setup { setting setup.now.value ≡ N.opening.setting }
     requires few { length seats.items ≤ 63 }
-    ensures { result.whole ≡ true → map (λ h. post h.promise.errand.value.worker h.promise.errand.value.orders h.promise.errand.value.seat) result.threads.items ≡ posts orders 0 seats.items }
+    ensures { result.whole ≡ true → map (λ h. post h.promise.assignment.value.worker h.promise.assignment.value.orders h.promise.assignment.value.seat) result.threads.items ≡ posts orders 0 seats.items }
 {
     let mut seats = seats;
     let Some(seat) = seats.pop() else {
@@ -222,12 +228,12 @@ fn start_all<
     if !crew.whole {
         return crew;
     }
-    let errand = Errand {
+    let assignment = Assignment {
         seat,
         worker,
         orders,
     };
-    let thread = start_one(rt, alloc, setup, errand, gate);
+    let thread = start_one(rt, alloc, setup, assignment, gate);
     with_one(&rt, crew, thread)
 }
 
@@ -240,7 +246,7 @@ pub(crate) fn start_crew<
 >(rt: W, alloc: Global, setup: &Arc<Setup>, seats: Vec<Seat<N, D>>, orders: Orders) -> Crew<N, D>
     requires setup { setting setup.now.value ≡ N.opening.setting }
     requires few { length seats.items ≤ 63 }
-    ensures { result.whole ≡ true → map (λ h. post h.promise.errand.value.worker h.promise.errand.value.orders h.promise.errand.value.seat) result.threads.items ≡ posts orders 0 seats.items }
+    ensures { result.whole ≡ true → map (λ h. post h.promise.assignment.value.worker h.promise.assignment.value.orders h.promise.assignment.value.seat) result.threads.items ≡ posts orders 0 seats.items }
 {
     if !orders.progress {
         return start_all(rt, alloc, setup, seats, orders, &Quiet);
@@ -263,11 +269,11 @@ pub(crate) struct Searched<N: Naming, D: Wait + Drop> {
 
 impl<N: Naming, D: Wait + Drop> Searched<N, D> {
     /// Adds what a worker gives back.
-    fn add(&mut self, done: Done<N, D>) -> Result<(), AllocError>
+    fn add(&mut self, done: WorkerResult<N, D>) -> Result<(), AllocError>
         ensures seats { OnOk result (self.new.seats.items ≡ self.old.seats.items ++ done.seat ∷ []) }
         ensures tallies { OnOk result (self.new.tallies.items ≡ self.old.tallies.items ++ done.tally ∷ []) }
     {
-        let Done { seat, tally } = done;
+        let WorkerResult { seat, tally } = done;
         if self.seats.push(seat).is_err() {
             return Err(AllocError);
         }
@@ -282,7 +288,7 @@ fn join_threads<N: Naming, D: Wait + Drop, W: Threads>(
     alloc: Global,
     threads: Vec<Thread<N, D>>,
 ) -> Option<Searched<N, D>>
-    ensures { IfSome result (λ s. AreDone N.opening (map (λ h. post h.promise.errand.value.worker h.promise.errand.value.orders h.promise.errand.value.seat) threads.items) s.seats.items s.tallies.items) }
+    ensures { IfSome result (λ s. AreDone N.opening (map (λ h. post h.promise.assignment.value.worker h.promise.assignment.value.orders h.promise.assignment.value.seat) threads.items) s.seats.items s.tallies.items) }
 {
     let mut threads = threads;
     let Some(last) = threads.pop() else {
@@ -309,7 +315,7 @@ pub(crate) fn join_all<N: Naming, D: Wait + Drop, W: Threads>(
     crew: Crew<N, D>,
 ) -> Option<Searched<N, D>>
     ensures { IfSome result (λ s. (crew.whole ≡ true)
-        × AreDone N.opening (map (λ h. post h.promise.errand.value.worker h.promise.errand.value.orders h.promise.errand.value.seat) crew.threads.items) s.seats.items s.tallies.items) }
+        × AreDone N.opening (map (λ h. post h.promise.assignment.value.worker h.promise.assignment.value.orders h.promise.assignment.value.seat) crew.threads.items) s.seats.items s.tallies.items) }
 {
     let Crew { threads, whole } = crew;
     let searched = join_threads(rt, alloc, threads);

@@ -69,11 +69,11 @@ impl Setups for Arc<Setup> {
 
 /// A setup, as a seat is given it to answer lines.
 #[derive(Drop)]
-pub struct By<S: Drop> {
+pub struct SetupOf<S: Drop> {
     pub setup: S,
 }
 
-impl<N: Naming, D: Wait + Drop, S: Setups + Drop> Seating<N, D> for By<S> {
+impl<N: Naming, D: Wait + Drop, S: Setups + Drop> Seating<N, D> for SetupOf<S> {
     ghost use Rattle.std.specs.Prelude.{◌≡◌};
 
     ghost is_hall = { λ by. S.setting_of by.setup ≡ N.opening.setting };
