@@ -7,4 +7,5 @@ pub mod Orders
 pub mod Possible
 pub mod Tabled
 pub mod Rows
+pub mod Saved
 pub mod Still

@@ -113,6 +113,40 @@ module _ (P : Move → Type 0) (cost : Move → ℕ) (total k v : ℕ) (mid : Li
           let below = subst (λ (ns : List ℕ). IsLower ns (k ∷ v ∷ x0 ∷ [])) e h in
           absurd (none i.x i.y i.are.low (same_head v (i.x ∷ (mid ++ i.y ∷ [])) (x0 ∷ []) (same_head k (v ∷ i.x ∷ (mid ++ i.y ∷ [])) (v ∷ x0 ∷ []) below)))
 
+  -- first numbers of which no move has P
+  pub pairs_skipped : (x z : ℕ) (best : Option (Move × ℕ)) → x ≤ z → ((a b : ℕ) → x ≤ a → a < z → P (M a b) → ⊥)
+      → IsBestBelow P cost total (k ∷ v ∷ x ∷ []) best → IsBestBelow P cost total (k ∷ v ∷ z ∷ []) best
+  pairs_skipped x z best order none g = from (cases_order x z)
+    where
+      lower : (a b : ℕ) → P (M a b) → (a ≡ x) ⊎ ((a < x) ⊎ (x < a)) → a < z → IsLower (a ∷ (mid ++ b ∷ [])) (x ∷ [])
+      lower a b p (inl e) h = absurd (none a b (omega arith) h p)
+      lower a b p (inr (inl l)) h = inl l
+      lower a b p (inr (inr l)) h = absurd (none a b (omega arith) h p)
+
+      nothing : (xs : List ℕ) → IsLower xs [] → ⊥
+      nothing [] h = h
+      nothing (y ∷ ys) h = h
+
+      below : (a b : ℕ) → IsLower (a ∷ (mid ++ b ∷ [])) (z ∷ []) → a < z
+      below a b (inl h) = h
+      below a b (inr (e, h)) = absurd (nothing (mid ++ b ∷ []) h)
+
+      split : (m : Move) → P m → IsLower (numbers_of m) (k ∷ v ∷ z ∷ []) → IsLower (numbers_of m) (k ∷ []) ⊎ IsPair M x0 x1 y0 y1 m → IsLower (numbers_of m) (k ∷ v ∷ x ∷ [])
+      split m p h (inl e) = lower_through (numbers_of m) (k ∷ []) (k ∷ v ∷ x ∷ []) e (inr (refl, tt))
+      split m p h (inr i) =
+          let e : numbers_of m ≡ k ∷ v ∷ i.x ∷ (mid ++ i.y ∷ []) = subst (λ (n : Move). numbers_of n ≡ k ∷ v ∷ i.x ∷ (mid ++ i.y ∷ [])) (sym i.is) (kind.numbers i.x i.y) in
+          let behind = subst (λ (ns : List ℕ). IsLower ns (k ∷ v ∷ z ∷ [])) e h in
+          let few = below i.x i.y (same_head v (i.x ∷ (mid ++ i.y ∷ [])) (z ∷ []) (same_head k (v ∷ i.x ∷ (mid ++ i.y ∷ [])) (v ∷ z ∷ []) behind)) in
+          let first = lower i.x i.y (subst P i.is p) (cases_order i.x x) few in
+          subst (λ (ns : List ℕ). IsLower ns (k ∷ v ∷ x ∷ [])) (sym e) (inr (refl, inr (refl, first)))
+
+      from : (x ≡ z) ⊎ ((x < z) ⊎ (z < x)) → IsBestBelow P cost total (k ∷ v ∷ z ∷ []) best
+      from (inl e) = subst (λ (n : ℕ). IsBestBelow P cost total (k ∷ v ∷ n ∷ []) best) e g
+      from (inr (inl l)) =
+          best_on P cost total (k ∷ v ∷ x ∷ []) (k ∷ v ∷ z ∷ []) best (inr (refl, inr (refl, inl l)))
+          (λ m p h. split m p h (kind.shape m p (lower_through (numbers_of m) (k ∷ v ∷ z ∷ []) ((k + 1) ∷ []) h (inl (omega arith))))) g
+      from (inr (inr l)) = absurd (omega arith)
+
   pub pairs_end : (x : ℕ) (best : Option (Move × ℕ)) → x1 < x → IsBestBelow P cost total (k ∷ v ∷ x ∷ []) best → IsBestBelow P cost total ((k + 1) ∷ []) best
   pairs_end x best last g =
       best_on P cost total (k ∷ v ∷ x ∷ []) ((k + 1) ∷ []) best (inl (omega arith)) (λ m p h. split m (kind.shape m p h)) g

@@ -3,5 +3,6 @@ pub use Rattle.move_judge.specs.View
 pub use Rattle.move_judge.specs.Near
 pub use Rattle.move_judge.specs.Allowed
 pub mod Best
+pub mod Searched
 pub mod Search
 pub mod Laws

@@ -1,9 +1,7 @@
 use Rattle.std.specs.Prelude.{◌≡◌, ℕ, ◌⊎◌, List, Option, Some, None}
 use Rattle.move_core.specs.declared.moves.Move.{Move}
-use Rattle.dimension_core.specs.Setting.{Setting}
-use Rattle.pin_core.specs.View.{ViewState}
-use Rattle.neighbourhood.specs.Best.{Counts, numbers_of, IsLower, IsFirstLeast}
-use Rattle.way_costs.specs.Costs.{cost_after, cost_before}
+use Rattle.neighbourhood.specs.Best.{numbers_of, IsLower, IsFirstLeast}
+use Rattle.neighbourhood.specs.Searched.{Searched, CountsIn, old_cost, new_cost}
 
 -- what the best so far gains
 abbrev pub gain_of : Option (Move × ℕ) → ℕ
@@ -24,6 +22,6 @@ pub record IsNext (P : Move → Type 0) (x : Move) (bound : List ℕ) : Type 0 w
   pub up : IsLower (numbers_of x) bound
   pub all : (mv : Move) → P mv → IsLower (numbers_of mv) bound → IsLower (numbers_of mv) (numbers_of x) ⊎ (mv ≡ x)
 
--- the best of the moves near (v, w) that count and whose numbers come before a bound
-abbrev pub IsBestSoFar : Setting → ViewState → List Move → ℕ → ℕ → List ℕ → Option (Move × ℕ) → Type 0
-IsBestSoFar s view skip v w bound best = IsBestBelow (Counts s view skip v w) (cost_after s view) (cost_before s view) bound best
+-- the best of the moves that count and whose numbers come before a bound
+abbrev pub IsBestSoFar : Searched → List ℕ → Option (Move × ℕ) → Type 0
+IsBestSoFar q bound best = IsBestBelow (CountsIn q) (new_cost q) (old_cost q) bound best

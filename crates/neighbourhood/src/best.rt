@@ -1,77 +1,84 @@
 //! The best move so far.
-ghost use Rattle.std.specs.Prelude.{◌≡◌, ◌+◌, ◌-◌, ◌<◌, ◌≤◌, ◌^◌, true, ℕ, List, Option};
-ghost use Rattle.dimension_core.specs.Setup.{setting};
-ghost use Rattle.move_core.specs.Moves.{is_possible};
-ghost use Rattle.move_judge.specs.Scope.{scope};
-ghost use Rattle.move_judge.specs.View.{IsViewOf};
+ghost use Rattle.std.specs.Prelude.{◌≡◌, ◌+◌, ◌<◌, ◌^◌, ℕ, List, None};
 ghost use Rattle.move_judge.specs.Near.{IsNear};
-ghost use Rattle.neighbourhood.specs.Best.{Counts, numbers_of};
-ghost use Rattle.move_judge.specs.Kept.{AreKept};
+ghost use Rattle.neighbourhood.specs.Best.{numbers_of};
 ghost use Rattle.neighbourhood.specs.Search.{gain_of, IsBestSoFar, IsNext};
-ghost use Rattle.way_costs.specs.Costs.{IsSaving};
+ghost use Rattle.neighbourhood.specs.Searched.{searched, CountsIn, IsPossible, IsSearch, Saves};
 
-use dimension_core::Setup;
+use crate::searched::Search;
 use move_core::Move;
-use move_judge::{Kept, allows};
-use pin_core::View;
+use move_judge::allows;
 
-/// What the best move so far gains.
-#[inline(always)]
-pub(crate) fn gain_of(best: Option<(Move, u64)>) -> u64
-    ensures { result ≡ gain_of best }
-{
-    match best {
-        None => 0,
-        Some((_, gain)) => gain,
-    }
+/// The best move so far and what it gains, if there is one.
+#[derive(Clone, Copy)]
+pub(crate) struct Best {
+    pub(crate) found: Option<(Move, u64)>,
+    ghost small: { gain_of found < 2 ^ 60 },
 }
 
-/// What a candidate has to gain over what it gains already, to be better than the best so far. No candidate gains 2 to the power of 60, so
-/// the remainder by it is the gain.
-#[inline(always)]
-pub(crate) fn wanted(gained: u64, best: Option<(Move, u64)>) -> u64
-    requires { gained < 2 ^ 50 }
-    ensures low { result ≤ gained + gain_of best }
-    ensures small { result < 2 ^ 61 }
-{
-    match best {
-        None => gained,
-        Some((_, gain)) => gained + gain % 1_152_921_504_606_846_976,
+impl Best {
+    /// No move is found.
+    #[inline(always)]
+    pub(crate) fn none() -> Best
+        ensures { result.found ≡ None }
+    {
+        Best { found: None }
     }
-}
 
-/// The better of the best so far and the next move, which loses ways of one cost and gains ways of another: whether it is allowed is
-/// judged only where it gains more.
-#[inline(always)]
-pub(crate) fn better(
-    view: &View,
-    setup: &Setup,
-    bounded: bool,
-    skip: &[Move],
-    v: u32,
-    w: u32,
-    v_kept: &Kept,
-    w_kept: &Kept,
-    mv: Move,
-    lost: u64,
-    gained: u64,
-    best: Option<(Move, u64)>,
-) -> Option<(Move, u64)>
-    requires view { IsViewOf (setting setup.now) view.now }
-    requires v_kept { AreKept (setting setup.now) view.now.routes v w v_kept.now }
-    requires w_kept { AreKept (setting setup.now) view.now.routes w v w_kept.now }
-    requires possible { is_possible (setting setup.now).customers view.now.routes mv ≡ true }
-    requires near { IsNear v w mv }
-    requires saving { IsSaving (setting setup.now) view.now mv lost gained }
-    ensures { (bound : List ℕ) → IsNext (Counts (scope bounded (setting setup.now)) view.now skip.now v w) mv bound
-        → IsBestSoFar (scope bounded (setting setup.now)) view.now skip.now v w (numbers_of mv) best → IsBestSoFar (scope bounded (setting setup.now)) view.now skip.now v w bound result }
-{
-    let gain = lost.saturating_sub(gained);
-    if gain <= gain_of(best) {
-        return best;
+    /// What it gains.
+    #[inline(always)]
+    pub(crate) fn gain(self) -> u64
+        ensures value { result ≡ gain_of self.found }
+        ensures small { result < 2 ^ 60 }
+    {
+        match self.found {
+            None => 0,
+            Some((_, gain)) => gain,
+        }
     }
-    if !allows(view, setup, bounded, skip, v, w, v_kept, w_kept, mv) {
-        return best;
+
+    /// What a candidate has to gain over what it gains already, to be better.
+    #[inline(always)]
+    pub(crate) fn wanted(self, gained: u64) -> u64
+        requires { gained < 2 ^ 50 }
+        ensures value { result ≡ gained + gain_of self.found }
+        ensures small { result < 2 ^ 61 }
+    {
+        gained + self.gain()
     }
-    Some((mv, gain))
+
+    /// The better of this and the next move, which loses ways of one cost and gains ways of another: whether it is allowed is judged only
+    /// where it gains more.
+    #[inline(always)]
+    pub(crate) fn or_better(self, search: &Search, mv: Move, lost: u64, gained: u64) -> Best
+        requires search { IsSearch (searched search.now) }
+        requires possible { IsPossible (searched search.now) mv }
+        requires near { IsNear search.now.v search.now.w mv }
+        requires small { lost < 2 ^ 60 }
+        requires saving { Saves (searched search.now) mv lost gained }
+        ensures { (bound : List ℕ) → IsNext (CountsIn (searched search.now)) mv bound
+            → IsBestSoFar (searched search.now) (numbers_of mv) self.found → IsBestSoFar (searched search.now) bound result.found }
+    {
+        let gain = lost.saturating_sub(gained);
+        if gain <= self.gain() {
+            return self;
+        }
+        let judged = allows(
+            search.view,
+            search.setup,
+            search.bounded,
+            search.skip,
+            search.v,
+            search.w,
+            search.v_kept,
+            search.w_kept,
+            mv,
+        );
+        if !judged {
+            return self;
+        }
+        Best {
+            found: Some((mv, gain)),
+        }
+    }
 }

@@ -6,6 +6,7 @@ mod cross;
 mod laws;
 mod reverse;
 mod search;
+mod searched;
 mod shift;
 mod swap;
 

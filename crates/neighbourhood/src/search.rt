@@ -1,21 +1,20 @@
 //! The best move.
-ghost use Rattle.std.specs.Prelude.{◌≡◌, ◌≢◌, ◌≤◌, false, List, All, IfOk, IsTrue, MatchOption};
+ghost use Rattle.std.specs.Prelude.{◌≡◌, ◌≢◌, ◌≤◌, false, List, IfOk, IsTrue, MatchOption};
 ghost use Rattle.callback_store.specs.Tables.{table_at};
 ghost use Rattle.dimension_core.specs.Setup.{setting};
 ghost use Rattle.move_core.specs.declared.moves.Move.{Move};
 ghost use Rattle.move_judge.specs.View.{IsViewOf};
 ghost use Rattle.neighbourhood.specs.Best.{IsBest, IsIdle};
-ghost use Rattle.move_judge.specs.Kept.{AreKept};
 ghost use Rattle.neighbourhood.specs.Laws.{Laws};
-ghost use Rattle.move_judge.specs.Scope.{scope};
-ghost use Rattle.way_costs.specs.Sides.{AreWaysBetween, AreFloored, IsAlong};
-ghost use Rattle.way_costs.specs.Ways.{AreStops, AreEdges};
+ghost use Rattle.neighbourhood.specs.Searched.{searched, AreSummed, IsBestOf, IsGathered, IsIdleOf, IsSearch};
 
+use crate::best::Best;
 use crate::cross::best_cross;
 use crate::laws::laws_below;
 use crate::reverse::best_reverse;
-use crate::shift::{best_shift, best_shift_inside};
-use crate::swap::{best_swap, best_swap_inside};
+use crate::searched::{Gathered, Search};
+use crate::shift::best_shift;
+use crate::swap::best_swap;
 use dimension_core::Setup;
 use move_core::Move;
 use move_judge::{Kept, fits_after};
@@ -23,38 +22,34 @@ use pin_core::View;
 use std::alloc::{AllocError, Global};
 use way_costs::{Along, Sides, Ways, fill_stops, most_of, parts_of};
 
-/// The best move inside a vehicle, by what is gathered of it.
+/// The best move inside a vehicle.
 fn best_of_one(
-    view: &View,
-    setup: &Setup,
-    bounded: bool,
-    v: u32,
-    skip: &[Move],
-    from: &[u32],
-    ways: &Ways,
-    along: &Along,
-    kept: &Kept,
+    search: &Search,
+    gathered: &Gathered,
+    sums: &[u64],
+    back_sums: &[u64],
 ) -> Option<(Move, u64)>
-    requires laws { Laws }
-    requires view { IsViewOf (setting setup.now) view.now }
-    requires from { AreStops (setting setup.now).customers view.now.routes v from.now }
-    requires ways { AreWaysBetween (table_at (setting setup.now).tables (setting setup.now).cost) from.now from.now ways.now }
-    requires along { IsAlong (table_at (setting setup.now).tables (setting setup.now).cost) from.now along.now }
-    requires kept { AreKept (setting setup.now) view.now.routes v v kept.now }
-    ensures { MatchOption result (IsIdle (scope bounded (setting setup.now)) view.now skip.now v v) (λ p. IsBest (scope bounded (setting setup.now)) view.now skip.now v v p.0 p.1) }
+    requires search { IsSearch (searched search.now) }
+    requires gathered { IsGathered (searched search.now) gathered.now }
+    requires inside { search.now.v ≡ search.now.w }
+    requires sums { AreSummed (searched search.now) gathered.now sums.now back_sums.now }
+    ensures { MatchOption result (IsIdleOf (searched search.now)) (λ p. IsBestOf (searched search.now) p.0 p.1) }
 {
-    let (edges, most) = (&along.edges, along.most);
-    let (out, into) = (&ways.out, &ways.into);
-    let shifted = best_shift_inside(
-        view, setup, bounded, skip, v, from, edges, most, out, into, kept, None,
-    );
-    let swapped = best_swap_inside(
-        view, setup, bounded, skip, v, from, edges, most, out, into, kept, shifted,
-    );
-    let (sums, back_sums) = along.sums.split_at(from.len() - 1);
-    best_reverse(
-        view, setup, bounded, skip, v, from, edges, sums, back_sums, out, kept, swapped,
-    )
+    let shifted = best_shift(search, gathered, Best::none());
+    let swapped = best_swap(search, gathered, shifted);
+    best_reverse(search, gathered, sums, back_sums, swapped).found
+}
+
+/// The best move between two vehicles.
+fn best_of_two(search: &Search, gathered: &Gathered) -> Option<(Move, u64)>
+    requires search { IsSearch (searched search.now) }
+    requires gathered { IsGathered (searched search.now) gathered.now }
+    requires apart { search.now.v ≢ search.now.w }
+    ensures { MatchOption result (IsIdleOf (searched search.now)) (λ p. IsBestOf (searched search.now) p.0 p.1) }
+{
+    let shifted = best_shift(search, gathered, Best::none());
+    let swapped = best_swap(search, gathered, shifted);
+    best_cross(search, gathered, swapped).found
 }
 
 /// Whether neither of two vehicles, which may be one, has a customer. Then no move counts.
@@ -71,73 +66,20 @@ fn are_empty(view: &View, setup: &Setup, v: u32, w: u32) -> bool
     view.customers(w).is_empty()
 }
 
-/// Whether the bounds allow what was found without them, which is then the best with them.
-fn holds_up(
-    view: &View,
-    setup: &Setup,
-    skip: &[Move],
-    v: u32,
-    w: u32,
-    none: &Kept,
-    found: Option<(Move, u64)>,
-) -> bool
-    requires laws { Laws }
-    requires view { IsViewOf (setting setup.now) view.now }
-    requires v_kept { AreKept (setting setup.now) view.now.routes v w none.now }
-    requires w_kept { AreKept (setting setup.now) view.now.routes w v none.now }
-    requires found { MatchOption found (IsIdle (scope false (setting setup.now)) view.now skip.now v w) (λ p. IsBest (scope false (setting setup.now)) view.now skip.now v w p.0 p.1) }
-    ensures { IsTrue result → MatchOption found (IsIdle (setting setup.now) view.now skip.now v w) (λ p. IsBest (setting setup.now) view.now skip.now v w p.0 p.1) }
+/// Whether the bounds allow what was found without them, where nothing is kept of them. It is then the best with them.
+fn holds_up(search: &Search, found: Option<(Move, u64)>) -> bool
+    requires search { IsSearch (searched search.now) }
+    requires unbounded { search.now.bounded ≡ false }
+    requires found { MatchOption found (IsIdleOf (searched search.now)) (λ p. IsBestOf (searched search.now) p.0 p.1) }
+    ensures { IsTrue result → MatchOption found (IsIdle (setting search.now.setup.now) search.now.view.now search.now.skip.now search.now.v search.now.w)
+        (λ p. IsBest (setting search.now.setup.now) search.now.view.now search.now.skip.now search.now.v search.now.w p.0 p.1) }
 {
+    let (view, setup, v, w) = (search.view, search.setup, search.v, search.w);
+    let (v_kept, w_kept) = (search.v_kept, search.w_kept);
     match found {
         None => true,
-        Some((mv, _)) => fits_after(view, setup, v, w, none, none, mv),
+        Some((mv, _)) => fits_after(view, setup, v, w, v_kept, w_kept, mv),
     }
-}
-
-/// The best move between two vehicles, by what is gathered of them.
-fn best_of_two(
-    view: &View,
-    setup: &Setup,
-    bounded: bool,
-    v: u32,
-    w: u32,
-    skip: &[Move],
-    from: &[u32],
-    to: &[u32],
-    from_edges: &[u32],
-    to_edges: &[u32],
-    most: u32,
-    ways: &Ways,
-    v_kept: &Kept,
-    w_kept: &Kept,
-) -> Option<(Move, u64)>
-    requires laws { Laws }
-    requires view { IsViewOf (setting setup.now) view.now }
-    requires apart { v ≢ w }
-    requires from { AreStops (setting setup.now).customers view.now.routes v from.now }
-    requires to { AreStops (setting setup.now).customers view.now.routes w to.now }
-    requires from_edges { AreEdges (table_at (setting setup.now).tables (setting setup.now).cost) from.now from_edges.now }
-    requires to_edges { AreEdges (table_at (setting setup.now).tables (setting setup.now).cost) to.now to_edges.now }
-    requires most { All (λ x. x ≤ most) to_edges.now }
-    requires ways { AreWaysBetween (table_at (setting setup.now).tables (setting setup.now).cost) from.now to.now ways.now }
-    requires floors { AreFloored from.now to.now ways.now }
-    requires v_kept { AreKept (setting setup.now) view.now.routes v w v_kept.now }
-    requires w_kept { AreKept (setting setup.now) view.now.routes w v w_kept.now }
-    ensures { MatchOption result (IsIdle (scope bounded (setting setup.now)) view.now skip.now v w) (λ p. IsBest (scope bounded (setting setup.now)) view.now skip.now v w p.0 p.1) }
-{
-    let (out, into) = (&ways.out, &ways.into);
-    let shifted = best_shift(
-        view, setup, bounded, skip, v, w, from, to, from_edges, to_edges, most, out, into, v_kept,
-        w_kept, None,
-    );
-    let swapped = best_swap(
-        view, setup, bounded, skip, v, w, from, to, from_edges, to_edges, most, out, into, v_kept,
-        w_kept, shifted,
-    );
-    best_cross(
-        view, setup, bounded, skip, v, w, from, to, from_edges, to_edges, most, out, into, v_kept,
-        w_kept, swapped,
-    )
 }
 
 /// A search that keeps its memory from call to call: the tables of ways, and what it keeps of the bounds. It grows to what the longest
@@ -147,6 +89,7 @@ pub struct Searcher {
     sides: Sides,
     ways: Ways,
     along: Along,
+    none: Kept,
     v_kept: Kept,
     w_kept: Kept,
 }
@@ -159,6 +102,7 @@ impl Searcher {
             sides: Sides::new(alloc),
             ways: Ways::new(alloc),
             along: Along::new(alloc),
+            none: Kept::none(alloc),
             v_kept: Kept::none(alloc),
             w_kept: Kept::none(alloc),
         }
@@ -183,19 +127,44 @@ impl Searcher {
         }
         fill_stops(view, setup, v, &mut self.sides.stops)?;
         let sides = &self.sides;
-        let from = sides.stops.as_slice();
-        self.ways.gather_among(setup, from)?;
+        let stops = sides.stops.as_slice();
+        self.ways.gather_among(setup, stops)?;
         let ways = &self.ways;
-        self.along.gather(setup, from, &ways.out)?;
+        self.along.gather(setup, stops, &ways.out)?;
         let along = &self.along;
-        self.v_kept.forget();
-        let none = &self.v_kept;
-        let found = best_of_one(view, setup, false, v, skip, from, ways, along, none);
-        if holds_up(view, setup, skip, v, v, none, found) {
+        let (sums, back_sums) = along.sums.split_at(stops.len() - 1);
+        let gathered = Gathered {
+            from: stops,
+            to: stops,
+            from_edges: &along.edges,
+            to_edges: &along.edges,
+            most: along.most,
+            out: &ways.out,
+            into: &ways.into,
+        };
+        self.none.forget();
+        let search = Search {
+            view,
+            setup,
+            skip,
+            bounded: false,
+            v,
+            w: v,
+            v_kept: &self.none,
+            w_kept: &self.none,
+        };
+        let found = best_of_one(&search, &gathered, sums, back_sums);
+        if holds_up(&search, found) {
             return Ok(found);
         }
         self.v_kept.keep_alone(view, setup, v)?;
-        Ok(best_of_one(view, setup, true, v, skip, from, ways, along, &self.v_kept))
+        let search = Search {
+            bounded: true,
+            v_kept: &self.v_kept,
+            w_kept: &self.v_kept,
+            ..search
+        };
+        Ok(best_of_one(&search, &gathered, sums, back_sums))
     }
 
     /// The best move between two vehicles, searched without the dimensions at first as `best_inside` does.
@@ -221,35 +190,41 @@ impl Searcher {
         let sides = &self.sides;
         let (stops, edges) = (sides.stops.as_slice(), sides.edges.as_slice());
         let (from, to, from_edges, to_edges) = parts_of(view, setup, v, w, stops, edges);
-        let most = most_of(to_edges);
         self.ways.gather_between(setup, from, to)?;
         let ways = &self.ways;
-        self.v_kept.forget();
-        let none = &self.v_kept;
-        let found = best_of_two(
-            view, setup, false, v, w, skip, from, to, from_edges, to_edges, most, ways, none, none,
-        );
-        if holds_up(view, setup, skip, v, w, none, found) {
-            return Ok(found);
-        }
-        self.v_kept.keep_between(view, setup, v, w)?;
-        self.w_kept.keep_between(view, setup, w, v)?;
-        Ok(best_of_two(
-            view,
-            setup,
-            true,
-            v,
-            w,
-            skip,
+        let gathered = Gathered {
             from,
             to,
             from_edges,
             to_edges,
-            most,
-            ways,
-            &self.v_kept,
-            &self.w_kept,
-        ))
+            most: most_of(to_edges),
+            out: &ways.out,
+            into: &ways.into,
+        };
+        self.none.forget();
+        let search = Search {
+            view,
+            setup,
+            skip,
+            bounded: false,
+            v,
+            w,
+            v_kept: &self.none,
+            w_kept: &self.none,
+        };
+        let found = best_of_two(&search, &gathered);
+        if holds_up(&search, found) {
+            return Ok(found);
+        }
+        self.v_kept.keep_between(view, setup, v, w)?;
+        self.w_kept.keep_between(view, setup, w, v)?;
+        let search = Search {
+            bounded: true,
+            v_kept: &self.v_kept,
+            w_kept: &self.w_kept,
+            ..search
+        };
+        Ok(best_of_two(&search, &gathered))
     }
 
     /// The best move near two vehicles, or inside one, and what it saves, as `best_move` says it. No memory is asked for once the searcher

@@ -1,392 +1,263 @@
 //! Shifts of one to three customers.
-ghost use Rattle.std.specs.Prelude.{◌≡◌, ◌≢◌, ℕ, ◌+◌, ◌-◌, ◌*◌, ◌^◌, ◌<◌, ◌≤◌, true, false, List, [], ◌∷◌, length, slice_index, Option, All};
-ghost use Rattle.callback_store.specs.Tables.{table_at};
-ghost use Rattle.dimension_core.specs.Setup.{setting};
+ghost use Rattle.std.specs.Prelude.{◌≡◌, ◌≢◌, ℕ, ◌+◌, ◌-◌, ◌^◌, ◌<◌, ◌≤◌, [], ◌∷◌, length, slice_index, All};
 ghost use Rattle.plan_core.specs.Plan.{route_at};
 ghost use Rattle.move_core.specs.declared.moves.Move.TheVariants.{Shift};
-ghost use Rattle.move_core.specs.Moves.{is_possible, stretch};
+ghost use Rattle.move_core.specs.Moves.{stretch};
 ghost use Rattle.pin_core.specs.Pins.{front_of};
 ghost use Rattle.pin_core.specs.View.{pins_of};
-ghost use Rattle.move_judge.specs.Scope.{scope};
-ghost use Rattle.move_judge.specs.View.{IsViewOf};
-ghost use Rattle.move_judge.specs.Kept.{AreKept};
-ghost use Rattle.neighbourhood.specs.Laws.{Laws};
 ghost use Rattle.move_judge.specs.Allowed.{AreLoose};
 ghost use Rattle.neighbourhood.specs.Search.{IsBestSoFar};
-ghost use Rattle.way_costs.specs.Costs.{IsSaving};
-ghost use Rattle.way_costs.specs.Ways.{hop, AreStops, AreEdges, AreHopsFrom, AreFloors};
+ghost use Rattle.neighbourhood.specs.Searched.{searched, costs_of, IsGathered, IsPossible, IsSearch, Saves};
+ghost use Rattle.way_costs.specs.Ways.{hop};
 
-use crate::best::{better, wanted};
-use dimension_core::Setup;
+use crate::best::Best;
+use crate::searched::{Gathered, Search};
 use move_core::Move;
-use move_judge::{Kept, first_free, loose_from};
-use pin_core::View;
+use move_judge::{first_free, loose_from};
 use way_costs::{first_gain, hop, may_gain, row};
 
-/// The better of the best so far and the shifts of some customers to the places from one to before another. What comes before and after
-/// them there stands `offset` places further among the stops. `into` and `out` are the ways from those stops to the first customer, and
-/// from the last one to them.
-#[inline(always)]
-fn shift_row(
-    view: &View,
-    setup: &Setup,
-    bounded: bool,
-    skip: &[Move],
-    v: u32,
-    w: u32,
+/// The shifts of some customers, which stand from a place on: what each of them loses and gains there, the ways along the stops that they
+/// are shifted between, none dearer than `most`, and the ways from those stops to the first customer, and from the last one to them.
+#[derive(Clone, Copy)]
+struct Shifts<'a> {
     place: u32,
     count: u32,
     lost: u64,
     gained: u64,
-    edges: &[u32],
+    edges: &'a [u32],
     most: u32,
-    into: &[u32],
-    out: &[u32],
+    into: &'a [u32],
+    out: &'a [u32],
+}
+
+/// The better of the best so far and the shifts to the places from one to before another. What comes before and after the customers there
+/// stands `offset` places further among the stops.
+#[inline(always)]
+fn shift_row(
+    search: &Search,
+    shifts: &Shifts,
     offset: u32,
     first: u32,
     end: u32,
-    v_kept: &Kept,
-    w_kept: &Kept,
-    best: Option<(Move, u64)>,
-) -> Option<(Move, u64)>
-    requires laws { Laws }
-    requires view { IsViewOf (setting setup.now) view.now }
-    requires v_kept { AreKept (setting setup.now) view.now.routes v w v_kept.now }
-    requires w_kept { AreKept (setting setup.now) view.now.routes w v w_kept.now }
-    requires few { count ≤ 3 }
+    best: Best,
+) -> Best
+    requires search { IsSearch (searched search.now) }
+    requires few { shifts.now.count ≤ 3 }
     requires low { 1 ≤ first }
     requires order { first ≤ end }
-    requires edges { end + offset ≤ length edges.now + 1 }
-    requires most { All (λ x. x ≤ most) edges.now }
-    requires into { end + offset ≤ length into.now }
-    requires out { end + offset ≤ length out.now }
-    requires short { length out.now ≤ 1002 }
-    requires fixed { (lost < 2 ^ 34) × (gained < 2 ^ 34) }
-    requires possible { (at : ℕ) → first ≤ at → at < end → is_possible (setting setup.now).customers view.now.routes (Shift v place count w at) ≡ true }
-    requires saving { (at : ℕ) → first ≤ at → at < end → IsSaving (setting setup.now) view.now (Shift v place count w at) (lost + slice_index edges.now (at + offset - 1)) (gained + slice_index into.now (at + offset - 1) + slice_index out.now (at + offset)) }
-    requires best { IsBestSoFar (scope bounded (setting setup.now)) view.now skip.now v w (1 ∷ v ∷ place ∷ count ∷ w ∷ first ∷ []) best }
-    ensures { IsBestSoFar (scope bounded (setting setup.now)) view.now skip.now v w (1 ∷ v ∷ place ∷ count ∷ w ∷ end ∷ []) result }
+    requires edges { end + offset ≤ length shifts.now.edges.now + 1 }
+    requires most { All (λ x. x ≤ shifts.now.most) shifts.now.edges.now }
+    requires into { end + offset ≤ length shifts.now.into.now }
+    requires out { end + offset ≤ length shifts.now.out.now }
+    requires short { length shifts.now.out.now ≤ 1002 }
+    requires fixed { (shifts.now.lost < 2 ^ 34) × (shifts.now.gained < 2 ^ 34) }
+    requires possible { (at : ℕ) → first ≤ at → at < end → IsPossible (searched search.now) (Shift search.now.v shifts.now.place shifts.now.count search.now.w at) }
+    requires saving { (at : ℕ) → first ≤ at → at < end → Saves (searched search.now) (Shift search.now.v shifts.now.place shifts.now.count search.now.w at)
+        (shifts.now.lost + slice_index shifts.now.edges.now (at + offset - 1))
+        (shifts.now.gained + slice_index shifts.now.into.now (at + offset - 1) + slice_index shifts.now.out.now (at + offset)) }
+    requires best { IsBestSoFar (searched search.now) (1 ∷ search.now.v ∷ shifts.now.place ∷ shifts.now.count ∷ search.now.w ∷ first ∷ []) best.found }
+    ensures { IsBestSoFar (searched search.now) (1 ∷ search.now.v ∷ shifts.now.place ∷ shifts.now.count ∷ search.now.w ∷ end ∷ []) result.found }
 {
     if first == end {
         return best;
     }
-    let least = wanted(gained, best);
+    let (lost, edges, into, out) = (shifts.lost, shifts.edges, shifts.into, shifts.out);
+    let least = best.wanted(shifts.gained);
     let begin = (first + offset) as usize - 1;
-    if !may_gain(
-        lost,
-        least,
-        edges,
-        most,
-        into,
-        out,
-        begin,
-        (end + offset) as usize - 1,
-    ) {
+    let last = (end + offset) as usize - 1;
+    if !may_gain(lost, least, edges, shifts.most, into, out, begin, last) {
         return best;
     }
     let mut best = best;
     let mut at = first;
     'row: while at < end {
         let from = (at + offset) as usize - 1;
-        let last = (end + offset) as usize - 1;
-        let found = first_gain(lost, wanted(gained, best), edges, into, out, from, last);
+        let least = best.wanted(shifts.gained);
+        let found = first_gain(lost, least, edges, into, out, from, last);
         let next = (found + 1) as u32 - offset;
         if next == end {
             return best;
         }
         let all_lost = lost + u64::from(edges[found]);
-        let all_gained = gained + u64::from(into[found]) + u64::from(out[found + 1]);
+        let all_gained = shifts.gained + u64::from(into[found]) + u64::from(out[found + 1]);
         let mv = Move::Shift {
-            vehicle: v,
-            place,
-            length: count,
-            to: w,
+            vehicle: search.v,
+            place: shifts.place,
+            length: shifts.count,
+            to: search.w,
             at: next,
         };
-        best = better(
-            view, setup, bounded, skip, v, w, v_kept, w_kept, mv, all_lost, all_gained, best,
-        );
+        best = best.or_better(search, mv, all_lost, all_gained);
         at = next + 1;
     }
     best
 }
 
-/// What the way costs that closes a gap, from one stop of a vehicle to a later one. That from the depot and that to the depot are among the
-/// ways between both vehicles.
+/// What the way costs that closes a gap, from one stop of the first vehicle to a later one. That from the depot and that to the depot are
+/// among the ways between both vehicles.
 #[inline(always)]
-fn closing(
-    setup: &Setup,
-    from: &[u32],
-    to: &[u32],
-    out: &[u32],
-    into: &[u32],
-    before: usize,
-    after: usize,
-) -> u64
-    requires known { All (λ c. c ≤ (setting setup.now).customers) from.now }
-    requires from { (slice_index from.now 0 ≡ 0) × (slice_index from.now (length from.now - 1) ≡ 0) }
-    requires to { (slice_index to.now 0 ≡ 0) × (slice_index to.now (length to.now - 1) ≡ 0) }
-    requires long { 2 ≤ length to.now }
+fn closing(search: &Search, gathered: &Gathered, before: usize, after: usize) -> u64
+    requires gathered { IsGathered (searched search.now) gathered.now }
     requires order { before < after }
-    requires after { after < length from.now }
-    requires out { AreHopsFrom false (table_at (setting setup.now).tables (setting setup.now).cost) from.now to.now 0 1 out.now }
-    requires into { AreHopsFrom true (table_at (setting setup.now).tables (setting setup.now).cost) from.now to.now 1 0 into.now }
-    ensures value { result ≡ hop (table_at (setting setup.now).tables (setting setup.now).cost) (slice_index from.now before) (slice_index from.now after) }
+    requires after { after < length gathered.now.from.now }
+    ensures value { result ≡ hop (costs_of (searched search.now)) (slice_index gathered.now.from.now before) (slice_index gathered.now.from.now after) }
     ensures small { result < 2 ^ 34 }
 {
+    let (from, width) = (gathered.from, gathered.to.len());
     if before == 0 {
-        let comes = row(into, to.len(), after);
+        let comes = row(gathered.into, width, after);
         return u64::from(comes[0]);
     }
     if after + 1 == from.len() {
-        let goes = row(out, to.len(), before);
-        return u64::from(goes[to.len() - 1]);
+        let goes = row(gathered.out, width, before);
+        return u64::from(goes[width - 1]);
     }
-    hop(setup, from[before], from[after])
+    hop(search.setup, from[before], from[after])
 }
 
 /// The better of the best so far and the shifts of so many customers from a place on to another vehicle. No more than `free` may leave.
 /// A row of the tables has a number that none of its ways is below where it lacks a way: by those the most that the shifts can gain is
 /// compared with what is wanted before they are gone through.
 fn shift_over(
-    view: &View,
-    setup: &Setup,
-    bounded: bool,
-    skip: &[Move],
-    v: u32,
-    w: u32,
+    search: &Search,
+    gathered: &Gathered,
     place: u32,
     count: u32,
     free: u32,
-    from: &[u32],
-    to: &[u32],
-    from_edges: &[u32],
-    to_edges: &[u32],
-    most: u32,
-    out: &[u32],
-    into: &[u32],
-    v_kept: &Kept,
-    w_kept: &Kept,
-    best: Option<(Move, u64)>,
-) -> Option<(Move, u64)>
-    requires laws { Laws }
-    requires view { IsViewOf (setting setup.now) view.now }
-    requires v_kept { AreKept (setting setup.now) view.now.routes v w v_kept.now }
-    requires w_kept { AreKept (setting setup.now) view.now.routes w v w_kept.now }
-    requires apart { v ≢ w }
+    best: Best,
+) -> Best
+    requires search { IsSearch (searched search.now) }
+    requires gathered { IsGathered (searched search.now) gathered.now }
+    requires apart { search.now.v ≢ search.now.w }
     requires count { (1 ≤ count) × (count ≤ 3) }
-    requires place { (1 ≤ place) × (place + count < length from.now) }
-    requires free { (front_of (pins_of view.now) v < place) × AreLoose (pins_of view.now) (stretch (route_at view.now.routes v) place count) → count ≤ free }
-    requires from { AreStops (setting setup.now).customers view.now.routes v from.now }
-    requires to { AreStops (setting setup.now).customers view.now.routes w to.now }
-    requires from_edges { AreEdges (table_at (setting setup.now).tables (setting setup.now).cost) from.now from_edges.now }
-    requires to_edges { AreEdges (table_at (setting setup.now).tables (setting setup.now).cost) to.now to_edges.now }
-    requires most { All (λ x. x ≤ most) to_edges.now }
-    requires out { AreHopsFrom false (table_at (setting setup.now).tables (setting setup.now).cost) from.now to.now 0 1 out.now }
-    requires into { AreHopsFrom true (table_at (setting setup.now).tables (setting setup.now).cost) from.now to.now 1 0 into.now }
-    requires out_floors { AreFloors from.now to.now 0 1 out.now }
-    requires into_floors { AreFloors from.now to.now 1 0 into.now }
-    requires best { IsBestSoFar (scope bounded (setting setup.now)) view.now skip.now v w (1 ∷ v ∷ place ∷ count ∷ w ∷ 1 ∷ []) best }
-    ensures { IsBestSoFar (scope bounded (setting setup.now)) view.now skip.now v w (1 ∷ v ∷ place ∷ count ∷ w ∷ (length to.now) ∷ []) result }
+    requires place { (1 ≤ place) × (place + count < length gathered.now.from.now) }
+    requires free { (front_of (pins_of search.now.view.now) search.now.v < place)
+        × AreLoose (pins_of search.now.view.now) (stretch (route_at search.now.view.now.routes search.now.v) place count) → count ≤ free }
+    requires best { IsBestSoFar (searched search.now) (1 ∷ search.now.v ∷ place ∷ count ∷ search.now.w ∷ 1 ∷ []) best.found }
+    ensures { IsBestSoFar (searched search.now) (1 ∷ search.now.v ∷ place ∷ count ∷ search.now.w ∷ length gathered.now.to.now ∷ []) result.found }
 {
     if free < count {
         return best;
     }
+    let (from_edges, width) = (gathered.from_edges, gathered.to.len());
     let first = place as usize;
     let after = first + count as usize;
     let lost = u64::from(from_edges[first - 1]) + u64::from(from_edges[after - 1]);
-    let comes = row(into, to.len(), first);
-    let goes = row(out, to.len(), after - 1);
-    let reach = lost + u64::from(most);
-    let least = u64::from(goes[0]) + u64::from(comes[to.len() - 1]);
-    let floor = wanted(least, best);
+    let comes = row(gathered.into, width, first);
+    let goes = row(gathered.out, width, after - 1);
+    let reach = lost + u64::from(gathered.most);
+    let least = u64::from(goes[0]) + u64::from(comes[width - 1]);
+    let floor = best.wanted(least);
     if reach <= floor {
         return best;
     }
-    let begin = first_free(view, setup, w);
-    let gained = closing(setup, from, to, out, into, first - 1, after);
-    let higher = wanted(least + gained, best);
+    let begin = first_free(search.view, search.setup, search.w);
+    let gained = closing(search, gathered, first - 1, after);
+    let higher = best.wanted(least + gained);
     if reach <= higher {
         return best;
     }
-    shift_row(
-        view,
-        setup,
-        bounded,
-        skip,
-        v,
-        w,
+    let shifts = Shifts {
         place,
         count,
         lost,
         gained,
-        to_edges,
-        most,
-        comes,
-        goes,
-        0,
-        begin,
-        to.len() as u32,
-        v_kept,
-        w_kept,
-        best,
-    )
-}
-
-/// The better of the best so far and all shifts of 1 to 3 customers from one vehicle to another.
-pub(crate) fn best_shift(
-    view: &View,
-    setup: &Setup,
-    bounded: bool,
-    skip: &[Move],
-    v: u32,
-    w: u32,
-    from: &[u32],
-    to: &[u32],
-    from_edges: &[u32],
-    to_edges: &[u32],
-    most: u32,
-    out: &[u32],
-    into: &[u32],
-    v_kept: &Kept,
-    w_kept: &Kept,
-    best: Option<(Move, u64)>,
-) -> Option<(Move, u64)>
-    requires laws { Laws }
-    requires view { IsViewOf (setting setup.now) view.now }
-    requires v_kept { AreKept (setting setup.now) view.now.routes v w v_kept.now }
-    requires w_kept { AreKept (setting setup.now) view.now.routes w v w_kept.now }
-    requires apart { v ≢ w }
-    requires from { AreStops (setting setup.now).customers view.now.routes v from.now }
-    requires to { AreStops (setting setup.now).customers view.now.routes w to.now }
-    requires from_edges { AreEdges (table_at (setting setup.now).tables (setting setup.now).cost) from.now from_edges.now }
-    requires to_edges { AreEdges (table_at (setting setup.now).tables (setting setup.now).cost) to.now to_edges.now }
-    requires most { All (λ x. x ≤ most) to_edges.now }
-    requires out { AreHopsFrom false (table_at (setting setup.now).tables (setting setup.now).cost) from.now to.now 0 1 out.now }
-    requires into { AreHopsFrom true (table_at (setting setup.now).tables (setting setup.now).cost) from.now to.now 1 0 into.now }
-    requires out_floors { AreFloors from.now to.now 0 1 out.now }
-    requires into_floors { AreFloors from.now to.now 1 0 into.now }
-    requires best { IsBestSoFar (scope bounded (setting setup.now)) view.now skip.now v w (1 ∷ []) best }
-    ensures { IsBestSoFar (scope bounded (setting setup.now)) view.now skip.now v w (2 ∷ []) result }
-{
-    let mut best = best;
-    for place in 1..from.len() as u32 - 1 {
-        let free = loose_from(view, setup, v, place);
-        for count in 1..4u32 {
-            if place as usize + (count as usize) < from.len() {
-                best = shift_over(
-                    view, setup, bounded, skip, v, w, place, count, free, from, to, from_edges,
-                    to_edges, most, out, into, v_kept, w_kept, best,
-                );
-            }
-        }
-    }
-    best
+        edges: gathered.to_edges,
+        most: gathered.most,
+        into: comes,
+        out: goes,
+    };
+    shift_row(search, &shifts, 0, begin, width as u32, best)
 }
 
 /// The better of the best so far and the shifts of so many customers from a place on inside their vehicle.
-fn shift_within(
-    view: &View,
-    setup: &Setup,
-    bounded: bool,
-    skip: &[Move],
-    v: u32,
-    place: u32,
-    count: u32,
-    from: &[u32],
-    edges: &[u32],
-    most: u32,
-    out: &[u32],
-    into: &[u32],
-    kept: &Kept,
-    best: Option<(Move, u64)>,
-) -> Option<(Move, u64)>
-    requires laws { Laws }
-    requires view { IsViewOf (setting setup.now) view.now }
-    requires kept { AreKept (setting setup.now) view.now.routes v v kept.now }
+fn shift_within(search: &Search, gathered: &Gathered, place: u32, count: u32, best: Best) -> Best
+    requires search { IsSearch (searched search.now) }
+    requires gathered { IsGathered (searched search.now) gathered.now }
+    requires inside { search.now.v ≡ search.now.w }
     requires count { (1 ≤ count) × (count ≤ 3) }
-    requires place { (1 ≤ place) × (place + count < length from.now) }
-    requires from { AreStops (setting setup.now).customers view.now.routes v from.now }
-    requires edges { AreEdges (table_at (setting setup.now).tables (setting setup.now).cost) from.now edges.now }
-    requires most { All (λ x. x ≤ most) edges.now }
-    requires out { AreHopsFrom false (table_at (setting setup.now).tables (setting setup.now).cost) from.now from.now 0 1 out.now }
-    requires into { AreHopsFrom true (table_at (setting setup.now).tables (setting setup.now).cost) from.now from.now 1 0 into.now }
-    requires best { IsBestSoFar (scope bounded (setting setup.now)) view.now skip.now v v (1 ∷ v ∷ place ∷ count ∷ v ∷ 1 ∷ []) best }
-    ensures { IsBestSoFar (scope bounded (setting setup.now)) view.now skip.now v v (1 ∷ v ∷ place ∷ count ∷ v ∷ (length from.now - count) ∷ []) result }
+    requires place { (1 ≤ place) × (place + count < length gathered.now.from.now) }
+    requires best { IsBestSoFar (searched search.now) (1 ∷ search.now.v ∷ place ∷ count ∷ search.now.w ∷ 1 ∷ []) best.found }
+    ensures { IsBestSoFar (searched search.now) (1 ∷ search.now.v ∷ place ∷ count ∷ search.now.w ∷ (length gathered.now.from.now - count) ∷ []) result.found }
 {
-    let begin = first_free(view, setup, v);
+    let begin = first_free(search.view, search.setup, search.v);
     if place < begin {
         return best;
     }
+    let (edges, width) = (gathered.to_edges, gathered.from.len());
     let first = place as usize;
     let after = first + count as usize;
-    let lost = u64::from(edges[first - 1]) + u64::from(edges[after - 1]);
-    let closes = row(out, from.len(), first - 1);
-    let gained = u64::from(closes[after]);
-    let comes = row(into, from.len(), first);
-    let goes = row(out, from.len(), after - 1);
-    let forwards = shift_row(
-        view, setup, bounded, skip, v, v, place, count, lost, gained, edges, most, comes, goes, 0,
-        begin, place, kept, kept, best,
-    );
-    shift_row(
-        view,
-        setup,
-        bounded,
-        skip,
-        v,
-        v,
+    let closes = row(gathered.out, width, first - 1);
+    let shifts = Shifts {
         place,
         count,
-        lost,
-        gained,
+        lost: u64::from(edges[first - 1]) + u64::from(edges[after - 1]),
+        gained: u64::from(closes[after]),
         edges,
-        most,
-        comes,
-        goes,
-        count,
-        place + 1,
-        from.len() as u32 - count,
-        kept,
-        kept,
-        forwards,
-    )
+        most: gathered.most,
+        into: row(gathered.into, width, first),
+        out: row(gathered.out, width, after - 1),
+    };
+    let forwards = shift_row(search, &shifts, 0, begin, place, best);
+    let end = width as u32 - count;
+    shift_row(search, &shifts, count, place + 1, end, forwards)
 }
 
-/// The better of the best so far and all shifts of 1 to 3 customers inside a vehicle.
-pub(crate) fn best_shift_inside(
-    view: &View,
-    setup: &Setup,
-    bounded: bool,
-    skip: &[Move],
-    v: u32,
-    from: &[u32],
-    edges: &[u32],
-    most: u32,
-    out: &[u32],
-    into: &[u32],
-    kept: &Kept,
-    best: Option<(Move, u64)>,
-) -> Option<(Move, u64)>
-    requires laws { Laws }
-    requires view { IsViewOf (setting setup.now) view.now }
-    requires kept { AreKept (setting setup.now) view.now.routes v v kept.now }
-    requires from { AreStops (setting setup.now).customers view.now.routes v from.now }
-    requires edges { AreEdges (table_at (setting setup.now).tables (setting setup.now).cost) from.now edges.now }
-    requires most { All (λ x. x ≤ most) edges.now }
-    requires out { AreHopsFrom false (table_at (setting setup.now).tables (setting setup.now).cost) from.now from.now 0 1 out.now }
-    requires into { AreHopsFrom true (table_at (setting setup.now).tables (setting setup.now).cost) from.now from.now 1 0 into.now }
-    requires best { IsBestSoFar (scope bounded (setting setup.now)) view.now skip.now v v (1 ∷ []) best }
-    ensures { IsBestSoFar (scope bounded (setting setup.now)) view.now skip.now v v (2 ∷ []) result }
+/// How many customers from a place on may go to the second vehicle together, up to three.
+#[inline(always)]
+fn free_from(search: &Search, place: u32) -> u32
+    requires search { IsSearch (searched search.now) }
+    requires v { (1 ≤ search.now.v) × (search.now.v ≤ length search.now.view.now.routes) }
+    requires low { 1 ≤ place }
+    ensures { (count : ℕ) → count ≤ 3 → place + count ≤ length (route_at search.now.view.now.routes search.now.v) + 1
+        → (front_of (pins_of search.now.view.now) search.now.v < place)
+        × AreLoose (pins_of search.now.view.now) (stretch (route_at search.now.view.now.routes search.now.v) place count) → count ≤ result }
+{
+    if search.v == search.w {
+        return 3;
+    }
+    loose_from(search.view, search.setup, search.v, place)
+}
+
+/// The better of the best so far and the shifts of so many customers from a place on. No more than `free` may go to another vehicle.
+#[inline(always)]
+fn shift_from(
+    search: &Search,
+    gathered: &Gathered,
+    place: u32,
+    count: u32,
+    free: u32,
+    best: Best,
+) -> Best
+    requires search { IsSearch (searched search.now) }
+    requires gathered { IsGathered (searched search.now) gathered.now }
+    requires count { (1 ≤ count) × (count ≤ 3) }
+    requires place { (1 ≤ place) × (place + count < length gathered.now.from.now) }
+    requires free { (front_of (pins_of search.now.view.now) search.now.v < place)
+        × AreLoose (pins_of search.now.view.now) (stretch (route_at search.now.view.now.routes search.now.v) place count) → count ≤ free }
+    requires best { IsBestSoFar (searched search.now) (1 ∷ search.now.v ∷ place ∷ count ∷ []) best.found }
+    ensures { IsBestSoFar (searched search.now) (1 ∷ search.now.v ∷ place ∷ (count + 1) ∷ []) result.found }
+{
+    if search.v == search.w {
+        shift_within(search, gathered, place, count, best)
+    } else {
+        shift_over(search, gathered, place, count, free, best)
+    }
+}
+
+/// The better of the best so far and all shifts of 1 to 3 customers from one vehicle to another, or inside one.
+pub(crate) fn best_shift(search: &Search, gathered: &Gathered, best: Best) -> Best
+    requires search { IsSearch (searched search.now) }
+    requires gathered { IsGathered (searched search.now) gathered.now }
+    requires best { IsBestSoFar (searched search.now) (1 ∷ []) best.found }
+    ensures { IsBestSoFar (searched search.now) (2 ∷ []) result.found }
 {
     let mut best = best;
-    for place in 1..from.len() as u32 - 1 {
-        for count in 1..4 {
-            if place as usize + (count as usize) < from.len() {
-                best = shift_within(
-                    view, setup, bounded, skip, v, place, count, from, edges, most, out, into,
-                    kept, best,
-                );
+    for place in 1..gathered.from.len() as u32 - 1 {
+        let free = free_from(search, place);
+        for count in 1..4u32 {
+            if place as usize + (count as usize) < gathered.from.len() {
+                best = shift_from(search, gathered, place, count, free, best);
             }
         }
     }

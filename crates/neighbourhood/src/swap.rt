@@ -1,74 +1,60 @@
 //! Swaps of two customers.
-ghost use Rattle.std.specs.Prelude.{◌≡◌, ◌≢◌, ℕ, ◌+◌, ◌-◌, ◌*◌, ◌^◌, ◌<◌, ◌≤◌, true, false, List, [], ◌∷◌, length, slice_index, Option, All};
-ghost use Rattle.callback_store.specs.Tables.{table_at};
-ghost use Rattle.dimension_core.specs.Setup.{setting};
+ghost use Rattle.std.specs.Prelude.{◌≡◌, ◌≢◌, ℕ, ◌+◌, ◌-◌, ◌^◌, ◌<◌, ◌≤◌, [], ◌∷◌, length, slice_index, All};
 ghost use Rattle.move_core.specs.declared.moves.Move.TheVariants.{Swap};
-ghost use Rattle.move_core.specs.Moves.{is_possible};
-ghost use Rattle.move_judge.specs.Scope.{scope};
-ghost use Rattle.move_judge.specs.View.{IsViewOf};
-ghost use Rattle.move_judge.specs.Kept.{AreKept};
-ghost use Rattle.neighbourhood.specs.Laws.{Laws};
 ghost use Rattle.neighbourhood.specs.Search.{IsBestSoFar};
-ghost use Rattle.way_costs.specs.Costs.{IsSaving};
-ghost use Rattle.way_costs.specs.Ways.{AreStops, AreEdges, AreHopsFrom, AreFloors};
+ghost use Rattle.neighbourhood.specs.Searched.{searched, IsGathered, IsPossible, IsSearch, Saves};
 
-use crate::best::{better, wanted};
-use dimension_core::Setup;
+use crate::best::Best;
+use crate::searched::{Gathered, Search};
 use move_core::Move;
-use move_judge::{Kept, first_free, may_leave};
-use pin_core::View;
+use move_judge::{first_free, may_leave};
 use way_costs::{first_swap_gain, may_swap_gain, row};
 
-/// The better of the best so far and the swaps of a customer with those at the places from one to before another. `before` and `here`
-/// are the ways from the stop before the customer and from it, `next` and `back` those to the stop after it and to it.
-#[inline(always)]
-fn swap_row(
-    view: &View,
-    setup: &Setup,
-    bounded: bool,
-    skip: &[Move],
-    v: u32,
-    w: u32,
+/// The swaps of the customer at a place: what each of them loses there, and the ways along the stops that it is swapped between, none
+/// dearer than `most`. `before` and `here` are the ways from the stop before the customer and from it to those stops, `next` and `back` the
+/// ways from them to the stop after it and to it.
+#[derive(Clone, Copy)]
+struct Swaps<'a> {
     place: u32,
     lost: u64,
-    edges: &[u32],
+    edges: &'a [u32],
     most: u32,
-    before: &[u32],
-    here: &[u32],
-    next: &[u32],
-    back: &[u32],
-    first: u32,
-    end: u32,
-    v_kept: &Kept,
-    w_kept: &Kept,
-    best: Option<(Move, u64)>,
-) -> Option<(Move, u64)>
-    requires laws { Laws }
-    requires view { IsViewOf (setting setup.now) view.now }
-    requires v_kept { AreKept (setting setup.now) view.now.routes v w v_kept.now }
-    requires w_kept { AreKept (setting setup.now) view.now.routes w v w_kept.now }
+    before: &'a [u32],
+    here: &'a [u32],
+    next: &'a [u32],
+    back: &'a [u32],
+}
+
+/// The better of the best so far and the swaps with the customers at the places from one to before another.
+#[inline(always)]
+fn swap_row(search: &Search, swaps: &Swaps, first: u32, end: u32, best: Best) -> Best
+    requires search { IsSearch (searched search.now) }
     requires low { 1 ≤ first }
     requires order { first ≤ end }
-    requires near { v ≡ w → place < first }
-    requires edges { end ≤ length edges.now }
-    requires most { All (λ x. x ≤ most) edges.now }
-    requires before { end ≤ length before.now }
-    requires here { end < length here.now }
-    requires next { end ≤ length next.now }
-    requires back { end ≤ length back.now }
-    requires short { length here.now ≤ 1002 }
-    requires fixed { lost < 2 ^ 34 }
-    requires possible { (at : ℕ) → first ≤ at → at < end → is_possible (setting setup.now).customers view.now.routes (Swap v place w at) ≡ true }
-    requires saving { (at : ℕ) → first ≤ at → at < end → IsSaving (setting setup.now) view.now (Swap v place w at) (lost + slice_index edges.now (at - 1) + slice_index edges.now at) (slice_index before.now at + slice_index next.now at + slice_index back.now (at - 1) + slice_index here.now (at + 1)) }
-    requires best { IsBestSoFar (scope bounded (setting setup.now)) view.now skip.now v w (2 ∷ v ∷ place ∷ w ∷ first ∷ []) best }
-    ensures { IsBestSoFar (scope bounded (setting setup.now)) view.now skip.now v w (2 ∷ v ∷ place ∷ w ∷ end ∷ []) result }
+    requires near { search.now.v ≡ search.now.w → swaps.now.place < first }
+    requires edges { end ≤ length swaps.now.edges.now }
+    requires most { All (λ x. x ≤ swaps.now.most) swaps.now.edges.now }
+    requires before { end ≤ length swaps.now.before.now }
+    requires here { end < length swaps.now.here.now }
+    requires next { end ≤ length swaps.now.next.now }
+    requires back { end ≤ length swaps.now.back.now }
+    requires short { length swaps.now.here.now ≤ 1002 }
+    requires fixed { swaps.now.lost < 2 ^ 34 }
+    requires possible { (at : ℕ) → first ≤ at → at < end → IsPossible (searched search.now) (Swap search.now.v swaps.now.place search.now.w at) }
+    requires saving { (at : ℕ) → first ≤ at → at < end → Saves (searched search.now) (Swap search.now.v swaps.now.place search.now.w at)
+        (swaps.now.lost + slice_index swaps.now.edges.now (at - 1) + slice_index swaps.now.edges.now at)
+        (slice_index swaps.now.before.now at + slice_index swaps.now.next.now at + slice_index swaps.now.back.now (at - 1) + slice_index swaps.now.here.now (at + 1)) }
+    requires best { IsBestSoFar (searched search.now) (2 ∷ search.now.v ∷ swaps.now.place ∷ search.now.w ∷ first ∷ []) best.found }
+    ensures { IsBestSoFar (searched search.now) (2 ∷ search.now.v ∷ swaps.now.place ∷ search.now.w ∷ end ∷ []) result.found }
 {
-    let least = wanted(0, best);
+    let (lost, edges) = (swaps.lost, swaps.edges);
+    let (before, here, next, back) = (swaps.before, swaps.here, swaps.next, swaps.back);
+    let least = best.wanted(0);
     if !may_swap_gain(
         lost,
         least,
         edges,
-        most,
+        swaps.most,
         before,
         here,
         next,
@@ -81,7 +67,7 @@ fn swap_row(
     let mut best = best;
     let mut at = first;
     'row: while at < end {
-        let least = wanted(0, best);
+        let least = best.wanted(0);
         let found = first_swap_gain(
             lost,
             least,
@@ -103,288 +89,144 @@ fn swap_row(
             + u64::from(back[found - 1])
             + u64::from(here[found + 1]);
         let mv = Move::Swap {
-            vehicle: v,
-            place,
-            other: w,
+            vehicle: search.v,
+            place: swaps.place,
+            other: search.w,
             at: there,
         };
-        best = better(
-            view, setup, bounded, skip, v, w, v_kept, w_kept, mv, all_lost, all_gained, best,
-        );
+        best = best.or_better(search, mv, all_lost, all_gained);
         at = there + 1;
     }
     best
 }
 
 /// The better of the best so far and the swaps of the customer at a place with those of another vehicle.
-fn swap_over(
-    view: &View,
-    setup: &Setup,
-    bounded: bool,
-    skip: &[Move],
-    v: u32,
-    w: u32,
-    place: u32,
-    from: &[u32],
-    to: &[u32],
-    from_edges: &[u32],
-    to_edges: &[u32],
-    most: u32,
-    out: &[u32],
-    into: &[u32],
-    v_kept: &Kept,
-    w_kept: &Kept,
-    best: Option<(Move, u64)>,
-) -> Option<(Move, u64)>
-    requires laws { Laws }
-    requires view { IsViewOf (setting setup.now) view.now }
-    requires v_kept { AreKept (setting setup.now) view.now.routes v w v_kept.now }
-    requires w_kept { AreKept (setting setup.now) view.now.routes w v w_kept.now }
-    requires apart { v ≢ w }
-    requires place { (1 ≤ place) × (place + 1 < length from.now) }
-    requires from { AreStops (setting setup.now).customers view.now.routes v from.now }
-    requires to { AreStops (setting setup.now).customers view.now.routes w to.now }
-    requires from_edges { AreEdges (table_at (setting setup.now).tables (setting setup.now).cost) from.now from_edges.now }
-    requires to_edges { AreEdges (table_at (setting setup.now).tables (setting setup.now).cost) to.now to_edges.now }
-    requires most { All (λ x. x ≤ most) to_edges.now }
-    requires out { AreHopsFrom false (table_at (setting setup.now).tables (setting setup.now).cost) from.now to.now 0 1 out.now }
-    requires into { AreHopsFrom true (table_at (setting setup.now).tables (setting setup.now).cost) from.now to.now 1 0 into.now }
-    requires out_floors { AreFloors from.now to.now 0 1 out.now }
-    requires into_floors { AreFloors from.now to.now 1 0 into.now }
-    requires best { IsBestSoFar (scope bounded (setting setup.now)) view.now skip.now v w (2 ∷ v ∷ place ∷ w ∷ 1 ∷ []) best }
-    ensures { IsBestSoFar (scope bounded (setting setup.now)) view.now skip.now v w (2 ∷ v ∷ place ∷ w ∷ (length to.now - 1) ∷ []) result }
+fn swap_over(search: &Search, gathered: &Gathered, place: u32, best: Best) -> Best
+    requires search { IsSearch (searched search.now) }
+    requires gathered { IsGathered (searched search.now) gathered.now }
+    requires apart { search.now.v ≢ search.now.w }
+    requires place { (1 ≤ place) × (place + 1 < length gathered.now.from.now) }
+    requires best { IsBestSoFar (searched search.now) (2 ∷ search.now.v ∷ place ∷ search.now.w ∷ 1 ∷ []) best.found }
+    ensures { IsBestSoFar (searched search.now) (2 ∷ search.now.v ∷ place ∷ search.now.w ∷ (length gathered.now.to.now - 1) ∷ []) result.found }
 {
-    if !may_leave(view, setup, v, place, 1) {
+    if !may_leave(search.view, search.setup, search.v, place, 1) {
         return best;
     }
-    let begin = first_free(view, setup, w);
+    let begin = first_free(search.view, search.setup, search.w);
+    let (from_edges, width) = (gathered.from_edges, gathered.to.len());
     let index = place as usize;
     let lost = u64::from(from_edges[index - 1]) + u64::from(from_edges[index]);
-    let before = row(out, to.len(), index - 1);
-    let here = row(out, to.len(), index);
-    let next = row(into, to.len(), index + 1);
-    let back = row(into, to.len(), index);
-    let end = to.len() - 1;
+    let before = row(gathered.out, width, index - 1);
+    let here = row(gathered.out, width, index);
+    let next = row(gathered.into, width, index + 1);
+    let back = row(gathered.into, width, index);
+    let end = width - 1;
     let leaves = u64::from(before[0]) + u64::from(here[0]);
     let least = leaves + u64::from(next[end]) + u64::from(back[end]);
-    let floor = wanted(least, best);
-    if lost + 2 * u64::from(most) <= floor {
+    let floor = best.wanted(least);
+    if lost + 2 * u64::from(gathered.most) <= floor {
         return best;
     }
-    swap_row(
-        view,
-        setup,
-        bounded,
-        skip,
-        v,
-        w,
+    let swaps = Swaps {
         place,
         lost,
-        to_edges,
-        most,
+        edges: gathered.to_edges,
+        most: gathered.most,
         before,
         here,
         next,
         back,
-        begin,
-        to.len() as u32 - 1,
-        v_kept,
-        w_kept,
-        best,
-    )
-}
-
-/// The better of the best so far and all swaps of two vehicles.
-pub(crate) fn best_swap(
-    view: &View,
-    setup: &Setup,
-    bounded: bool,
-    skip: &[Move],
-    v: u32,
-    w: u32,
-    from: &[u32],
-    to: &[u32],
-    from_edges: &[u32],
-    to_edges: &[u32],
-    most: u32,
-    out: &[u32],
-    into: &[u32],
-    v_kept: &Kept,
-    w_kept: &Kept,
-    best: Option<(Move, u64)>,
-) -> Option<(Move, u64)>
-    requires laws { Laws }
-    requires view { IsViewOf (setting setup.now) view.now }
-    requires v_kept { AreKept (setting setup.now) view.now.routes v w v_kept.now }
-    requires w_kept { AreKept (setting setup.now) view.now.routes w v w_kept.now }
-    requires apart { v ≢ w }
-    requires from { AreStops (setting setup.now).customers view.now.routes v from.now }
-    requires to { AreStops (setting setup.now).customers view.now.routes w to.now }
-    requires from_edges { AreEdges (table_at (setting setup.now).tables (setting setup.now).cost) from.now from_edges.now }
-    requires to_edges { AreEdges (table_at (setting setup.now).tables (setting setup.now).cost) to.now to_edges.now }
-    requires most { All (λ x. x ≤ most) to_edges.now }
-    requires out { AreHopsFrom false (table_at (setting setup.now).tables (setting setup.now).cost) from.now to.now 0 1 out.now }
-    requires into { AreHopsFrom true (table_at (setting setup.now).tables (setting setup.now).cost) from.now to.now 1 0 into.now }
-    requires out_floors { AreFloors from.now to.now 0 1 out.now }
-    requires into_floors { AreFloors from.now to.now 1 0 into.now }
-    requires best { IsBestSoFar (scope bounded (setting setup.now)) view.now skip.now v w (2 ∷ []) best }
-    ensures { IsBestSoFar (scope bounded (setting setup.now)) view.now skip.now v w (3 ∷ []) result }
-{
-    let mut best = best;
-    for place in 1..from.len() as u32 - 1 {
-        best = swap_over(
-            view, setup, bounded, skip, v, w, place, from, to, from_edges, to_edges, most, out,
-            into, v_kept, w_kept, best,
-        );
-    }
-    best
+    };
+    swap_row(search, &swaps, begin, end as u32, best)
 }
 
 /// The better of the best so far and the swap of the customer at a place with the next one.
-fn swap_next(
-    view: &View,
-    setup: &Setup,
-    bounded: bool,
-    skip: &[Move],
-    v: u32,
-    place: u32,
-    from: &[u32],
-    edges: &[u32],
-    out: &[u32],
-    into: &[u32],
-    kept: &Kept,
-    best: Option<(Move, u64)>,
-) -> Option<(Move, u64)>
-    requires laws { Laws }
-    requires view { IsViewOf (setting setup.now) view.now }
-    requires kept { AreKept (setting setup.now) view.now.routes v v kept.now }
-    requires place { (1 ≤ place) × (place + 2 < length from.now) }
-    requires from { AreStops (setting setup.now).customers view.now.routes v from.now }
-    requires edges { AreEdges (table_at (setting setup.now).tables (setting setup.now).cost) from.now edges.now }
-    requires out { AreHopsFrom false (table_at (setting setup.now).tables (setting setup.now).cost) from.now from.now 0 1 out.now }
-    requires into { AreHopsFrom true (table_at (setting setup.now).tables (setting setup.now).cost) from.now from.now 1 0 into.now }
-    requires best { IsBestSoFar (scope bounded (setting setup.now)) view.now skip.now v v (2 ∷ v ∷ place ∷ v ∷ (place + 1) ∷ []) best }
-    ensures { IsBestSoFar (scope bounded (setting setup.now)) view.now skip.now v v (2 ∷ v ∷ place ∷ v ∷ (place + 2) ∷ []) result }
+fn swap_next(search: &Search, gathered: &Gathered, place: u32, best: Best) -> Best
+    requires search { IsSearch (searched search.now) }
+    requires gathered { IsGathered (searched search.now) gathered.now }
+    requires inside { search.now.v ≡ search.now.w }
+    requires place { (1 ≤ place) × (place + 2 < length gathered.now.from.now) }
+    requires best { IsBestSoFar (searched search.now) (2 ∷ search.now.v ∷ place ∷ search.now.w ∷ (place + 1) ∷ []) best.found }
+    ensures { IsBestSoFar (searched search.now) (2 ∷ search.now.v ∷ place ∷ search.now.w ∷ (place + 2) ∷ []) result.found }
 {
+    let (edges, width) = (gathered.to_edges, gathered.from.len());
     let index = place as usize;
-    let before = row(out, from.len(), index - 1);
-    let here = row(out, from.len(), index);
-    let back = row(into, from.len(), index);
+    let before = row(gathered.out, width, index - 1);
+    let here = row(gathered.out, width, index);
+    let back = row(gathered.into, width, index);
     let lost = u64::from(edges[index - 1]) + u64::from(edges[index]) + u64::from(edges[index + 1]);
     let gained = u64::from(before[index + 1])
         + u64::from(back[index + 1])
         + u64::from(here[index + 2]);
     let mv = Move::Swap {
-        vehicle: v,
+        vehicle: search.v,
         place,
-        other: v,
+        other: search.w,
         at: place + 1,
     };
-    better(
-        view, setup, bounded, skip, v, v, kept, kept, mv, lost, gained, best,
-    )
+    best.or_better(search, mv, lost, gained)
 }
 
 /// The better of the best so far and the swaps of the customer at a place with those behind it.
-fn swap_within(
-    view: &View,
-    setup: &Setup,
-    bounded: bool,
-    skip: &[Move],
-    v: u32,
-    place: u32,
-    from: &[u32],
-    edges: &[u32],
-    most: u32,
-    out: &[u32],
-    into: &[u32],
-    kept: &Kept,
-    best: Option<(Move, u64)>,
-) -> Option<(Move, u64)>
-    requires laws { Laws }
-    requires view { IsViewOf (setting setup.now) view.now }
-    requires kept { AreKept (setting setup.now) view.now.routes v v kept.now }
-    requires place { (1 ≤ place) × (place + 1 < length from.now) }
-    requires from { AreStops (setting setup.now).customers view.now.routes v from.now }
-    requires edges { AreEdges (table_at (setting setup.now).tables (setting setup.now).cost) from.now edges.now }
-    requires most { All (λ x. x ≤ most) edges.now }
-    requires out { AreHopsFrom false (table_at (setting setup.now).tables (setting setup.now).cost) from.now from.now 0 1 out.now }
-    requires into { AreHopsFrom true (table_at (setting setup.now).tables (setting setup.now).cost) from.now from.now 1 0 into.now }
-    requires best { IsBestSoFar (scope bounded (setting setup.now)) view.now skip.now v v (2 ∷ v ∷ place ∷ v ∷ (place + 1) ∷ []) best }
-    ensures { IsBestSoFar (scope bounded (setting setup.now)) view.now skip.now v v (2 ∷ v ∷ place ∷ v ∷ (length from.now - 1) ∷ []) result }
+fn swap_within(search: &Search, gathered: &Gathered, place: u32, best: Best) -> Best
+    requires search { IsSearch (searched search.now) }
+    requires gathered { IsGathered (searched search.now) gathered.now }
+    requires inside { search.now.v ≡ search.now.w }
+    requires place { (1 ≤ place) × (place + 1 < length gathered.now.from.now) }
+    requires best { IsBestSoFar (searched search.now) (2 ∷ search.now.v ∷ place ∷ search.now.w ∷ (place + 1) ∷ []) best.found }
+    ensures { IsBestSoFar (searched search.now) (2 ∷ search.now.v ∷ place ∷ search.now.w ∷ (length gathered.now.from.now - 1) ∷ []) result.found }
 {
+    let (edges, width) = (gathered.to_edges, gathered.from.len());
     let index = place as usize;
-    if index + 2 >= from.len() {
+    if index + 2 >= width {
         return best;
     }
-    if place < first_free(view, setup, v) {
+    if place < first_free(search.view, search.setup, search.v) {
         return best;
     }
-    let near = swap_next(
-        view, setup, bounded, skip, v, place, from, edges, out, into, kept, best,
-    );
-    if index + 3 >= from.len() {
+    let near = swap_next(search, gathered, place, best);
+    if index + 3 >= width {
         return near;
     }
-    let lost = u64::from(edges[index - 1]) + u64::from(edges[index]);
-    let before = row(out, from.len(), index - 1);
-    let here = row(out, from.len(), index);
-    let next = row(into, from.len(), index + 1);
-    let back = row(into, from.len(), index);
-    swap_row(
-        view,
-        setup,
-        bounded,
-        skip,
-        v,
-        v,
+    let swaps = Swaps {
         place,
-        lost,
+        lost: u64::from(edges[index - 1]) + u64::from(edges[index]),
         edges,
-        most,
-        before,
-        here,
-        next,
-        back,
-        place + 2,
-        from.len() as u32 - 1,
-        kept,
-        kept,
-        near,
-    )
+        most: gathered.most,
+        before: row(gathered.out, width, index - 1),
+        here: row(gathered.out, width, index),
+        next: row(gathered.into, width, index + 1),
+        back: row(gathered.into, width, index),
+    };
+    swap_row(search, &swaps, place + 2, width as u32 - 1, near)
 }
 
-/// The better of the best so far and all swaps inside a vehicle.
-pub(crate) fn best_swap_inside(
-    view: &View,
-    setup: &Setup,
-    bounded: bool,
-    skip: &[Move],
-    v: u32,
-    from: &[u32],
-    edges: &[u32],
-    most: u32,
-    out: &[u32],
-    into: &[u32],
-    kept: &Kept,
-    best: Option<(Move, u64)>,
-) -> Option<(Move, u64)>
-    requires laws { Laws }
-    requires view { IsViewOf (setting setup.now) view.now }
-    requires kept { AreKept (setting setup.now) view.now.routes v v kept.now }
-    requires from { AreStops (setting setup.now).customers view.now.routes v from.now }
-    requires edges { AreEdges (table_at (setting setup.now).tables (setting setup.now).cost) from.now edges.now }
-    requires most { All (λ x. x ≤ most) edges.now }
-    requires out { AreHopsFrom false (table_at (setting setup.now).tables (setting setup.now).cost) from.now from.now 0 1 out.now }
-    requires into { AreHopsFrom true (table_at (setting setup.now).tables (setting setup.now).cost) from.now from.now 1 0 into.now }
-    requires best { IsBestSoFar (scope bounded (setting setup.now)) view.now skip.now v v (2 ∷ []) best }
-    ensures { IsBestSoFar (scope bounded (setting setup.now)) view.now skip.now v v (3 ∷ []) result }
+/// The better of the best so far and the swaps of the customer at a place.
+#[inline(always)]
+fn swap_from(search: &Search, gathered: &Gathered, place: u32, best: Best) -> Best
+    requires search { IsSearch (searched search.now) }
+    requires gathered { IsGathered (searched search.now) gathered.now }
+    requires place { (1 ≤ place) × (place + 1 < length gathered.now.from.now) }
+    requires best { IsBestSoFar (searched search.now) (2 ∷ search.now.v ∷ place ∷ []) best.found }
+    ensures { IsBestSoFar (searched search.now) (2 ∷ search.now.v ∷ (place + 1) ∷ []) result.found }
+{
+    if search.v == search.w {
+        swap_within(search, gathered, place, best)
+    } else {
+        swap_over(search, gathered, place, best)
+    }
+}
+
+/// The better of the best so far and all swaps of two vehicles, or inside one.
+pub(crate) fn best_swap(search: &Search, gathered: &Gathered, best: Best) -> Best
+    requires search { IsSearch (searched search.now) }
+    requires gathered { IsGathered (searched search.now) gathered.now }
+    requires best { IsBestSoFar (searched search.now) (2 ∷ []) best.found }
+    ensures { IsBestSoFar (searched search.now) (3 ∷ []) result.found }
 {
     let mut best = best;
-    for place in 1..from.len() as u32 - 1 {
-        best = swap_within(
-            view, setup, bounded, skip, v, place, from, edges, most, out, into, kept, best,
-        );
+    for place in 1..gathered.from.len() as u32 - 1 {
+        best = swap_from(search, gathered, place, best);
     }
     best
 }

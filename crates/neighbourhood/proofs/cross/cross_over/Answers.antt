@@ -1,87 +1,73 @@
-use Rattle.std.proofs.Common.{◌≡◌, ℕ, ◌≤◌, ◌+◌, ◌-◌, ◌<◌, ◌⊎◌, arith, subst, inl, inr, [], ◌∷◌, length, slice_index, true, false}
-use Rattle.callback_store.specs.Tables.{table_at}
-use Rattle.dimension_core.specs.Setup.{setting}
+use Rattle.std.proofs.Common.{◌≡◌, ℕ, ◌+◌, ◌-◌, ◌<◌, ◌⊎◌, arith, subst, inl, inr, [], ◌∷◌, length}
 use Rattle.plan_core.specs.Plan.{route_at}
-use Rattle.move_core.specs.declared.moves.Move.TheVariants.{Cross}
-use Rattle.move_judge.specs.Scope.{scope}
 use Rattle.neighbourhood.specs.Search.{IsBestSoFar}
-use Rattle.neighbourhood.proofs.Possible.{cross_can}
-use Rattle.neighbourhood.proofs.Tabled.{floor_from, row_from, room_from, cross_tabled}
+use Rattle.neighbourhood.specs.Searched.{searched}
 use Rattle.neighbourhood.proofs.Orders.{cross_none}
 use Rattle.neighbourhood.proofs.Rows.{crosses_past}
+use Rattle.neighbourhood.proofs.Saved.{cross_most, cross_possible, cross_saved, into_room}
 use Rattle.neighbourhood.proofs.cross.cross_over.Goals.{then-last, else-last}
 use Rattle.neighbourhood.proofs.cross.cross_over.Goals as goal
 
 pub row-next-requires : goal.row-next-requires
-row-next-requires g c = record { high = room_from true (table_at (setting c.args.setup.now).tables (setting c.args.setup.now).cost) c.args.from.now c.args.to.now c.args.into.now 1 0 (c.args.keep + 1) c.requires.into (let p = c.requires.keep in omega arith) }
+row-next-requires g c = record { high = into_room (searched c.args.search.now) c.requires.search c.args.gathered.now c.requires.gathered (c.args.keep + 1) c.requires.keep }
 
 pub cross_row-requires-clause-possible : goal.cross_row-requires-clause-possible
 cross_row-requires-clause-possible g c =
-    let r = c.requires in
-    let sized = r.from.sized in
-    let wide = r.to.sized in
-    let fit = r.keep in
+    let q = searched c.args.search.now in
+    let sized = c.requires.gathered.from.sized in
+    let wide = c.requires.gathered.to.sized in
+    let fit = c.requires.keep in
     λ l h.
-    let few : l + 1 < length c.args.to.now = elim c.if-last.branch [
+    let few : l + 1 < length c.args.gathered.now.to.now = elim c.if-last.branch [
       | then-last w ↦ let e = w.end-is in omega arith
       | else-last w ↦ let e = w.end-is in omega arith
     ] in
-    let some : (c.args.keep < length (route_at c.args.view.now.routes c.args.v)) ⊎ (l < length (route_at c.args.view.now.routes c.args.w)) = elim c.if-last.branch [
+    let some : (c.args.keep < length (route_at q.view.routes q.v)) ⊎ (l < length (route_at q.view.routes q.w)) = elim c.if-last.branch [
       | then-last w ↦ let e = w.end-is in inr (omega arith)
       | else-last w ↦ let o = w.if-last.false in inl (omega arith)
     ] in
-    cross_can r.laws (setting c.args.setup.now).customers c.args.view.now.routes c.args.v c.args.keep c.args.w l c.args.from.now c.args.to.now r.from r.to r.apart fit few some
+    cross_possible q c.requires.search c.args.gathered.now c.requires.gathered c.args.keep l c.requires.apart fit few some
 
 pub cross_row-requires-clause-saving : goal.cross_row-requires-clause-saving
 cross_row-requires-clause-saving g c =
-    let r = c.requires in
-    let s = setting c.args.setup.now in
-    let t = table_at (setting c.args.setup.now).tables (setting c.args.setup.now).cost in
-    let sized = r.from.sized in
-    let wide = r.to.sized in
-    let fit = r.keep in
+    let q = searched c.args.search.now in
+    let a = c.args.gathered.now in
+    let sized = c.requires.gathered.from.sized in
+    let wide = c.requires.gathered.to.sized in
+    let fit = c.requires.keep in
     let f = c.from-lost.ensures in
     λ l h.
-    let few : l + 1 < length c.args.to.now = elim c.if-last.branch [
+    let few : l + 1 < length a.to.now = elim c.if-last.branch [
       | then-last w ↦ let e = w.end-is in omega arith
       | else-last w ↦ let e = w.end-is in omega arith
     ] in
-    let some : (c.args.keep < length (route_at c.args.view.now.routes c.args.v)) ⊎ (l < length (route_at c.args.view.now.routes c.args.w)) = elim c.if-last.branch [
+    let some : (c.args.keep < length (route_at q.view.routes q.v)) ⊎ (l < length (route_at q.view.routes q.w)) = elim c.if-last.branch [
       | then-last w ↦ let e = w.end-is in inr (omega arith)
       | else-last w ↦ let o = w.if-last.false in inl (omega arith)
     ] in
-    let can = cross_can r.laws s.customers c.args.view.now.routes c.args.v c.args.keep c.args.w l c.args.from.now c.args.to.now r.from r.to r.apart fit few some in
-    let saving = r.laws.saves.cross s c.args.view.now c.args.v c.args.keep c.args.w l c.args.from.now c.args.to.now r.view.plan r.from r.to can in
-    rw (f) (cross_tabled s c.args.view.now (Cross c.args.v c.args.keep c.args.w l) t c.args.from.now c.args.to.now c.args.from_edges.now c.args.to_edges.now
-    c.row-here.result.now c.row-next.result.now c.args.keep l saving fit few r.from_edges r.to_edges
-    (row_from false t c.args.from.now c.args.to.now c.args.out.now c.row-here.result.now 0 1 c.args.keep (omega arith) r.out (omega arith) (omega arith) c.row-here.ensures.cells)
-    (row_from true t c.args.from.now c.args.to.now c.args.into.now c.row-next.result.now 1 0 (c.args.keep + 1) (omega arith) r.into (omega arith) (omega arith) c.row-next.ensures.cells))
+    rw f (cross_saved q c.requires.search a c.requires.gathered c.args.keep l c.row-here.result.now c.row-next.result.now fit few
+    (cross_possible q c.requires.search a c.requires.gathered c.args.keep l c.requires.apart fit few some) c.row-here.ensures.cells c.row-next.ensures.cells)
 
 pub returns : goal.returns
 returns g c =
-    let sized = c.requires.from.sized in
-    let wide = c.requires.to.sized in
+    let q = searched c.args.search.now in
+    let sized = c.requires.gathered.from.sized in
+    let wide = c.requires.gathered.to.sized in
     elim c.if-last.branch [
       | then-last w ↦
           let e = w.end-is in
           let o = w.if-last.true in
-          let f : c.if-last.end + 1 ≡ length c.args.to.now - 1 = omega arith in
-          subst (λ (k : ℕ). IsBestSoFar (scope c.args.bounded (setting c.args.setup.now)) c.args.view.now c.args.skip.now c.args.v c.args.w (4 ∷ c.args.v ∷ c.args.keep ∷ c.args.w ∷ k ∷ []) c.cross_row.result) f
-          (cross_none c.requires.laws (scope c.args.bounded (setting c.args.setup.now)) c.args.view.now c.args.skip.now c.args.v c.args.w c.args.keep c.if-last.end c.cross_row.result (omega arith) (omega arith) c.cross_row.ensures)
+          let f : c.if-last.end + 1 ≡ length c.args.gathered.now.to.now - 1 = omega arith in
+          subst (λ (k : ℕ). IsBestSoFar q (4 ∷ q.v ∷ c.args.keep ∷ q.w ∷ k ∷ []) c.cross_row.result.found) f
+          (cross_none q c.requires.search c.args.keep c.if-last.end c.cross_row.result.found (omega arith) (omega arith) c.cross_row.ensures)
       | else-last w ↦
           let e = w.end-is in
-          subst (λ (k : ℕ). IsBestSoFar (scope c.args.bounded (setting c.args.setup.now)) c.args.view.now c.args.skip.now c.args.v c.args.w (4 ∷ c.args.v ∷ c.args.keep ∷ c.args.w ∷ k ∷ []) c.cross_row.result) e c.cross_row.ensures
+          subst (λ (k : ℕ). IsBestSoFar q (4 ∷ q.v ∷ c.args.keep ∷ q.w ∷ k ∷ []) c.cross_row.result.found) e c.cross_row.ensures
     ]
-
-pub returns-then-keep-least : goal.returns-then-keep-least
-returns-then-keep-least g c =
-    let wide = c.requires.to.sized in
-    crosses_past c.requires.laws (scope c.args.bounded (setting c.args.setup.now)) c.args.view.now c.args.skip.now c.args.v c.args.w c.args.keep 0 (length c.args.to.now - 1) c.args.best (omega arith)
-    (λ k l h q. absurd (c.requires.least c.args.keep k c.if-keep-least.true q)) c.requires.best
 
 pub cross_row-requires-clause-best : goal.cross_row-requires-clause-best
 cross_row-requires-clause-best g c =
-    crosses_past c.requires.laws (scope c.args.bounded (setting c.args.setup.now)) c.args.view.now c.args.skip.now c.args.v c.args.w c.args.keep 0 c.args.begin c.args.best (omega arith) (λ k l h q. absurd (c.requires.onto c.args.keep k h q)) c.requires.best
+    crosses_past (searched c.args.search.now) c.requires.search c.args.keep 0 c.args.begin c.args.best.found (omega arith) (λ k l h counts. absurd (c.requires.onto k h counts)) c.requires.best
 
 pub cross_row-requires-clause-order : goal.cross_row-requires-clause-order
 cross_row-requires-clause-order g c =
@@ -93,30 +79,18 @@ cross_row-requires-clause-order g c =
 
 pub returns-then-lost-from : goal.returns-then-lost-from
 returns-then-lost-from g c =
-    let r = c.requires in
-    let s = setting c.args.setup.now in
-    let t = table_at (setting c.args.setup.now).tables (setting c.args.setup.now).cost in
-    let sized = r.from.sized in
-    let wide = r.to.sized in
-    let fit = r.keep in
+    let q = searched c.args.search.now in
+    let a = c.args.gathered.now in
+    let wide = c.requires.gathered.to.sized in
     let f = c.from-lost.ensures in
     let f2 = c.from.ensures in
     let f3 = c.from-2.ensures in
     let f4 = c.from-3.ensures in
     let test = c.if-lost-from.true in
-    let bound = c.wanted-floor.ensures.low in
-    let counted = r.to_edges.counted in
-    crosses_past c.requires.laws (scope c.args.bounded (setting c.args.setup.now)) c.args.view.now c.args.skip.now c.args.v c.args.w c.args.keep 0 (length c.args.to.now - 1) c.args.best (omega arith)
-    (λ l a h q.
-    let saving = r.laws.saves.cross s c.args.view.now c.args.v c.args.keep c.args.w l c.args.from.now c.args.to.now r.view.plan r.from r.to q.possible in
-    let tabled = cross_tabled s c.args.view.now (Cross c.args.v c.args.keep c.args.w l) t c.args.from.now c.args.to.now c.args.from_edges.now c.args.to_edges.now
-    c.row-here.result.now c.row-next.result.now c.args.keep l saving fit (omega arith) r.from_edges r.to_edges
-    (row_from false t c.args.from.now c.args.to.now c.args.out.now c.row-here.result.now 0 1 c.args.keep (omega arith) r.out (omega arith) (omega arith) c.row-here.ensures.cells)
-    (row_from true t c.args.from.now c.args.to.now c.args.into.now c.row-next.result.now 1 0 (c.args.keep + 1) (omega arith) r.into (omega arith) (omega arith) c.row-next.ensures.cells) in
-    let x1 : slice_index c.row-here.result.now 0 ≤ slice_index c.row-here.result.now (l + 1) =
-    floor_from c.args.from.now c.args.to.now c.args.out.now c.row-here.result.now 0 1 c.args.keep (omega arith) (omega arith) r.out_floors (omega arith) (omega arith) c.row-here.ensures.cells (l + 1) (omega arith) (omega arith) in
-    let x2 : slice_index c.row-next.result.now (length c.args.to.now - 1) ≤ slice_index c.row-next.result.now l =
-    floor_from c.args.from.now c.args.to.now c.args.into.now c.row-next.result.now 1 0 (c.args.keep + 1) (omega arith) (omega arith) r.into_floors (omega arith) (omega arith) c.row-next.ensures.cells l (omega arith) (omega arith) in
-    let dearest = r.most l 0 (omega arith) in
+    let bound = c.wanted-floor.ensures.value in
+    crosses_past q c.requires.search c.args.keep 0 (length a.to.now - 1) c.args.best.found (omega arith)
+    (λ l low h counts.
+    let most = cross_most q c.requires.search a c.requires.gathered c.args.keep l c.row-here.result.now c.row-next.result.now c.requires.apart c.requires.keep (omega arith) counts.possible
+    c.row-here.ensures.cells c.row-next.ensures.cells in
     omega arith)
     c.requires.best

@@ -1,7 +1,6 @@
 use Rattle.std.proofs.Common.{◌≡◌, ℕ, ◌+◌, arith, subst, [], ◌∷◌}
-use Rattle.dimension_core.specs.Setup.{setting}
-use Rattle.move_judge.specs.Scope.{scope}
 use Rattle.neighbourhood.specs.Search.{IsBestSoFar}
+use Rattle.neighbourhood.specs.Searched.{searched}
 use Rattle.neighbourhood.proofs.Rows.{reverse_next, reverses_past}
 use Rattle.neighbourhood.proofs.reverse.reverse_row.Goals as goal
 
@@ -9,12 +8,12 @@ pub returns-then-there-end : goal.returns-then-there-end
 returns-then-there-end g c =
     let end = c.if-there-end.true in
     let test = c.row-test.true in
-    reverses_past c.requires.laws (scope c.args.bounded (setting c.args.setup.now)) c.args.view.now c.args.skip.now c.args.v c.args.v c.args.first c.row.last c.args.end c.row.best (omega arith)
+    reverses_past (searched c.args.search.now) c.requires.search c.args.reverses.now.first c.row.last c.args.end c.row.best.found (omega arith)
     (λ k h l q.
     let low = c.row.invariant.low in
     let saving = c.requires.saving k (omega arith) l in
     let none = c.first_reverse_gain-found.ensures.none k (omega arith) (omega arith) in
-    let most = c.wanted-least.ensures.low in
+    let most = c.wanted-least-in-row.ensures.value in
     omega arith)
     c.row.invariant.best
 
@@ -25,33 +24,35 @@ row-preserved g c =
     let to = c.first_reverse_gain-found.ensures.high in
     let other = c.if-there-end.false in
     let low = c.row.invariant.low in
+    let q = searched c.args.search.now in
     let past =
-    reverses_past c.requires.laws (scope c.args.bounded (setting c.args.setup.now)) c.args.view.now c.args.skip.now c.args.v c.args.v c.args.first c.row.last c.first_reverse_gain-found.result c.row.best (omega arith)
+    reverses_past q c.requires.search c.args.reverses.now.first c.row.last c.first_reverse_gain-found.result c.row.best.found (omega arith)
     (λ k h l q.
     let low = c.row.invariant.low in
     let saving = c.requires.saving k (omega arith) (omega arith) in
     let none = c.first_reverse_gain-found.ensures.none k (omega arith) (omega arith) in
-    let most = c.wanted-least.ensures.low in
+    let most = c.wanted-least-in-row.ensures.value in
     omega arith)
     c.row.invariant.best in
     record {
       low = omega arith;
       high = omega arith;
-      best = c.better-best.ensures (3 ∷ c.args.v ∷ c.args.first ∷ (c.first_reverse_gain-found.result + 1) ∷ []) (reverse_next c.requires.laws (scope c.args.bounded (setting c.args.setup.now)) c.args.view.now c.args.skip.now c.args.v c.args.v c.args.first c.first_reverse_gain-found.result) past;
+      best = c.or_better-best.ensures (3 ∷ q.v ∷ c.args.reverses.now.first ∷ (c.first_reverse_gain-found.result + 1) ∷ []) (reverse_next q c.requires.search c.args.reverses.now.first c.first_reverse_gain-found.result) past;
     }
 
 pub returns : goal.returns
 returns g c =
     let e : c.row.last ≡ c.args.end = let test = c.row-test.false in let high = c.row.invariant.high in omega arith in
-    subst (λ (k : ℕ). IsBestSoFar (scope c.args.bounded (setting c.args.setup.now)) c.args.view.now c.args.skip.now c.args.v c.args.v (3 ∷ c.args.v ∷ c.args.first ∷ (k) ∷ []) c.row.best) e c.row.invariant.best
+    let q = searched c.args.search.now in
+    subst (λ (k : ℕ). IsBestSoFar q (3 ∷ q.v ∷ c.args.reverses.now.first ∷ k ∷ []) c.row.best.found) e c.row.invariant.best
 
 pub returns-then-not-may_reverse_gain : goal.returns-then-not-may_reverse_gain
 returns-then-not-may_reverse_gain g c =
     let order = c.requires.order in
-    reverses_past c.requires.laws (scope c.args.bounded (setting c.args.setup.now)) c.args.view.now c.args.skip.now c.args.v c.args.v c.args.first (c.args.first + 1) c.args.end c.args.best (omega arith)
+    reverses_past (searched c.args.search.now) c.requires.search c.args.reverses.now.first (c.args.reverses.now.first + 1) c.args.end c.args.best.found (omega arith)
     (λ k h l q.
     let saving = c.requires.saving k (omega arith) l in
     let none = c.may_reverse_gain.ensures c.if-not-may_reverse_gain.true k (omega arith) (omega arith) in
-    let most = c.wanted-least.ensures.low in
+    let most = c.wanted-least.ensures.value in
     omega arith)
     c.requires.best

@@ -1,16 +1,14 @@
-use Rattle.dimension_core.specs.Setup.{setting}
-use Rattle.move_judge.specs.Scope.{scope}
+use Rattle.neighbourhood.specs.Searched.{searched}
 use Rattle.neighbourhood.proofs.Orders.{best_of_all, none_yet, no_reverses}
 use Rattle.neighbourhood.proofs.search.best_of_two.Goals as goal
 
 pub best_shift-shifted-requires-clause-best : goal.best_shift-shifted-requires-clause-best
 best_shift-shifted-requires-clause-best g c =
-    λ mv q. none_yet c.requires.laws (scope c.args.bounded (setting c.args.setup.now)) c.args.view.now c.args.skip.now c.args.v c.args.w mv q.0 q.1
+    rw c.none.ensures (λ mv counts. none_yet (searched c.args.search.now) c.requires.search mv counts.0 counts.1)
 
 pub best_cross-requires-clause-best : goal.best_cross-requires-clause-best
 best_cross-requires-clause-best g c =
-    no_reverses c.requires.laws (scope c.args.bounded (setting c.args.setup.now)) c.args.view.now c.args.skip.now c.args.v c.args.w c.best_swap-swapped.result c.requires.apart c.best_swap-swapped.ensures
+    no_reverses (searched c.args.search.now) c.requires.search c.best_swap-swapped.result.found c.requires.apart c.best_swap-swapped.ensures
 
 pub returns : goal.returns
-returns g c =
-    best_of_all c.requires.laws (scope c.args.bounded (setting c.args.setup.now)) c.args.view.now c.args.skip.now c.args.v c.args.w c.best_cross.result c.best_cross.ensures
+returns g c = best_of_all (searched c.args.search.now) c.requires.search c.best_cross.result.found c.best_cross.ensures

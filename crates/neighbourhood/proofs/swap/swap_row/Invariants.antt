@@ -1,7 +1,6 @@
 use Rattle.std.proofs.Common.{◌≤◌, ◌-◌, [], ◌∷◌}
-use Rattle.dimension_core.specs.Setup.{setting}
-use Rattle.move_judge.specs.Scope.{scope}
 use Rattle.neighbourhood.specs.Search.{IsBestSoFar}
+use Rattle.neighbourhood.specs.Searched.{searched}
 use Rattle.neighbourhood.proofs.swap.swap_row.Given as goal
 
 -- the best of the moves so far
@@ -9,7 +8,7 @@ abbrev pub invariant-row : goal.invariant-row
 invariant-row g l = record {
   low : l.first ≤ l.at;
   high : l.at ≤ l.end;
-  best : IsBestSoFar (scope l.bounded (setting l.setup)) l.view l.skip l.v l.w (2 ∷ l.v ∷ l.place ∷ l.w ∷ l.at ∷ []) l.best;
+  best : IsBestSoFar (searched l.search) (2 ∷ l.search.v ∷ l.swaps.place ∷ l.search.w ∷ l.at ∷ []) l.best.found;
 }
 
 abbrev pub decreases-row : goal.decreases-row

@@ -1,0 +1,26 @@
+use Rattle.std.proofs.Common.{◌≡◌, ◌-◌, ◌≤◌, ◌<◌, arith}
+use Rattle.neighbourhood.specs.Search.{gain_of}
+use Rattle.neighbourhood.specs.Searched.{searched, new_cost, old_cost}
+use Rattle.neighbourhood.proofs.Betters.{kept_by_gain, kept_by_rule, taken_by_gain}
+use Rattle.neighbourhood.proofs.best.Best.or_better.Goals as goal
+
+pub returns-then-gain : goal.returns-then-gain
+returns-then-gain g c = λ bound next so_far.
+    let q = searched c.args.search.now in
+    let saving = c.requires.saving in
+    let e : c.saturating_sub-gain.result ≡ old_cost q - new_cost q c.args.mv = let d = c.saturating_sub-gain.ensures in omega arith in
+    let h : c.saturating_sub-gain.result ≤ gain_of c.args.self.found = let d = c.gain.ensures.value in let t = c.if-gain.true in omega arith in
+    kept_by_gain q c.args.mv c.saturating_sub-gain.result c.args.self.found bound e h next so_far
+
+pub returns-then-not-judged : goal.returns-then-not-judged
+returns-then-not-judged g c = λ bound next so_far.
+    kept_by_rule (searched c.args.search.now) c.args.mv c.args.self.found bound (λ a. let is = c.allows-judged.ensures.1 a in cc) next so_far
+
+pub returns : goal.returns
+returns g c = λ bound next so_far.
+    let q = searched c.args.search.now in
+    let saving = c.requires.saving in
+    let e : c.saturating_sub-gain.result ≡ old_cost q - new_cost q c.args.mv = let d = c.saturating_sub-gain.ensures in omega arith in
+    let h : gain_of c.args.self.found < c.saturating_sub-gain.result = let d = c.gain.ensures.value in let t = c.if-gain.false in omega arith in
+    taken_by_gain q c.args.mv c.saturating_sub-gain.result c.args.self.found bound e h
+    c.requires.near c.requires.possible (c.allows-judged.ensures.0 c.if-not-judged.false) next so_far
