@@ -1,25 +1,23 @@
 //! Crosses of two vehicles.
-ghost use Rattle.std.specs.Prelude.{◌≡◌, ◌≢◌, ℕ, ◌+◌, ◌-◌, ◌^◌, ◌<◌, ◌≤◌, [], ◌∷◌, length, slice_index, All};
+ghost use Rattle.std.specs.Prelude.{◌≡◌, ◌≢◌, ℕ, ◌+◌, ◌-◌, ◌^◌, ◌<◌, ◌≤◌, [], ◌∷◌, length};
 ghost use Rattle.move_core.specs.declared.moves.Move.TheVariants.{Cross};
 ghost use Rattle.neighbourhood.specs.Search.{IsBestSoFar};
 ghost use Rattle.neighbourhood.specs.Searched.{searched, CountsIn, IsGathered, IsPossible, IsSearch, Saves};
+ghost use Rattle.way_costs.specs.Rows.{IsCutRow, lost_by_cut, gained_by_cut};
 
 use crate::best::Best;
 use crate::searched::{Gathered, Search};
 use move_core::Move;
 use move_judge::must_keep;
-use way_costs::{first_gain, may_gain, row};
+use way_costs::{CutRow, first_gain, may_gain, row};
 
 /// The crosses that keep so many customers of the first vehicle: what each of them loses there, and the ways along the stops of the second,
-/// none dearer than `most`. `here` is the ways from the last customer kept to those stops, `next` the ways from them to the stop after it.
+/// with the ways from those stops to the one after the last customer kept, and from that customer to them.
 #[derive(Clone, Copy)]
 struct Crosses<'a> {
     keep: u32,
     lost: u64,
-    edges: &'a [u32],
-    most: u32,
-    here: &'a [u32],
-    next: &'a [u32],
+    ways: CutRow<'a>,
 }
 
 /// The better of the best so far and the crosses that keep `first` or more of the second vehicle but fewer than `end`.
@@ -27,35 +25,31 @@ fn cross_row(search: &Search, crosses: &Crosses, first: u32, end: u32, best: Bes
     requires search { IsSearch (searched search.now) }
     requires apart { search.now.v ≢ search.now.w }
     requires order { first ≤ end }
-    requires edges { end ≤ length crosses.now.edges.now }
-    requires most { All (λ x. x ≤ crosses.now.most) crosses.now.edges.now }
-    requires here { end < length crosses.now.here.now }
-    requires next { end ≤ length crosses.now.next.now }
-    requires short { length crosses.now.here.now ≤ 1002 }
+    requires ways { IsCutRow crosses.now.ways end }
+    requires short { length crosses.now.ways.on.now ≤ 1002 }
     requires fixed { crosses.now.lost < 2 ^ 34 }
     requires possible { (l : ℕ) → l < end → IsPossible (searched search.now) (Cross search.now.v crosses.now.keep search.now.w l) }
     requires saving { (l : ℕ) → l < end → Saves (searched search.now) (Cross search.now.v crosses.now.keep search.now.w l)
-        (crosses.now.lost + slice_index crosses.now.edges.now l)
-        (slice_index crosses.now.here.now (l + 1) + slice_index crosses.now.next.now l) }
+        (crosses.now.lost + lost_by_cut crosses.now.ways l) (gained_by_cut crosses.now.ways l) }
     requires best { IsBestSoFar (searched search.now) (4 ∷ search.now.v ∷ crosses.now.keep ∷ search.now.w ∷ first ∷ []) best.found }
     ensures { IsBestSoFar (searched search.now) (4 ∷ search.now.v ∷ crosses.now.keep ∷ search.now.w ∷ end ∷ []) result.found }
 {
-    let (lost, edges, here, next) = (crosses.lost, crosses.edges, crosses.here, crosses.next);
+    let (lost, ways) = (crosses.lost, crosses.ways);
     let (least, begin, last) = (best.wanted(0), first as usize, end as usize);
-    if !may_gain(lost, least, edges, crosses.most, next, here, begin, last) {
+    if !may_gain(lost, least, &ways, begin, last) {
         return best;
     }
     let mut best = best;
     let mut keep_other = first;
     'row: while keep_other < end {
         let from = keep_other as usize;
-        let found = first_gain(lost, best.wanted(0), edges, next, here, from, last);
+        let found = first_gain(lost, best.wanted(0), &ways, from, last);
         let there = found as u32;
         if there == end {
             return best;
         }
-        let all_lost = lost + u64::from(edges[found]);
-        let all_gained = u64::from(here[found + 1]) + u64::from(next[found]);
+        let all_lost = lost + u64::from(ways.edges[found]);
+        let all_gained = u64::from(ways.to[found]) + u64::from(ways.on[found + 1]);
         let mv = Move::Cross {
             vehicle: search.v,
             keep: crosses.keep,
@@ -95,10 +89,12 @@ fn cross_over(search: &Search, gathered: &Gathered, keep: u32, begin: u32, best:
     let crosses = Crosses {
         keep,
         lost,
-        edges: gathered.to_edges,
-        most: gathered.most,
-        here,
-        next,
+        ways: CutRow {
+            edges: gathered.to_edges,
+            most: gathered.most,
+            to: next,
+            on: here,
+        },
     };
     cross_row(search, &crosses, begin, end as u32, best)
 }

@@ -1,27 +1,24 @@
 //! Reverses of a stretch of customers.
-ghost use Rattle.std.specs.Prelude.{◌≡◌, ℕ, ◌+◌, ◌-◌, ◌^◌, ◌<◌, ◌≤◌, [], ◌∷◌, length, slice_index, All};
+ghost use Rattle.std.specs.Prelude.{◌≡◌, ℕ, ◌+◌, ◌-◌, ◌^◌, ◌<◌, ◌≤◌, [], ◌∷◌, length};
 ghost use Rattle.move_core.specs.declared.moves.Move.TheVariants.{Reverse};
 ghost use Rattle.neighbourhood.specs.Search.{IsBestSoFar};
 ghost use Rattle.neighbourhood.specs.Searched.{searched, AreSummed, IsGathered, IsPossible, IsSearch, Saves};
+ghost use Rattle.way_costs.specs.Rows.{IsReverseRow, lost_by_reverse, gained_by_reverse};
 
 use crate::best::Best;
 use crate::searched::{Gathered, Search};
 use move_core::Move;
 use move_judge::first_free;
-use way_costs::{first_reverse_gain, may_reverse_gain, row};
+use way_costs::{ReverseRow, first_reverse_gain, may_reverse_gain, row};
 
-/// The reverses from a place on: what each of them loses and gains there, the ways along the stops, and the ways over the first of these,
-/// as they are driven and as they are driven back. `before` and `here` are the ways from the stop before the place and from it.
+/// The reverses from a place on: what each of them loses and gains there, and the ways along the stops, with the ways to them from the place
+/// and from the stop before it.
 #[derive(Clone, Copy)]
 struct Reverses<'a> {
     first: u32,
     lost: u64,
     gained: u64,
-    edges: &'a [u32],
-    sums: &'a [u64],
-    back_sums: &'a [u64],
-    before: &'a [u32],
-    here: &'a [u32],
+    ways: ReverseRow<'a>,
 }
 
 /// The better of the best so far and the reverses that end before a place.
@@ -29,65 +26,37 @@ fn reverse_row(search: &Search, reverses: &Reverses, end: u32, best: Best) -> Be
     requires search { IsSearch (searched search.now) }
     requires inside { search.now.v ≡ search.now.w }
     requires order { reverses.now.first < end }
-    requires edges { end ≤ length reverses.now.edges.now }
-    requires sums { end ≤ length reverses.now.sums.now }
-    requires back_sums { end ≤ length reverses.now.back_sums.now }
-    requires before { end ≤ length reverses.now.before.now }
-    requires here { end < length reverses.now.here.now }
-    requires short { length reverses.now.here.now ≤ 1002 }
-    requires small { All (λ x. x ≤ 2 ^ 42) reverses.now.sums.now × All (λ x. x ≤ 2 ^ 42) reverses.now.back_sums.now }
+    requires ways { IsReverseRow reverses.now.ways end }
+    requires short { length reverses.now.ways.here.now ≤ 1002 }
     requires fixed { (reverses.now.lost < 2 ^ 50) × (reverses.now.gained < 2 ^ 50) }
     requires possible { (last : ℕ) → reverses.now.first < last → last < end → IsPossible (searched search.now) (Reverse search.now.v reverses.now.first last) }
     requires saving { (last : ℕ) → reverses.now.first < last → last < end → Saves (searched search.now) (Reverse search.now.v reverses.now.first last)
-        (reverses.now.lost + slice_index reverses.now.sums.now last + slice_index reverses.now.edges.now last)
-        (reverses.now.gained + slice_index reverses.now.before.now last + slice_index reverses.now.back_sums.now last + slice_index reverses.now.here.now (last + 1)) }
+        (reverses.now.lost + lost_by_reverse reverses.now.ways last) (reverses.now.gained + gained_by_reverse reverses.now.ways last) }
     requires best { IsBestSoFar (searched search.now) (3 ∷ search.now.v ∷ reverses.now.first ∷ (reverses.now.first + 1) ∷ []) best.found }
     ensures { IsBestSoFar (searched search.now) (3 ∷ search.now.v ∷ reverses.now.first ∷ end ∷ []) result.found }
 {
-    let (first, lost, edges) = (reverses.first, reverses.lost, reverses.edges);
-    let (sums, back_sums) = (reverses.sums, reverses.back_sums);
-    let (before, here) = (reverses.before, reverses.here);
+    let (first, lost, ways) = (reverses.first, reverses.lost, reverses.ways);
     if first + 1 == end {
         return best;
     }
     let least = best.wanted(reverses.gained);
-    if !may_reverse_gain(
-        lost,
-        least,
-        edges,
-        sums,
-        back_sums,
-        before,
-        here,
-        first as usize + 1,
-        end as usize,
-    ) {
+    if !may_reverse_gain(lost, least, &ways, first as usize + 1, end as usize) {
         return best;
     }
     let mut best = best;
     let mut last = first + 1;
     'row: while last < end {
         let least = best.wanted(reverses.gained);
-        let found = first_reverse_gain(
-            lost,
-            least,
-            edges,
-            sums,
-            back_sums,
-            before,
-            here,
-            last as usize,
-            end as usize,
-        );
+        let found = first_reverse_gain(lost, least, &ways, last as usize, end as usize);
         let there = found as u32;
         if there == end {
             return best;
         }
-        let all_lost = lost + sums[found] + u64::from(edges[found]);
+        let all_lost = lost + ways.sums[found] + u64::from(ways.edges[found]);
         let all_gained = reverses.gained
-            + u64::from(before[found])
-            + back_sums[found]
-            + u64::from(here[found + 1]);
+            + u64::from(ways.before[found])
+            + ways.back_sums[found]
+            + u64::from(ways.here[found + 1]);
         let mv = Move::Reverse {
             vehicle: search.v,
             first,
@@ -125,11 +94,13 @@ fn reverse_from(
         first,
         lost: u64::from(edges[index - 1]) + back_sums[index],
         gained: sums[index],
-        edges,
-        sums,
-        back_sums,
-        before: row(gathered.out, width, index - 1),
-        here: row(gathered.out, width, index),
+        ways: ReverseRow {
+            edges,
+            sums,
+            back_sums,
+            before: row(gathered.out, width, index - 1),
+            here: row(gathered.out, width, index),
+        },
     };
     reverse_row(search, &reverses, width as u32 - 1, best)
 }

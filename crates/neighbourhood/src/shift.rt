@@ -1,5 +1,5 @@
 //! Shifts of one to three customers.
-ghost use Rattle.std.specs.Prelude.{◌≡◌, ◌≢◌, ℕ, ◌+◌, ◌-◌, ◌^◌, ◌<◌, ◌≤◌, [], ◌∷◌, length, slice_index, All};
+ghost use Rattle.std.specs.Prelude.{◌≡◌, ◌≢◌, ℕ, ◌+◌, ◌-◌, ◌^◌, ◌<◌, ◌≤◌, [], ◌∷◌, length, slice_index};
 ghost use Rattle.plan_core.specs.Plan.{route_at};
 ghost use Rattle.move_core.specs.declared.moves.Move.TheVariants.{Shift};
 ghost use Rattle.move_core.specs.Moves.{stretch};
@@ -8,26 +8,24 @@ ghost use Rattle.pin_core.specs.View.{pins_of};
 ghost use Rattle.move_judge.specs.Allowed.{AreLoose};
 ghost use Rattle.neighbourhood.specs.Search.{IsBestSoFar};
 ghost use Rattle.neighbourhood.specs.Searched.{searched, costs_of, IsGathered, IsPossible, IsSearch, Saves};
+ghost use Rattle.way_costs.specs.Rows.{IsCutRow, lost_by_cut, gained_by_cut};
 ghost use Rattle.way_costs.specs.Ways.{hop};
 
 use crate::best::Best;
 use crate::searched::{Gathered, Search};
 use move_core::Move;
 use move_judge::{first_free, loose_from};
-use way_costs::{first_gain, hop, may_gain, row};
+use way_costs::{CutRow, first_gain, hop, may_gain, row};
 
-/// The shifts of some customers, which stand from a place on: what each of them loses and gains there, the ways along the stops that they
-/// are shifted between, none dearer than `most`, and the ways from those stops to the first customer, and from the last one to them.
+/// The shifts of some customers, which stand from a place on: what each of them loses and gains there, and the ways along the stops that they
+/// are shifted between, with the ways from those stops to the first customer and from the last one to them.
 #[derive(Clone, Copy)]
 struct Shifts<'a> {
     place: u32,
     count: u32,
     lost: u64,
     gained: u64,
-    edges: &'a [u32],
-    most: u32,
-    into: &'a [u32],
-    out: &'a [u32],
+    ways: CutRow<'a>,
 }
 
 /// The better of the best so far and the shifts to the places from one to before another. What comes before and after the customers there
@@ -45,27 +43,23 @@ fn shift_row(
     requires few { shifts.now.count ≤ 3 }
     requires low { 1 ≤ first }
     requires order { first ≤ end }
-    requires edges { end + offset ≤ length shifts.now.edges.now + 1 }
-    requires most { All (λ x. x ≤ shifts.now.most) shifts.now.edges.now }
-    requires into { end + offset ≤ length shifts.now.into.now }
-    requires out { end + offset ≤ length shifts.now.out.now }
-    requires short { length shifts.now.out.now ≤ 1002 }
+    requires ways { IsCutRow shifts.now.ways (end + offset - 1) }
+    requires short { length shifts.now.ways.on.now ≤ 1002 }
     requires fixed { (shifts.now.lost < 2 ^ 34) × (shifts.now.gained < 2 ^ 34) }
     requires possible { (at : ℕ) → first ≤ at → at < end → IsPossible (searched search.now) (Shift search.now.v shifts.now.place shifts.now.count search.now.w at) }
     requires saving { (at : ℕ) → first ≤ at → at < end → Saves (searched search.now) (Shift search.now.v shifts.now.place shifts.now.count search.now.w at)
-        (shifts.now.lost + slice_index shifts.now.edges.now (at + offset - 1))
-        (shifts.now.gained + slice_index shifts.now.into.now (at + offset - 1) + slice_index shifts.now.out.now (at + offset)) }
+        (shifts.now.lost + lost_by_cut shifts.now.ways (at + offset - 1)) (shifts.now.gained + gained_by_cut shifts.now.ways (at + offset - 1)) }
     requires best { IsBestSoFar (searched search.now) (1 ∷ search.now.v ∷ shifts.now.place ∷ shifts.now.count ∷ search.now.w ∷ first ∷ []) best.found }
     ensures { IsBestSoFar (searched search.now) (1 ∷ search.now.v ∷ shifts.now.place ∷ shifts.now.count ∷ search.now.w ∷ end ∷ []) result.found }
 {
     if first == end {
         return best;
     }
-    let (lost, edges, into, out) = (shifts.lost, shifts.edges, shifts.into, shifts.out);
+    let (lost, ways) = (shifts.lost, shifts.ways);
     let least = best.wanted(shifts.gained);
     let begin = (first + offset) as usize - 1;
     let last = (end + offset) as usize - 1;
-    if !may_gain(lost, least, edges, shifts.most, into, out, begin, last) {
+    if !may_gain(lost, least, &ways, begin, last) {
         return best;
     }
     let mut best = best;
@@ -73,13 +67,13 @@ fn shift_row(
     'row: while at < end {
         let from = (at + offset) as usize - 1;
         let least = best.wanted(shifts.gained);
-        let found = first_gain(lost, least, edges, into, out, from, last);
+        let found = first_gain(lost, least, &ways, from, last);
         let next = (found + 1) as u32 - offset;
         if next == end {
             return best;
         }
-        let all_lost = lost + u64::from(edges[found]);
-        let all_gained = shifts.gained + u64::from(into[found]) + u64::from(out[found + 1]);
+        let all_lost = lost + u64::from(ways.edges[found]);
+        let all_gained = shifts.gained + u64::from(ways.to[found]) + u64::from(ways.on[found + 1]);
         let mv = Move::Shift {
             vehicle: search.v,
             place: shifts.place,
@@ -162,10 +156,12 @@ fn shift_over(
         count,
         lost,
         gained,
-        edges: gathered.to_edges,
-        most: gathered.most,
-        into: comes,
-        out: goes,
+        ways: CutRow {
+            edges: gathered.to_edges,
+            most: gathered.most,
+            to: comes,
+            on: goes,
+        },
     };
     shift_row(search, &shifts, 0, begin, width as u32, best)
 }
@@ -193,10 +189,12 @@ fn shift_within(search: &Search, gathered: &Gathered, place: u32, count: u32, be
         count,
         lost: u64::from(edges[first - 1]) + u64::from(edges[after - 1]),
         gained: u64::from(closes[after]),
-        edges,
-        most: gathered.most,
-        into: row(gathered.into, width, first),
-        out: row(gathered.out, width, after - 1),
+        ways: CutRow {
+            edges,
+            most: gathered.most,
+            to: row(gathered.into, width, first),
+            on: row(gathered.out, width, after - 1),
+        },
     };
     let forwards = shift_row(search, &shifts, 0, begin, place, best);
     let end = width as u32 - count;

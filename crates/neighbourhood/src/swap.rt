@@ -1,28 +1,23 @@
 //! Swaps of two customers.
-ghost use Rattle.std.specs.Prelude.{◌≡◌, ◌≢◌, ℕ, ◌+◌, ◌-◌, ◌^◌, ◌<◌, ◌≤◌, [], ◌∷◌, length, slice_index, All};
+ghost use Rattle.std.specs.Prelude.{◌≡◌, ◌≢◌, ℕ, ◌+◌, ◌-◌, ◌^◌, ◌<◌, ◌≤◌, [], ◌∷◌, length};
 ghost use Rattle.move_core.specs.declared.moves.Move.TheVariants.{Swap};
 ghost use Rattle.neighbourhood.specs.Search.{IsBestSoFar};
 ghost use Rattle.neighbourhood.specs.Searched.{searched, IsGathered, IsPossible, IsSearch, Saves};
+ghost use Rattle.way_costs.specs.Rows.{IsSwapRow, lost_by_swap, gained_by_swap};
 
 use crate::best::Best;
 use crate::searched::{Gathered, Search};
 use move_core::Move;
 use move_judge::{first_free, may_leave};
-use way_costs::{first_swap_gain, may_swap_gain, row};
+use way_costs::{SwapRow, first_swap_gain, may_swap_gain, row};
 
-/// The swaps of the customer at a place: what each of them loses there, and the ways along the stops that it is swapped between, none
-/// dearer than `most`. `before` and `here` are the ways from the stop before the customer and from it to those stops, `next` and `back` the
-/// ways from them to the stop after it and to it.
+/// The swaps of the customer at a place: what each of them loses there, and the ways along the stops that it is swapped between, with the
+/// ways between those stops and the customer, the stop before it and the stop after it.
 #[derive(Clone, Copy)]
 struct Swaps<'a> {
     place: u32,
     lost: u64,
-    edges: &'a [u32],
-    most: u32,
-    before: &'a [u32],
-    here: &'a [u32],
-    next: &'a [u32],
-    back: &'a [u32],
+    ways: SwapRow<'a>,
 }
 
 /// The better of the best so far and the swaps with the customers at the places from one to before another.
@@ -32,62 +27,34 @@ fn swap_row(search: &Search, swaps: &Swaps, first: u32, end: u32, best: Best) ->
     requires low { 1 ≤ first }
     requires order { first ≤ end }
     requires near { search.now.v ≡ search.now.w → swaps.now.place < first }
-    requires edges { end ≤ length swaps.now.edges.now }
-    requires most { All (λ x. x ≤ swaps.now.most) swaps.now.edges.now }
-    requires before { end ≤ length swaps.now.before.now }
-    requires here { end < length swaps.now.here.now }
-    requires next { end ≤ length swaps.now.next.now }
-    requires back { end ≤ length swaps.now.back.now }
-    requires short { length swaps.now.here.now ≤ 1002 }
+    requires ways { IsSwapRow swaps.now.ways end }
+    requires short { length swaps.now.ways.here.now ≤ 1002 }
     requires fixed { swaps.now.lost < 2 ^ 34 }
     requires possible { (at : ℕ) → first ≤ at → at < end → IsPossible (searched search.now) (Swap search.now.v swaps.now.place search.now.w at) }
     requires saving { (at : ℕ) → first ≤ at → at < end → Saves (searched search.now) (Swap search.now.v swaps.now.place search.now.w at)
-        (swaps.now.lost + slice_index swaps.now.edges.now (at - 1) + slice_index swaps.now.edges.now at)
-        (slice_index swaps.now.before.now at + slice_index swaps.now.next.now at + slice_index swaps.now.back.now (at - 1) + slice_index swaps.now.here.now (at + 1)) }
+        (swaps.now.lost + lost_by_swap swaps.now.ways at) (gained_by_swap swaps.now.ways at) }
     requires best { IsBestSoFar (searched search.now) (2 ∷ search.now.v ∷ swaps.now.place ∷ search.now.w ∷ first ∷ []) best.found }
     ensures { IsBestSoFar (searched search.now) (2 ∷ search.now.v ∷ swaps.now.place ∷ search.now.w ∷ end ∷ []) result.found }
 {
-    let (lost, edges) = (swaps.lost, swaps.edges);
-    let (before, here, next, back) = (swaps.before, swaps.here, swaps.next, swaps.back);
+    let (lost, ways) = (swaps.lost, swaps.ways);
     let least = best.wanted(0);
-    if !may_swap_gain(
-        lost,
-        least,
-        edges,
-        swaps.most,
-        before,
-        here,
-        next,
-        back,
-        first as usize,
-        end as usize,
-    ) {
+    if !may_swap_gain(lost, least, &ways, first as usize, end as usize) {
         return best;
     }
     let mut best = best;
     let mut at = first;
     'row: while at < end {
         let least = best.wanted(0);
-        let found = first_swap_gain(
-            lost,
-            least,
-            edges,
-            before,
-            here,
-            next,
-            back,
-            at as usize,
-            end as usize,
-        );
+        let found = first_swap_gain(lost, least, &ways, at as usize, end as usize);
         let there = found as u32;
         if there == end {
             return best;
         }
-        let all_lost = lost + u64::from(edges[found - 1]) + u64::from(edges[found]);
-        let all_gained = u64::from(before[found])
-            + u64::from(next[found])
-            + u64::from(back[found - 1])
-            + u64::from(here[found + 1]);
+        let all_lost = lost + u64::from(ways.edges[found - 1]) + u64::from(ways.edges[found]);
+        let all_gained = u64::from(ways.before[found])
+            + u64::from(ways.next[found])
+            + u64::from(ways.back[found - 1])
+            + u64::from(ways.here[found + 1]);
         let mv = Move::Swap {
             vehicle: search.v,
             place: swaps.place,
@@ -130,12 +97,14 @@ fn swap_over(search: &Search, gathered: &Gathered, place: u32, best: Best) -> Be
     let swaps = Swaps {
         place,
         lost,
-        edges: gathered.to_edges,
-        most: gathered.most,
-        before,
-        here,
-        next,
-        back,
+        ways: SwapRow {
+            edges: gathered.to_edges,
+            most: gathered.most,
+            before,
+            here,
+            next,
+            back,
+        },
     };
     swap_row(search, &swaps, begin, end as u32, best)
 }
@@ -191,12 +160,14 @@ fn swap_within(search: &Search, gathered: &Gathered, place: u32, best: Best) -> 
     let swaps = Swaps {
         place,
         lost: u64::from(edges[index - 1]) + u64::from(edges[index]),
-        edges,
-        most: gathered.most,
-        before: row(gathered.out, width, index - 1),
-        here: row(gathered.out, width, index),
-        next: row(gathered.into, width, index + 1),
-        back: row(gathered.into, width, index),
+        ways: SwapRow {
+            edges,
+            most: gathered.most,
+            before: row(gathered.out, width, index - 1),
+            here: row(gathered.out, width, index),
+            next: row(gathered.into, width, index + 1),
+            back: row(gathered.into, width, index),
+        },
     };
     swap_row(search, &swaps, place + 2, width as u32 - 1, near)
 }

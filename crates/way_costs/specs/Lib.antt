@@ -2,4 +2,5 @@ pub mod Ways
 pub mod Sides
 pub mod Costs
 pub mod Savings
+pub mod Rows
 pub mod Laws

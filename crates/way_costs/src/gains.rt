@@ -1,32 +1,72 @@
-//! Where a row of candidates first gains more than is wanted, by the sums of the ways that each loses and gains.
-ghost use Rattle.std.specs.Prelude.{false, ◌≡◌, ℕ, ◌+◌, ◌-◌, ◌<◌, ◌≤◌, ◌^◌, length, slice_index, All};
+//! Where a row of candidates first gains more than is wanted, by the costs of the ways that each loses and gains.
+ghost use Rattle.std.specs.Prelude.{false, ◌≡◌, ℕ, ◌+◌, ◌<◌, ◌≤◌, ◌^◌, slice_index};
+ghost use Rattle.way_costs.specs.Rows.{IsCutRow, lost_by_cut, gained_by_cut};
+ghost use Rattle.way_costs.specs.Rows.{IsSwapRow, lost_by_swap, gained_by_swap};
+ghost use Rattle.way_costs.specs.Rows.{IsReverseRow, lost_by_reverse, gained_by_reverse};
 
 /// Rows of fewer candidates are not gone through twice.
 const FEW: usize = 16;
 
-/// The first index from one on and before another at which `lost` and the first row's number are more than `wanted`, the second row's
-/// number and the one after the third row's; the other index where there is none.
+/// What the ways of a row of cuts cost: each cut, at a stop, replaces the way from there to the next stop by a way from the stop to something
+/// and a way from something to the next stop.
+#[derive(Clone, Copy)]
+pub struct CutRow<'a> {
+    /// The way from each stop to the next.
+    pub edges: &'a [u32],
+    /// None of `edges` costs more.
+    pub most: u32,
+    /// The way from each stop to what comes next instead.
+    pub to: &'a [u32],
+    /// The way to each stop from what comes before it instead.
+    pub on: &'a [u32],
+}
+
+/// What the ways of a row of swaps cost: each swaps a given stop with one of a row of stops.
+#[derive(Clone, Copy)]
+pub struct SwapRow<'a> {
+    /// The way from each stop to the next.
+    pub edges: &'a [u32],
+    /// None of `edges` costs more.
+    pub most: u32,
+    /// The way to each stop from the one before the given stop.
+    pub before: &'a [u32],
+    /// The way to each stop from the given stop.
+    pub here: &'a [u32],
+    /// The way from each stop to the one after the given stop.
+    pub next: &'a [u32],
+    /// The way from each stop to the given stop.
+    pub back: &'a [u32],
+}
+
+/// What the ways of a row of reverses cost: each reverses the stops from a given one up to one of a row of stops.
+#[derive(Clone, Copy)]
+pub struct ReverseRow<'a> {
+    /// The way from each stop to the next.
+    pub edges: &'a [u32],
+    /// The ways up to each stop.
+    pub sums: &'a [u64],
+    /// The ways up to each stop, driven back.
+    pub back_sums: &'a [u64],
+    /// The way to each stop from the one before the given stop.
+    pub before: &'a [u32],
+    /// The way to each stop from the given stop.
+    pub here: &'a [u32],
+}
+
+/// The first index from one on and before another at which `lost` and the way lost there cost more than `wanted` and the ways gained there;
+/// the other index where there is none.
 #[inline(always)]
-pub fn first_gain(
-    lost: u64,
-    wanted: u64,
-    edges: &[u32],
-    to: &[u32],
-    on: &[u32],
-    from: usize,
-    end: usize,
-) -> usize
+pub fn first_gain(lost: u64, wanted: u64, row: &CutRow, from: usize, end: usize) -> usize
     requires lost { lost < 2 ^ 50 }
     requires wanted { wanted < 2 ^ 61 }
     requires order { from ≤ end }
-    requires edges { end ≤ length edges.now }
-    requires to { end ≤ length to.now }
-    requires on { end < length on.now }
+    requires row { IsCutRow row.now end }
     ensures low { from ≤ result }
     ensures high { result ≤ end }
-    ensures none { (k : ℕ) → k < result → from ≤ k → lost + slice_index edges.now k ≤ wanted + slice_index to.now k + slice_index on.now (k + 1) }
-    ensures found { result < end → wanted + slice_index to.now result + slice_index on.now (result + 1) < lost + slice_index edges.now result }
+    ensures none { (k : ℕ) → k < result → from ≤ k → lost + lost_by_cut row.now k ≤ wanted + gained_by_cut row.now k }
+    ensures found { result < end → wanted + gained_by_cut row.now result < lost + lost_by_cut row.now result }
 {
+    let (edges, to, on) = (row.edges, row.to, row.on);
     for k in from..end {
         let all_gained = wanted + u64::from(to[k]) + u64::from(on[k + 1]);
         let all_lost = lost + u64::from(edges[k]);
@@ -37,36 +77,20 @@ pub fn first_gain(
     end
 }
 
-/// The same for swaps: they lose two ways of the first row, from the number before the index on, and gain four ways, by the numbers of the
-/// other rows at the index, before it and after it.
+/// The same for swaps, each of which loses two ways of the row besides.
 #[inline(always)]
-pub fn first_swap_gain(
-    lost: u64,
-    wanted: u64,
-    edges: &[u32],
-    before: &[u32],
-    here: &[u32],
-    next: &[u32],
-    back: &[u32],
-    from: usize,
-    end: usize,
-) -> usize
+pub fn first_swap_gain(lost: u64, wanted: u64, row: &SwapRow, from: usize, end: usize) -> usize
     requires lost { lost < 2 ^ 50 }
     requires wanted { wanted < 2 ^ 61 }
     requires begin { 1 ≤ from }
     requires order { from ≤ end }
-    requires edges { end ≤ length edges.now }
-    requires before { end ≤ length before.now }
-    requires here { end < length here.now }
-    requires next { end ≤ length next.now }
-    requires back { end ≤ length back.now }
+    requires row { IsSwapRow row.now end }
     ensures low { from ≤ result }
     ensures high { result ≤ end }
-    ensures none { (k : ℕ) → k < result → from ≤ k → lost + slice_index edges.now (k - 1) + slice_index edges.now k
-        ≤ wanted + slice_index before.now k + slice_index next.now k + slice_index back.now (k - 1) + slice_index here.now (k + 1) }
-    ensures found { result < end → wanted + slice_index before.now result + slice_index next.now result + slice_index back.now (result - 1) + slice_index here.now (result + 1)
-        < lost + slice_index edges.now (result - 1) + slice_index edges.now result }
+    ensures none { (k : ℕ) → k < result → from ≤ k → lost + lost_by_swap row.now k ≤ wanted + gained_by_swap row.now k }
+    ensures found { result < end → wanted + gained_by_swap row.now result < lost + lost_by_swap row.now result }
 {
+    let (edges, before, here, next, back) = (row.edges, row.before, row.here, row.next, row.back);
     for k in from..end {
         let all_lost = lost + u64::from(edges[k - 1]) + u64::from(edges[k]);
         let all_gained = wanted
@@ -81,35 +105,26 @@ pub fn first_swap_gain(
     end
 }
 
-/// The same for reverses: they lose and gain sums of ways besides, as the ways are driven and as they are driven back.
+/// The same for reverses, each of which loses and gains the ways up to its stop besides.
 #[inline(always)]
 pub fn first_reverse_gain(
     lost: u64,
     wanted: u64,
-    edges: &[u32],
-    sums: &[u64],
-    back_sums: &[u64],
-    before: &[u32],
-    here: &[u32],
+    row: &ReverseRow,
     from: usize,
     end: usize,
 ) -> usize
     requires lost { lost < 2 ^ 51 }
     requires wanted { wanted < 2 ^ 61 }
     requires order { from ≤ end }
-    requires edges { end ≤ length edges.now }
-    requires sums { end ≤ length sums.now }
-    requires back_sums { end ≤ length back_sums.now }
-    requires before { end ≤ length before.now }
-    requires here { end < length here.now }
-    requires small { All (λ x. x ≤ 2 ^ 42) sums.now × All (λ x. x ≤ 2 ^ 42) back_sums.now }
+    requires row { IsReverseRow row.now end }
     ensures low { from ≤ result }
     ensures high { result ≤ end }
-    ensures none { (k : ℕ) → k < result → from ≤ k → lost + slice_index sums.now k + slice_index edges.now k
-        ≤ wanted + slice_index before.now k + slice_index back_sums.now k + slice_index here.now (k + 1) }
-    ensures found { result < end → wanted + slice_index before.now result + slice_index back_sums.now result + slice_index here.now (result + 1)
-        < lost + slice_index sums.now result + slice_index edges.now result }
+    ensures none { (k : ℕ) → k < result → from ≤ k → lost + lost_by_reverse row.now k ≤ wanted + gained_by_reverse row.now k }
+    ensures found { result < end → wanted + gained_by_reverse row.now result < lost + lost_by_reverse row.now result }
 {
+    let (edges, sums, back_sums) = (row.edges, row.sums, row.back_sums);
+    let (before, here) = (row.before, row.here);
     for k in from..end {
         let all_lost = lost + sums[k] + u64::from(edges[k]);
         let all_gained = wanted + u64::from(before[k]) + back_sums[k] + u64::from(here[k + 1]);
@@ -120,16 +135,15 @@ pub fn first_reverse_gain(
     end
 }
 
-/// Whether a number of the first row may be more than `more`, the second row's number and the one after the third row's, in one pass
-/// without branches. No sum is made, so that 32 bits are enough, and four numbers go through at once.
+/// Whether a way lost may cost more than `more` and the ways gained, in one pass without branches. No sum is made, so that 32 bits are enough,
+/// and four numbers go through at once.
 #[inline(always)]
-fn may_gain_over(more: u32, edges: &[u32], to: &[u32], on: &[u32], from: usize, end: usize) -> bool
+fn may_gain_over(more: u32, row: &CutRow, from: usize, end: usize) -> bool
     requires order { from ≤ end }
-    requires edges { end ≤ length edges.now }
-    requires to { end ≤ length to.now }
-    requires on { end < length on.now }
-    ensures { result ≡ false → (k : ℕ) → k < end → from ≤ k → slice_index edges.now k ≤ more + slice_index to.now k + slice_index on.now (k + 1) }
+    requires row { IsCutRow row.now end }
+    ensures { result ≡ false → (k : ℕ) → k < end → from ≤ k → lost_by_cut row.now k ≤ more + gained_by_cut row.now k }
 {
+    let (edges, to, on) = (row.edges, row.to, row.on);
     let mut gains = false;
     for k in from..end {
         let left = edges[k].saturating_sub(more).saturating_sub(to[k]);
@@ -140,15 +154,14 @@ fn may_gain_over(more: u32, edges: &[u32], to: &[u32], on: &[u32], from: usize, 
     gains
 }
 
-/// The same where the first row's number and `less` may be more than the others. A sum that does not fit is told too small.
+/// The same where `less` and a way lost may cost more than the ways gained. A sum that does not fit is told too small.
 #[inline(always)]
-fn may_gain_under(less: u32, edges: &[u32], to: &[u32], on: &[u32], from: usize, end: usize) -> bool
+fn may_gain_under(less: u32, row: &CutRow, from: usize, end: usize) -> bool
     requires order { from ≤ end }
-    requires edges { end ≤ length edges.now }
-    requires to { end ≤ length to.now }
-    requires on { end < length on.now }
-    ensures { result ≡ false → (k : ℕ) → k < end → from ≤ k → less + slice_index edges.now k ≤ slice_index to.now k + slice_index on.now (k + 1) }
+    requires row { IsCutRow row.now end }
+    ensures { result ≡ false → (k : ℕ) → k < end → from ≤ k → less + lost_by_cut row.now k ≤ gained_by_cut row.now k }
 {
+    let (edges, to, on) = (row.edges, row.to, row.on);
     let mut gains = false;
     for k in from..end {
         let all_gained = to[k].saturating_add(on[k + 1]);
@@ -160,29 +173,17 @@ fn may_gain_under(less: u32, edges: &[u32], to: &[u32], on: &[u32], from: usize,
     gains
 }
 
-/// Whether `first_gain` may find an index: by `most`, which no number of the first row is above, and else by one pass without branches over a
-/// long row; over a short row no pass is made.
+/// Whether `first_gain` may find an index: by the row's `most`, and else by one pass without branches over a long row; over a short row no
+/// pass is made.
 #[inline(always)]
-pub fn may_gain(
-    lost: u64,
-    wanted: u64,
-    edges: &[u32],
-    most: u32,
-    to: &[u32],
-    on: &[u32],
-    from: usize,
-    end: usize,
-) -> bool
+pub fn may_gain(lost: u64, wanted: u64, row: &CutRow, from: usize, end: usize) -> bool
     requires lost { lost < 2 ^ 50 }
     requires wanted { wanted < 2 ^ 61 }
     requires order { from ≤ end }
-    requires edges { end ≤ length edges.now }
-    requires most { All (λ x. x ≤ most) edges.now }
-    requires to { end ≤ length to.now }
-    requires on { end < length on.now }
-    ensures { result ≡ false → (k : ℕ) → k < end → from ≤ k → lost + slice_index edges.now k ≤ wanted + slice_index to.now k + slice_index on.now (k + 1) }
+    requires row { IsCutRow row.now end }
+    ensures { result ≡ false → (k : ℕ) → k < end → from ≤ k → lost + lost_by_cut row.now k ≤ wanted + gained_by_cut row.now k }
 {
-    if lost + u64::from(most) <= wanted {
+    if lost + u64::from(row.most) <= wanted {
         return false;
     }
     if end - from < FEW {
@@ -190,48 +191,32 @@ pub fn may_gain(
     }
     if lost <= wanted {
         let more = (wanted - lost).min(4_294_967_295) as u32;
-        return may_gain_over(more, edges, to, on, from, end);
+        return may_gain_over(more, row, from, end);
     }
     let less = lost - wanted;
     if less > 4_294_967_295 {
         return true;
     }
-    may_gain_under(less as u32, edges, to, on, from, end)
+    may_gain_under(less as u32, row, from, end)
 }
 
 /// The same for `first_swap_gain`.
 #[inline(always)]
-pub fn may_swap_gain(
-    lost: u64,
-    wanted: u64,
-    edges: &[u32],
-    most: u32,
-    before: &[u32],
-    here: &[u32],
-    next: &[u32],
-    back: &[u32],
-    from: usize,
-    end: usize,
-) -> bool
+pub fn may_swap_gain(lost: u64, wanted: u64, row: &SwapRow, from: usize, end: usize) -> bool
     requires lost { lost < 2 ^ 50 }
     requires wanted { wanted < 2 ^ 61 }
     requires begin { 1 ≤ from }
     requires order { from ≤ end }
-    requires edges { end ≤ length edges.now }
-    requires most { All (λ x. x ≤ most) edges.now }
-    requires before { end ≤ length before.now }
-    requires here { end < length here.now }
-    requires next { end ≤ length next.now }
-    requires back { end ≤ length back.now }
-    ensures { result ≡ false → (k : ℕ) → k < end → from ≤ k → lost + slice_index edges.now (k - 1) + slice_index edges.now k
-        ≤ wanted + slice_index before.now k + slice_index next.now k + slice_index back.now (k - 1) + slice_index here.now (k + 1) }
+    requires row { IsSwapRow row.now end }
+    ensures { result ≡ false → (k : ℕ) → k < end → from ≤ k → lost + lost_by_swap row.now k ≤ wanted + gained_by_swap row.now k }
 {
-    if lost + 2 * u64::from(most) <= wanted {
+    if lost + 2 * u64::from(row.most) <= wanted {
         return false;
     }
     if end - from < FEW {
         return true;
     }
+    let (edges, before, here, next, back) = (row.edges, row.before, row.here, row.next, row.back);
     let mut gains = false;
     for k in from..end {
         let all_lost = lost + u64::from(edges[k - 1]) + u64::from(edges[k]);
@@ -249,32 +234,18 @@ pub fn may_swap_gain(
 
 /// The same for `first_reverse_gain`.
 #[inline(always)]
-pub fn may_reverse_gain(
-    lost: u64,
-    wanted: u64,
-    edges: &[u32],
-    sums: &[u64],
-    back_sums: &[u64],
-    before: &[u32],
-    here: &[u32],
-    from: usize,
-    end: usize,
-) -> bool
+pub fn may_reverse_gain(lost: u64, wanted: u64, row: &ReverseRow, from: usize, end: usize) -> bool
     requires lost { lost < 2 ^ 51 }
     requires wanted { wanted < 2 ^ 61 }
     requires order { from ≤ end }
-    requires edges { end ≤ length edges.now }
-    requires sums { end ≤ length sums.now }
-    requires back_sums { end ≤ length back_sums.now }
-    requires before { end ≤ length before.now }
-    requires here { end < length here.now }
-    requires small { All (λ x. x ≤ 2 ^ 42) sums.now × All (λ x. x ≤ 2 ^ 42) back_sums.now }
-    ensures { result ≡ false → (k : ℕ) → k < end → from ≤ k → lost + slice_index sums.now k + slice_index edges.now k
-        ≤ wanted + slice_index before.now k + slice_index back_sums.now k + slice_index here.now (k + 1) }
+    requires row { IsReverseRow row.now end }
+    ensures { result ≡ false → (k : ℕ) → k < end → from ≤ k → lost + lost_by_reverse row.now k ≤ wanted + gained_by_reverse row.now k }
 {
     if end - from < FEW {
         return true;
     }
+    let (edges, sums, back_sums) = (row.edges, row.sums, row.back_sums);
+    let (before, here) = (row.before, row.here);
     let mut gains = false;
     for k in from..end {
         let all_lost = lost + sums[k] + u64::from(edges[k]);

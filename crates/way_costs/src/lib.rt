@@ -8,7 +8,8 @@ mod sides;
 mod table;
 
 pub use gains::{
-    first_gain, first_reverse_gain, first_swap_gain, may_gain, may_reverse_gain, may_swap_gain,
+    CutRow, ReverseRow, SwapRow, first_gain, first_reverse_gain, first_swap_gain, may_gain,
+    may_reverse_gain, may_swap_gain,
 };
 pub use hops::{fill_stops, hop};
 pub use laws::moves_save;

@@ -45,8 +45,9 @@ cross_row-requires-clause-saving g c =
       | then-last w ↦ let e = w.end-is in inr (omega arith)
       | else-last w ↦ let o = w.if-last.false in inl (omega arith)
     ] in
-    rw f (cross_saved q c.requires.search a c.requires.gathered c.args.keep l c.row-here.result.now c.row-next.result.now fit few
-    (cross_possible q c.requires.search a c.requires.gathered c.args.keep l c.requires.apart fit few some) c.row-here.ensures.cells c.row-next.ensures.cells)
+    let saved = cross_saved q c.requires.search a c.requires.gathered c.args.keep l c.row-here.result.now c.row-next.result.now fit few
+    (cross_possible q c.requires.search a c.requires.gathered c.args.keep l c.requires.apart fit few some) c.row-here.ensures.cells c.row-next.ensures.cells in
+    omega arith
 
 pub returns : goal.returns
 returns g c =

@@ -14,8 +14,9 @@ pub reverse_row-requires-clause-saving : goal.reverse_row-requires-clause-saving
 reverse_row-requires-clause-saving g c =
     let f = c.from.ensures in
     λ last l h.
-    rw f (reverse_saved (searched c.args.search.now) c.requires.search c.args.gathered.now c.requires.gathered c.requires.inside c.args.first last c.args.sums.now c.args.back_sums.now
-    c.row.result.now c.row-2.result.now c.requires.first.0 l (omega arith) c.requires.sums c.row.ensures.cells c.row-2.ensures.cells)
+    let saved = reverse_saved (searched c.args.search.now) c.requires.search c.args.gathered.now c.requires.gathered c.requires.inside c.args.first last c.args.sums.now c.args.back_sums.now
+    c.row.result.now c.row-2.result.now c.requires.first.0 l (omega arith) c.requires.sums c.row.ensures.cells c.row-2.ensures.cells in
+    omega arith
 
 pub returns-then-first-first_free : goal.returns-then-first-first_free
 returns-then-first-first_free g c =

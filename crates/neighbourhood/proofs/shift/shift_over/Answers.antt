@@ -1,4 +1,4 @@
-use Rattle.std.proofs.Common.{◌+◌, ◌-◌, arith, length, refl, slice_index}
+use Rattle.std.proofs.Common.{◌≡◌, ℕ, ◌+◌, ◌-◌, ap, arith, length, refl, slice_index}
 use Rattle.way_costs.specs.Ways.{hop}
 use Rattle.neighbourhood.specs.Searched.{searched, costs_of}
 use Rattle.neighbourhood.proofs.Saved.{out_room, shift_most, shift_saved}
@@ -69,8 +69,11 @@ shift_row-requires-clause-saving g c =
     let f2 = c.from-2.ensures in
     let begin = c.first_free-begin.ensures.value in
     λ at l h.
-    rw (f, f2) (shift_saved (searched c.args.search.now) c.requires.search c.args.gathered.now c.requires.gathered c.args.place c.args.count at c.closing-gained.result
-    c.row-comes.result.now c.row-goes.result.now c.requires.apart c.requires.place.0 c.requires.count.0 c.requires.place.1 (omega arith) h c.row-comes.ensures.cells c.row-goes.ensures.cells c.closing-gained.ensures.value)
+    let saved = shift_saved (searched c.args.search.now) c.requires.search c.args.gathered.now c.requires.gathered c.args.place c.args.count at c.closing-gained.result
+    c.row-comes.result.now c.row-goes.result.now c.requires.apart c.requires.place.0 c.requires.count.0 c.requires.place.1 (omega arith) h c.row-comes.ensures.cells c.row-goes.ensures.cells c.closing-gained.ensures.value in
+    let e : at + 0 - 1 + 1 ≡ at + 0 = omega arith in
+    let goes = ap (λ (n : ℕ). slice_index c.row-goes.result.now n) e in
+    omega arith
 
 pub shift_row-requires-clause-best : goal.shift_row-requires-clause-best
 shift_row-requires-clause-best g c =

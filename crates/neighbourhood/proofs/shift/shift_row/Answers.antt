@@ -1,4 +1,5 @@
-use Rattle.std.proofs.Common.{◌≡◌, ℕ, ◌+◌, ◌-◌, arith, ap, subst, [], ◌∷◌, slice_index}
+use Rattle.std.proofs.Common.{◌≡◌, ℕ, ◌+◌, ◌-◌, arith, ap, subst, [], ◌∷◌}
+use Rattle.way_costs.specs.Rows.{lost_by_cut, gained_by_cut}
 use Rattle.neighbourhood.specs.Search.{IsBestSoFar}
 use Rattle.neighbourhood.specs.Searched.{searched}
 use Rattle.neighbourhood.proofs.Shifts.{shift_next, shifts_past}
@@ -12,9 +13,6 @@ returns-then-not-may_gain g c =
     let saving = c.requires.saving k h l in
     let none = c.may_gain.ensures c.if-not-may_gain.true (k + c.args.offset - 1) (omega arith) (omega arith) in
     let most = c.wanted-least.ensures.value in
-    let low = c.requires.low in
-    let z : k + c.args.offset - 1 + 1 ≡ k + c.args.offset = omega arith in
-    let out : slice_index c.args.shifts.now.out.now (k + c.args.offset - 1 + 1) ≡ slice_index c.args.shifts.now.out.now (k + c.args.offset) = ap (λ (n : ℕ). slice_index c.args.shifts.now.out.now n) z in
     omega arith)
     c.requires.best
 
@@ -28,8 +26,6 @@ returns-then-next-end g c =
     let saving = c.requires.saving k (omega arith) l in
     let none = c.first_gain-found.ensures.none (k + c.args.offset - 1) (omega arith) (omega arith) in
     let most = c.wanted-least-in-row.ensures.value in
-    let z : k + c.args.offset - 1 + 1 ≡ k + c.args.offset = omega arith in
-    let out : slice_index c.args.shifts.now.out.now (k + c.args.offset - 1 + 1) ≡ slice_index c.args.shifts.now.out.now (k + c.args.offset) = ap (λ (n : ℕ). slice_index c.args.shifts.now.out.now n) z in
     omega arith)
     c.row.invariant.best
 
@@ -51,9 +47,9 @@ or_better-best-requires-clause-saving g c =
     let begin = c.requires.low in
     let found = c.first_gain-found.result in
     let saving = c.requires.saving (found + 1 - c.args.offset) (omega arith) (omega arith) in
-    let edge : slice_index c.args.shifts.now.edges.now (found + 1 - c.args.offset + c.args.offset - 1) ≡ slice_index c.args.shifts.now.edges.now found = ap (λ (n : ℕ). slice_index c.args.shifts.now.edges.now n) (omega arith) in
-    let into : slice_index c.args.shifts.now.into.now (found + 1 - c.args.offset + c.args.offset - 1) ≡ slice_index c.args.shifts.now.into.now found = ap (λ (n : ℕ). slice_index c.args.shifts.now.into.now n) (omega arith) in
-    let out : slice_index c.args.shifts.now.out.now (found + 1 - c.args.offset + c.args.offset) ≡ slice_index c.args.shifts.now.out.now (found + 1) = ap (λ (n : ℕ). slice_index c.args.shifts.now.out.now n) (omega arith) in
+    let e : found + 1 - c.args.offset + c.args.offset - 1 ≡ found = omega arith in
+    let lost = ap (λ (n : ℕ). lost_by_cut c.args.shifts.now.ways n) e in
+    let gained = ap (λ (n : ℕ). gained_by_cut c.args.shifts.now.ways n) e in
     let f = c.from.ensures in
     let f2 = c.from-in-row.ensures in
     let f3 = c.from-in-row-2.ensures in
@@ -75,8 +71,6 @@ row-preserved g c =
     let saving = c.requires.saving k (omega arith) (omega arith) in
     let none = c.first_gain-found.ensures.none (k + c.args.offset - 1) (omega arith) (omega arith) in
     let most = c.wanted-least-in-row.ensures.value in
-    let z : k + c.args.offset - 1 + 1 ≡ k + c.args.offset = omega arith in
-    let out : slice_index c.args.shifts.now.out.now (k + c.args.offset - 1 + 1) ≡ slice_index c.args.shifts.now.out.now (k + c.args.offset) = ap (λ (n : ℕ). slice_index c.args.shifts.now.out.now n) z in
     omega arith)
     c.row.invariant.best in
     record {

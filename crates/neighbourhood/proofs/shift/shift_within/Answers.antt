@@ -1,4 +1,4 @@
-use Rattle.std.proofs.Common.{◌-◌, arith, length}
+use Rattle.std.proofs.Common.{◌≡◌, ℕ, ◌+◌, ◌-◌, ap, arith, length, slice_index}
 use Rattle.neighbourhood.specs.Searched.{searched}
 use Rattle.neighbourhood.proofs.Saved.{backwards_saved, forwards_saved}
 use Rattle.neighbourhood.proofs.Shifts.{shift_still, shifts_past}
@@ -24,8 +24,11 @@ shift_row-forwards-requires-clause-saving g c =
     let f3 = c.from-3.ensures in
     let begin = c.first_free-begin.ensures.value in
     λ at l h.
-    rw (f, f2, f3) (forwards_saved (searched c.args.search.now) c.requires.search c.args.gathered.now c.requires.gathered c.requires.inside c.args.place c.args.count at
-    c.row.result.now c.row-2.result.now c.row-closes.result.now c.requires.place.0 c.requires.count.0 c.requires.place.1 (omega arith) h c.row.ensures.cells c.row-2.ensures.cells c.row-closes.ensures.cells)
+    let saved = forwards_saved (searched c.args.search.now) c.requires.search c.args.gathered.now c.requires.gathered c.requires.inside c.args.place c.args.count at
+    c.row.result.now c.row-2.result.now c.row-closes.result.now c.requires.place.0 c.requires.count.0 c.requires.place.1 (omega arith) h c.row.ensures.cells c.row-2.ensures.cells c.row-closes.ensures.cells in
+    let e : at + 0 - 1 + 1 ≡ at + 0 = omega arith in
+    let goes = ap (λ (n : ℕ). slice_index c.row-2.result.now n) e in
+    omega arith
 
 pub shift_row-forwards-requires-clause-best : goal.shift_row-forwards-requires-clause-best
 shift_row-forwards-requires-clause-best g c =
@@ -43,8 +46,11 @@ shift_row-requires-clause-saving g c =
     let f2 = c.from-2.ensures in
     let f3 = c.from-3.ensures in
     λ at l h.
-    rw (f, f2, f3) (backwards_saved (searched c.args.search.now) c.requires.search c.args.gathered.now c.requires.gathered c.requires.inside c.args.place c.args.count at
-    c.row.result.now c.row-2.result.now c.row-closes.result.now c.requires.place.0 c.requires.count.0 c.requires.place.1 (omega arith) (omega arith) c.row.ensures.cells c.row-2.ensures.cells c.row-closes.ensures.cells)
+    let saved = backwards_saved (searched c.args.search.now) c.requires.search c.args.gathered.now c.requires.gathered c.requires.inside c.args.place c.args.count at
+    c.row.result.now c.row-2.result.now c.row-closes.result.now c.requires.place.0 c.requires.count.0 c.requires.place.1 (omega arith) (omega arith) c.row.ensures.cells c.row-2.ensures.cells c.row-closes.ensures.cells in
+    let e : at + c.args.count - 1 + 1 ≡ at + c.args.count = omega arith in
+    let goes = ap (λ (n : ℕ). slice_index c.row-2.result.now n) e in
+    omega arith
 
 pub shift_row-requires-clause-best : goal.shift_row-requires-clause-best
 shift_row-requires-clause-best g c =

@@ -19,9 +19,10 @@ swap_row-requires-clause-saving g c =
     let f2 = c.from-2.ensures in
     let begin = c.first_free-begin.ensures.value in
     λ at l h.
-    rw (f, f2) (swap_saved (searched c.args.search.now) c.requires.search c.args.gathered.now c.requires.gathered c.args.place at
+    let saved = swap_saved (searched c.args.search.now) c.requires.search c.args.gathered.now c.requires.gathered c.args.place at
     c.row-before.result.now c.row-here.result.now c.row-next.result.now c.row-back.result.now c.requires.apart c.requires.place.0 c.requires.place.1 (omega arith) (omega arith)
-    c.row-before.ensures.cells c.row-here.ensures.cells c.row-next.ensures.cells c.row-back.ensures.cells)
+    c.row-before.ensures.cells c.row-here.ensures.cells c.row-next.ensures.cells c.row-back.ensures.cells in
+    omega arith
 
 pub returns-then-not-may_leave : goal.returns-then-not-may_leave
 returns-then-not-may_leave g c =

@@ -48,6 +48,7 @@ swap_row-requires-clause-saving g c =
     let f = c.from.ensures in
     let f2 = c.from-2.ensures in
     λ at l h.
-    rw (f, f2) (swap_inside_saved (searched c.args.search.now) c.requires.search c.args.gathered.now c.requires.gathered c.requires.inside c.args.place at
+    let saved = swap_inside_saved (searched c.args.search.now) c.requires.search c.args.gathered.now c.requires.gathered c.requires.inside c.args.place at
     c.row.result.now c.row-2.result.now c.row-3.result.now c.row-4.result.now c.requires.place.0 (omega arith) (omega arith)
-    c.row.ensures.cells c.row-2.ensures.cells c.row-3.ensures.cells c.row-4.ensures.cells)
+    c.row.ensures.cells c.row-2.ensures.cells c.row-3.ensures.cells c.row-4.ensures.cells in
+    omega arith
