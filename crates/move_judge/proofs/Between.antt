@@ -1,4 +1,4 @@
-use Rattle.std.proofs.Common.{◌≡◌, ◌≢◌, ◌∙◌, ℕ, zero, ◌+◌, ◌-◌, ◌<◌, ◌≤◌, ◌⊎◌, ◌↔◌, inl, inr, refl, sym, ap, subst, arith, List, [], ◌∷◌, ◌++◌, length, take, drop, slice_get, Some, None, true, Bool, IsTrue, Contains, All}
+use Rattle.std.proofs.Common.{◌≡◌, ◌≢◌, ◌∙◌, ℕ, zero, ◌+◌, ◌-◌, ◌<◌, ◌≤◌, ◌⊎◌, ◌↔◌, inl, inr, refl, sym, ap, subst, arith, List, [], ◌∷◌, ◌++◌, length, take, drop, slice_get, Some, None, true, false, Bool, IsTrue, Contains, All}
 use Rattle.std.proofs.lemmas.Bool.{ne_eqb, eq-eqb}
 use Rattle.plan_core.specs.declared.touch.Touch.{Touch}
 use Rattle.plan_core.specs.Plan.{Changes, IsPlan, AreApart, route_at, with_routes}
@@ -207,14 +207,23 @@ module _ (law : Laws) where
   second_known s view mv v w x y over back r q q' sound can b e =
       at_most law s.customers q' (subst (λ (a : List ℕ). AreKnown law s.customers a) (sym e) (known_new s view mv v w x y over back r q sound can b).1)
 
-  pub fits_changed : (s : Setting) (routes : List (List ℕ)) (mv : Move) (v w x y : ℕ) (over back r q r' q' : List ℕ) (p : Bool)
-      → IsBetween routes mv v w x y over back r q → IsTrue p ↔ FitsAll s v r' × FitsAll s w q' → r' ≡ r → q' ≡ q → IsTrue p ↔ AllFit s (changes_by routes mv)
-  fits_changed s routes mv v w x y over back r q r' q' p b is er eq = (
-    λ t.
-        let both = is.0 t in
-        subst (λ (cs : Changes). AllFit s cs) (sym b.changes)
-        (subst (λ (a : List ℕ). FitsAll s v a) er both.0, (subst (λ (a : List ℕ). FitsAll s w a) eq both.1, tt)),
+  -- the first is not in bounds, or both are exactly where the second is
+  pub first_misfits : (s : Setting) (routes : List (List ℕ)) (mv : Move) (v w x y : ℕ) (over back r q r' : List ℕ)
+      → IsBetween routes mv v w x y over back r q → r' ≡ r → (FitsAll s v r' → ⊥) → IsTrue false ↔ AllFit s (changes_by routes mv)
+  first_misfits s routes mv v w x y over back r q r' b er out = (
+    λ never. absurd cc,
     λ all.
         let fit = subst (λ (cs : Changes). AllFit s cs) b.changes all in
-        is.1 (subst (λ (a : List ℕ). FitsAll s v a) (sym er) fit.0, subst (λ (a : List ℕ). FitsAll s w a) (sym eq) fit.1.0),
+        absurd (out (subst (λ (a : List ℕ). FitsAll s v a) (sym er) fit.0)),
+  )
+
+  pub fits_changed : (s : Setting) (routes : List (List ℕ)) (mv : Move) (v w x y : ℕ) (over back r q r' q' : List ℕ) (p : Bool)
+      → IsBetween routes mv v w x y over back r q → r' ≡ r → q' ≡ q → FitsAll s v r' → IsTrue p ↔ FitsAll s w q' → IsTrue p ↔ AllFit s (changes_by routes mv)
+  fits_changed s routes mv v w x y over back r q r' q' p b er eq first is = (
+    λ t.
+        subst (λ (cs : Changes). AllFit s cs) (sym b.changes)
+        (subst (λ (a : List ℕ). FitsAll s v a) er first, (subst (λ (a : List ℕ). FitsAll s w a) eq (is.0 t), tt)),
+    λ all.
+        let fit = subst (λ (cs : Changes). AllFit s cs) b.changes all in
+        is.1 (subst (λ (a : List ℕ). FitsAll s w a) (sym eq) fit.1.0),
   )

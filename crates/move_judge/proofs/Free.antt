@@ -16,7 +16,7 @@ use Rattle.move_judge.specs.Given.{Laws}
 use Rattle.move_judge.specs.Scope.{scope}
 use Rattle.move_judge.proofs.Between.{between_allowed}
 use Rattle.move_judge.proofs.Inside.{inside_allowed, shift_forwards, shift_backwards}
-use Rattle.move_judge.proofs.Scoping.{view_within, allowed_without}
+use Rattle.move_judge.proofs.Scoping.{view_within}
 
 none_skipped : (mv : Move) → Contains [] mv → ⊥
 none_skipped mv (k, h, e) = absurd (omega arith)
@@ -73,18 +73,3 @@ unskipped s view skip mv p fresh is = (
 pub allowed_in_bounds : (s : Setting) (view : ViewState) (skip : List Move) (mv : Move) → IsAllowed (scope false s) view skip mv
     → AllFit s (changes_by view.routes mv) → IsAllowed s view skip mv
 allowed_in_bounds s view skip mv a fits = record { fits = fits; freezes = a.freezes; pins = a.pins; fresh = a.fresh }
-
-pub not_free : (b : Bool) (s : Setting) (view : ViewState) (skip : List Move) (mv : Move) → (IsAllowed (scope false s) view skip mv → ⊥)
-    → IsTrue false ↔ IsAllowed (scope b s) view skip mv
-not_free true s view skip mv out = (λ never. absurd cc, λ a. absurd (out (allowed_without s view skip mv a)))
-not_free false s view skip mv out = (λ never. absurd cc, λ a. absurd (out a))
-
-pub free_unbounded : (b : Bool) (s : Setting) (view : ViewState) (skip : List Move) (mv : Move) → b ≡ false → IsAllowed (scope false s) view skip mv
-    → IsTrue true ↔ IsAllowed (scope b s) view skip mv
-free_unbounded true s view skip mv e a = absurd cc
-free_unbounded false s view skip mv e a = (λ t. a, λ all. refl)
-
-pub free_bounded : (b : Bool) (s : Setting) (view : ViewState) (skip : List Move) (mv : Move) (p : Bool) → b ≡ true → IsAllowed (scope false s) view skip mv
-    → IsTrue p ↔ AllFit s (changes_by view.routes mv) → IsTrue p ↔ IsAllowed (scope b s) view skip mv
-free_bounded true s view skip mv p e a is = (λ t. allowed_in_bounds s view skip mv a (is.0 t), λ all. is.1 all.fits)
-free_bounded false s view skip mv p e a is = absurd cc

@@ -1,6 +1,15 @@
 -- A new route is judged by its parts, one of which may be driven back.
-use Rattle.std.specs.Prelude.{ℕ, List, Bool, reverse, if◌then◌else◌}
+use Rattle.std.specs.Prelude.{ℕ, List, ◌++◌, Bool, reverse, if◌then◌else◌}
+use Rattle.move_judge.specs.declared.parts.Parts.{Parts}
 
 -- some customers as they stand, or driven back
 abbrev pub way_of : Bool → List ℕ → List ℕ
 way_of turned xs = if turned then reverse xs else xs
+
+-- the customers of a new route
+abbrev pub route_of : Parts → List ℕ
+route_of p = p.front.now ++ (way_of p.turned p.first.now ++ (p.second.now ++ (p.third.now ++ p.back.now)))
+
+-- those before its last part
+abbrev pub begun_of : Parts → List ℕ
+begun_of p = p.front.now ++ (way_of p.turned p.first.now ++ (p.second.now ++ p.third.now))

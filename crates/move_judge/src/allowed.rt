@@ -1,6 +1,5 @@
 //! What a view allows: a move by the parts of its new routes, and where a move may begin at all.
 ghost use Rattle.std.specs.Prelude.{ℕ, ◌⊎◌, ◌≡◌, ◌≢◌, ◌≤◌, ◌<◌, ◌+◌, ◌-◌, ◌++◌, ◌↔◌, [], true, false, length, take, drop, IsTrue, All, Contains};
-ghost use Rattle.dimension_core.specs.Feasible.{FitsAll};
 ghost use Rattle.dimension_core.specs.NewRoutes.{AllFit};
 ghost use Rattle.dimension_core.specs.Setup.{setting};
 ghost use Rattle.move_core.specs.declared.moves.Move.TheVariants.{Shift, Swap, Reverse, Cross};
@@ -12,12 +11,13 @@ ghost use Rattle.move_judge.specs.Scope.{scope};
 ghost use Rattle.move_judge.specs.View.{IsViewOf};
 ghost use Rattle.move_judge.specs.Near.{IsNear};
 ghost use Rattle.move_judge.specs.Allowed.{IsAllowed, AreLoose};
-ghost use Rattle.move_judge.specs.Kept.{AreKept, HasAhead, HasBehind};
+ghost use Rattle.move_judge.specs.Kept.{AreKept};
 ghost use Rattle.move_judge.specs.Given.{Laws};
 
 use crate::fits::fits;
-use crate::kept::{Kept, Spans};
+use crate::kept::Kept;
 use crate::laws::laws_below;
+use crate::parts::Parts;
 use dimension_core::Setup;
 use move_core::Move;
 use pin_core::View;
@@ -150,60 +150,13 @@ fn is_skipped(skip: &[Move], mv: &Move) -> bool
     skip.contains(mv)
 }
 
-/// Whether the new routes of a move between two vehicles are in bounds, by their parts.
-#[inline(always)]
-fn fits_between(
-    setup: &Setup,
+/// Two vehicles, and what is kept of each beside the other.
+#[derive(Clone, Copy)]
+struct Pair<'a> {
     v: u32,
-    v_ahead: &Spans,
-    v_front: &[u32],
-    v_middle: &[u32],
-    v_back: &[u32],
-    v_behind: &Spans,
     w: u32,
-    w_ahead: &Spans,
-    w_front: &[u32],
-    w_middle: &[u32],
-    w_back: &[u32],
-    w_behind: &Spans,
-) -> bool
-    requires laws { Laws }
-    requires v { (1 ≤ v) × (v ≤ (setting setup.now).vehicles) }
-    requires w { (1 ≤ w) × (w ≤ (setting setup.now).vehicles) }
-    requires v_known { All (λ c. c ≤ (setting setup.now).customers) (v_front.now ++ (v_middle.now ++ v_back.now)) }
-    requires w_known { All (λ c. c ≤ (setting setup.now).customers) (w_front.now ++ (w_middle.now ++ w_back.now)) }
-    requires v_ahead { 0 < v_ahead.now.width → HasAhead (setting setup.now) v v_front.now v_ahead.now }
-    requires v_behind { 0 < v_behind.now.width → HasBehind (setting setup.now) v v_back.now v_behind.now }
-    requires w_ahead { 0 < w_ahead.now.width → HasAhead (setting setup.now) w w_front.now w_ahead.now }
-    requires w_behind { 0 < w_behind.now.width → HasBehind (setting setup.now) w w_back.now w_behind.now }
-    ensures { IsTrue result ↔ FitsAll (setting setup.now) v (v_front.now ++ (v_middle.now ++ v_back.now)) × FitsAll (setting setup.now) w (w_front.now ++ (w_middle.now ++ w_back.now)) }
-{
-    if !fits(
-        setup,
-        v,
-        v_ahead,
-        v_front,
-        false,
-        v_middle,
-        &[],
-        &[],
-        v_back,
-        v_behind,
-    ) {
-        return false;
-    }
-    fits(
-        setup,
-        w,
-        w_ahead,
-        w_front,
-        false,
-        w_middle,
-        &[],
-        &[],
-        w_back,
-        w_behind,
-    )
+    v_kept: &'a Kept,
+    w_kept: &'a Kept,
 }
 
 /// Whether the new route of a shift inside a vehicle is in bounds.
@@ -228,34 +181,32 @@ fn shift_inside_fits(
         let front = front_of(route, at);
         let between = part(route, at, place);
         let back = back_of(route, place as usize - 1 + length as usize);
-        return fits(
-            setup,
-            v,
-            &kept.ahead,
+        let parts = Parts {
+            ahead: &kept.ahead,
             front,
-            false,
-            stretch,
-            between,
-            &[],
+            turned: false,
+            first: stretch,
+            second: between,
+            third: &[],
             back,
-            &kept.behind,
-        );
+            behind: &kept.behind,
+        };
+        return fits(setup, v, &parts);
     }
     let front = front_of(route, place);
     let between = part(route, place + length, at + length);
     let back = back_of(route, at as usize - 1 + length as usize);
-    fits(
-        setup,
-        v,
-        &kept.ahead,
+    let parts = Parts {
+        ahead: &kept.ahead,
         front,
-        false,
-        between,
-        stretch,
-        &[],
+        turned: false,
+        first: between,
+        second: stretch,
+        third: &[],
         back,
-        &kept.behind,
-    )
+        behind: &kept.behind,
+    };
+    fits(setup, v, &parts)
 }
 
 /// Whether the new route of a swap inside a vehicle, named from its first place, is in bounds.
@@ -273,18 +224,17 @@ fn swap_inside_fits(view: &View, setup: &Setup, v: u32, place: u32, at: u32, kep
     let between = part(route, place + 1, at);
     let there = part(route, at, at + 1);
     let back = back_of(route, at as usize);
-    fits(
-        setup,
-        v,
-        &kept.ahead,
+    let parts = Parts {
+        ahead: &kept.ahead,
         front,
-        false,
-        there,
-        between,
-        here,
+        turned: false,
+        first: there,
+        second: between,
+        third: here,
         back,
-        &kept.behind,
-    )
+        behind: &kept.behind,
+    };
+    fits(setup, v, &parts)
 }
 
 /// Whether the new route of a reverse is in bounds.
@@ -299,144 +249,145 @@ fn reverse_fits(view: &View, setup: &Setup, v: u32, first: u32, last: u32, kept:
     let front = front_of(route, first);
     let stretch = part(route, first, last + 1);
     let back = back_of(route, last as usize);
-    fits(
-        setup,
-        v,
-        &kept.ahead,
+    let parts = Parts {
+        ahead: &kept.ahead,
         front,
-        true,
-        stretch,
-        &[],
-        &[],
+        turned: true,
+        first: stretch,
+        second: &[],
+        third: &[],
         back,
-        &kept.behind,
-    )
+        behind: &kept.behind,
+    };
+    fits(setup, v, &parts)
 }
 
 /// Whether the new routes of a shift between two vehicles are in bounds.
-fn shift_fits(
-    view: &View,
-    setup: &Setup,
-    v: u32,
-    place: u32,
-    length: u32,
-    w: u32,
-    at: u32,
-    v_kept: &Kept,
-    w_kept: &Kept,
-) -> bool
+fn shift_fits(view: &View, setup: &Setup, pair: &Pair, place: u32, length: u32, at: u32) -> bool
     requires laws { Laws }
-    requires v_kept { AreKept (setting setup.now) view.now.routes v w v_kept.now }
-    requires w_kept { AreKept (setting setup.now) view.now.routes w v w_kept.now }
+    requires v_kept { AreKept (setting setup.now) view.now.routes pair.now.v pair.now.w pair.now.v_kept.now }
+    requires w_kept { AreKept (setting setup.now) view.now.routes pair.now.w pair.now.v pair.now.w_kept.now }
     requires view { IsViewOf (setting setup.now) view.now }
-    requires possible { is_possible (setting setup.now).customers view.now.routes (Shift v place length w at) ≡ true }
-    requires apart { v ≢ w }
-    ensures { IsTrue result ↔ AllFit (setting setup.now) (changes_by view.now.routes (Shift v place length w at)) }
+    requires possible { is_possible (setting setup.now).customers view.now.routes (Shift pair.now.v place length pair.now.w at) ≡ true }
+    requires apart { pair.now.v ≢ pair.now.w }
+    ensures { IsTrue result ↔ AllFit (setting setup.now) (changes_by view.now.routes (Shift pair.now.v place length pair.now.w at)) }
 {
-    let route = view.customers(v);
+    let (v_kept, w_kept) = (pair.v_kept, pair.w_kept);
+    let route = view.customers(pair.v);
     let front = front_of(route, place);
-    let stretch = part(route, place, place + length);
     let rest = back_of(route, place as usize - 1 + length as usize);
-    let other = view.customers(w);
+    let parts = Parts {
+        ahead: &v_kept.ahead,
+        front,
+        turned: false,
+        first: &[],
+        second: &[],
+        third: &[],
+        back: rest,
+        behind: &v_kept.behind,
+    };
+    if !fits(setup, pair.v, &parts) {
+        return false;
+    }
+    let stretch = part(route, place, place + length);
+    let other = view.customers(pair.w);
     let before = front_of(other, at);
     let after = back_of(other, at as usize - 1);
-    fits_between(
-        setup,
-        v,
-        &v_kept.ahead,
-        front,
-        &[],
-        rest,
-        &v_kept.behind,
-        w,
-        &w_kept.ahead,
-        before,
-        stretch,
-        after,
-        &w_kept.behind,
-    )
+    let parts = Parts {
+        ahead: &w_kept.ahead,
+        front: before,
+        turned: false,
+        first: stretch,
+        second: &[],
+        third: &[],
+        back: after,
+        behind: &w_kept.behind,
+    };
+    fits(setup, pair.w, &parts)
 }
 
 /// Whether the new routes of a swap between two vehicles are in bounds.
-fn swap_fits(
-    view: &View,
-    setup: &Setup,
-    v: u32,
-    place: u32,
-    w: u32,
-    at: u32,
-    v_kept: &Kept,
-    w_kept: &Kept,
-) -> bool
+fn swap_fits(view: &View, setup: &Setup, pair: &Pair, place: u32, at: u32) -> bool
     requires laws { Laws }
-    requires v_kept { AreKept (setting setup.now) view.now.routes v w v_kept.now }
-    requires w_kept { AreKept (setting setup.now) view.now.routes w v w_kept.now }
+    requires v_kept { AreKept (setting setup.now) view.now.routes pair.now.v pair.now.w pair.now.v_kept.now }
+    requires w_kept { AreKept (setting setup.now) view.now.routes pair.now.w pair.now.v pair.now.w_kept.now }
     requires view { IsViewOf (setting setup.now) view.now }
-    requires possible { is_possible (setting setup.now).customers view.now.routes (Swap v place w at) ≡ true }
-    requires apart { v ≢ w }
-    ensures { IsTrue result ↔ AllFit (setting setup.now) (changes_by view.now.routes (Swap v place w at)) }
+    requires possible { is_possible (setting setup.now).customers view.now.routes (Swap pair.now.v place pair.now.w at) ≡ true }
+    requires apart { pair.now.v ≢ pair.now.w }
+    ensures { IsTrue result ↔ AllFit (setting setup.now) (changes_by view.now.routes (Swap pair.now.v place pair.now.w at)) }
 {
-    let route = view.customers(v);
+    let (v_kept, w_kept) = (pair.v_kept, pair.w_kept);
+    let route = view.customers(pair.v);
     let front = front_of(route, place);
-    let here = part(route, place, place + 1);
     let rest = back_of(route, place as usize);
-    let other = view.customers(w);
-    let before = front_of(other, at);
+    let other = view.customers(pair.w);
     let there = part(other, at, at + 1);
-    let after = back_of(other, at as usize);
-    fits_between(
-        setup,
-        v,
-        &v_kept.ahead,
+    let parts = Parts {
+        ahead: &v_kept.ahead,
         front,
-        there,
-        rest,
-        &v_kept.behind,
-        w,
-        &w_kept.ahead,
-        before,
-        here,
-        after,
-        &w_kept.behind,
-    )
+        turned: false,
+        first: there,
+        second: &[],
+        third: &[],
+        back: rest,
+        behind: &v_kept.behind,
+    };
+    if !fits(setup, pair.v, &parts) {
+        return false;
+    }
+    let here = part(route, place, place + 1);
+    let before = front_of(other, at);
+    let after = back_of(other, at as usize);
+    let parts = Parts {
+        ahead: &w_kept.ahead,
+        front: before,
+        turned: false,
+        first: here,
+        second: &[],
+        third: &[],
+        back: after,
+        behind: &w_kept.behind,
+    };
+    fits(setup, pair.w, &parts)
 }
 
 /// Whether the new routes of a cross are in bounds.
-fn cross_fits(
-    view: &View,
-    setup: &Setup,
-    v: u32,
-    keep: u32,
-    w: u32,
-    keep_other: u32,
-    v_kept: &Kept,
-    w_kept: &Kept,
-) -> bool
+fn cross_fits(view: &View, setup: &Setup, pair: &Pair, keep: u32, keep_other: u32) -> bool
     requires laws { Laws }
-    requires v_kept { AreKept (setting setup.now) view.now.routes v w v_kept.now }
-    requires w_kept { AreKept (setting setup.now) view.now.routes w v w_kept.now }
+    requires v_kept { AreKept (setting setup.now) view.now.routes pair.now.v pair.now.w pair.now.v_kept.now }
+    requires w_kept { AreKept (setting setup.now) view.now.routes pair.now.w pair.now.v pair.now.w_kept.now }
     requires view { IsViewOf (setting setup.now) view.now }
-    requires possible { is_possible (setting setup.now).customers view.now.routes (Cross v keep w keep_other) ≡ true }
-    ensures { IsTrue result ↔ AllFit (setting setup.now) (changes_by view.now.routes (Cross v keep w keep_other)) }
+    requires possible { is_possible (setting setup.now).customers view.now.routes (Cross pair.now.v keep pair.now.w keep_other) ≡ true }
+    ensures { IsTrue result ↔ AllFit (setting setup.now) (changes_by view.now.routes (Cross pair.now.v keep pair.now.w keep_other)) }
 {
     let _customers = setup.customers();
-    let (front, tail) = view.customers(v).split_at(keep as usize);
-    let (before, end) = view.customers(w).split_at(keep_other as usize);
-    fits_between(
-        setup,
-        v,
-        &v_kept.ahead,
+    let (v_kept, w_kept) = (pair.v_kept, pair.w_kept);
+    let (front, tail) = view.customers(pair.v).split_at(keep as usize);
+    let (before, end) = view.customers(pair.w).split_at(keep_other as usize);
+    let parts = Parts {
+        ahead: &v_kept.ahead,
         front,
-        &[],
-        end,
-        &v_kept.over,
-        w,
-        &w_kept.ahead,
-        before,
-        &[],
-        tail,
-        &w_kept.over,
-    )
+        turned: false,
+        first: &[],
+        second: &[],
+        third: &[],
+        back: end,
+        behind: &v_kept.over,
+    };
+    if !fits(setup, pair.v, &parts) {
+        return false;
+    }
+    let parts = Parts {
+        ahead: &w_kept.ahead,
+        front: before,
+        turned: false,
+        first: &[],
+        second: &[],
+        third: &[],
+        back: tail,
+        behind: &w_kept.over,
+    };
+    fits(setup, pair.w, &parts)
 }
 
 /// Whether a shift between two vehicles keeps the frozen fronts and the pins.
@@ -632,6 +583,12 @@ pub fn fits_after(
     ensures { IsTrue result ↔ AllFit (setting setup.now) (changes_by view.now.routes mv) }
 {
     laws_below();
+    let pair = Pair {
+        v,
+        w,
+        v_kept,
+        w_kept,
+    };
     match mv {
         Move::Shift {
             vehicle,
@@ -643,7 +600,7 @@ pub fn fits_after(
             if vehicle == to {
                 shift_inside_fits(view, setup, vehicle, place, length, at, v_kept)
             } else {
-                shift_fits(view, setup, vehicle, place, length, to, at, v_kept, w_kept)
+                shift_fits(view, setup, &pair, place, length, at)
             }
         }
         Move::Swap {
@@ -655,7 +612,7 @@ pub fn fits_after(
             if vehicle == other {
                 swap_inside_fits(view, setup, vehicle, place, at, v_kept)
             } else {
-                swap_fits(view, setup, vehicle, place, other, at, v_kept, w_kept)
+                swap_fits(view, setup, &pair, place, at)
             }
         }
         Move::Reverse {
@@ -664,43 +621,10 @@ pub fn fits_after(
             last,
         } => reverse_fits(view, setup, vehicle, first, last, v_kept),
         Move::Cross {
-            vehicle,
             keep,
-            other,
             keep_other,
-        } => cross_fits(
-            view, setup, vehicle, keep, other, keep_other, v_kept, w_kept,
-        ),
+            ..
+        } => cross_fits(view, setup, &pair, keep, keep_other),
         Move::Insert { .. } | Move::Remove { .. } => false,
     }
-}
-
-/// Whether a move near two vehicles, or near one, that has an effect is allowed; where `bounded` is false, with the dimensions left out.
-/// What is kept is as `fits_after` says it.
-#[inline(always)]
-pub fn allows(
-    view: &View,
-    setup: &Setup,
-    bounded: bool,
-    skip: &[Move],
-    v: u32,
-    w: u32,
-    v_kept: &Kept,
-    w_kept: &Kept,
-    mv: Move,
-) -> bool
-    requires v_kept { AreKept (setting setup.now) view.now.routes v w v_kept.now }
-    requires w_kept { AreKept (setting setup.now) view.now.routes w v w_kept.now }
-    requires view { IsViewOf (setting setup.now) view.now }
-    requires possible { is_possible (setting setup.now).customers view.now.routes mv ≡ true }
-    requires near { IsNear v w mv }
-    ensures { IsTrue result ↔ IsAllowed (scope bounded (setting setup.now)) view.now skip.now mv }
-{
-    if !is_free(view, setup, skip, v, w, mv) {
-        return false;
-    }
-    if !bounded {
-        return true;
-    }
-    fits_after(view, setup, v, w, v_kept, w_kept, mv)
 }

@@ -1,4 +1,4 @@
-//! Whether a route of parts is in bounds, with no list made of it.
+//! Whether a new route is in bounds by its parts, with no list made of it.
 ghost use Rattle.std.specs.Prelude.{max, min, ◌≡◌, ◌==◌, ℕ, ◌+◌, ◌≤◌, ◌<◌, ◌↔◌, List, [], ◌∷◌, ◌++◌, length, reverse, Option, Some, None, IsTrue, All, MatchOption, IfSome};
 ghost use Rattle.callback_store.specs.Registry.{tables};
 ghost use Rattle.dimension_core.specs.Cumuls.{IsServed, IsInBounds, IsSpan, Reaches, table_of, last_of};
@@ -7,9 +7,9 @@ ghost use Rattle.dimension_core.specs.Setup.{setting};
 ghost use Rattle.move_judge.specs.Kept.{GoesOn, HasAhead, HasBehind};
 ghost use Rattle.move_judge.specs.Given.{Laws};
 ghost use Rattle.move_judge.specs.Scope.{scope};
-ghost use Rattle.move_judge.specs.Parts.{way_of};
+ghost use Rattle.move_judge.specs.Parts.{begun_of, route_of, way_of};
 
-use crate::kept::Spans;
+use crate::parts::Parts;
 use callback_store::{Meter, Registry};
 use dimension_core::{Dimension, Range, Setup};
 
@@ -137,35 +137,31 @@ fn next_stop(back: &[u32]) -> u32
     if back.is_empty() { 0 } else { back[0] }
 }
 
-/// The cumuls at the next stop after three parts, the first of which may be driven back, by those after the parts in front of them: none
-/// where there are none.
+/// The cumuls at the next stop after the parts of a new route but its last one, by those after its first part: none where there are none.
 fn arrival(
     dimension: &Dimension,
     registry: &Registry,
     vehicle: u32,
     here: Range,
-    front: &[u32],
-    turned: bool,
-    first: &[u32],
-    second: &[u32],
-    third: &[u32],
+    parts: &Parts,
     next: u32,
 ) -> Option<Range>
     requires laws { Laws }
     requires served { IsServed (tables registry.now) dimension.now }
-    requires here { IsSpan (Some here) (Reaches (table_of (tables registry.now) dimension.now) dimension.now vehicle front.now) }
-    requires known { All (λ node. node < length dimension.now.ranges) (front.now ++ (way_of turned first.now ++ (second.now ++ third.now))) }
+    requires here { IsSpan (Some here) (Reaches (table_of (tables registry.now) dimension.now) dimension.now vehicle parts.now.front.now) }
+    requires known { All (λ node. node < length dimension.now.ranges) (begun_of parts.now) }
     requires next { next < length dimension.now.ranges }
     requires low { 1 ≤ vehicle }
     requires high { vehicle ≤ length dimension.now.caps }
-    ensures { IsSpan result (Reaches (table_of (tables registry.now) dimension.now) dimension.now vehicle ((front.now ++ (way_of turned first.now ++ (second.now ++ third.now))) ++ next ∷ [])) }
+    ensures { IsSpan result (Reaches (table_of (tables registry.now) dimension.now) dimension.now vehicle (begun_of parts.now ++ next ∷ [])) }
 {
     let _nodes = dimension.nodes();
     dimension.spans_are_small();
-    let from = last_stop(front);
+    let from = last_stop(parts.front);
+    let (turned, first) = (parts.turned, parts.first);
     let (range, from) = carry_way(dimension, registry, here, from, turned, first, vehicle)?;
-    let (range, from) = carry_on(dimension, registry, range, from, second, vehicle)?;
-    let (range, from) = carry_on(dimension, registry, range, from, third, vehicle)?;
+    let (range, from) = carry_on(dimension, registry, range, from, parts.second, vehicle)?;
+    let (range, from) = carry_on(dimension, registry, range, from, parts.third, vehicle)?;
     let way = registry.ask(dimension.id(), &mut Meter::new(), from, next);
     dimension.after(range, way, next, vehicle)
 }
@@ -177,239 +173,163 @@ fn overlap(here: Range, there: Range) -> bool
     here.lo.max(there.lo) <= here.hi.min(there.hi)
 }
 
-/// Whether a route of five parts, the second of which may be driven back, is in bounds in a dimension, by the cumuls after its first part
-/// and those before its last one.
+/// Whether a new route is in bounds in a dimension, by the cumuls after its first part and those before its last one.
 fn joins(
     dimension: &Dimension,
     registry: &Registry,
     vehicle: u32,
     here: Range,
-    front: &[u32],
-    turned: bool,
-    first: &[u32],
-    second: &[u32],
-    third: &[u32],
-    back: &[u32],
+    parts: &Parts,
     there: Range,
 ) -> bool
     requires laws { Laws }
     requires served { IsServed (tables registry.now) dimension.now }
-    requires here { IsSpan (Some here) (Reaches (table_of (tables registry.now) dimension.now) dimension.now vehicle front.now) }
-    requires there { IsSpan (Some there) (GoesOn (table_of (tables registry.now) dimension.now) dimension.now vehicle (back.now ++ 0 ∷ [])) }
-    requires some { 0 < length (front.now ++ (way_of turned first.now ++ (second.now ++ (third.now ++ back.now)))) }
-    requires known { All (λ node. node < length dimension.now.ranges) (front.now ++ (way_of turned first.now ++ (second.now ++ (third.now ++ back.now)))) }
+    requires here { IsSpan (Some here) (Reaches (table_of (tables registry.now) dimension.now) dimension.now vehicle parts.now.front.now) }
+    requires there { IsSpan (Some there) (GoesOn (table_of (tables registry.now) dimension.now) dimension.now vehicle (parts.now.back.now ++ 0 ∷ [])) }
+    requires some { 0 < length (route_of parts.now) }
+    requires known { All (λ node. node < length dimension.now.ranges) (route_of parts.now) }
     requires low { 1 ≤ vehicle }
     requires high { vehicle ≤ length dimension.now.caps }
-    ensures { IsTrue result ↔ IsInBounds (table_of (tables registry.now) dimension.now) dimension.now vehicle (front.now ++ (way_of turned first.now ++ (second.now ++ (third.now ++ back.now)))) }
+    ensures { IsTrue result ↔ IsInBounds (table_of (tables registry.now) dimension.now) dimension.now vehicle (route_of parts.now) }
 {
     let _nodes = dimension.nodes();
-    let next = next_stop(back);
-    match arrival(
-        dimension, registry, vehicle, here, front, turned, first, second, third, next,
-    ) {
+    let next = next_stop(parts.back);
+    match arrival(dimension, registry, vehicle, here, parts, next) {
         None => false,
         Some(arrived) => overlap(arrived, there),
     }
 }
 
-/// Whether a route of five parts is in bounds in a dimension, where there may be no cumuls after its first part or before its last one.
+/// Whether a new route is in bounds in a dimension, where there may be no cumuls after its first part or before its last one.
 fn meets(
     dimension: &Dimension,
     registry: &Registry,
     vehicle: u32,
     ahead: Option<Range>,
-    front: &[u32],
-    turned: bool,
-    first: &[u32],
-    second: &[u32],
-    third: &[u32],
-    back: &[u32],
+    parts: &Parts,
     behind: Option<Range>,
 ) -> bool
     requires laws { Laws }
     requires served { IsServed (tables registry.now) dimension.now }
-    requires ahead { IsSpan ahead (Reaches (table_of (tables registry.now) dimension.now) dimension.now vehicle front.now) }
-    requires behind { IsSpan behind (GoesOn (table_of (tables registry.now) dimension.now) dimension.now vehicle (back.now ++ 0 ∷ [])) }
-    requires some { 0 < length (front.now ++ (way_of turned first.now ++ (second.now ++ (third.now ++ back.now)))) }
-    requires known { All (λ node. node < length dimension.now.ranges) (front.now ++ (way_of turned first.now ++ (second.now ++ (third.now ++ back.now)))) }
+    requires ahead { IsSpan ahead (Reaches (table_of (tables registry.now) dimension.now) dimension.now vehicle parts.now.front.now) }
+    requires behind { IsSpan behind (GoesOn (table_of (tables registry.now) dimension.now) dimension.now vehicle (parts.now.back.now ++ 0 ∷ [])) }
+    requires some { 0 < length (route_of parts.now) }
+    requires known { All (λ node. node < length dimension.now.ranges) (route_of parts.now) }
     requires low { 1 ≤ vehicle }
     requires high { vehicle ≤ length dimension.now.caps }
-    ensures { IsTrue result ↔ IsInBounds (table_of (tables registry.now) dimension.now) dimension.now vehicle (front.now ++ (way_of turned first.now ++ (second.now ++ (third.now ++ back.now)))) }
+    ensures { IsTrue result ↔ IsInBounds (table_of (tables registry.now) dimension.now) dimension.now vehicle (route_of parts.now) }
 {
     match ahead {
         None => false,
         Some(here) => match behind {
             None => false,
-            Some(there) => joins(
-                dimension, registry, vehicle, here, front, turned, first, second, third, back,
-                there,
-            ),
+            Some(there) => joins(dimension, registry, vehicle, here, parts, there),
         },
     }
 }
 
-/// Whether a route of five parts has no customer.
-fn is_nothing(
-    front: &[u32],
-    turned: bool,
-    first: &[u32],
-    second: &[u32],
-    third: &[u32],
-    back: &[u32],
-) -> bool
-    ensures { result ≡ (length (front.now ++ (way_of turned first.now ++ (second.now ++ (third.now ++ back.now)))) == 0) }
+/// Whether a new route has no customer.
+fn is_nothing(parts: &Parts) -> bool
+    ensures { result ≡ (length (route_of parts.now) == 0) }
 {
-    if !front.is_empty() {
+    if !parts.front.is_empty() {
         return false;
     }
-    if !first.is_empty() {
+    if !parts.first.is_empty() {
         return false;
     }
-    if !second.is_empty() {
+    if !parts.second.is_empty() {
         return false;
     }
-    if !third.is_empty() {
+    if !parts.third.is_empty() {
         return false;
     }
-    back.is_empty()
+    parts.back.is_empty()
 }
 
-/// The cumuls with which a vehicle returns from a route of five parts, the second of which may be driven back, by those with which it
-/// leaves.
+/// The cumuls with which a vehicle returns from a new route, by those with which it leaves.
 fn homecoming(
     dimension: &Dimension,
     registry: &Registry,
     vehicle: u32,
     here: Range,
-    front: &[u32],
-    turned: bool,
-    first: &[u32],
-    second: &[u32],
-    third: &[u32],
-    back: &[u32],
+    parts: &Parts,
 ) -> Option<Range>
     requires laws { Laws }
     requires served { IsServed (tables registry.now) dimension.now }
     requires here { IsSpan (Some here) (Reaches (table_of (tables registry.now) dimension.now) dimension.now vehicle []) }
     requires small { here.hi ≤ 1000000000000 }
-    requires known { All (λ node. node < length dimension.now.ranges) (front.now ++ (way_of turned first.now ++ (second.now ++ (third.now ++ back.now)))) }
+    requires known { All (λ node. node < length dimension.now.ranges) (route_of parts.now) }
     requires low { 1 ≤ vehicle }
     requires high { vehicle ≤ length dimension.now.caps }
-    ensures { IsSpan result (Reaches (table_of (tables registry.now) dimension.now) dimension.now vehicle ((front.now ++ (way_of turned first.now ++ (second.now ++ (third.now ++ back.now)))) ++ 0 ∷ [])) }
+    ensures { IsSpan result (Reaches (table_of (tables registry.now) dimension.now) dimension.now vehicle (route_of parts.now ++ 0 ∷ [])) }
 {
     let _nodes = dimension.nodes();
-    let (range, from) = carry_on(dimension, registry, here, 0, front, vehicle)?;
+    let (turned, first) = (parts.turned, parts.first);
+    let (range, from) = carry_on(dimension, registry, here, 0, parts.front, vehicle)?;
     let (range, from) = carry_way(dimension, registry, range, from, turned, first, vehicle)?;
-    let (range, from) = carry_on(dimension, registry, range, from, second, vehicle)?;
-    let (range, from) = carry_on(dimension, registry, range, from, third, vehicle)?;
-    let (range, from) = carry_on(dimension, registry, range, from, back, vehicle)?;
+    let (range, from) = carry_on(dimension, registry, range, from, parts.second, vehicle)?;
+    let (range, from) = carry_on(dimension, registry, range, from, parts.third, vehicle)?;
+    let (range, from) = carry_on(dimension, registry, range, from, parts.back, vehicle)?;
     let way = registry.ask(dimension.id(), &mut Meter::new(), from, 0);
     dimension.after(range, way, 0, vehicle)
 }
 
-/// Whether a route of five parts is in bounds in a dimension, by its whole way.
-fn comes_home(
-    dimension: &Dimension,
-    registry: &Registry,
-    vehicle: u32,
-    front: &[u32],
-    turned: bool,
-    first: &[u32],
-    second: &[u32],
-    third: &[u32],
-    back: &[u32],
-) -> bool
+/// Whether a new route is in bounds in a dimension, by its whole way.
+fn comes_home(dimension: &Dimension, registry: &Registry, vehicle: u32, parts: &Parts) -> bool
     requires laws { Laws }
     requires served { IsServed (tables registry.now) dimension.now }
-    requires some { 0 < length (front.now ++ (way_of turned first.now ++ (second.now ++ (third.now ++ back.now)))) }
-    requires known { All (λ node. node < length dimension.now.ranges) (front.now ++ (way_of turned first.now ++ (second.now ++ (third.now ++ back.now)))) }
+    requires some { 0 < length (route_of parts.now) }
+    requires known { All (λ node. node < length dimension.now.ranges) (route_of parts.now) }
     requires low { 1 ≤ vehicle }
     requires high { vehicle ≤ length dimension.now.caps }
-    ensures { IsTrue result ↔ IsInBounds (table_of (tables registry.now) dimension.now) dimension.now vehicle (front.now ++ (way_of turned first.now ++ (second.now ++ (third.now ++ back.now)))) }
+    ensures { IsTrue result ↔ IsInBounds (table_of (tables registry.now) dimension.now) dimension.now vehicle (route_of parts.now) }
 {
     match dimension.start(vehicle) {
         None => false,
         Some(here) => {
-            let home = homecoming(
-                dimension, registry, vehicle, here, front, turned, first, second, third, back,
-            );
+            let home = homecoming(dimension, registry, vehicle, here, parts);
             home.is_some()
         }
     }
 }
 
-/// Whether a route of five parts, the second of which may be driven back, is in bounds in each dimension, by its whole way.
-fn all_come_home(
-    setup: &Setup,
-    vehicle: u32,
-    front: &[u32],
-    turned: bool,
-    first: &[u32],
-    second: &[u32],
-    third: &[u32],
-    back: &[u32],
-) -> bool
+/// Whether a new route is in bounds in each dimension, by its whole way.
+fn all_come_home(setup: &Setup, vehicle: u32, parts: &Parts) -> bool
     requires laws { Laws }
-    requires known { All (λ c. c ≤ (setting setup.now).customers) (front.now ++ (way_of turned first.now ++ (second.now ++ (third.now ++ back.now)))) }
+    requires known { All (λ c. c ≤ (setting setup.now).customers) (route_of parts.now) }
     requires low { 1 ≤ vehicle }
     requires high { vehicle ≤ (setting setup.now).vehicles }
-    requires some { 0 < length (front.now ++ (way_of turned first.now ++ (second.now ++ (third.now ++ back.now)))) }
-    ensures { IsTrue result ↔ FitsAll (setting setup.now) vehicle (front.now ++ (way_of turned first.now ++ (second.now ++ (third.now ++ back.now)))) }
+    requires some { 0 < length (route_of parts.now) }
+    ensures { IsTrue result ↔ FitsAll (setting setup.now) vehicle (route_of parts.now) }
 {
     for dimension in setup.dimensions() {
-        if !comes_home(
-            dimension,
-            setup.registry(),
-            vehicle,
-            front,
-            turned,
-            first,
-            second,
-            third,
-            back,
-        ) {
+        if !comes_home(dimension, setup.registry(), vehicle, parts) {
             return false;
         }
     }
     true
 }
 
-/// Whether a route of five parts, the second of which may be driven back, is in bounds in each dimension, by the cumuls after its first
-/// part and those before its last one.
-fn all_meet(
-    setup: &Setup,
-    vehicle: u32,
-    ahead: &Spans,
-    front: &[u32],
-    turned: bool,
-    first: &[u32],
-    second: &[u32],
-    third: &[u32],
-    back: &[u32],
-    behind: &Spans,
-) -> bool
+/// Whether a new route is in bounds in each dimension, by the cumuls after its first part and those before its last one.
+fn all_meet(setup: &Setup, vehicle: u32, parts: &Parts) -> bool
     requires laws { Laws }
-    requires known { All (λ c. c ≤ (setting setup.now).customers) (front.now ++ (way_of turned first.now ++ (second.now ++ (third.now ++ back.now)))) }
+    requires known { All (λ c. c ≤ (setting setup.now).customers) (route_of parts.now) }
     requires low { 1 ≤ vehicle }
     requires high { vehicle ≤ (setting setup.now).vehicles }
-    requires some { 0 < length (front.now ++ (way_of turned first.now ++ (second.now ++ (third.now ++ back.now)))) }
-    requires ahead { HasAhead (setting setup.now) vehicle front.now ahead.now }
-    requires behind { HasBehind (setting setup.now) vehicle back.now behind.now }
-    ensures { IsTrue result ↔ FitsAll (setting setup.now) vehicle (front.now ++ (way_of turned first.now ++ (second.now ++ (third.now ++ back.now)))) }
+    requires some { 0 < length (route_of parts.now) }
+    requires ahead { HasAhead (setting setup.now) vehicle parts.now.front.now parts.now.ahead.now }
+    requires behind { HasBehind (setting setup.now) vehicle parts.now.back.now parts.now.behind.now }
+    ensures { IsTrue result ↔ FitsAll (setting setup.now) vehicle (route_of parts.now) }
 {
     for (k, dimension) in setup.dimensions().iter().enumerate() {
         let fits = meets(
             dimension,
             setup.registry(),
             vehicle,
-            ahead.at(k, front.len()),
-            front,
-            turned,
-            first,
-            second,
-            third,
-            back,
-            behind.at(k, back.len()),
+            parts.ahead.at(k, parts.front.len()),
+            parts,
+            parts.behind.at(k, parts.back.len()),
         );
         if !fits {
             return false;
@@ -418,38 +338,26 @@ fn all_meet(
     true
 }
 
-/// Whether a route of five parts, the second of which may be driven back, is in bounds in each dimension: by the cumuls after its first part and those before its last one where they are kept, and else by its whole way.
+/// Whether a new route is in bounds in each dimension: by the cumuls after its first part and those before its last one where they are
+/// kept, and else by its whole way.
 #[inline(always)]
-pub(crate) fn fits(
-    setup: &Setup,
-    vehicle: u32,
-    ahead: &Spans,
-    front: &[u32],
-    turned: bool,
-    first: &[u32],
-    second: &[u32],
-    third: &[u32],
-    back: &[u32],
-    behind: &Spans,
-) -> bool
+pub(crate) fn fits(setup: &Setup, vehicle: u32, parts: &Parts) -> bool
     requires laws { Laws }
-    requires known { All (λ c. c ≤ (setting setup.now).customers) (front.now ++ (way_of turned first.now ++ (second.now ++ (third.now ++ back.now)))) }
+    requires known { All (λ c. c ≤ (setting setup.now).customers) (route_of parts.now) }
     requires low { 1 ≤ vehicle }
     requires high { vehicle ≤ (setting setup.now).vehicles }
-    requires ahead { 0 < ahead.now.width → HasAhead (setting setup.now) vehicle front.now ahead.now }
-    requires behind { 0 < behind.now.width → HasBehind (setting setup.now) vehicle back.now behind.now }
-    ensures { IsTrue result ↔ FitsAll (setting setup.now) vehicle (front.now ++ (way_of turned first.now ++ (second.now ++ (third.now ++ back.now)))) }
+    requires ahead { 0 < parts.now.ahead.now.width → HasAhead (setting setup.now) vehicle parts.now.front.now parts.now.ahead.now }
+    requires behind { 0 < parts.now.behind.now.width → HasBehind (setting setup.now) vehicle parts.now.back.now parts.now.behind.now }
+    ensures { IsTrue result ↔ FitsAll (setting setup.now) vehicle (route_of parts.now) }
 {
-    if is_nothing(front, turned, first, second, third, back) {
+    if is_nothing(parts) {
         return true;
     }
-    if !ahead.are_kept() {
-        return all_come_home(setup, vehicle, front, turned, first, second, third, back);
+    if !parts.ahead.are_kept() {
+        return all_come_home(setup, vehicle, parts);
     }
-    if !behind.are_kept() {
-        return all_come_home(setup, vehicle, front, turned, first, second, third, back);
+    if !parts.behind.are_kept() {
+        return all_come_home(setup, vehicle, parts);
     }
-    all_meet(
-        setup, vehicle, ahead, front, turned, first, second, third, back, behind,
-    )
+    all_meet(setup, vehicle, parts)
 }

@@ -1,13 +1,33 @@
 //! The best move so far.
-ghost use Rattle.std.specs.Prelude.{◌≡◌, ◌+◌, ◌<◌, ◌^◌, ℕ, List, None};
+ghost use Rattle.std.specs.Prelude.{◌≡◌, ◌↔◌, ◌+◌, ◌<◌, ◌^◌, ℕ, List, None, IsTrue};
+ghost use Rattle.move_judge.specs.Allowed.{IsAllowed};
 ghost use Rattle.move_judge.specs.Near.{IsNear};
 ghost use Rattle.neighbourhood.specs.Best.{numbers_of};
 ghost use Rattle.neighbourhood.specs.Search.{gain_of, IsBestSoFar, IsNext};
-ghost use Rattle.neighbourhood.specs.Searched.{searched, CountsIn, IsPossible, IsSearch, Saves};
+ghost use Rattle.neighbourhood.specs.Searched.{searched, CountsIn, IsPossible, IsSearch, Saves, scope_of};
 
 use crate::searched::Search;
 use move_core::Move;
-use move_judge::allows;
+use move_judge::{fits_after, is_free};
+
+/// Whether a move near the two vehicles, or near the one, that has an effect is allowed; where `bounded` is false, with the dimensions
+/// left out.
+#[inline(always)]
+fn is_allowed(search: &Search, mv: Move) -> bool
+    requires search { IsSearch (searched search.now) }
+    requires possible { IsPossible (searched search.now) mv }
+    requires near { IsNear search.now.v search.now.w mv }
+    ensures { IsTrue result ↔ IsAllowed (scope_of (searched search.now)) search.now.view.now search.now.skip.now mv }
+{
+    let (view, setup, v, w) = (search.view, search.setup, search.v, search.w);
+    if !is_free(view, setup, search.skip, v, w, mv) {
+        return false;
+    }
+    if !search.bounded {
+        return true;
+    }
+    fits_after(view, setup, v, w, search.v_kept, search.w_kept, mv)
+}
 
 /// The best move so far and what it gains, if there is one.
 #[derive(Clone, Copy)]
@@ -63,18 +83,7 @@ impl Best {
         if gain <= self.gain() {
             return self;
         }
-        let judged = allows(
-            search.view,
-            search.setup,
-            search.bounded,
-            search.skip,
-            search.v,
-            search.w,
-            search.v_kept,
-            search.w_kept,
-            mv,
-        );
-        if !judged {
+        if !is_allowed(search, mv) {
             return self;
         }
         Best {

@@ -1,81 +1,108 @@
 use Rattle.std.proofs.Common.{◌≡◌, ◌+◌, ◌-◌, arith, refl, ◌∙◌, ap, List, ℕ, take, drop, length}
 use Rattle.dimension_core.specs.Setup.{setting}
-use Rattle.move_judge.proofs.Between.{first_known, fits_changed, second_known, shift_between}
+use Rattle.move_judge.proofs.Between.{first_known, first_misfits, fits_changed, second_known, shift_between}
 use Rattle.move_judge.proofs.Keeping.{kept_as, kept_front, kept_back}
 use Rattle.move_judge.proofs.allowed.shift_fits.Goals as goal
 
-pub fits_between-requires-clause-v_known : goal.fits_between-requires-clause-v_known
-fits_between-requires-clause-v_known g c =
+pub fits-requires-clause-known : goal.fits-requires-clause-known
+fits-requires-clause-known g c =
+    let p = c.args.pair.now in
     let law = c.requires.laws in
-    let e : c.args.place + c.args.length - c.args.place ≡ c.args.length = omega arith in
     first_known law (setting c.args.setup.now) c.args.view.now _ _ _ _ _ _ _ _ _ _ c.requires.view c.requires.possible
-    (shift_between law (setting c.args.setup.now).customers c.args.view.now.routes c.args.v c.args.place c.args.length c.args.w c.args.at c.requires.possible c.requires.apart)
+    (shift_between law (setting c.args.setup.now).customers c.args.view.now.routes p.v c.args.place c.args.length p.w c.args.at c.requires.possible c.requires.apart)
     (rw (c.front_of-front.ensures, c.back_of-rest.ensures, c.customers-route.ensures) refl)
 
-pub fits_between-requires-clause-w_known : goal.fits_between-requires-clause-w_known
-fits_between-requires-clause-w_known g c =
+pub fits-requires-2-clause-known : goal.fits-requires-2-clause-known
+fits-requires-2-clause-known g c =
+    let p = c.args.pair.now in
     let law = c.requires.laws in
     let e : c.args.place + c.args.length - c.args.place ≡ c.args.length = omega arith in
     second_known law (setting c.args.setup.now) c.args.view.now _ _ _ _ _ _ _ _ _ _ c.requires.view c.requires.possible
-    (shift_between law (setting c.args.setup.now).customers c.args.view.now.routes c.args.v c.args.place c.args.length c.args.w c.args.at c.requires.possible c.requires.apart)
+    (shift_between law (setting c.args.setup.now).customers c.args.view.now.routes p.v c.args.place c.args.length p.w c.args.at c.requires.possible c.requires.apart)
     (rw (c.front_of-before.ensures, c.part-stretch.ensures, c.back_of-after.ensures, c.customers-route.ensures, c.customers-other.ensures, e) refl)
+
+pub returns-then-not-fits : goal.returns-then-not-fits
+returns-then-not-fits g c =
+    let p = c.args.pair.now in
+    let law = c.requires.laws in
+    first_misfits law (setting c.args.setup.now) c.args.view.now.routes _ _ _ _ _ _ _ _ _ _
+    (shift_between law (setting c.args.setup.now).customers c.args.view.now.routes p.v c.args.place c.args.length p.w c.args.at c.requires.possible c.requires.apart)
+    (rw (c.front_of-front.ensures, c.back_of-rest.ensures, c.customers-route.ensures) refl)
+    (λ all. let is = c.fits.ensures.1 all in cc)
 
 pub returns : goal.returns
 returns g c =
+    let p = c.args.pair.now in
     let law = c.requires.laws in
     let e : c.args.place + c.args.length - c.args.place ≡ c.args.length = omega arith in
     fits_changed law (setting c.args.setup.now) c.args.view.now.routes _ _ _ _ _ _ _ _ _ _ _ _
-    (shift_between law (setting c.args.setup.now).customers c.args.view.now.routes c.args.v c.args.place c.args.length c.args.w c.args.at c.requires.possible c.requires.apart)
-    c.fits_between.ensures
+    (shift_between law (setting c.args.setup.now).customers c.args.view.now.routes p.v c.args.place c.args.length p.w c.args.at c.requires.possible c.requires.apart)
     (rw (c.front_of-front.ensures, c.back_of-rest.ensures, c.customers-route.ensures) refl)
     (rw (c.front_of-before.ensures, c.part-stretch.ensures, c.back_of-after.ensures, c.customers-route.ensures, c.customers-other.ensures, e) refl)
+    (c.fits.ensures.0 c.if-not-fits.false) c.fits-2.ensures
 
-pub fits_between-requires-clause-v : goal.fits_between-requires-clause-v
-fits_between-requires-clause-v g c =
-    let f = (c.requires.laws.possible.shift (setting c.args.setup.now).customers c.args.view.now.routes c.args.v c.args.place c.args.length c.args.w c.args.at).0 c.requires.possible in
-    let low = f.from.vehicle.low in
+pub fits-requires-clause-low : goal.fits-requires-clause-low
+fits-requires-clause-low g c =
+    let p = c.args.pair.now in
+    let f = (c.requires.laws.possible.shift (setting c.args.setup.now).customers c.args.view.now.routes p.v c.args.place c.args.length p.w c.args.at).0 c.requires.possible in
+    f.from.vehicle.low
+
+pub fits-requires-clause-high : goal.fits-requires-clause-high
+fits-requires-clause-high g c =
+    let p = c.args.pair.now in
+    let f = (c.requires.laws.possible.shift (setting c.args.setup.now).customers c.args.view.now.routes p.v c.args.place c.args.length p.w c.args.at).0 c.requires.possible in
     let high = f.from.vehicle.high in
     let same = c.requires.view.vehicles in
-    (low, omega arith)
+    omega arith
 
-pub fits_between-requires-clause-w : goal.fits_between-requires-clause-w
-fits_between-requires-clause-w g c =
-    let f = (c.requires.laws.possible.shift (setting c.args.setup.now).customers c.args.view.now.routes c.args.v c.args.place c.args.length c.args.w c.args.at).0 c.requires.possible in
-    let low = f.onto.vehicle.low in
+pub fits-requires-2-clause-low : goal.fits-requires-2-clause-low
+fits-requires-2-clause-low g c =
+    let p = c.args.pair.now in
+    let f = (c.requires.laws.possible.shift (setting c.args.setup.now).customers c.args.view.now.routes p.v c.args.place c.args.length p.w c.args.at).0 c.requires.possible in
+    f.onto.vehicle.low
+
+pub fits-requires-2-clause-high : goal.fits-requires-2-clause-high
+fits-requires-2-clause-high g c =
+    let p = c.args.pair.now in
+    let f = (c.requires.laws.possible.shift (setting c.args.setup.now).customers c.args.view.now.routes p.v c.args.place c.args.length p.w c.args.at).0 c.requires.possible in
     let high = f.onto.vehicle.high in
     let same = c.requires.view.vehicles in
-    (low, omega arith)
+    omega arith
 
-pub fits_between-requires-clause-v_ahead : goal.fits_between-requires-clause-v_ahead
-fits_between-requires-clause-v_ahead g c =
-    let f = (c.requires.laws.possible.shift (setting c.args.setup.now).customers c.args.view.now.routes c.args.v c.args.place c.args.length c.args.w c.args.at).0 c.requires.possible in
+pub fits-requires-clause-ahead : goal.fits-requires-clause-ahead
+fits-requires-clause-ahead g c =
+    let p = c.args.pair.now in
+    let f = (c.requires.laws.possible.shift (setting c.args.setup.now).customers c.args.view.now.routes p.v c.args.place c.args.length p.w c.args.at).0 c.requires.possible in
     let low = f.from.low in
     let high = f.from.high in
     let at = f.onto.low in
     let end = f.onto.outside c.requires.apart in
     λ wide. kept_front (setting c.args.setup.now) _ _ _ _ (c.args.place - 1) ((kept_as _ _ _ _ _ _ c.v_kept.view_is c.requires.v_kept).ahead wide) (omega arith) (c.front_of-front.ensures ∙ ap (λ (xs : List ℕ). take (c.args.place - 1) xs) c.customers-route.ensures)
 
-pub fits_between-requires-clause-v_behind : goal.fits_between-requires-clause-v_behind
-fits_between-requires-clause-v_behind g c =
-    let f = (c.requires.laws.possible.shift (setting c.args.setup.now).customers c.args.view.now.routes c.args.v c.args.place c.args.length c.args.w c.args.at).0 c.requires.possible in
+pub fits-requires-clause-behind : goal.fits-requires-clause-behind
+fits-requires-clause-behind g c =
+    let p = c.args.pair.now in
+    let f = (c.requires.laws.possible.shift (setting c.args.setup.now).customers c.args.view.now.routes p.v c.args.place c.args.length p.w c.args.at).0 c.requires.possible in
     let low = f.from.low in
     let high = f.from.high in
     let at = f.onto.low in
     let end = f.onto.outside c.requires.apart in
     λ wide. kept_back (setting c.args.setup.now) _ _ _ _ (c.args.place - 1 + c.args.length) ((kept_as _ _ _ _ _ _ c.v_kept.view_is c.requires.v_kept).behind wide) (omega arith) (c.back_of-rest.ensures ∙ ap (λ (xs : List ℕ). drop (c.args.place - 1 + c.args.length) xs) c.customers-route.ensures)
 
-pub fits_between-requires-clause-w_ahead : goal.fits_between-requires-clause-w_ahead
-fits_between-requires-clause-w_ahead g c =
-    let f = (c.requires.laws.possible.shift (setting c.args.setup.now).customers c.args.view.now.routes c.args.v c.args.place c.args.length c.args.w c.args.at).0 c.requires.possible in
+pub fits-requires-2-clause-ahead : goal.fits-requires-2-clause-ahead
+fits-requires-2-clause-ahead g c =
+    let p = c.args.pair.now in
+    let f = (c.requires.laws.possible.shift (setting c.args.setup.now).customers c.args.view.now.routes p.v c.args.place c.args.length p.w c.args.at).0 c.requires.possible in
     let low = f.from.low in
     let high = f.from.high in
     let at = f.onto.low in
     let end = f.onto.outside c.requires.apart in
     λ wide. kept_front (setting c.args.setup.now) _ _ _ _ (c.args.at - 1) ((kept_as _ _ _ _ _ _ c.w_kept.view_is c.requires.w_kept).ahead wide) (omega arith) (c.front_of-before.ensures ∙ ap (λ (xs : List ℕ). take (c.args.at - 1) xs) c.customers-other.ensures)
 
-pub fits_between-requires-clause-w_behind : goal.fits_between-requires-clause-w_behind
-fits_between-requires-clause-w_behind g c =
-    let f = (c.requires.laws.possible.shift (setting c.args.setup.now).customers c.args.view.now.routes c.args.v c.args.place c.args.length c.args.w c.args.at).0 c.requires.possible in
+pub fits-requires-2-clause-behind : goal.fits-requires-2-clause-behind
+fits-requires-2-clause-behind g c =
+    let p = c.args.pair.now in
+    let f = (c.requires.laws.possible.shift (setting c.args.setup.now).customers c.args.view.now.routes p.v c.args.place c.args.length p.w c.args.at).0 c.requires.possible in
     let low = f.from.low in
     let high = f.from.high in
     let at = f.onto.low in
@@ -84,22 +111,26 @@ fits_between-requires-clause-w_behind g c =
 
 pub customers-route-requires-clause-low : goal.customers-route-requires-clause-low
 customers-route-requires-clause-low g c =
-    let f = (c.requires.laws.possible.shift (setting c.args.setup.now).customers c.args.view.now.routes c.args.v c.args.place c.args.length c.args.w c.args.at).0 c.requires.possible in
+    let p = c.args.pair.now in
+    let f = (c.requires.laws.possible.shift (setting c.args.setup.now).customers c.args.view.now.routes p.v c.args.place c.args.length p.w c.args.at).0 c.requires.possible in
     f.from.vehicle.low
 
 pub customers-route-requires-clause-high : goal.customers-route-requires-clause-high
 customers-route-requires-clause-high g c =
-    let f = (c.requires.laws.possible.shift (setting c.args.setup.now).customers c.args.view.now.routes c.args.v c.args.place c.args.length c.args.w c.args.at).0 c.requires.possible in
+    let p = c.args.pair.now in
+    let f = (c.requires.laws.possible.shift (setting c.args.setup.now).customers c.args.view.now.routes p.v c.args.place c.args.length p.w c.args.at).0 c.requires.possible in
     f.from.vehicle.high
 
 pub front_of-front-requires-clause-low : goal.front_of-front-requires-clause-low
 front_of-front-requires-clause-low g c =
-    let f = (c.requires.laws.possible.shift (setting c.args.setup.now).customers c.args.view.now.routes c.args.v c.args.place c.args.length c.args.w c.args.at).0 c.requires.possible in
+    let p = c.args.pair.now in
+    let f = (c.requires.laws.possible.shift (setting c.args.setup.now).customers c.args.view.now.routes p.v c.args.place c.args.length p.w c.args.at).0 c.requires.possible in
     f.from.low
 
 pub front_of-front-requires-clause-high : goal.front_of-front-requires-clause-high
 front_of-front-requires-clause-high g c =
-    let f = (c.requires.laws.possible.shift (setting c.args.setup.now).customers c.args.view.now.routes c.args.v c.args.place c.args.length c.args.w c.args.at).0 c.requires.possible in
+    let p = c.args.pair.now in
+    let f = (c.requires.laws.possible.shift (setting c.args.setup.now).customers c.args.view.now.routes p.v c.args.place c.args.length p.w c.args.at).0 c.requires.possible in
     let low = f.from.low in
     let high = f.from.high in
     let some = f.from.some in
@@ -108,7 +139,8 @@ front_of-front-requires-clause-high g c =
 
 pub part-stretch-requires-clause-low : goal.part-stretch-requires-clause-low
 part-stretch-requires-clause-low g c =
-    let f = (c.requires.laws.possible.shift (setting c.args.setup.now).customers c.args.view.now.routes c.args.v c.args.place c.args.length c.args.w c.args.at).0 c.requires.possible in
+    let p = c.args.pair.now in
+    let f = (c.requires.laws.possible.shift (setting c.args.setup.now).customers c.args.view.now.routes p.v c.args.place c.args.length p.w c.args.at).0 c.requires.possible in
     f.from.low
 
 pub part-stretch-requires-clause-order : goal.part-stretch-requires-clause-order
@@ -117,7 +149,8 @@ part-stretch-requires-clause-order g c =
 
 pub part-stretch-requires-clause-high : goal.part-stretch-requires-clause-high
 part-stretch-requires-clause-high g c =
-    let f = (c.requires.laws.possible.shift (setting c.args.setup.now).customers c.args.view.now.routes c.args.v c.args.place c.args.length c.args.w c.args.at).0 c.requires.possible in
+    let p = c.args.pair.now in
+    let f = (c.requires.laws.possible.shift (setting c.args.setup.now).customers c.args.view.now.routes p.v c.args.place c.args.length p.w c.args.at).0 c.requires.possible in
     let low = f.from.low in
     let high = f.from.high in
     let some = f.from.some in
@@ -126,12 +159,14 @@ part-stretch-requires-clause-high g c =
 
 pub overflow_sub-place : goal.overflow_sub-place
 overflow_sub-place g c =
-    let f = (c.requires.laws.possible.shift (setting c.args.setup.now).customers c.args.view.now.routes c.args.v c.args.place c.args.length c.args.w c.args.at).0 c.requires.possible in
+    let p = c.args.pair.now in
+    let f = (c.requires.laws.possible.shift (setting c.args.setup.now).customers c.args.view.now.routes p.v c.args.place c.args.length p.w c.args.at).0 c.requires.possible in
     f.from.low
 
 pub back_of-rest-requires : goal.back_of-rest-requires
 back_of-rest-requires g c =
-    let f = (c.requires.laws.possible.shift (setting c.args.setup.now).customers c.args.view.now.routes c.args.v c.args.place c.args.length c.args.w c.args.at).0 c.requires.possible in
+    let p = c.args.pair.now in
+    let f = (c.requires.laws.possible.shift (setting c.args.setup.now).customers c.args.view.now.routes p.v c.args.place c.args.length p.w c.args.at).0 c.requires.possible in
     let low = f.from.low in
     let high = f.from.high in
     let some = f.from.some in
@@ -140,22 +175,26 @@ back_of-rest-requires g c =
 
 pub customers-other-requires-clause-low : goal.customers-other-requires-clause-low
 customers-other-requires-clause-low g c =
-    let f = (c.requires.laws.possible.shift (setting c.args.setup.now).customers c.args.view.now.routes c.args.v c.args.place c.args.length c.args.w c.args.at).0 c.requires.possible in
+    let p = c.args.pair.now in
+    let f = (c.requires.laws.possible.shift (setting c.args.setup.now).customers c.args.view.now.routes p.v c.args.place c.args.length p.w c.args.at).0 c.requires.possible in
     f.onto.vehicle.low
 
 pub customers-other-requires-clause-high : goal.customers-other-requires-clause-high
 customers-other-requires-clause-high g c =
-    let f = (c.requires.laws.possible.shift (setting c.args.setup.now).customers c.args.view.now.routes c.args.v c.args.place c.args.length c.args.w c.args.at).0 c.requires.possible in
+    let p = c.args.pair.now in
+    let f = (c.requires.laws.possible.shift (setting c.args.setup.now).customers c.args.view.now.routes p.v c.args.place c.args.length p.w c.args.at).0 c.requires.possible in
     f.onto.vehicle.high
 
 pub front_of-before-requires-clause-low : goal.front_of-before-requires-clause-low
 front_of-before-requires-clause-low g c =
-    let f = (c.requires.laws.possible.shift (setting c.args.setup.now).customers c.args.view.now.routes c.args.v c.args.place c.args.length c.args.w c.args.at).0 c.requires.possible in
+    let p = c.args.pair.now in
+    let f = (c.requires.laws.possible.shift (setting c.args.setup.now).customers c.args.view.now.routes p.v c.args.place c.args.length p.w c.args.at).0 c.requires.possible in
     f.onto.low
 
 pub front_of-before-requires-clause-high : goal.front_of-before-requires-clause-high
 front_of-before-requires-clause-high g c =
-    let f = (c.requires.laws.possible.shift (setting c.args.setup.now).customers c.args.view.now.routes c.args.v c.args.place c.args.length c.args.w c.args.at).0 c.requires.possible in
+    let p = c.args.pair.now in
+    let f = (c.requires.laws.possible.shift (setting c.args.setup.now).customers c.args.view.now.routes p.v c.args.place c.args.length p.w c.args.at).0 c.requires.possible in
     let at = f.onto.low in
     let end = f.onto.outside c.requires.apart in
     let wide = ap length c.customers-other.ensures in
@@ -163,12 +202,14 @@ front_of-before-requires-clause-high g c =
 
 pub overflow_sub-at : goal.overflow_sub-at
 overflow_sub-at g c =
-    let f = (c.requires.laws.possible.shift (setting c.args.setup.now).customers c.args.view.now.routes c.args.v c.args.place c.args.length c.args.w c.args.at).0 c.requires.possible in
+    let p = c.args.pair.now in
+    let f = (c.requires.laws.possible.shift (setting c.args.setup.now).customers c.args.view.now.routes p.v c.args.place c.args.length p.w c.args.at).0 c.requires.possible in
     f.onto.low
 
 pub back_of-after-requires : goal.back_of-after-requires
 back_of-after-requires g c =
-    let f = (c.requires.laws.possible.shift (setting c.args.setup.now).customers c.args.view.now.routes c.args.v c.args.place c.args.length c.args.w c.args.at).0 c.requires.possible in
+    let p = c.args.pair.now in
+    let f = (c.requires.laws.possible.shift (setting c.args.setup.now).customers c.args.view.now.routes p.v c.args.place c.args.length p.w c.args.at).0 c.requires.possible in
     let at = f.onto.low in
     let end = f.onto.outside c.requires.apart in
     let wide = ap length c.customers-other.ensures in

@@ -6,73 +6,82 @@ use Rattle.move_judge.proofs.fits.arrival.Goals as goal
 
 pub returns-in_err-range : goal.returns-in_err-range
 returns-in_err-range g c =
+    let p = c.args.parts.now in
     let law = c.requires.laws in
     rw c.from_residual.ensures
-    (stop_none law _ _ _ (c.args.front.now ++ way_of c.args.turned c.args.first.now) (c.args.second.now ++ c.args.third.now) _ _ (append_assoc c.args.front.now (way_of c.args.turned c.args.first.now) (c.args.second.now ++ c.args.third.now))
-    (c.in_err-range.ensures.span c.args.front.now c.requires.here c.last_stop-from.ensures))
+    (stop_none law _ _ _ (p.front.now ++ way_of p.turned p.first.now) (p.second.now ++ p.third.now) _ _ (append_assoc p.front.now (way_of p.turned p.first.now) (p.second.now ++ p.third.now))
+    (c.in_err-range.ensures.span p.front.now c.requires.here c.last_stop-from.ensures))
 
 pub returns-in_err-range-2 : goal.returns-in_err-range-2
 returns-in_err-range-2 g c =
+    let p = c.args.parts.now in
     let law = c.requires.laws in
-    let s1 = c.in_ok-range.ensures.span c.args.front.now c.requires.here c.last_stop-from.ensures in
+    let s1 = c.in_ok-range.ensures.span p.front.now c.requires.here c.last_stop-from.ensures in
     rw c.from_residual-in_err-range-2.ensures
-    (stop_none law _ _ _ ((c.args.front.now ++ way_of c.args.turned c.args.first.now) ++ c.args.second.now) c.args.third.now _ _
-    (append_assoc (c.args.front.now ++ way_of c.args.turned c.args.first.now) c.args.second.now c.args.third.now ∙ append_assoc c.args.front.now (way_of c.args.turned c.args.first.now) (c.args.second.now ++ c.args.third.now))
-    (c.in_err-range-2.ensures.span (c.args.front.now ++ way_of c.args.turned c.args.first.now) s1.0 s1.1))
+    (stop_none law _ _ _ ((p.front.now ++ way_of p.turned p.first.now) ++ p.second.now) p.third.now _ _
+    (append_assoc (p.front.now ++ way_of p.turned p.first.now) p.second.now p.third.now ∙ append_assoc p.front.now (way_of p.turned p.first.now) (p.second.now ++ p.third.now))
+    (c.in_err-range-2.ensures.span (p.front.now ++ way_of p.turned p.first.now) s1.0 s1.1))
 
 pub returns-in_err-range-3 : goal.returns-in_err-range-3
 returns-in_err-range-3 g c =
+    let p = c.args.parts.now in
     let law = c.requires.laws in
-    let s1 = c.in_ok-range.ensures.span c.args.front.now c.requires.here c.last_stop-from.ensures in
-    let s2 = c.in_ok-range-2.ensures.span (c.args.front.now ++ way_of c.args.turned c.args.first.now) s1.0 s1.1 in
+    let s1 = c.in_ok-range.ensures.span p.front.now c.requires.here c.last_stop-from.ensures in
+    let s2 = c.in_ok-range-2.ensures.span (p.front.now ++ way_of p.turned p.first.now) s1.0 s1.1 in
     rw c.from_residual-in_err-range-3.ensures
-    (stop_none law _ _ _ (((c.args.front.now ++ way_of c.args.turned c.args.first.now) ++ c.args.second.now) ++ c.args.third.now) [] _ _
-    (append_nil law _ ∙ append_assoc (c.args.front.now ++ way_of c.args.turned c.args.first.now) c.args.second.now c.args.third.now ∙ append_assoc c.args.front.now (way_of c.args.turned c.args.first.now) (c.args.second.now ++ c.args.third.now))
-    (c.in_err-range-3.ensures.span ((c.args.front.now ++ way_of c.args.turned c.args.first.now) ++ c.args.second.now) s2.0 s2.1))
+    (stop_none law _ _ _ (((p.front.now ++ way_of p.turned p.first.now) ++ p.second.now) ++ p.third.now) [] _ _
+    (append_nil law _ ∙ append_assoc (p.front.now ++ way_of p.turned p.first.now) p.second.now p.third.now ∙ append_assoc p.front.now (way_of p.turned p.first.now) (p.second.now ++ p.third.now))
+    (c.in_err-range-3.ensures.span ((p.front.now ++ way_of p.turned p.first.now) ++ p.second.now) s2.0 s2.1))
 
 pub returns : goal.returns
 returns g c =
+    let p = c.args.parts.now in
     let law = c.requires.laws in
-    let s1 = c.in_ok-range.ensures.span c.args.front.now c.requires.here c.last_stop-from.ensures in
-    let s2 = c.in_ok-range-2.ensures.span (c.args.front.now ++ way_of c.args.turned c.args.first.now) s1.0 s1.1 in
-    let s3 = c.in_ok-range-3.ensures.span ((c.args.front.now ++ way_of c.args.turned c.args.first.now) ++ c.args.second.now) s2.0 s2.1 in
+    let s1 = c.in_ok-range.ensures.span p.front.now c.requires.here c.last_stop-from.ensures in
+    let s2 = c.in_ok-range-2.ensures.span (p.front.now ++ way_of p.turned p.first.now) s1.0 s1.1 in
+    let s3 = c.in_ok-range-3.ensures.span ((p.front.now ++ way_of p.turned p.first.now) ++ p.second.now) s2.0 s2.1 in
     stop_found law _ _ _ _ _ _ _ _ _
-    (append_assoc (c.args.front.now ++ way_of c.args.turned c.args.first.now) c.args.second.now c.args.third.now ∙ append_assoc c.args.front.now (way_of c.args.turned c.args.first.now) (c.args.second.now ++ c.args.third.now))
+    (append_assoc (p.front.now ++ way_of p.turned p.first.now) p.second.now p.third.now ∙ append_assoc p.front.now (way_of p.turned p.first.now) (p.second.now ++ p.third.now))
     s3.0 s3.1 (after_at _ _ _ _ _ _ _ _ _ c.after.ensures.span c.id.ensures c.ask-way.ensures.answer)
 
 pub carry_way-requires-clause-known : goal.carry_way-requires-clause-known
 carry_way-requires-clause-known g c =
-    all_way c.requires.laws (λ n. n < length c.args.dimension.now.ranges) c.args.turned c.args.first.now
-    (all_left c.requires.laws (λ n. n < length c.args.dimension.now.ranges) (way_of c.args.turned c.args.first.now) (c.args.second.now ++ c.args.third.now)
-    (all_right c.requires.laws (λ n. n < length c.args.dimension.now.ranges) c.args.front.now (way_of c.args.turned c.args.first.now ++ (c.args.second.now ++ c.args.third.now)) c.requires.known))
+    let p = c.args.parts.now in
+    all_way c.requires.laws (λ n. n < length c.args.dimension.now.ranges) p.turned p.first.now
+    (all_left c.requires.laws (λ n. n < length c.args.dimension.now.ranges) (way_of p.turned p.first.now) (p.second.now ++ p.third.now)
+    (all_right c.requires.laws (λ n. n < length c.args.dimension.now.ranges) p.front.now (way_of p.turned p.first.now ++ (p.second.now ++ p.third.now)) c.requires.known))
 
 pub carry_on-requires-clause-known : goal.carry_on-requires-clause-known
 carry_on-requires-clause-known g c =
-    all_left c.requires.laws (λ n. n < length c.args.dimension.now.ranges) c.args.second.now c.args.third.now
-    (all_right c.requires.laws (λ n. n < length c.args.dimension.now.ranges) (way_of c.args.turned c.args.first.now) (c.args.second.now ++ c.args.third.now)
-    (all_right c.requires.laws (λ n. n < length c.args.dimension.now.ranges) c.args.front.now (way_of c.args.turned c.args.first.now ++ (c.args.second.now ++ c.args.third.now)) c.requires.known))
+    let p = c.args.parts.now in
+    all_left c.requires.laws (λ n. n < length c.args.dimension.now.ranges) p.second.now p.third.now
+    (all_right c.requires.laws (λ n. n < length c.args.dimension.now.ranges) (way_of p.turned p.first.now) (p.second.now ++ p.third.now)
+    (all_right c.requires.laws (λ n. n < length c.args.dimension.now.ranges) p.front.now (way_of p.turned p.first.now ++ (p.second.now ++ p.third.now)) c.requires.known))
 
 pub carry_on-requires-2-clause-known : goal.carry_on-requires-2-clause-known
 carry_on-requires-2-clause-known g c =
-    all_right c.requires.laws (λ n. n < length c.args.dimension.now.ranges) c.args.second.now c.args.third.now
-    (all_right c.requires.laws (λ n. n < length c.args.dimension.now.ranges) (way_of c.args.turned c.args.first.now) (c.args.second.now ++ c.args.third.now)
-    (all_right c.requires.laws (λ n. n < length c.args.dimension.now.ranges) c.args.front.now (way_of c.args.turned c.args.first.now ++ (c.args.second.now ++ c.args.third.now)) c.requires.known))
+    let p = c.args.parts.now in
+    all_right c.requires.laws (λ n. n < length c.args.dimension.now.ranges) p.second.now p.third.now
+    (all_right c.requires.laws (λ n. n < length c.args.dimension.now.ranges) (way_of p.turned p.first.now) (p.second.now ++ p.third.now)
+    (all_right c.requires.laws (λ n. n < length c.args.dimension.now.ranges) p.front.now (way_of p.turned p.first.now ++ (p.second.now ++ p.third.now)) c.requires.known))
 
 pub carry_way-requires-clause-from : goal.carry_way-requires-clause-from
 carry_way-requires-clause-from g c =
+    let p = c.args.parts.now in
     let nodes = c.nodes-nodes.ensures.low in
     let is = c.nodes-nodes.ensures.value in
     subst (λ (n : ℕ). n < length c.args.dimension.now.ranges) (sym c.last_stop-from.ensures)
-    (last_known (λ n. n < length c.args.dimension.now.ranges) 0 c.args.front.now (omega arith)
-    (all_left c.requires.laws (λ n. n < length c.args.dimension.now.ranges) c.args.front.now (way_of c.args.turned c.args.first.now ++ (c.args.second.now ++ c.args.third.now)) c.requires.known))
+    (last_known (λ n. n < length c.args.dimension.now.ranges) 0 p.front.now (omega arith)
+    (all_left c.requires.laws (λ n. n < length c.args.dimension.now.ranges) p.front.now (way_of p.turned p.first.now ++ (p.second.now ++ p.third.now)) c.requires.known))
 
 pub carry_way-requires-clause-small : goal.carry_way-requires-clause-small
 carry_way-requires-clause-small g c =
+    let p = c.args.parts.now in
     let nodes = c.nodes-nodes.ensures.low in
     let is = c.nodes-nodes.ensures.value in
     c.spans_are_small.ensures _ _ _ _ c.requires.here
-    (last_known (λ n. n < length c.args.dimension.now.ranges) 0 c.args.front.now (omega arith)
-    (all_left c.requires.laws (λ n. n < length c.args.dimension.now.ranges) c.args.front.now (way_of c.args.turned c.args.first.now ++ (c.args.second.now ++ c.args.third.now)) c.requires.known))
+    (last_known (λ n. n < length c.args.dimension.now.ranges) 0 p.front.now (omega arith)
+    (all_left c.requires.laws (λ n. n < length c.args.dimension.now.ranges) p.front.now (way_of p.turned p.first.now ++ (p.second.now ++ p.third.now)) c.requires.known))
 
 pub carry_way-requires-clause-filled : goal.carry_way-requires-clause-filled
 carry_way-requires-clause-filled g c = c.requires.here.filled

@@ -1,14 +1,14 @@
-use Rattle.std.proofs.Common.{[], ◌++◌}
+use Rattle.std.proofs.Common.{[]}
 use Rattle.callback_store.specs.Registry.{tables}
 use Rattle.dimension_core.specs.Cumuls.{table_of}
-use Rattle.move_judge.specs.Parts.{way_of}
+use Rattle.move_judge.specs.Parts.{route_of}
 use Rattle.move_judge.proofs.Meeting.{no_ahead}
 use Rattle.move_judge.proofs.fits.comes_home.Goals as goal
 
 pub returns-in-None : goal.returns-in-None
-returns-in-None g c = (
+returns-in-None g c = let p = c.args.parts.now in (
   λ never. absurd cc,
-  λ inside. absurd (no_ahead c.requires.laws (table_of (tables c.args.registry.now) c.args.dimension.now) c.args.dimension.now c.args.vehicle [] (c.args.front.now ++ (way_of c.args.turned c.args.first.now ++ (c.args.second.now ++ (c.args.third.now ++ c.args.back.now)))) c.requires.some (c.requires.laws.spans.start (table_of (tables c.args.registry.now) c.args.dimension.now) c.args.dimension.now c.args.vehicle _ c.in-None.ensures.span) inside),
+  λ inside. absurd (no_ahead c.requires.laws (table_of (tables c.args.registry.now) c.args.dimension.now) c.args.dimension.now c.args.vehicle [] (route_of p) c.requires.some (c.requires.laws.spans.start (table_of (tables c.args.registry.now) c.args.dimension.now) c.args.dimension.now c.args.vehicle _ c.in-None.ensures.span) inside),
 )
 
 pub homecoming-home-requires-clause-here : goal.homecoming-home-requires-clause-here
@@ -16,5 +16,6 @@ homecoming-home-requires-clause-here g c = c.requires.laws.spans.start (table_of
 
 pub returns-in-Some : goal.returns-in-Some
 returns-in-Some g c =
-    let decided = c.requires.laws.spans.bounds (table_of (tables c.args.registry.now) c.args.dimension.now) c.args.dimension.now c.args.vehicle (c.args.front.now ++ (way_of c.args.turned c.args.first.now ++ (c.args.second.now ++ (c.args.third.now ++ c.args.back.now)))) _ c.requires.some c.homecoming-home.ensures in
+    let p = c.args.parts.now in
+    let decided = c.requires.laws.spans.bounds (table_of (tables c.args.registry.now) c.args.dimension.now) c.args.dimension.now c.args.vehicle (route_of p) _ c.requires.some c.homecoming-home.ensures in
     (λ is. decided.0 cc, λ inside. let is = decided.1 inside in cc)

@@ -4,16 +4,17 @@ use Rattle.move_judge.proofs.Meeting.{five_parts, no_ahead, no_behind}
 use Rattle.move_judge.proofs.fits.meets.Goals as goal
 
 pub returns-in-None : goal.returns-in-None
-returns-in-None g c = (
+returns-in-None g c = let p = c.args.parts.now in (
   λ never. absurd cc,
-  λ inside. absurd (no_ahead c.requires.laws _ _ _ c.args.front.now (way_of c.args.turned c.args.first.now ++ (c.args.second.now ++ (c.args.third.now ++ c.args.back.now))) c.requires.some (rw c.in-None.is at c.requires.ahead) inside),
+  λ inside. absurd (no_ahead c.requires.laws _ _ _ p.front.now (way_of p.turned p.first.now ++ (p.second.now ++ (p.third.now ++ p.back.now))) c.requires.some (rw c.in-None.is at c.requires.ahead) inside),
 )
 
 pub returns-in-None-behind : goal.returns-in-None-behind
 returns-in-None-behind g c =
-    let whole = five_parts c.args.front.now (way_of c.args.turned c.args.first.now) c.args.second.now c.args.third.now c.args.back.now in (
+    let p = c.args.parts.now in
+    let whole = five_parts p.front.now (way_of p.turned p.first.now) p.second.now p.third.now p.back.now in (
       λ never. absurd cc,
-      λ inside. absurd (no_behind c.requires.laws _ _ _ _ c.args.back.now _ whole c.requires.some (rw c.in-None-behind.is at c.requires.behind) inside),
+      λ inside. absurd (no_behind c.requires.laws _ _ _ _ p.back.now _ whole c.requires.some (rw c.in-None-behind.is at c.requires.behind) inside),
     )
 
 pub joins-requires-clause-there : goal.joins-requires-clause-there

@@ -12,9 +12,9 @@ returns-then-gain g c = λ bound next so_far.
     let h : c.saturating_sub-gain.result ≤ gain_of c.args.self.found = let d = c.gain.ensures.value in let t = c.if-gain.true in omega arith in
     kept_by_gain q c.args.mv c.saturating_sub-gain.result c.args.self.found bound e h next so_far
 
-pub returns-then-not-judged : goal.returns-then-not-judged
-returns-then-not-judged g c = λ bound next so_far.
-    kept_by_rule (searched c.args.search.now) c.args.mv c.args.self.found bound (λ a. let is = c.allows-judged.ensures.1 a in cc) next so_far
+pub returns-then-not-is_allowed : goal.returns-then-not-is_allowed
+returns-then-not-is_allowed g c = λ bound next so_far.
+    kept_by_rule (searched c.args.search.now) c.args.mv c.args.self.found bound (λ a. let is = c.is_allowed.ensures.1 a in cc) next so_far
 
 pub returns : goal.returns
 returns g c = λ bound next so_far.
@@ -23,4 +23,4 @@ returns g c = λ bound next so_far.
     let e : c.saturating_sub-gain.result ≡ old_cost q - new_cost q c.args.mv = let d = c.saturating_sub-gain.ensures in omega arith in
     let h : gain_of c.args.self.found < c.saturating_sub-gain.result = let d = c.gain.ensures.value in let t = c.if-gain.false in omega arith in
     taken_by_gain q c.args.mv c.saturating_sub-gain.result c.args.self.found bound e h
-    c.requires.near c.requires.possible (c.allows-judged.ensures.0 c.if-not-judged.false) next so_far
+    c.requires.near c.requires.possible (c.is_allowed.ensures.0 c.if-not-is_allowed.false) next so_far
