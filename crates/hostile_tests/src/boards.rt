@@ -6,8 +6,11 @@ use crate::desks::last;
 use crate::rows::{MOVES, NO_ROOT, RIGHTS, journal_of};
 use crate::scarce::{Attempt, Hoard, insist, insist_on_rows};
 use board_core::Board;
+use board_lines::{Command, ReadFault, read_line};
 use board_lock::{Foyer, Naming, open_hall};
+use board_rules::Event;
 use board_text::{BoardFront, run_board_lines};
+use callback_store::Meter;
 use desk_text::{Seated, run_desk_lines};
 use dimension_core::Setup;
 use line_engine::{Counts, RunFault};
@@ -54,6 +57,43 @@ impl Attempt for OnBoard {
         );
         let is_taken = events < self.front.board.events();
         judged(counts, is_taken, &self.written, wanted)
+    }
+}
+
+/// A board of one thread that gives calls up between those that it takes.
+#[derive(Drop)]
+struct GivesUp {
+    on: OnBoard,
+}
+
+impl GivesUp {
+    /// Judges the call of a line, if it says one, and gives it up. It says whether there was memory for that.
+    fn give_up(&mut self, text: &str) -> bool {
+        let call = match read_line(self.on.alloc, text.as_bytes()) {
+            Ok(Command::Submit(call)) => call,
+            Err(ReadFault::NoMemory) => return false,
+            _ => return true,
+        };
+        let (desk, turn) = (self.on.front.desk, self.on.front.turn);
+        let event = Event { desk, turn, call };
+        let mut meter = Meter::new();
+        let is_judged = self.on.front.board.prepare(event, &mut meter).is_ok();
+        if is_judged {
+            self.on.front.board.give_up();
+        }
+        is_judged
+    }
+}
+
+impl Attempt for GivesUp {
+    ghost may = { λ it. Unit {0} };
+
+    /// The command that is given up first would close every session that these scripts use.
+    fn attempt(&mut self, text: &str, wanted: &str) -> Option<bool> {
+        if self.give_up("1 delete-user root") && self.give_up(text) {
+            return self.on.attempt(text, wanted);
+        }
+        None
     }
 }
 
@@ -112,30 +152,37 @@ fn all_go_through<A: Attempt>(rt: &impl Abort, alloc: Global, hoard: &mut Hoard,
     compare_refused(rt, refused, hoard, 500);
 }
 
-/// A board of one thread goes through all scripts.
-pub(crate) fn boards_go_through(
-    rt: &impl Abort,
-    alloc: Global,
-    hoard: &mut Hoard,
-    setup: Arc<Setup>,
-) {
-    let Ok(board) = Board::new(alloc, setup, 1) else {
-        return;
-    };
-    let Ok(written) = Vec::with_capacity(alloc, 65536) else {
-        return;
-    };
+/// A new board of one desk.
+fn on_board(alloc: Global, setup: Arc<Setup>) -> Option<OnBoard> {
+    let board = Board::new(alloc, setup, 1).ok()?;
+    let written = Vec::with_capacity(alloc, 65536).ok()?;
     let front = BoardFront {
         board,
         desk: 1,
         turn: 1,
     };
-    let mut attempt = OnBoard {
+    Some(OnBoard {
         alloc,
         front,
         written,
-    };
-    all_go_through(rt, alloc, hoard, &mut attempt);
+    })
+}
+
+/// A board of one thread goes through all scripts, and so does one that gives each call up before it takes it.
+pub(crate) fn boards_go_through(
+    rt: &impl Abort,
+    alloc: Global,
+    hoard: &mut Hoard,
+    setup: Arc<Setup>,
+    again: Arc<Setup>,
+) {
+    if let Some(mut attempt) = on_board(alloc, setup) {
+        all_go_through(rt, alloc, hoard, &mut attempt);
+    }
+    if let Some(on) = on_board(alloc, again) {
+        let mut attempt = GivesUp { on };
+        all_go_through(rt, alloc, hoard, &mut attempt);
+    }
 }
 
 /// A desk goes through all scripts.

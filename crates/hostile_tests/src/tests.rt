@@ -81,9 +81,9 @@ fn lines_go_through(rt: HostRuntime) -> Result<(), Fail> {
     let dimensions = load_and_time(alloc, &registry, load, time)?;
     let setup = Setup::new(4, 2, registry, dimensions, time, 200).map_err(|_| "setup")?;
     let setup = Arc::new(alloc, setup)?;
-    let again = Arc::try_clone(&setup)?;
+    let (one, another) = (Arc::try_clone(&setup)?, Arc::try_clone(&setup)?);
     let mut hoard = Hoard::new(alloc).ok_or("memory")?;
-    boards_go_through(&rt, alloc, &mut hoard, again);
+    boards_go_through(&rt, alloc, &mut hoard, one, another);
     let board = Board::new(alloc, setup, 1)?;
     let foyer = make_foyer(&rt, alloc, board).map_err(|_| "foyer")?;
     desks_go_through::<Brand, _, _>(&rt, alloc, &mut hoard, foyer);
