@@ -8,7 +8,7 @@ ghost use Rattle.denial_notes.specs.Causes.{insert_cause, remove_cause, shift_ca
 use move_core::Move;
 use plan_core::Plan;
 
-/// Which number of a move is wrong, the first in the order of its fields; what a move must have is written at `Move`.
+/// What keeps a move from having an effect; what a move must have is written at `Move`.
 #[derive(Clone, Copy, Debug)]
 pub enum Cause {
     /// There is no such vehicle.
@@ -260,7 +260,7 @@ fn cross_cause(plan: &Plan, vehicle: u32, keep: u32, other: u32, keep_other: u32
     }
 }
 
-/// Why a move has no effect on a plan: the first of its numbers that is wrong. Sums of its numbers do not wrap.
+/// Why a move has no effect on a plan; where more than one cause holds, the first that is looked for. Sums of its numbers do not wrap.
 pub fn cause_of(plan: &Plan, mv: &Move) -> Cause
     ensures { result ≡ cause_of plan.now.customers plan.now.routes mv.now }
 {

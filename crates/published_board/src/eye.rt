@@ -57,7 +57,7 @@ impl<N: Naming> Model for Eye<N> {
     ghost invariant = { λ e. let saw = option_and_then (λ r. place_view r.place) e.reader in IsOf N.opening N.book saw × AreKeptFor N.opening N.book (entries_in saw) e.kept };
 }
 
-/// Why there is no snapshot, in the order in which the faults are tried.
+/// Why there is no snapshot. `Closed` is tried first.
 #[derive(Clone, Copy, Debug, PartialEq, Eq, Error)]
 pub enum SnapFault {
     #[error("out of memory")]

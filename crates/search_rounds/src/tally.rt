@@ -9,7 +9,7 @@ pub enum Outcome {
     Committed,
     /// Its proposal was denied.
     Denied,
-    /// It met a fault: the board was full or closed, or memory ran out.
+    /// It met a fault: the journal was full, or memory ran out.
     Refused,
     /// No move counted.
     Idle,

@@ -56,9 +56,10 @@ fn answered<
 /// `version V`.
 ///
 /// The status is 0 where each line was done, 1 where a line counted as refused, and 3 where the run ended early. `faults` then has one line,
-/// which begins with `dispatch: `: `instance fault KIND line N`; `open fault`, where memory ran out before the script, or the workers could
-/// not be set up or started; or `run fault KIND`. After a run fault of the script neither the live script nor the workers run. After one of
-/// the live script the lines of the workers and of the version are written, but not where the writer failed.
+/// which begins with `dispatch: `: `instance fault KIND line N`; `open fault`, where memory ran out before or after the script, or the workers
+/// could not be set up or started; or `run fault KIND`. After a run fault of the script neither the live script nor the workers run. After one
+/// of the live script the lines of the workers and of the version are written, but not where the writer failed, a worker was not started or
+/// memory ran out.
 pub fn scripted<
     W: Threads + Wait + Clock + Eprint + Copy + Drop + Send + Sync + 'static,
     I: Read,
