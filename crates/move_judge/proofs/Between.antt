@@ -196,7 +196,7 @@ module _ (law : Laws) where
       let after : IsPlan n (with_routes changes routes) = subst (λ (cs : Changes). IsPlan n (with_routes cs routes)) b.changes (law.plans.plan n routes mv (changes_by routes mv) sound.plan has) in
       (law.known.new_known n changes routes 0 (v, r) after apart refl, law.known.new_known n changes routes 1 (w, q) after apart refl)
 
-  -- of lists that are the new routes: who is known, and when both are in bounds
+  -- of lists that are the new routes: who is known
   pub first_known : (s : Setting) (view : ViewState) (mv : Move) (v w x y : ℕ) (over back r q r' : List ℕ) → IsViewOf s view
       → is_possible s.customers view.routes mv ≡ true → IsBetween view.routes mv v w x y over back r q → r' ≡ r → All (λ c. c ≤ s.customers) r'
   first_known s view mv v w x y over back r q r' sound can b e =
@@ -207,7 +207,7 @@ module _ (law : Laws) where
   second_known s view mv v w x y over back r q q' sound can b e =
       at_most law s.customers q' (subst (λ (a : List ℕ). AreKnown law s.customers a) (sym e) (known_new s view mv v w x y over back r q sound can b).1)
 
-  -- the first is not in bounds, or both are exactly where the second is
+  -- where the first is not in bounds, not all fit; where it is, they do exactly where the second is
   pub first_misfits : (s : Setting) (routes : List (List ℕ)) (mv : Move) (v w x y : ℕ) (over back r q r' : List ℕ)
       → IsBetween routes mv v w x y over back r q → r' ≡ r → (FitsAll s v r' → ⊥) → IsTrue false ↔ AllFit s (changes_by routes mv)
   first_misfits s routes mv v w x y over back r q r' b er out = (

@@ -2,8 +2,8 @@
 
 use crate::kept::Spans;
 
-/// A new route by its parts, the second of which may be driven back; and the spans ahead, after the first customers of a route, and behind,
-/// before the last ones, where they are kept.
+/// A new route by its parts, of which `first` is driven back where `turned` is true; and what is kept of the cumuls after `front` and
+/// before `back`, or nothing.
 #[derive(Clone, Copy)]
 pub(crate) struct Parts<'a> {
     pub(crate) ahead: &'a Spans,
