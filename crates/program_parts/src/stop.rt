@@ -21,7 +21,8 @@ pub enum Stop {
     /// The text of the instance is no instance: the check that fails, and its line, counted from 1.
     #[error("instance fault {0} line {1}")]
     Instance(Kind, usize),
-    /// The board could not be opened: memory ran out. An instance that was read has no numbers that a dimension refuses.
+    /// Memory ran out before or after the script, or a worker could not be set up or started. An instance that was read has no numbers that a
+    /// dimension refuses.
     #[error("open fault")]
     Open,
     /// The reader or the writer failed, a line of the script was too long, or memory ran out at one.

@@ -18,7 +18,8 @@ fn words<W: Env + AllocGlobal>(rt: &W, alloc: Global) -> io::Result<Vec<String>>
     Ok(env::args(rt)?.collect(alloc)?)
 }
 
-/// The program: does what its words ask for, and gives the status that it ends with. `faults` and `notes` are both standard error. A word that is not UTF-8 is a fault of usage.
+/// The program: does what its words ask for, and gives the status that it ends with. `faults` and `notes` are both standard error. A word that
+/// is not UTF-8 is a fault of usage.
 pub fn run<
     W: Threads
         + Wait

@@ -53,8 +53,8 @@ fn opened_for(board: &Board, instance: &Snapshot<Instance>, orders: Orders)
 {}
 
 /// Opens the board of an instance, with a desk more than workers, sets the workers up, and answers the lines of a script on its desk 1
-/// alone, with notes where there is a stream for them. Then it answers live lines there while the workers search, and writes what their rounds came to. Whether a line counted as
-/// refused.
+/// alone, with notes where there is a stream for them. Then it answers live lines there while the workers search, and writes what their rounds
+/// came to. Whether a line counted as refused.
 ///
 /// Its callbacks answer from the instance; they are made here, and nothing that holds them leaves.
 pub(crate) fn run_with<
