@@ -3,6 +3,8 @@ ghost use Rattle.std.specs.Prelude.{◌≡◌};
 ghost use Rattle.dimension_core.specs.Setup.{setting};
 
 use crate::calls::{compare_count, grant, insert, last, remove, sees, submits};
+use crate::questions::{compare_grant, shows};
+use board_journal::Journal;
 use board_lock::{Desk, Foyer, Naming, commits_stay_in_views, open_hall};
 use board_rules::{AskFault, Call, Reply, Review, Row};
 use rbac_core::{Object, ObjectRange, Operation};
@@ -36,6 +38,12 @@ fn compare_turns(rt: &impl Abort, one: u32, two: u32, wanted: (u32, u32)) {
     assert_eq!(rt; (one, two), wanted);
 }
 
+/// Six entries, the last of which is that of the grant of the audit.
+fn compare_six(rt: &impl Abort, journal: &Journal) {
+    assert_eq!(rt; journal.len(), 6);
+    compare_grant(rt, journal.get(5), 6);
+}
+
 fn listed<N: Naming, R: Wait + Drop, W: Wait + Abort>(rt: &W, desk: &mut Desk<N, R>)
     requires { setting desk.old.setup.value ≡ N.opening.setting }
     ensures { setting desk.new.setup.value ≡ N.opening.setting }
@@ -59,12 +67,11 @@ fn asked<N: Naming, R: Wait + Drop, W: Wait + Abort>(rt: &W, desk: &mut Desk<N, 
         desk.check(rt, 2, Operation::Audit, Object::Board),
         false,
     );
-    let names = desk
-        .review(rt, 1, Review::Active(1))
-        .map(|names| names.len());
-    compare_count(rt, names, Ok(1));
-    let entries = desk.audit(rt, 1).map(|journal| journal.len());
-    compare_count(rt, entries, Ok(6));
+    shows(rt, desk, Review::Active(1), b"root");
+    match desk.audit(rt, 1) {
+        Ok(journal) => compare_six(rt, &journal),
+        Err(fault) => compare_count(rt, Err(fault), Ok(6)),
+    }
     let entries = desk.audit(rt, 9).map(|journal| journal.len());
     compare_count(rt, entries, Err(AskFault::NoSession));
 }
@@ -124,7 +131,9 @@ fn share<N: Naming, R: Wait + Drop, W: Wait + Abort>(
         grant(rt, Operation::Audit, ObjectRange::Board),
         Reply::Done,
     );
+    listed(rt, one);
     listed(rt, two);
+    asked(rt, one);
     asked(rt, two);
     one.meet(rt, two);
     sees(rt, two, 1, &[1]);

@@ -19,12 +19,15 @@ const FIRST: Move = Move::Insert {
     place: 1,
 };
 
-/// The first entry is that of the grant.
-fn compare_grant(rt: &impl Abort, kept: Option<Kept<'_>>) {
+/// The entry is that of the grant of the audit, in this turn of desk 1.
+pub(crate) fn compare_grant(rt: &impl Abort, kept: Option<Kept<'_>>, turn: u32) {
     let Some(Kept::Whole(entry)) = kept else {
         return assert!(rt; false);
     };
-    assert_eq!(rt; (entry.desk, entry.turn, entry.reply), (1, 1, Reply::Done));
+    assert_eq!(rt;
+        (entry.desk, entry.turn, entry.reply),
+        (1, turn, Reply::Done)
+    );
     let Call::Policy { session, command } = &entry.call else {
         return assert!(rt; false);
     };
@@ -64,7 +67,7 @@ fn compare_insert(rt: &impl Abort, kept: Option<Kept<'_>>) {
 }
 
 fn compare_journal(rt: &impl Abort, journal: &Journal) {
-    compare_grant(rt, journal.get(0));
+    compare_grant(rt, journal.get(0), 1);
     compare_insert(rt, journal.get(1));
     assert_eq!(rt; journal.len(), 2);
 }
@@ -98,7 +101,7 @@ fn compare_name(rt: &impl Abort, names: &[Name], wanted: &[u8]) {
 }
 
 /// A review shows this one name.
-fn shows<N: Naming, R: Wait + Drop, W: Wait + Abort>(
+pub(crate) fn shows<N: Naming, R: Wait + Drop, W: Wait + Abort>(
     rt: &W,
     desk: &mut Desk<N, R>,
     which: Review,
