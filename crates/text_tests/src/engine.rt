@@ -1,10 +1,11 @@
 use crate::comparing::compare_written;
 use board_rules::{AskFault, Call, Denial, Fault, Refusal, Reply, Review, Row};
+use explained_lines::{Notes, run_explained_lines};
 use line_engine::{Counts, Front, RunFault, run_lines};
 use move_core::Move;
 use rbac_core::{Object, Operation};
 use separation_core::Name;
-use std::alloc::Global;
+use std::alloc::{AllocError, Global};
 use std::io::{self, ErrorKind, Read, Write};
 use std::process::Abort;
 
@@ -255,6 +256,36 @@ fn two_million_reads_are_no_fault(rt: HostRuntime) {
     let mut writer = make_narrow(rt.alloc(), 1, Failing::Never);
     let mut front = make_small(rt.alloc());
     let counts = run_lines(&(), rt.alloc(), &mut front, &mut reader, &mut writer);
+    compare_blank(&rt, counts, reader.reads);
+}
+
+/// It has no note to give.
+impl Notes for Small {
+    fn events(&self) -> usize {
+        0
+    }
+
+    fn note(
+        &self,
+        _alloc: Global,
+        _before: usize,
+        _line: &[u8],
+        _number: u64,
+    ) -> Result<String, AllocError> {
+        Err(AllocError)
+    }
+}
+
+/// The same with a stream for notes.
+#[test]
+fn two_million_reads_with_notes_are_no_fault(rt: HostRuntime) {
+    let text = vec![in rt.alloc(); b'\n'; 2_000_000].expect(&rt, "memory");
+    let mut reader = make_slow(&text, 1);
+    let mut writer = make_narrow(rt.alloc(), 1, Failing::Never);
+    let mut notes = Vec::new(rt.alloc());
+    let mut front = make_small(rt.alloc());
+    let alloc = rt.alloc();
+    let counts = run_explained_lines(&(), alloc, &mut front, &mut reader, &mut writer, &mut notes);
     compare_blank(&rt, counts, reader.reads);
 }
 
