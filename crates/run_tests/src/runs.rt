@@ -159,6 +159,8 @@ const INSTANCE_FILE: &str = "worker_run_tests_instance";
 
 const SCRIPT_FILE: &str = "worker_run_tests_script";
 
+const LIVE_FILE: &str = "worker_run_tests_live";
+
 /// The run of files gives what is wanted.
 fn paths_give<
     H: Threads
@@ -199,7 +201,8 @@ fn paths_give<
 fn files_are_opened_in_order(rt: HostRuntime) {
     fs::write(&rt, INSTANCE_FILE, A).expect(&rt, "a file");
     fs::write(&rt, SCRIPT_FILE, "1 fly\n").expect(&rt, "a file");
-    let lines = "bad word\nbad word\nworker 1 tried 0 committed 0 denied 0 refused 0\nversion 0\n";
+    fs::write(&rt, LIVE_FILE, "1 list\n").expect(&rt, "a file");
+    let lines = "bad word\nend\nworker 1 tried 0 committed 0 denied 0 refused 0\nversion 0\n";
     for (paths, wanted) in [
         (
             ("no file", "no script", "no live"),
@@ -217,10 +220,11 @@ fn files_are_opened_in_order(rt: HostRuntime) {
             (INSTANCE_FILE, SCRIPT_FILE, "no live"),
             ("", "dispatch: cannot read no live\n", 3),
         ),
-        ((INSTANCE_FILE, SCRIPT_FILE, SCRIPT_FILE), (lines, "", 1)),
+        ((INSTANCE_FILE, SCRIPT_FILE, LIVE_FILE), (lines, "", 1)),
     ] {
         paths_give(rt, paths, wanted);
     }
+    fs::remove_file(&rt, LIVE_FILE).expect(&rt, "a file");
     fs::remove_file(&rt, SCRIPT_FILE).expect(&rt, "a file");
     fs::remove_file(&rt, INSTANCE_FILE).expect(&rt, "a file");
 }

@@ -41,8 +41,23 @@ const UNREAD: [(&[&str], &str, u8); 7] = [
     (&["dispatch"], "dispatch: instance fault name line 1\n", 3),
 ];
 
-/// Nothing is written for the words, and this is said of them.
-fn says<
+/// Words that ask for nothing: what is written, what the faults begin with, and the status.
+const NOTHING: [(&[&str], &str, &str, u8); 3] = [
+    (&["dispatch", "chek"], "", "error: unrecognized", 2),
+    (&["dispatch", "--version"], "dispatch 0.1.0\n", "", 0),
+    (
+        &["dispatch", "run", "a", "b", "--workers=64"],
+        "",
+        "error: invalid value for '--workers <N>'",
+        2,
+    ),
+];
+
+/// What words give: what is written, what is said, and the status.
+type Wanted<'a> = (&'a str, &'a str, u8);
+
+/// Does what words ask for: what is written and said, and the status.
+fn performed<
     H: Threads
         + Wait
         + Clock
@@ -55,7 +70,7 @@ fn says<
         + Send
         + Sync
         + 'static,
->(rt: H, words: &[&str], wanted: (&str, u8)) {
+>(rt: H, words: &[&str]) -> (Vec<u8>, Vec<u8>, u8) {
     let mut written = Vec::new(rt.alloc());
     let mut faults = Vec::new(rt.alloc());
     let mut notes = Vec::new(rt.alloc());
@@ -68,18 +83,49 @@ fn says<
         &mut faults,
         &mut notes,
     );
-    assert!(rt; written.is_empty());
-    assert_eq!(rt;
-        str::from_utf8(faults.as_slice()).expect(&rt, "text"),
-        wanted.0
-    );
-    assert_eq!(rt; status, wanted.1);
+    (written, faults, status)
+}
+
+/// Compares what is written and said of words, and the status.
+fn compare_said(rt: &impl Abort, written: &[u8], faults: &[u8], status: u8, wanted: Wanted<'_>) {
+    assert_eq!(rt; str::from_utf8(written).expect(rt, "text"), wanted.0);
+    assert_eq!(rt; str::from_utf8(faults).expect(rt, "text"), wanted.1);
+    assert_eq!(rt; status, wanted.2);
+}
+
+/// The same, where the faults are wanted to begin with a text, and without one to be empty.
+fn compare_begun(rt: &impl Abort, written: &[u8], faults: &[u8], status: u8, wanted: Wanted<'_>) {
+    assert_eq!(rt; str::from_utf8(written).expect(rt, "text"), wanted.0);
+    assert_eq!(rt; faults.is_empty(), wanted.1.is_empty());
+    assert!(rt; faults.starts_with(wanted.1.as_bytes()));
+    assert_eq!(rt; status, wanted.2);
+}
+
+#[test]
+fn words_that_ask_for_nothing(rt: HostRuntime) {
+    for (words, written, said, status) in &NOTHING {
+        let found = performed(rt, words);
+        compare_begun(
+            &rt,
+            found.0.as_slice(),
+            found.1.as_slice(),
+            found.2,
+            (written, said, *status),
+        );
+    }
 }
 
 #[test]
 fn words_name_files_in_order(rt: HostRuntime) {
     for (words, said, status) in &UNREAD {
-        says(rt, words, (said, *status));
+        let found = performed(rt, words);
+        compare_said(
+            &rt,
+            found.0.as_slice(),
+            found.1.as_slice(),
+            found.2,
+            ("", said, *status),
+        );
     }
 }
 
@@ -87,8 +133,10 @@ const INSTANCE_FILE: &str = "worker_run_tests_words_instance";
 
 const SCRIPT_FILE: &str = "worker_run_tests_words_script";
 
+const LIVE_FILE: &str = "worker_run_tests_words_live";
+
 /// Runs a script, alone or with workers who do no round, and with notes or without. What is written on both streams.
-const NOTED: [(&[&str], &str, &str); 4] = [
+const NOTED: [(&[&str], &str, &str); 5] = [
     (&[], "bad word\n", ""),
     (
         &["--explain"],
@@ -101,14 +149,19 @@ const NOTED: [(&[&str], &str, &str); 4] = [
         "",
     ),
     (
+        &["--workers=1", "--rounds=0", "--explain"],
+        "bad word\nworker 1 tried 0 committed 0 denied 0 refused 0\nversion 0\n",
+        "line 1: 'fly' is not a command\n",
+    ),
+    (
         &[
             "--workers=1",
             "--rounds=0",
             "--explain",
             "--live",
-            SCRIPT_FILE,
+            LIVE_FILE,
         ],
-        "bad word\nbad word\nworker 1 tried 0 committed 0 denied 0 refused 0\nversion 0\n",
+        "bad word\nend\nworker 1 tried 0 committed 0 denied 0 refused 0\nversion 0\n",
         "line 1: 'fly' is not a command\n",
     ),
 ];
@@ -166,9 +219,11 @@ fn notes<
 fn notes_where_they_are_asked_for(rt: HostRuntime) {
     fs::write(&rt, INSTANCE_FILE, A).expect(&rt, "a file");
     fs::write(&rt, SCRIPT_FILE, "1 fly\n").expect(&rt, "a file");
+    fs::write(&rt, LIVE_FILE, "1 list\n").expect(&rt, "a file");
     for (options, written, said) in &NOTED {
         notes(rt, options, (written, said));
     }
+    fs::remove_file(&rt, LIVE_FILE).expect(&rt, "a file");
     fs::remove_file(&rt, SCRIPT_FILE).expect(&rt, "a file");
     fs::remove_file(&rt, INSTANCE_FILE).expect(&rt, "a file");
 }
