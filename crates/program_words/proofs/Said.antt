@@ -1,16 +1,17 @@
 -- What is done for words, and what is said of those that ask for nothing.
 use Rattle.std.proofs.Common.{◌≡◌, ◌≤◌, ℕ, List, Option, Some, inl, inr, arith}
-use Rattle.std.specs.Prelude.{◌⊎◌, ◌≢◌}
+use Rattle.std.specs.Prelude.{◌⊎◌, ◌≢◌, drop, Result, Ok, Err, MatchResult}
+use Rattle.std.specs.declared.io.ErrorKind.{ErrorKind}
 use Rattle.program_parts.specs.Streams.{Streams}
 use Rattle.command_line.specs.CommandLine.{IsFault, status_of}
-use Rattle.command_line.specs.Forms.{Form, Run}
+use Rattle.command_line.specs.Forms.{Form, Run, asked}
 use Rattle.command_line.specs.Forms as forms
 use Rattle.command_line.specs.declared.form.OptionFault.{OptionFault}
 use Rattle.command_line.specs.declared.form.OptionFault.TheVariants as faults
 use Rattle.command_line.specs.declared.form.UsageFault.TheVariants as usage
 use Rattle.worker_runs.specs.Files.{IsOfPaths}
 use Rattle.worker_runs.specs.declared.orders.Orders.{Orders}
-use Rattle.program_words.specs.Performed.{IsDone, IsPerformed, IsSaid}
+use Rattle.program_words.specs.Performed.{AreUnread, IsDone, IsPerformed, IsProgram, IsSaid}
 
 -- what is asked for is done
 pub done : (wanted : Option Form) (form : Form) (left : Option (List ℕ)) (s : Streams) (status : ℕ) → wanted ≡ Some form → IsDone form left s status → IsPerformed wanted left s status
@@ -39,3 +40,9 @@ said wanted left (faults.Usage (usage.Words error)) s status f t u k = inr (inl 
 said wanted left (faults.Usage (usage.Number fault)) s status f t u k = inr (inl (f, wrong s status t u))
 said wanted left (faults.Help error) s status f t u k = inr (inl (f.0, elim t [ inl e ↦ inl (e, k e) | inr e ↦ inr (inr e.0) ]))
 said wanted left faults.NoMemory s status f t u k = inr (inr (elim t [ inl e ↦ e | inr e ↦ e.0 ], u (some 3 (omega arith))))
+
+-- what is done for words that were read, or where there is an error in their place
+pub program : {A E : Type 0} (words : Result A E) (texts : A → List (List ℕ)) (kind : E → ErrorKind) (left : Option (List ℕ)) (s : Streams) (status : ℕ)
+    → MatchResult words (λ found. IsPerformed (asked (drop 1 (texts found))) left s status) (λ error. AreUnread (kind error) s status) → IsProgram left s status
+program (Ok found) texts kind left s status h = inl (texts found, h)
+program (Err error) texts kind left s status h = inr (kind error, h)

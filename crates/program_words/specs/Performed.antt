@@ -1,5 +1,7 @@
 -- What the program does by the words of its command line: which file is which, which stream is which, and which status it ends with.
-use Rattle.std.specs.Prelude.{◌≡◌, ℕ, ◌⊎◌, List, drop, Option, Some, None, IfSome}
+use Rattle.std.specs.Prelude.{◌≡◌, ◌≢◌, ℕ, ◌⊎◌, List, drop, Option, Some, None, IfSome}
+use Rattle.std.specs.declared.io.ErrorKind.{ErrorKind}
+use Rattle.std.specs.declared.io.ErrorKind.TheVariants.{OutOfMemory}
 use Rattle.solomon_reader.specs.Reading.{read_of}
 use Rattle.line_engine.specs.Running.{AppendsFront}
 use Rattle.plan_picture.specs.Texts.{svg_text}
@@ -7,7 +9,7 @@ use Rattle.plan_sums.specs.Texts.{sums_text}
 use Rattle.plan_program.specs.Views.{IsViewOfFiles}
 use Rattle.program_parts.specs.Head.{Halves}
 use Rattle.program_parts.specs.Report.{IsChecked}
-use Rattle.program_parts.specs.Streams.{Streams, IsUnreadable, stop_line}
+use Rattle.program_parts.specs.Streams.{Streams, stop_line}
 use Rattle.program_parts.specs.declared.stop.Stop.TheVariants as stops
 use Rattle.board_program.specs.Joined.{IsJoined, IsOfHalves}
 use Rattle.command_line.specs.Forms.{Form, Run, asked}
@@ -47,7 +49,11 @@ abbrev pub IsPerformed : Option Form → Option (List ℕ) → Streams → ℕ �
 IsPerformed wanted left s status = ((form : Form) × (wanted ≡ Some form) × IsDone form left s status)
     ⊎ (((wanted ≡ None) × IsSaid s status) ⊎ ((status ≡ 3) × (s.now ≡ s.was)))
 
--- All of the program: it has words, by which it does what they ask for; or memory ran out, which is told; or a word is not UTF-8.
+-- The words could not be read, and nothing is written: memory ran out, which is reported, with status 3; or a word is not UTF-8, with status 2.
+abbrev pub AreUnread : ErrorKind → Streams → ℕ → Type 0
+AreUnread kind s status = (s.now ≡ s.was)
+    × (kind ≡ OutOfMemory → (status ≡ 3) × AppendsFront s.told_was s.told_now (stop_line stops.Open)) × (kind ≢ OutOfMemory → status ≡ 2)
+
+-- All of the program: it has words, and does what they ask for; or they could not be read.
 abbrev pub IsProgram : Option (List ℕ) → Streams → ℕ → Type 0
-IsProgram left s status = ((words : List (List ℕ)) × IsPerformed (asked (drop 1 words)) left s status)
-    ⊎ (((status ≡ 3) × (s.now ≡ s.was) × AppendsFront s.told_was s.told_now (stop_line stops.Open)) ⊎ ((status ≡ 2) × (s.now ≡ s.was)))
+IsProgram left s status = ((words : List (List ℕ)) × IsPerformed (asked (drop 1 words)) left s status) ⊎ ((kind : ErrorKind) × AreUnread kind s status)

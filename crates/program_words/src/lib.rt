@@ -5,4 +5,4 @@ mod doing;
 mod words;
 
 pub use doing::perform;
-pub use words::run;
+pub use words::{run, run_words};

@@ -1,7 +1,10 @@
 //! The words of the command line.
 
+ghost use Rattle.std.specs.Prelude.{drop, map, string_bytes, MatchResult};
+ghost use Rattle.std.specs.IoError.{error_kind};
+ghost use Rattle.command_line.specs.Forms.{asked};
 ghost use Rattle.program_parts.specs.Streams.{streams_of};
-ghost use Rattle.program_words.specs.Performed.{IsProgram};
+ghost use Rattle.program_words.specs.Performed.{AreUnread, IsPerformed, IsProgram};
 
 use crate::doing::perform;
 use program_parts::{Stop, stopped};
@@ -18,8 +21,41 @@ fn words<W: Env + AllocGlobal>(rt: &W, alloc: Global) -> io::Result<Vec<String>>
     Ok(env::args(rt)?.collect(alloc)?)
 }
 
-/// The program: does what its words ask for, and gives the status that it ends with. `faults` and `notes` are both standard error. A word that
-/// is not UTF-8 is a fault of usage.
+/// Does what the words of the command line ask for, as `perform` has it, or reports why they could not be read, and gives the status that
+/// the program ends with. Any error but a lack of memory says that a word is not UTF-8, which is a fault of usage.
+pub fn run_words<
+    W: Threads + Wait + Files + Clock + Eprint + Copy + Drop + Send + Sync + 'static,
+    I: Read,
+    O: Write,
+    F: Write,
+    E: Write,
+>(
+    rt: W,
+    alloc: Global,
+    words: io::Result<Vec<String>>,
+    input: &mut I,
+    output: &mut O,
+    faults: &mut F,
+    notes: &mut E,
+) -> u8
+    ensures { MatchResult words
+        (λ words. IsPerformed (asked (drop 1 (map string_bytes words.items))) (I.remaining input.old)
+        (streams_of (O.contents output.old) (O.contents output.new) (F.contents faults.old) (F.contents faults.new)) result)
+        (λ error. AreUnread (error_kind error)
+        (streams_of (O.contents output.old) (O.contents output.new) (F.contents faults.old) (F.contents faults.new)) result) }
+{
+    match words {
+        Ok(words) => perform(rt, alloc, words.as_slice(), input, output, faults, notes),
+        Err(error) if error.kind() == ErrorKind::OutOfMemory => stopped(faults, Stop::Open),
+        Err(_) => {
+            let _ = writeln!(faults, "error: a word of the command line is not UTF-8");
+            2
+        }
+    }
+}
+
+/// The program: reads its words, does what they ask for, and gives the status that it ends with. `faults` and `notes` are both standard
+/// error.
 pub fn run<
     W: Threads
         + Wait
@@ -41,12 +77,6 @@ pub fn run<
     ensures { IsProgram (I.remaining input.old)
         (streams_of (O.contents output.old) (O.contents output.new) (F.contents faults.old) (F.contents faults.new)) result }
 {
-    match words(&rt, alloc) {
-        Ok(words) => perform(rt, alloc, words.as_slice(), input, output, faults, notes),
-        Err(error) if error.kind() == ErrorKind::OutOfMemory => stopped(faults, Stop::Open),
-        Err(_) => {
-            let _ = writeln!(faults, "error: a word of the command line is not UTF-8");
-            2
-        }
-    }
+    let words = words(&rt, alloc);
+    run_words(rt, alloc, words, input, output, faults, notes)
 }
