@@ -1,8 +1,8 @@
 //! What words ask for, and which of them names which file.
 
 use crate::cases::A;
-use program_words::perform;
-use std::io::Eprint;
+use program_words::{perform, run_words};
+use std::io::{self, Eprint, ErrorKind};
 use std::process::Abort;
 use std::rt::Files;
 use std::sync::Wait;
@@ -124,6 +124,41 @@ fn words_name_files_in_order(rt: HostRuntime) {
             found.0.as_slice(),
             found.1.as_slice(),
             found.2,
+            ("", said, *status),
+        );
+    }
+}
+
+/// An error in place of the words: what is said, and the status.
+const ERRORS: [(ErrorKind, &str, u8); 2] = [
+    (
+        ErrorKind::InvalidData,
+        "error: a word of the command line is not UTF-8\n",
+        2,
+    ),
+    (ErrorKind::OutOfMemory, "dispatch: open fault\n", 3),
+];
+
+#[test]
+fn words_that_cannot_be_read(rt: HostRuntime) {
+    for (kind, said, status) in &ERRORS {
+        let mut written = Vec::new(rt.alloc());
+        let mut faults = Vec::new(rt.alloc());
+        let mut notes = Vec::new(rt.alloc());
+        let found = run_words(
+            rt,
+            rt.alloc(),
+            Err(io::Error::from(*kind)),
+            &mut b"".as_slice(),
+            &mut written,
+            &mut faults,
+            &mut notes,
+        );
+        compare_said(
+            &rt,
+            written.as_slice(),
+            faults.as_slice(),
+            found,
             ("", said, *status),
         );
     }
