@@ -1,11 +1,12 @@
 //! Boards of one thread, and desks, whose lines go through though memory runs out.
 ghost use Rattle.std.specs.Prelude.{◌≡◌};
+ghost use Rattle.board_core.specs.Kept.{IsKept};
 ghost use Rattle.dimension_core.specs.Setup.{setting};
 
 use crate::desks::last;
 use crate::rows::{MOVES, NO_ROOT, RIGHTS, journal_of};
 use crate::scarce::{Attempt, Hoard, insist, insist_on_rows};
-use board_core::Board;
+use board_core::{Board, Core};
 use board_lines::{Command, ReadFault, read_line};
 use board_lock::{Foyer, Naming, open_hall};
 use board_rules::Event;
@@ -60,6 +61,19 @@ impl Attempt for OnBoard {
     }
 }
 
+/// Judges an event and gives it up. It says whether there was memory for that.
+fn is_given_up(core: &mut Core, setup: &Setup, event: Event) -> bool
+    requires { IsKept (setting setup.now) core.old }
+    ensures { IsKept (setting setup.now) core.new }
+{
+    let mut meter = Meter::new();
+    if core.prepare(setup, event, &mut meter).is_err() {
+        return false;
+    }
+    core.give_up();
+    true
+}
+
 /// A board of one thread that gives calls up between those that it takes.
 #[derive(Drop)]
 struct GivesUp {
@@ -76,12 +90,8 @@ impl GivesUp {
         };
         let (desk, turn) = (self.on.front.desk, self.on.front.turn);
         let event = Event { desk, turn, call };
-        let mut meter = Meter::new();
-        let is_judged = self.on.front.board.prepare(event, &mut meter).is_ok();
-        if is_judged {
-            self.on.front.board.give_up();
-        }
-        is_judged
+        let board = &mut self.on.front.board;
+        is_given_up(&mut board.core, &board.setup, event)
     }
 }
 
