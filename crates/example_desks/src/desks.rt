@@ -2,11 +2,12 @@
 ghost use Rattle.std.specs.Prelude.{◌≡◌};
 ghost use Rattle.dimension_core.specs.Setup.{setting};
 
-use crate::tasks::{Search, join_search, start_search};
+use crate::tasks::{Search, Searched, join_search, start_search};
 use board_lines::{Command, read_line};
 use board_lock::{Anteroom, Naming, Seat, View, open_seats};
 use board_rules::{Call, Reply};
 use dimension_core::Setup;
+use search_workers::Tally;
 use std::alloc::Global;
 use std::sync::{Arc, Wait};
 use std::thread::Threads;
@@ -56,12 +57,13 @@ fn play<N: Naming, R: Wait + Drop, W: Wait>(
     }
 }
 
-/// How it ended: the stops of the plan, the customers that are pinned to the vehicle that serves them, whether each version that the
-/// dispatcher saw was no lower than the one before, and whether all desks then saw one version.
+/// How it ended: the stops of the plan, the customers that are pinned to the vehicle that serves them, the rounds of both workers, whether
+/// each version that the dispatcher saw was no lower than the one before, and whether all desks then saw one version.
 #[derive(Clone, Copy, Drop)]
 pub(crate) struct End {
     pub stops: usize,
     pub pins: usize,
+    pub rounds: u32,
     pub rose: bool,
     pub agreed: bool,
 }
@@ -132,12 +134,18 @@ fn opened<N: Naming, R: Wait + Drop>(alloc: Global, room: Anteroom<R>) -> Option
     Some(Three { one, two, three })
 }
 
-/// The second and the third desk search while the first one pins. Whether its pins were set and the versions rose.
+/// The rounds of a worker: each proposed a move or found none.
+fn rounds_of(tally: Tally) -> u32 {
+    tally.tried.saturating_add(tally.idle)
+}
+
+/// The second and the third desk search while the first one pins. How many rounds they did, and whether the pins were set and the versions
+/// rose.
 fn all_at_once<
     N: Naming + Send + Sync + 'static,
     R: Wait + Drop + Send + Sync + 'static,
     W: Threads + Wait + Copy + Send + Sync + 'static,
->(rt: W, alloc: Global, setup: &Arc<Setup>, seats: Three<N, R>) -> Option<(Three<N, R>, bool)>
+>(rt: W, alloc: Global, setup: &Arc<Setup>, seats: Three<N, R>) -> Option<(Three<N, R>, u32, bool)>
     requires { setting setup.now.value ≡ N.opening.setting }
 {
     let Three {
@@ -148,12 +156,15 @@ fn all_at_once<
     let second = start_search(rt, Search { alloc, session: 2 }, setup, two);
     let third = start_search(rt, Search { alloc, session: 3 }, setup, three);
     let rose = pin_all(&rt, setup, &mut one);
-    let two = join_search(&rt, second);
-    let three = join_search(&rt, third);
-    match (two, three) {
-        (Some(two), Some(three)) => Some((Three { one, two, three }, rose)),
-        _ => None,
-    }
+    let second = join_search(&rt, second);
+    let third = join_search(&rt, third);
+    let Searched { seat: two, tally } = second?;
+    let Searched {
+        seat: three,
+        tally: other,
+    } = third?;
+    let rounds = rounds_of(tally).saturating_add(rounds_of(other));
+    Some((Three { one, two, three }, rounds, rose))
 }
 
 /// The version of a copy of the published plan.
@@ -162,7 +173,12 @@ fn copied<N: Naming, R: Wait + Drop>(seat: &mut Seat<N, R>) -> Option<u32> {
 }
 
 /// Has the desks meet, and compares what they then see.
-fn met<N: Naming, R: Wait + Drop, W: Wait>(rt: &W, seats: Three<N, R>, rose: bool) -> Option<End> {
+fn met<N: Naming, R: Wait + Drop, W: Wait>(
+    rt: &W,
+    seats: Three<N, R>,
+    rounds: u32,
+    rose: bool,
+) -> Option<End> {
     let Three {
         mut one,
         mut two,
@@ -178,6 +194,7 @@ fn met<N: Naming, R: Wait + Drop, W: Wait>(rt: &W, seats: Three<N, R>, rose: boo
     Some(End {
         stops,
         pins,
+        rounds,
         rose,
         agreed: seconds == version && thirds == version,
     })
@@ -195,6 +212,6 @@ pub(crate) fn three_desks<
 {
     let mut seats = opened::<N, R>(alloc, room)?;
     play(&rt, alloc, &setup, &mut seats.one, PREPARED);
-    let (seats, rose) = all_at_once(rt, alloc, &setup, seats)?;
-    met(&rt, seats, rose)
+    let (seats, rounds, rose) = all_at_once(rt, alloc, &setup, seats)?;
+    met(&rt, seats, rounds, rose)
 }

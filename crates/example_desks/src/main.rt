@@ -12,9 +12,10 @@ fn main(rt: HostRuntime) {
     let _ = match open(rt, rt.alloc()) {
         Some(end) => writeln!(
             rt.stdout(),
-            "{} stops, {} pins hold, versions rose: {}, one plan: {}",
+            "{} stops, {} pins hold, {} rounds, versions rose: {}, one plan: {}",
             end.stops,
             end.pins,
+            end.rounds,
             end.rose,
             end.agreed
         ),

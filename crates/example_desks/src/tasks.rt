@@ -7,7 +7,7 @@ ghost use Rattle.dimension_core.specs.Setup.{setting};
 
 use board_lock::{DeskOf, Naming, Seat};
 use dimension_core::Setup;
-use search_workers::{OpenGate, Share, work};
+use search_workers::{OpenGate, Share, Tally, work};
 use std::alloc::Global;
 use std::sync::{Arc, Wait};
 use std::thread;
@@ -50,38 +50,38 @@ pub(crate) struct Search {
     pub session: u32,
 }
 
-impl<N: Naming, R: Wait + Drop, W: Wait> Task<W, Arc<Setup>, Seat<N, R>, Seat<N, R>> for Search {
+/// The seat that a worker gives back, and the tally of its rounds.
+#[derive(Drop)]
+pub(crate) struct Searched<N: Naming, R: Wait + Drop> {
+    pub seat: Seat<N, R>,
+    pub tally: Tally,
+}
+
+impl<N: Naming, R: Wait + Drop, W: Wait> Task<W, Arc<Setup>, Seat<N, R>, Searched<N, R>>
+    for Search {
     ghost use Rattle.std.specs.Prelude.{◌≡◌};
     ghost use Rattle.dimension_core.specs.Setup.{setting};
 
     ghost may = { λ setup seat. setting setup.value ≡ N.opening.setting };
 
-    fn run(self, rt: &W, first: Arc<Setup>, second: Seat<N, R>) -> Seat<N, R> {
+    fn run(self, rt: &W, first: Arc<Setup>, second: Seat<N, R>) -> Searched<N, R> {
         let desk = DeskOf {
             setup: first,
             seat: second,
         };
         let seed = u64::from(self.session);
-        let Share { desk, tally: _ } = work(
-            rt,
-            self.alloc,
-            desk,
-            self.session,
-            seed,
-            100,
-            &OpenGate,
-        );
+        let Share { desk, tally } = work(rt, self.alloc, desk, self.session, seed, 100, &OpenGate);
         let DeskOf { setup: _, seat } = desk;
-        seat
+        Searched { seat, tally }
     }
 }
 
-/// Starts a worker on a seat, which the thread gives back.
+/// Starts a worker on a seat, which the thread gives back with its tally.
 pub(crate) fn start_search<
     N: Naming + Send + Sync + 'static,
     R: Wait + Drop + Send + Sync + 'static,
     W: Threads + Wait + Copy + Send + Sync + 'static,
->(rt: W, search: Search, setup: &Arc<Setup>, seat: Seat<N, R>) -> Option<JoinHandle<Seat<N, R>>>
+>(rt: W, search: Search, setup: &Arc<Setup>, seat: Seat<N, R>) -> Option<JoinHandle<Searched<N, R>>>
     requires { setting setup.now.value ≡ N.opening.setting }
 {
     let Ok(theirs) = Arc::try_clone(setup) else {
@@ -90,11 +90,11 @@ pub(crate) fn start_search<
     start(rt, search, theirs, seat)
 }
 
-/// The seat of a worker that is done, if it was started.
+/// The seat and the tally of a worker that is done, if it was started.
 pub(crate) fn join_search<N: Naming, R: Wait + Drop, W: Threads>(
     rt: &W,
-    thread: Option<JoinHandle<Seat<N, R>>>,
-) -> Option<Seat<N, R>> {
+    thread: Option<JoinHandle<Searched<N, R>>>,
+) -> Option<Searched<N, R>> {
     match thread {
         Some(thread) => Some(thread.join(rt)),
         None => None,
