@@ -200,6 +200,26 @@ fn compare_first(rt: &impl Abort, routes: &[(u32, Arc<Route>)], wanted: Option<(
     assert_eq!(rt; found, wanted);
 }
 
+/// How many permissions a call looks up: those of its rules in their order, up to the first that fails.
+const PROBES: &str = "\
+1 revoke root move customer 4 4 => 1\n\
+1 reverse 2 1 3 11 => 3\n\
+1 cross 1 0 2 0 11 => 5\n\
+9 swap 1 1 2 1 11 => 1\n\
+1 revoke root move vehicle 2 2 => 1\n\
+1 swap 1 1 2 1 11 => 2\n\
+1 insert 3 2 1 11 => 1\n\
+1 insert 3 1 1 11 => 2";
+
+fn compare_probes(rt: &impl Abort, alloc: Global, board: &mut Board, row: &str) {
+    let (line, wanted, _) = cut(row);
+    let event = event(rt, alloc, board, line);
+    let mut meter = Meter::new();
+    assert!(rt; board.apply(event, &mut meter).is_ok());
+    let found = format!(in alloc; "{}", meter.probes).expect(rt, "memory");
+    compare_text(rt, &found, wanted, line);
+}
+
 /// A board of five customers, two vehicles and two desks without bounds, with one travel as its cost.
 fn free_board(rt: &impl Abort, alloc: Global, transit: Transit) -> Board {
     let mut registry = Registry::new(alloc);
@@ -235,6 +255,9 @@ fn what_calls_make_different(rt: HostRuntime) {
         Some((1, &[3, 5])),
     );
     compare_new_routes(&rt, alloc, &mut board, "1 insert 3 1 1 0", None);
+    for row in PROBES.split('\n') {
+        compare_probes(&rt, alloc, &mut board, row);
+    }
 }
 
 // ---- a start that is not fixed
