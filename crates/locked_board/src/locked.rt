@@ -86,7 +86,7 @@ impl<N: Naming, R: Wait + Drop> Locked<N, R> {
             self.core.give_up();
             return Err(Fault::NoMemory);
         };
-        let Ok(reply) = publish::<N, R>(
+        let Ok(reply) = put_in_place::<N, R>(
             &mut self.core,
             &mut self.publication,
             &self.rt,
@@ -95,7 +95,21 @@ impl<N: Naming, R: Wait + Drop> Locked<N, R> {
         ) else {
             return Err(Fault::NoMemory);
         };
+        self.publication.publish(&self.rt);
         Ok(reply)
+    }
+
+    /// The same for a desk, whose eye then sees what came of it.
+    fn commit_for(&mut self, setup: &Setup, eye: &mut Eye<N>, event: Event) -> Result<Reply, Fault>
+        requires { setting setup.now ≡ N.opening.setting }
+        ensures ok { IfOk result (λ r. IsCommitted N.opening self.old.journal (entry_of event r) self.new.journal) }
+        ensures err { IfErr result (λ f. (self.new.journal ≡ self.old.journal) × IsFault N.opening self.old.journal event.desk event.turn f) }
+        ensures seen { eye.new.seen ≡ self.new.journal }
+        ensures viewed { eye.new.viewed ≡ eye.old.viewed }
+    {
+        let answer = self.commit(setup, event);
+        self.show(eye);
+        answer
     }
 
     /// A call of a desk, which has seen a beginning of the journal and has had so many turns.
@@ -118,15 +132,15 @@ impl<N: Naming, R: Wait + Drop> Locked<N, R> {
     {
         histories_grow_by_entries();
         self.catch_up(eye, number, own);
-        let answer = self.commit(
+        let answer = self.commit_for(
             setup,
+            eye,
             Event {
                 desk: number,
                 turn: own + 1,
                 call,
             },
         );
-        self.show(eye);
         let _last = self.turns(number);
         answer
     }
@@ -247,8 +261,9 @@ fn judge<N: Naming>(core: &mut Core, setup: &Setup, event: Event) -> Result<Prep
     core.prepare(setup, event, &mut meter)
 }
 
-/// Puts a judged call in place and publishes it. Where there is no memory for it, it is given up, and nothing is published.
-fn publish<N: Naming, R: Wait>(
+/// Stages a judged call and puts it in place. Readers do not see it yet, so that none sees an entry which the journal lacks. Where there is
+/// no memory for it, it is given up.
+fn put_in_place<N: Naming, R: Wait>(
     core: &mut Core,
     publication: &mut Publication,
     rt: &R,
@@ -265,24 +280,17 @@ fn publish<N: Naming, R: Wait>(
     requires makes { Makes N.opening.setting prepared }
     requires untried { IsGivenUp prepared.judged.change core.old.held.policy }
     requires change { IsChangeBy N.opening.setting (state_after N.opening.setting core.old.journal) prepared.entry change }
-    ensures kept { IsKept N.opening.setting core.new }
-    ensures desks { length core.new.turns ≡ N.opening.desks }
-    ensures untried { core.new.held.policy.tried ≡ core.new.held.policy.now }
-    ensures book { publication.new.book ≡ publication.old.book }
-    ensures opening { publication.new.opening ≡ N.opening }
-    ensures entries { publication.new.entries ≡ core.new.journal }
-    ensures shown { publication.new.shown ≡ core.new.journal }
     ensures journal { OnOk result (core.new.journal ≡ core.old.journal ++ prepared.entry ∷ []) }
     ensures reply { IfOk result (λ r. r ≡ prepared.entry.reply) }
     ensures err { OnErr result (core.new.journal ≡ core.old.journal) }
+    ensures kept { IsKept N.opening.setting core.new }
+    ensures desks { length core.new.turns ≡ N.opening.desks }
+    ensures untried { core.new.held.policy.tried ≡ core.new.held.policy.now }
+    ensures staged { publication.new ≡ record publication.old { entries = core.new.journal } }
 {
     let entries = core.events() as u64 + 1;
     match publication.stage::<Prepared, Settles, R>(rt, &prepared, change, entries) {
-        Ok(()) => {
-            let reply = core.settle(prepared);
-            publication.publish(rt);
-            Ok(reply)
-        }
+        Ok(()) => Ok(core.settle(prepared)),
         Err(error) => {
             core.give_up();
             Err(error)
