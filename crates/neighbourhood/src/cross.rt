@@ -101,6 +101,7 @@ fn cross_over(search: &Search, gathered: &Gathered, keep: u32, begin: u32, best:
 }
 
 /// The better of the best so far and all crosses of two vehicles.
+#[inline(always)]
 pub(crate) fn best_cross(search: &Search, gathered: &Gathered, best: Best) -> Best
     requires search { IsSearch (searched search.now) }
     requires gathered { IsGathered (searched search.now) gathered.now }

@@ -35,9 +35,11 @@ fn best_of_one(
     requires sums { AreSummed (searched search.now) gathered.now sums.now back_sums.now }
     ensures { MatchOption result (IsIdleOf (searched search.now)) (λ p. IsBestOf (searched search.now) p.0 p.1) }
 {
-    let shifted = best_shift_inside(search, gathered, Best::none());
-    let swapped = best_swap_inside(search, gathered, shifted);
-    best_reverse(search, gathered, sums, back_sums, swapped).found
+    // copies, of which the compiler knows that no call writes to them
+    let (search, gathered) = (*search, *gathered);
+    let shifted = best_shift_inside(&search, &gathered, Best::none());
+    let swapped = best_swap_inside(&search, &gathered, shifted);
+    best_reverse(&search, &gathered, sums, back_sums, swapped).found
 }
 
 /// The best move between two vehicles.
@@ -47,9 +49,10 @@ fn best_of_two(search: &Search, gathered: &Gathered) -> Option<(Move, u64)>
     requires apart { search.now.v ≢ search.now.w }
     ensures { MatchOption result (IsIdleOf (searched search.now)) (λ p. IsBestOf (searched search.now) p.0 p.1) }
 {
-    let shifted = best_shift(search, gathered, Best::none());
-    let swapped = best_swap(search, gathered, shifted);
-    best_cross(search, gathered, swapped).found
+    let (search, gathered) = (*search, *gathered);
+    let shifted = best_shift(&search, &gathered, Best::none());
+    let swapped = best_swap(&search, &gathered, shifted);
+    best_cross(&search, &gathered, swapped).found
 }
 
 /// Whether neither of two vehicles, which may be one, has a customer. Then no move counts.

@@ -113,6 +113,7 @@ fn closing(search: &Search, gathered: &Gathered, before: usize, after: usize) ->
 /// The better of the best so far and the shifts of so many customers from a place on to another vehicle. No more than `free` may leave.
 /// A row of the tables has a number that none of its ways is below where it lacks a way: by those the most that the shifts can gain is
 /// compared with what is wanted before they are gone through.
+#[inline(always)]
 fn shift_over(
     search: &Search,
     gathered: &Gathered,
@@ -168,6 +169,7 @@ fn shift_over(
 }
 
 /// The better of the best so far and the shifts of so many customers from a place on inside their vehicle.
+#[inline(always)]
 fn shift_within(search: &Search, gathered: &Gathered, place: u32, count: u32, best: Best) -> Best
     requires search { IsSearch (searched search.now) }
     requires gathered { IsGathered (searched search.now) gathered.now }
@@ -203,6 +205,7 @@ fn shift_within(search: &Search, gathered: &Gathered, place: u32, count: u32, be
 }
 
 /// The better of the best so far and all shifts of 1 to 3 customers from one vehicle to another.
+#[inline(always)]
 pub(crate) fn best_shift(search: &Search, gathered: &Gathered, best: Best) -> Best
     requires search { IsSearch (searched search.now) }
     requires gathered { IsGathered (searched search.now) gathered.now }
@@ -223,6 +226,7 @@ pub(crate) fn best_shift(search: &Search, gathered: &Gathered, best: Best) -> Be
 }
 
 /// The better of the best so far and all shifts of 1 to 3 customers inside a vehicle.
+#[inline(always)]
 pub(crate) fn best_shift_inside(search: &Search, gathered: &Gathered, best: Best) -> Best
     requires search { IsSearch (searched search.now) }
     requires gathered { IsGathered (searched search.now) gathered.now }

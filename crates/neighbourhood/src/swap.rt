@@ -69,6 +69,7 @@ fn swap_row(search: &Search, swaps: &Swaps, first: u32, end: u32, best: Best) ->
 }
 
 /// The better of the best so far and the swaps of the customer at a place with those of another vehicle.
+#[inline(always)]
 fn swap_over(search: &Search, gathered: &Gathered, place: u32, best: Best) -> Best
     requires search { IsSearch (searched search.now) }
     requires gathered { IsGathered (searched search.now) gathered.now }
@@ -138,6 +139,7 @@ fn swap_next(search: &Search, gathered: &Gathered, place: u32, best: Best) -> Be
 }
 
 /// The better of the best so far and the swaps of the customer at a place with those behind it.
+#[inline(always)]
 fn swap_within(search: &Search, gathered: &Gathered, place: u32, best: Best) -> Best
     requires search { IsSearch (searched search.now) }
     requires gathered { IsGathered (searched search.now) gathered.now }
@@ -174,6 +176,7 @@ fn swap_within(search: &Search, gathered: &Gathered, place: u32, best: Best) -> 
 }
 
 /// The better of the best so far and all swaps of a customer of one vehicle with one of another.
+#[inline(always)]
 pub(crate) fn best_swap(search: &Search, gathered: &Gathered, best: Best) -> Best
     requires search { IsSearch (searched search.now) }
     requires gathered { IsGathered (searched search.now) gathered.now }
@@ -189,6 +192,7 @@ pub(crate) fn best_swap(search: &Search, gathered: &Gathered, best: Best) -> Bes
 }
 
 /// The better of the best so far and all swaps inside a vehicle.
+#[inline(always)]
 pub(crate) fn best_swap_inside(search: &Search, gathered: &Gathered, best: Best) -> Best
     requires search { IsSearch (searched search.now) }
     requires gathered { IsGathered (searched search.now) gathered.now }
