@@ -1,5 +1,5 @@
 //! Crosses of two vehicles.
-ghost use Rattle.std.specs.Prelude.{◌≡◌, ◌≢◌, ℕ, ◌+◌, ◌-◌, ◌^◌, ◌<◌, ◌≤◌, [], ◌∷◌, length};
+ghost use Rattle.std.specs.Prelude.{◌≡◌, ◌≢◌, ℕ, ◌+◌, ◌-◌, ◌^◌, ◌<◌, ◌≤◌, [], ◌∷◌, length, All};
 ghost use Rattle.move_core.specs.declared.moves.Move.TheVariants.{Cross};
 ghost use Rattle.neighbourhood.specs.Search.{IsBestSoFar};
 ghost use Rattle.neighbourhood.specs.Searched.{searched, CountsIn, IsGathered, IsPossible, IsSearch, Saves};
@@ -26,6 +26,7 @@ fn cross_row(search: &Search, crosses: &Crosses, first: u32, end: u32, best: Bes
     requires apart { search.now.v ≢ search.now.w }
     requires order { first ≤ end }
     requires ways { IsCutRow crosses.now.ways end }
+    requires most { All (λ x. x ≤ crosses.now.ways.most) crosses.now.ways.edges.now }
     requires short { length crosses.now.ways.on.now ≤ 1002 }
     requires fixed { crosses.now.lost < 2 ^ 34 }
     requires possible { (l : ℕ) → l < end → IsPossible (searched search.now) (Cross search.now.v crosses.now.keep search.now.w l) }
@@ -100,6 +101,7 @@ fn cross_over(search: &Search, gathered: &Gathered, keep: u32, begin: u32, best:
 }
 
 /// The better of the best so far and all crosses of two vehicles.
+#[inline(always)]
 pub(crate) fn best_cross(search: &Search, gathered: &Gathered, best: Best) -> Best
     requires search { IsSearch (searched search.now) }
     requires gathered { IsGathered (searched search.now) gathered.now }

@@ -106,6 +106,7 @@ fn reverse_from(
 }
 
 /// The better of the best so far and all reverses inside a vehicle.
+#[inline(always)]
 pub(crate) fn best_reverse(
     search: &Search,
     gathered: &Gathered,

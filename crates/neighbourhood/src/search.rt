@@ -13,8 +13,8 @@ use crate::cross::best_cross;
 use crate::laws::laws_below;
 use crate::reverse::best_reverse;
 use crate::searched::{Gathered, Search};
-use crate::shift::best_shift;
-use crate::swap::best_swap;
+use crate::shift::{best_shift, best_shift_inside};
+use crate::swap::{best_swap, best_swap_inside};
 use dimension_core::Setup;
 use move_core::Move;
 use move_judge::{Kept, fits_after};
@@ -35,9 +35,11 @@ fn best_of_one(
     requires sums { AreSummed (searched search.now) gathered.now sums.now back_sums.now }
     ensures { MatchOption result (IsIdleOf (searched search.now)) (λ p. IsBestOf (searched search.now) p.0 p.1) }
 {
-    let shifted = best_shift(search, gathered, Best::none());
-    let swapped = best_swap(search, gathered, shifted);
-    best_reverse(search, gathered, sums, back_sums, swapped).found
+    // copies, of which the compiler knows that no call writes to them
+    let (search, gathered) = (*search, *gathered);
+    let shifted = best_shift_inside(&search, &gathered, Best::none());
+    let swapped = best_swap_inside(&search, &gathered, shifted);
+    best_reverse(&search, &gathered, sums, back_sums, swapped).found
 }
 
 /// The best move between two vehicles.
@@ -47,9 +49,10 @@ fn best_of_two(search: &Search, gathered: &Gathered) -> Option<(Move, u64)>
     requires apart { search.now.v ≢ search.now.w }
     ensures { MatchOption result (IsIdleOf (searched search.now)) (λ p. IsBestOf (searched search.now) p.0 p.1) }
 {
-    let shifted = best_shift(search, gathered, Best::none());
-    let swapped = best_swap(search, gathered, shifted);
-    best_cross(search, gathered, swapped).found
+    let (search, gathered) = (*search, *gathered);
+    let shifted = best_shift(&search, &gathered, Best::none());
+    let swapped = best_swap(&search, &gathered, shifted);
+    best_cross(&search, &gathered, swapped).found
 }
 
 /// Whether neither of two vehicles, which may be one, has a customer. Then no move counts.
@@ -228,7 +231,8 @@ impl Searcher {
     }
 
     /// The best move near two vehicles, or inside one, and what it saves, as `best_move` says it. No memory is asked for once the searcher
-    /// has searched routes that are as long. After `AllocError` the searcher may be used again.
+    /// has searched as many vehicles, each with a route that is as long, and with the dimensions too: it keeps something of these only where
+    /// they forbid what was found without them. After `AllocError` the searcher may be used again.
     pub fn best_move(
         &mut self,
         view: &View,

@@ -1,5 +1,5 @@
 //! Shifts of one to three customers.
-ghost use Rattle.std.specs.Prelude.{◌≡◌, ◌≢◌, ℕ, ◌+◌, ◌-◌, ◌^◌, ◌<◌, ◌≤◌, [], ◌∷◌, length, slice_index};
+ghost use Rattle.std.specs.Prelude.{◌≡◌, ◌≢◌, ℕ, ◌+◌, ◌-◌, ◌^◌, ◌<◌, ◌≤◌, [], ◌∷◌, length, slice_index, All};
 ghost use Rattle.plan_core.specs.Plan.{route_at};
 ghost use Rattle.move_core.specs.declared.moves.Move.TheVariants.{Shift};
 ghost use Rattle.move_core.specs.Moves.{stretch};
@@ -44,6 +44,7 @@ fn shift_row(
     requires low { 1 ≤ first }
     requires order { first ≤ end }
     requires ways { IsCutRow shifts.now.ways (end + offset - 1) }
+    requires most { All (λ x. x ≤ shifts.now.ways.most) shifts.now.ways.edges.now }
     requires short { length shifts.now.ways.on.now ≤ 1002 }
     requires fixed { (shifts.now.lost < 2 ^ 34) × (shifts.now.gained < 2 ^ 34) }
     requires possible { (at : ℕ) → first ≤ at → at < end → IsPossible (searched search.now) (Shift search.now.v shifts.now.place shifts.now.count search.now.w at) }
@@ -112,6 +113,7 @@ fn closing(search: &Search, gathered: &Gathered, before: usize, after: usize) ->
 /// The better of the best so far and the shifts of so many customers from a place on to another vehicle. No more than `free` may leave.
 /// A row of the tables has a number that none of its ways is below where it lacks a way: by those the most that the shifts can gain is
 /// compared with what is wanted before they are gone through.
+#[inline(always)]
 fn shift_over(
     search: &Search,
     gathered: &Gathered,
@@ -167,6 +169,7 @@ fn shift_over(
 }
 
 /// The better of the best so far and the shifts of so many customers from a place on inside their vehicle.
+#[inline(always)]
 fn shift_within(search: &Search, gathered: &Gathered, place: u32, count: u32, best: Best) -> Best
     requires search { IsSearch (searched search.now) }
     requires gathered { IsGathered (searched search.now) gathered.now }
@@ -201,61 +204,41 @@ fn shift_within(search: &Search, gathered: &Gathered, place: u32, count: u32, be
     shift_row(search, &shifts, count, place + 1, end, forwards)
 }
 
-/// How many customers from a place on may go to the second vehicle together, up to three.
+/// The better of the best so far and all shifts of 1 to 3 customers from one vehicle to another.
 #[inline(always)]
-fn free_from(search: &Search, place: u32) -> u32
-    requires search { IsSearch (searched search.now) }
-    requires v { (1 ≤ search.now.v) × (search.now.v ≤ length search.now.view.now.routes) }
-    requires low { 1 ≤ place }
-    ensures { (count : ℕ) → count ≤ 3 → place + count ≤ length (route_at search.now.view.now.routes search.now.v) + 1
-        → (front_of (pins_of search.now.view.now) search.now.v < place)
-        × AreLoose (pins_of search.now.view.now) (stretch (route_at search.now.view.now.routes search.now.v) place count) → count ≤ result }
-{
-    if search.v == search.w {
-        return 3;
-    }
-    loose_from(search.view, search.setup, search.v, place)
-}
-
-/// The better of the best so far and the shifts of so many customers from a place on. No more than `free` may go to another vehicle.
-#[inline(always)]
-fn shift_from(
-    search: &Search,
-    gathered: &Gathered,
-    place: u32,
-    count: u32,
-    free: u32,
-    best: Best,
-) -> Best
-    requires search { IsSearch (searched search.now) }
-    requires gathered { IsGathered (searched search.now) gathered.now }
-    requires count { (1 ≤ count) × (count ≤ 3) }
-    requires place { (1 ≤ place) × (place + count < length gathered.now.from.now) }
-    requires free { (front_of (pins_of search.now.view.now) search.now.v < place)
-        × AreLoose (pins_of search.now.view.now) (stretch (route_at search.now.view.now.routes search.now.v) place count) → count ≤ free }
-    requires best { IsBestSoFar (searched search.now) (1 ∷ search.now.v ∷ place ∷ count ∷ []) best.found }
-    ensures { IsBestSoFar (searched search.now) (1 ∷ search.now.v ∷ place ∷ (count + 1) ∷ []) result.found }
-{
-    if search.v == search.w {
-        shift_within(search, gathered, place, count, best)
-    } else {
-        shift_over(search, gathered, place, count, free, best)
-    }
-}
-
-/// The better of the best so far and all shifts of 1 to 3 customers from one vehicle to another, or inside one.
 pub(crate) fn best_shift(search: &Search, gathered: &Gathered, best: Best) -> Best
     requires search { IsSearch (searched search.now) }
     requires gathered { IsGathered (searched search.now) gathered.now }
+    requires apart { search.now.v ≢ search.now.w }
     requires best { IsBestSoFar (searched search.now) (1 ∷ []) best.found }
     ensures { IsBestSoFar (searched search.now) (2 ∷ []) result.found }
 {
     let mut best = best;
     for place in 1..gathered.from.len() as u32 - 1 {
-        let free = free_from(search, place);
+        let free = loose_from(search.view, search.setup, search.v, place);
         for count in 1..4u32 {
             if place as usize + (count as usize) < gathered.from.len() {
-                best = shift_from(search, gathered, place, count, free, best);
+                best = shift_over(search, gathered, place, count, free, best);
+            }
+        }
+    }
+    best
+}
+
+/// The better of the best so far and all shifts of 1 to 3 customers inside a vehicle.
+#[inline(always)]
+pub(crate) fn best_shift_inside(search: &Search, gathered: &Gathered, best: Best) -> Best
+    requires search { IsSearch (searched search.now) }
+    requires gathered { IsGathered (searched search.now) gathered.now }
+    requires inside { search.now.v ≡ search.now.w }
+    requires best { IsBestSoFar (searched search.now) (1 ∷ []) best.found }
+    ensures { IsBestSoFar (searched search.now) (2 ∷ []) result.found }
+{
+    let mut best = best;
+    for place in 1..gathered.from.len() as u32 - 1 {
+        for count in 1..4u32 {
+            if place as usize + (count as usize) < gathered.from.len() {
+                best = shift_within(search, gathered, place, count, best);
             }
         }
     }

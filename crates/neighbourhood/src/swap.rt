@@ -1,5 +1,5 @@
 //! Swaps of two customers.
-ghost use Rattle.std.specs.Prelude.{◌≡◌, ◌≢◌, ℕ, ◌+◌, ◌-◌, ◌^◌, ◌<◌, ◌≤◌, [], ◌∷◌, length};
+ghost use Rattle.std.specs.Prelude.{◌≡◌, ◌≢◌, ℕ, ◌+◌, ◌-◌, ◌^◌, ◌<◌, ◌≤◌, [], ◌∷◌, length, All};
 ghost use Rattle.move_core.specs.declared.moves.Move.TheVariants.{Swap};
 ghost use Rattle.neighbourhood.specs.Search.{IsBestSoFar};
 ghost use Rattle.neighbourhood.specs.Searched.{searched, IsGathered, IsPossible, IsSearch, Saves};
@@ -28,6 +28,7 @@ fn swap_row(search: &Search, swaps: &Swaps, first: u32, end: u32, best: Best) ->
     requires order { first ≤ end }
     requires near { search.now.v ≡ search.now.w → swaps.now.place < first }
     requires ways { IsSwapRow swaps.now.ways end }
+    requires most { All (λ x. x ≤ swaps.now.ways.most) swaps.now.ways.edges.now }
     requires short { length swaps.now.ways.here.now ≤ 1002 }
     requires fixed { swaps.now.lost < 2 ^ 34 }
     requires possible { (at : ℕ) → first ≤ at → at < end → IsPossible (searched search.now) (Swap search.now.v swaps.now.place search.now.w at) }
@@ -68,6 +69,7 @@ fn swap_row(search: &Search, swaps: &Swaps, first: u32, end: u32, best: Best) ->
 }
 
 /// The better of the best so far and the swaps of the customer at a place with those of another vehicle.
+#[inline(always)]
 fn swap_over(search: &Search, gathered: &Gathered, place: u32, best: Best) -> Best
     requires search { IsSearch (searched search.now) }
     requires gathered { IsGathered (searched search.now) gathered.now }
@@ -137,6 +139,7 @@ fn swap_next(search: &Search, gathered: &Gathered, place: u32, best: Best) -> Be
 }
 
 /// The better of the best so far and the swaps of the customer at a place with those behind it.
+#[inline(always)]
 fn swap_within(search: &Search, gathered: &Gathered, place: u32, best: Best) -> Best
     requires search { IsSearch (searched search.now) }
     requires gathered { IsGathered (searched search.now) gathered.now }
@@ -172,32 +175,34 @@ fn swap_within(search: &Search, gathered: &Gathered, place: u32, best: Best) -> 
     swap_row(search, &swaps, place + 2, width as u32 - 1, near)
 }
 
-/// The better of the best so far and the swaps of the customer at a place.
+/// The better of the best so far and all swaps of a customer of one vehicle with one of another.
 #[inline(always)]
-fn swap_from(search: &Search, gathered: &Gathered, place: u32, best: Best) -> Best
-    requires search { IsSearch (searched search.now) }
-    requires gathered { IsGathered (searched search.now) gathered.now }
-    requires place { (1 ≤ place) × (place + 1 < length gathered.now.from.now) }
-    requires best { IsBestSoFar (searched search.now) (2 ∷ search.now.v ∷ place ∷ []) best.found }
-    ensures { IsBestSoFar (searched search.now) (2 ∷ search.now.v ∷ (place + 1) ∷ []) result.found }
-{
-    if search.v == search.w {
-        swap_within(search, gathered, place, best)
-    } else {
-        swap_over(search, gathered, place, best)
-    }
-}
-
-/// The better of the best so far and all swaps of two vehicles, or inside one.
 pub(crate) fn best_swap(search: &Search, gathered: &Gathered, best: Best) -> Best
     requires search { IsSearch (searched search.now) }
     requires gathered { IsGathered (searched search.now) gathered.now }
+    requires apart { search.now.v ≢ search.now.w }
     requires best { IsBestSoFar (searched search.now) (2 ∷ []) best.found }
     ensures { IsBestSoFar (searched search.now) (3 ∷ []) result.found }
 {
     let mut best = best;
     for place in 1..gathered.from.len() as u32 - 1 {
-        best = swap_from(search, gathered, place, best);
+        best = swap_over(search, gathered, place, best);
+    }
+    best
+}
+
+/// The better of the best so far and all swaps inside a vehicle.
+#[inline(always)]
+pub(crate) fn best_swap_inside(search: &Search, gathered: &Gathered, best: Best) -> Best
+    requires search { IsSearch (searched search.now) }
+    requires gathered { IsGathered (searched search.now) gathered.now }
+    requires inside { search.now.v ≡ search.now.w }
+    requires best { IsBestSoFar (searched search.now) (2 ∷ []) best.found }
+    ensures { IsBestSoFar (searched search.now) (3 ∷ []) result.found }
+{
+    let mut best = best;
+    for place in 1..gathered.from.len() as u32 - 1 {
+        best = swap_within(search, gathered, place, best);
     }
     best
 }

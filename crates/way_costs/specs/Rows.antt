@@ -4,10 +4,9 @@ use Rattle.way_costs.specs.declared.gains.CutRow.{CutRow}
 use Rattle.way_costs.specs.declared.gains.SwapRow.{SwapRow}
 use Rattle.way_costs.specs.declared.gains.ReverseRow.{ReverseRow}
 
--- a row of cuts has the ways of each before an end, and none of its edges costs more than its most
+-- a row of cuts has the ways of each before an end
 pub record IsCutRow (row : CutRow) (end : ℕ) : Type 0 where
   pub edges : end ≤ length row.edges.now
-  pub most : All (λ x. x ≤ row.most) row.edges.now
   pub to : end ≤ length row.to.now
   pub on : end < length row.on.now
 
@@ -21,7 +20,6 @@ gained_by_cut row k = slice_index row.to.now k + slice_index row.on.now (k + 1)
 -- the same of a row of swaps
 pub record IsSwapRow (row : SwapRow) (end : ℕ) : Type 0 where
   pub edges : end ≤ length row.edges.now
-  pub most : All (λ x. x ≤ row.most) row.edges.now
   pub before : end ≤ length row.before.now
   pub here : end < length row.here.now
   pub next : end ≤ length row.next.now

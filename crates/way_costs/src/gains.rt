@@ -1,5 +1,5 @@
 //! Where a row of candidates first gains more than is wanted, by the costs of the ways that each loses and gains.
-ghost use Rattle.std.specs.Prelude.{false, ◌≡◌, ℕ, ◌+◌, ◌<◌, ◌≤◌, ◌^◌, slice_index};
+ghost use Rattle.std.specs.Prelude.{false, ◌≡◌, ℕ, ◌+◌, ◌<◌, ◌≤◌, ◌^◌, slice_index, All};
 ghost use Rattle.way_costs.specs.Rows.{IsCutRow, lost_by_cut, gained_by_cut};
 ghost use Rattle.way_costs.specs.Rows.{IsSwapRow, lost_by_swap, gained_by_swap};
 ghost use Rattle.way_costs.specs.Rows.{IsReverseRow, lost_by_reverse, gained_by_reverse};
@@ -181,6 +181,7 @@ pub fn may_gain(lost: u64, wanted: u64, row: &CutRow, from: usize, end: usize) -
     requires wanted { wanted < 2 ^ 61 }
     requires order { from ≤ end }
     requires row { IsCutRow row.now end }
+    requires most { All (λ x. x ≤ row.now.most) row.now.edges.now }
     ensures { result ≡ false → (k : ℕ) → k < end → from ≤ k → lost + lost_by_cut row.now k ≤ wanted + gained_by_cut row.now k }
 {
     if lost + u64::from(row.most) <= wanted {
@@ -208,6 +209,7 @@ pub fn may_swap_gain(lost: u64, wanted: u64, row: &SwapRow, from: usize, end: us
     requires begin { 1 ≤ from }
     requires order { from ≤ end }
     requires row { IsSwapRow row.now end }
+    requires most { All (λ x. x ≤ row.now.most) row.now.edges.now }
     ensures { result ≡ false → (k : ℕ) → k < end → from ≤ k → lost + lost_by_swap row.now k ≤ wanted + gained_by_swap row.now k }
 {
     if lost + 2 * u64::from(row.most) <= wanted {

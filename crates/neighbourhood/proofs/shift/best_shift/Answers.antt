@@ -2,7 +2,7 @@ use Rattle.std.proofs.Common.{◌≡◌, ℕ, ◌+◌, arith, subst, [], ◌∷�
 use Rattle.plan_core.specs.Plan.{route_at}
 use Rattle.neighbourhood.specs.Search.{IsBestSoFar}
 use Rattle.neighbourhood.specs.Searched.{searched}
-use Rattle.neighbourhood.proofs.Shifts.{shifts_at, shifts_begin, shifts_end, shifts_place_done, shifts_row_skipped}
+use Rattle.neighbourhood.proofs.Shifts.{shifts_at, shifts_begin, shifts_end, shifts_place_done, shifts_row, shifts_row_done, shifts_row_skipped}
 use Rattle.neighbourhood.proofs.shift.best_shift.Goals.{then-place-count, else-place-count}
 use Rattle.neighbourhood.proofs.shift.best_shift.Goals as goal
 
@@ -12,18 +12,25 @@ loop-place-init g c = shifts_begin (searched c.args.search.now) c.requires.searc
 pub loop-count-init : goal.loop-count-init
 loop-count-init g c = shifts_at (searched c.args.search.now) c.requires.search c.loop-place.place c.loop-place.best.found c.loop-place.invariant
 
-pub shift_from-best-requires-clause-free : goal.shift_from-best-requires-clause-free
-shift_from-best-requires-clause-free g c =
+pub shift_over-best-requires-clause-free : goal.shift_over-best-requires-clause-free
+shift_over-best-requires-clause-free g c =
     let sized = c.requires.gathered.from.sized in
     let fit = c.if-place-count.true in
     let few = c.loop-count-test.true in
-    λ both. c.free_from-free.ensures c.loop-count.count (omega arith) (omega arith) both
+    λ both. c.loose_from-free.ensures.most c.loop-count.count (omega arith) (omega arith) both
+
+pub shift_over-best-requires-clause-best : goal.shift_over-best-requires-clause-best
+shift_over-best-requires-clause-best g c =
+    shifts_row (searched c.args.search.now) c.requires.search c.loop-place.place c.loop-count.count c.loop-count.best.found c.loop-count.invariant
 
 pub loop-count-preserved : goal.loop-count-preserved
 loop-count-preserved g c =
     let long = c.requires.gathered.from.sized in
+    let wide = c.requires.gathered.to.sized in
     elim c.if-place-count.branch [
-      | then-place-count w ↦ rw w.best-is w.shift_from-best.ensures
+      | then-place-count w ↦
+          shifts_row_done (searched c.args.search.now) c.requires.search c.loop-place.place c.loop-count.count (length c.args.gathered.now.to.now) c.if-place-count.best.found
+          (λ e. absurd (c.requires.apart e)) (λ o. omega arith) (rw w.best-is w.shift_over-best.ensures)
       | else-place-count w ↦
           shifts_row_skipped (searched c.args.search.now) c.requires.search c.loop-place.place c.loop-count.count c.if-place-count.best.found
           (let out = w.if-place-count.false in omega arith) (rw w.best-is c.loop-count.invariant)

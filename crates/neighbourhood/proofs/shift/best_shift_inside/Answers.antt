@@ -1,0 +1,49 @@
+use Rattle.std.proofs.Common.{◌≡◌, ℕ, ◌+◌, ◌-◌, arith, subst, [], ◌∷◌, length}
+use Rattle.plan_core.specs.Plan.{route_at}
+use Rattle.neighbourhood.specs.Search.{IsBestSoFar}
+use Rattle.neighbourhood.specs.Searched.{searched}
+use Rattle.neighbourhood.proofs.Saved.{same_stops}
+use Rattle.neighbourhood.proofs.Shifts.{shifts_at, shifts_begin, shifts_end, shifts_place_done, shifts_row, shifts_row_done, shifts_row_skipped}
+use Rattle.neighbourhood.proofs.shift.best_shift_inside.Goals.{then-place-count, else-place-count}
+use Rattle.neighbourhood.proofs.shift.best_shift_inside.Goals as goal
+
+pub loop-place-init : goal.loop-place-init
+loop-place-init g c = shifts_begin (searched c.args.search.now) c.requires.search c.args.best.found c.requires.best
+
+pub loop-count-init : goal.loop-count-init
+loop-count-init g c = shifts_at (searched c.args.search.now) c.requires.search c.loop-place.place c.loop-place.best.found c.loop-place.invariant
+
+pub shift_within-best-requires-clause-best : goal.shift_within-best-requires-clause-best
+shift_within-best-requires-clause-best g c =
+    shifts_row (searched c.args.search.now) c.requires.search c.loop-place.place c.loop-count.count c.loop-count.best.found c.loop-count.invariant
+
+pub loop-count-preserved : goal.loop-count-preserved
+loop-count-preserved g c =
+    let q = searched c.args.search.now in
+    let long = c.requires.gathered.from.sized in
+    let same = same_stops q c.requires.search c.args.gathered.now c.requires.gathered c.requires.inside in
+    let wide = rw same at c.requires.gathered.to.sized in
+    elim c.if-place-count.branch [
+      | then-place-count w ↦
+          let fit = w.if-place-count.true in
+          shifts_row_done q c.requires.search c.loop-place.place c.loop-count.count (length c.args.gathered.now.from.now - c.loop-count.count) c.if-place-count.best.found
+          (λ e. omega arith) (λ o. absurd (o c.requires.inside)) (rw w.best-is w.shift_within-best.ensures)
+      | else-place-count w ↦
+          shifts_row_skipped q c.requires.search c.loop-place.place c.loop-count.count c.if-place-count.best.found
+          (let out = w.if-place-count.false in omega arith) (rw w.best-is c.loop-count.invariant)
+    ]
+
+pub loop-place-preserved : goal.loop-place-preserved
+loop-place-preserved g c =
+    let q = searched c.args.search.now in
+    let e : c.loop-count.count ≡ 4 = let t = c.loop-count-test.false in let h = c.loop-count.auto.count-end in omega arith in
+    shifts_place_done q c.requires.search c.loop-place.place c.loop-count.best.found
+    (subst (λ (k : ℕ). IsBestSoFar q (1 ∷ q.v ∷ c.loop-place.place ∷ k ∷ []) c.loop-count.best.found) e c.loop-count.invariant)
+
+pub returns : goal.returns
+returns g c =
+    let q = searched c.args.search.now in
+    let lv = length (route_at q.view.routes q.v) in
+    let e : c.loop-place.place ≡ lv + 1 = let t = c.loop-place-test.false in let h = c.loop-place.auto.place-end in let long = c.requires.gathered.from.sized in omega arith in
+    shifts_end q c.requires.search c.loop-place.best.found
+    (subst (λ (k : ℕ). IsBestSoFar q (1 ∷ q.v ∷ k ∷ []) c.loop-place.best.found) e c.loop-place.invariant)
