@@ -8,7 +8,7 @@ use crate::rows::{MOVES, NO_ROOT, RIGHTS, journal_of};
 use crate::scarce::{Attempt, Hoard, insist, insist_on_rows};
 use board_core::{Board, Core};
 use board_lines::{Command, ReadFault, read_line};
-use board_lock::{Foyer, Naming, open_hall};
+use board_lock::{DeskOf, Foyer, Naming, open_hall};
 use board_rules::Event;
 use board_text::{BoardFront, run_board_lines};
 use callback_store::Meter;
@@ -205,10 +205,10 @@ pub(crate) fn desks_go_through<N: Naming, R: Wait + Drop, W: Wait + Abort>(
     requires opening { foyer.room.opening ≡ N.opening }
     requires book { foyer.room.book ≡ N.book }
 {
-    let Ok(desks) = open_hall::<N, R>(alloc, foyer) else {
+    let Ok(mut desks) = open_hall::<N, R>(alloc, foyer) else {
         return;
     };
-    let Some((_others, setup, seat)) = last(desks) else {
+    let Some(DeskOf { setup, seat }) = last(&mut desks) else {
         return;
     };
     let Ok(written) = Vec::with_capacity(alloc, 65536) else {

@@ -25,6 +25,8 @@ mod runs;
 #[cfg(test)]
 mod scarce;
 #[cfg(test)]
+mod setups;
+#[cfg(test)]
 mod tests;
 #[cfg(test)]
 mod threads;
