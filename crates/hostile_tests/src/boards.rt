@@ -36,7 +36,7 @@ fn judged(
 
 /// A board of one thread, with room for what it writes.
 #[derive(Drop)]
-struct OnBoard {
+pub(crate) struct OnBoard {
     alloc: Global,
     front: BoardFront,
     written: Vec<u8>,
@@ -74,25 +74,25 @@ fn is_given_up(core: &mut Core, setup: &Setup, event: Event) -> bool
     true
 }
 
-/// A board of one thread that gives calls up between those that it takes.
-#[derive(Drop)]
-struct GivesUp {
-    on: OnBoard,
-}
-
-impl GivesUp {
+impl OnBoard {
     /// Judges the call of a line, if it says one, and gives it up. It says whether there was memory for that.
-    fn give_up(&mut self, text: &str) -> bool {
-        let call = match read_line(self.on.alloc, text.as_bytes()) {
+    pub(crate) fn give_up(&mut self, text: &str) -> bool {
+        let call = match read_line(self.alloc, text.as_bytes()) {
             Ok(Command::Submit(call)) => call,
             Err(ReadFault::NoMemory) => return false,
             _ => return true,
         };
-        let (desk, turn) = (self.on.front.desk, self.on.front.turn);
+        let (desk, turn) = (self.front.desk, self.front.turn);
         let event = Event { desk, turn, call };
-        let board = &mut self.on.front.board;
+        let board = &mut self.front.board;
         is_given_up(&mut board.core, &board.setup, event)
     }
+}
+
+/// A board of one thread that gives calls up between those that it takes.
+#[derive(Drop)]
+struct GivesUp {
+    on: OnBoard,
 }
 
 impl Attempt for GivesUp {
@@ -100,7 +100,7 @@ impl Attempt for GivesUp {
 
     /// The command that is given up first would close every session that these scripts use.
     fn attempt(&mut self, text: &str, wanted: &str) -> Option<bool> {
-        if self.give_up("1 delete-user root") && self.give_up(text) {
+        if self.on.give_up("1 delete-user root") && self.on.give_up(text) {
             return self.on.attempt(text, wanted);
         }
         None
@@ -163,7 +163,7 @@ fn all_go_through<A: Attempt>(rt: &impl Abort, alloc: Global, hoard: &mut Hoard,
 }
 
 /// A new board of one desk.
-fn on_board(alloc: Global, setup: Arc<Setup>) -> Option<OnBoard> {
+pub(crate) fn on_board(alloc: Global, setup: Arc<Setup>) -> Option<OnBoard> {
     let board = Board::new(alloc, setup, 1).ok()?;
     let written = Vec::with_capacity(alloc, 65536).ok()?;
     let front = BoardFront {

@@ -11,6 +11,8 @@ mod desks;
 #[cfg(test)]
 mod full;
 #[cfg(test)]
+mod given_up;
+#[cfg(test)]
 mod held;
 #[cfg(test)]
 mod openings;

@@ -66,11 +66,11 @@ pub(crate) fn bounded(alloc: Global, demand: Transit, travel: Transit) -> Option
     Arc::new(alloc, setup).ok()
 }
 
-/// Three customers and two vehicles without bounds, with one travel as their cost.
+/// Three customers and two vehicles without bounds, with one travel as their cost, and 1,000 events.
 pub(crate) fn free(alloc: Global, travel: Transit) -> Option<Arc<Setup>> {
     let mut registry = Registry::new(alloc);
     let cost = registry.register(travel).ok()?;
-    let setup = Setup::new(3, 2, registry, Vec::new(alloc), cost, 100).ok()?;
+    let setup = Setup::new(3, 2, registry, Vec::new(alloc), cost, 1000).ok()?;
     Arc::new(alloc, setup).ok()
 }
 

@@ -5,6 +5,7 @@ ghost use Rattle.hostile_tests.specs.Ways.{way};
 use crate::beside::runs_beside;
 use crate::boards::{boards_go_through, desks_go_through};
 use crate::full::fills;
+use crate::given_up::go_on;
 use crate::held::{compare_held, works_held};
 use crate::openings::{compare_opened, opens_until};
 use crate::rounds::{compare_rounds, works_on};
@@ -156,5 +157,21 @@ fn a_board_as_large_as_may_be(rt: HostRuntime) -> Result<(), Fail> {
         turn: 1,
     };
     fills(&rt, rt.alloc(), &mut front);
+    Ok(())
+}
+
+#[test]
+fn given_up_commands_cost_no_copy(rt: HostRuntime) -> Result<(), Fail> {
+    let drive = Box::new(
+        rt.alloc(),
+        move |i: u32, j: u32| -> u64
+            ensures { result ≡ 30 * way i j }
+        { u64::from(i.abs_diff(j)) * 30 },
+    )?;
+    let drives = Transit::new(4, drive);
+    let setup = free(rt.alloc(), drives).ok_or("a setup")?;
+    let again = Arc::try_clone(&setup)?;
+    let mut hoard = Hoard::new(rt.alloc()).ok_or("memory")?;
+    go_on(&rt, rt.alloc(), &mut hoard, setup, again);
     Ok(())
 }
