@@ -8,7 +8,7 @@ use crate::rows::{MOVES, NO_ROOT, RIGHTS, journal_of};
 use crate::scarce::{Attempt, Hoard, insist, insist_on_rows};
 use board_core::{Board, Core};
 use board_lines::{Command, ReadFault, read_line};
-use board_lock::{Foyer, Naming, open_hall};
+use board_lock::{DeskOf, Foyer, Naming, open_hall};
 use board_rules::Event;
 use board_text::{BoardFront, run_board_lines};
 use callback_store::Meter;
@@ -36,7 +36,7 @@ fn judged(
 
 /// A board of one thread, with room for what it writes.
 #[derive(Drop)]
-struct OnBoard {
+pub(crate) struct OnBoard {
     alloc: Global,
     front: BoardFront,
     written: Vec<u8>,
@@ -74,25 +74,25 @@ fn is_given_up(core: &mut Core, setup: &Setup, event: Event) -> bool
     true
 }
 
-/// A board of one thread that gives calls up between those that it takes.
-#[derive(Drop)]
-struct GivesUp {
-    on: OnBoard,
-}
-
-impl GivesUp {
+impl OnBoard {
     /// Judges the call of a line, if it says one, and gives it up. It says whether there was memory for that.
-    fn give_up(&mut self, text: &str) -> bool {
-        let call = match read_line(self.on.alloc, text.as_bytes()) {
+    pub(crate) fn give_up(&mut self, text: &str) -> bool {
+        let call = match read_line(self.alloc, text.as_bytes()) {
             Ok(Command::Submit(call)) => call,
             Err(ReadFault::NoMemory) => return false,
             _ => return true,
         };
-        let (desk, turn) = (self.on.front.desk, self.on.front.turn);
+        let (desk, turn) = (self.front.desk, self.front.turn);
         let event = Event { desk, turn, call };
-        let board = &mut self.on.front.board;
+        let board = &mut self.front.board;
         is_given_up(&mut board.core, &board.setup, event)
     }
+}
+
+/// A board of one thread that gives calls up between those that it takes.
+#[derive(Drop)]
+struct GivesUp {
+    on: OnBoard,
 }
 
 impl Attempt for GivesUp {
@@ -100,7 +100,7 @@ impl Attempt for GivesUp {
 
     /// The command that is given up first would close every session that these scripts use.
     fn attempt(&mut self, text: &str, wanted: &str) -> Option<bool> {
-        if self.give_up("1 delete-user root") && self.give_up(text) {
+        if self.on.give_up("1 delete-user root") && self.on.give_up(text) {
             return self.on.attempt(text, wanted);
         }
         None
@@ -163,7 +163,7 @@ fn all_go_through<A: Attempt>(rt: &impl Abort, alloc: Global, hoard: &mut Hoard,
 }
 
 /// A new board of one desk.
-fn on_board(alloc: Global, setup: Arc<Setup>) -> Option<OnBoard> {
+pub(crate) fn on_board(alloc: Global, setup: Arc<Setup>) -> Option<OnBoard> {
     let board = Board::new(alloc, setup, 1).ok()?;
     let written = Vec::with_capacity(alloc, 65536).ok()?;
     let front = BoardFront {
@@ -205,10 +205,10 @@ pub(crate) fn desks_go_through<N: Naming, R: Wait + Drop, W: Wait + Abort>(
     requires opening { foyer.room.opening ≡ N.opening }
     requires book { foyer.room.book ≡ N.book }
 {
-    let Ok(desks) = open_hall::<N, R>(alloc, foyer) else {
+    let Ok(mut desks) = open_hall::<N, R>(alloc, foyer) else {
         return;
     };
-    let Some((_others, setup, seat)) = last(desks) else {
+    let Some(DeskOf { setup, seat }) = last(&mut desks) else {
         return;
     };
     let Ok(written) = Vec::with_capacity(alloc, 65536) else {

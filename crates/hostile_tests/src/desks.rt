@@ -3,71 +3,39 @@
 ghost use Rattle.std.specs.Prelude.{◌≡◌, All, IfSome};
 ghost use Rattle.dimension_core.specs.Setup.{setting};
 
-use board_core::Board;
 use board_journal::Journal;
 use board_lines::{Command, push_audit, read_line};
-use board_lock::{Desk, DeskOf, Foyer, Naming, Seat, make_foyer, open_hall};
+use board_lock::{Desk, Foyer, Naming, Seat, open_hall};
 use board_rules::Call;
-use callback_store::{Registry, Transit};
 use dimension_core::Setup;
 use std::alloc::Global;
-use std::sync::{Arc, Wait};
+use std::sync::Wait;
 
-/// The foyer of a board of three customers, two vehicles and two desks without bounds, with one travel as its cost. It passes the setup too.
-pub(crate) fn free_foyer<R: Wait + Drop>(
-    rt: R,
-    alloc: Global,
-    transit: Transit,
-) -> Option<(Foyer<R>, Arc<Setup>)> {
-    let mut registry = Registry::new(alloc);
-    let cost = registry.register(transit).ok()?;
-    let setup = Setup::new(3, 2, registry, Vec::new(alloc), cost, 100).ok()?;
-    let setup = Arc::new(alloc, setup).ok()?;
-    let again = Arc::try_clone(&setup).ok()?;
-    let board = Board::new(alloc, setup, 2).ok()?;
-    match make_foyer(rt, alloc, board) {
-        Ok(foyer) => Some((foyer, again)),
-        Err(_) => None,
-    }
-}
-
-/// The last desk, without its setup, and the others.
-pub(crate) fn last<N: Naming, R: Wait + Drop>(
-    desks: Vec<Desk<N, R>>,
-) -> Option<(Vec<Desk<N, R>>, Arc<Setup>, Seat<N, R>)>
-    requires { All (λ d. setting d.setup.value ≡ N.opening.setting) desks.items }
-    ensures others { IfSome result (λ t. All (λ d. setting d.setup.value ≡ N.opening.setting) t.0.items) }
-    ensures last { IfSome result (λ t. setting t.1.value ≡ N.opening.setting) }
+/// The last desk of some.
+pub(crate) fn last<N: Naming, R: Wait + Drop>(desks: &mut Vec<Desk<N, R>>) -> Option<Desk<N, R>>
+    requires { All (λ d. setting d.setup.value ≡ N.opening.setting) desks.old.items }
+    ensures others { All (λ d. setting d.setup.value ≡ N.opening.setting) desks.new.items }
+    ensures last { IfSome result (λ d. setting d.setup.value ≡ N.opening.setting) }
 {
-    let mut desks = desks;
-    match desks.pop() {
-        Some(desk) => {
-            let DeskOf { setup, seat } = desk;
-            Some((desks, setup, seat))
-        }
-        None => None,
-    }
+    desks.pop()
 }
 
-/// The two desks of a hall, the second one without its setup.
+/// The two desks of a hall.
 pub(crate) fn open_two<N: Naming, R: Wait + Drop>(
     alloc: Global,
     foyer: Foyer<R>,
-) -> Option<(Desk<N, R>, Arc<Setup>, Seat<N, R>)>
+) -> Option<(Desk<N, R>, Desk<N, R>)>
     requires opening { foyer.room.opening ≡ N.opening }
     requires book { foyer.room.book ≡ N.book }
     ensures first { IfSome result (λ t. setting t.0.setup.value ≡ N.opening.setting) }
-    ensures second { IfSome result (λ t. setting t.1.value ≡ N.opening.setting) }
+    ensures second { IfSome result (λ t. setting t.1.setup.value ≡ N.opening.setting) }
 {
-    let Ok(desks) = open_hall::<N, R>(alloc, foyer) else {
+    let Ok(mut desks) = open_hall::<N, R>(alloc, foyer) else {
         return None;
     };
-    let (desks, setup, two) = last(desks)?;
-    let mut desks = desks;
-    match desks.pop() {
-        Some(one) => Some((one, setup, two)),
-        None => None,
-    }
+    let two = last(&mut desks)?;
+    let one = last(&mut desks)?;
+    Some((one, two))
 }
 
 /// The call that a line says.

@@ -1,33 +1,10 @@
 //! A board as large as may be: 1,000 customers and vehicles, 8 dimensions, 64 desks, 1,024 users and sessions, 256 roles, 64 sets of each
 //! kind, and 1,000,000 events.
 use board_text::{BoardFront, run_board_lines};
-use callback_store::{Registry, TransitId};
-use dimension_core::{Dimension, Range};
 use line_engine::{Counts, RunFault};
 use std::alloc::{AllocError, Global};
 use std::io::{self, Read, Write};
 use std::process::Abort;
-
-/// So many dimensions of one callback, with the widest bounds.
-pub(crate) fn widest(
-    alloc: Global,
-    registry: &Registry,
-    id: TransitId,
-    count: u32,
-) -> Option<Vec<Dimension>> {
-    let mut dimensions = Vec::new(alloc);
-    for _ in 0..count {
-        let caps = vec![in alloc; 1_000_000_000_000u64; 1000].ok()?;
-        let wide = Range {
-            lo: 0,
-            hi: 1_000_000_000_000,
-        };
-        let ranges = vec![in alloc; wide; 1001].ok()?;
-        let bounds = Dimension::new(registry, id, 1_000_000_000_000, caps, true, ranges).ok()?;
-        dimensions.push(bounds).ok()?;
-    }
-    Some(dimensions)
-}
 
 /// A script and the replies to it.
 #[derive(Drop)]
@@ -37,7 +14,7 @@ struct Texts {
 }
 
 impl Texts {
-    /// Each customer on the vehicle of the same number, and all listed. A way is as long as the customer's number.
+    /// Each customer on the vehicle of the same number.
     fn push_plan(&mut self) -> Result<(), AllocError> {
         let grants =
             "1 grant root audit board\n1 grant root move vehicle 1 1000\n1 grant root move customer 1 1000\n1 grant root view vehicle 1 1000\n1 grant root view customer 1 1000\n";
@@ -47,12 +24,22 @@ impl Texts {
             write!(self.lines, "1 insert {c} {c} 1 0\n")?;
             write!(self.replies, "committed {c}\n")?;
         }
+        Ok(())
+    }
+
+    /// The row of a customer, whose way is as long as the customer's number.
+    fn push_row(&mut self, c: u32) -> Result<(), AllocError> {
+        write!(
+            self.replies,
+            "row {c} 1 {c} {c} {c} {c} {c} {c} {c} {c} {c}\n"
+        )
+    }
+
+    /// All customers listed.
+    fn push_list(&mut self) -> Result<(), AllocError> {
         self.lines.push_str("1 list\n")?;
         for c in 1..1001u32 {
-            write!(
-                self.replies,
-                "row {c} 1 {c} {c} {c} {c} {c} {c} {c} {c} {c}\n"
-            )?;
+            self.push_row(c)?;
         }
         self.replies.push_str("end\n")
     }
@@ -67,18 +54,23 @@ impl Texts {
         self.replies.push_str("refused full\n")
     }
 
-    /// Users, roles, sets and sessions.
-    fn push_rights(&mut self) -> Result<(), AllocError> {
-        self.push_numbered("add-user u", 1023, "")?;
-        self.push_numbered("add-role r", 255, "")?;
-        self.push_numbered("ssd-create s", 64, " 2 r0 r254")?;
-        self.push_numbered("dsd-create d", 64, " 2 r0 r254")?;
+    /// As many sessions as there is room for beside the first one, and one more.
+    fn push_sessions(&mut self) -> Result<(), AllocError> {
         for session in 2..1025u32 {
             self.lines.push_str("1 open u1022\n")?;
             write!(self.replies, "session {session}\n")?;
         }
         self.lines.push_str("1 open u1022\n")?;
         self.replies.push_str("refused full\n")
+    }
+
+    /// Users, roles, sets and sessions.
+    fn push_rights(&mut self) -> Result<(), AllocError> {
+        self.push_numbered("add-user u", 1023, "")?;
+        self.push_numbered("add-role r", 255, "")?;
+        self.push_numbered("ssd-create s", 64, " 2 r0 r254")?;
+        self.push_numbered("dsd-create d", 64, " 2 r0 r254")?;
+        self.push_sessions()
     }
 }
 
@@ -162,6 +154,7 @@ fn all_texts(alloc: Global) -> Result<Texts, AllocError> {
         replies: String::new(alloc),
     };
     texts.push_plan()?;
+    texts.push_list()?;
     texts.push_rights()?;
     Ok(texts)
 }
@@ -182,13 +175,9 @@ fn compare_events(rt: &impl Abort, events: usize, wanted: usize) {
     assert_eq!(rt; events, wanted);
 }
 
-/// Fills the board's journal. The last event there is room for is taken, and the one after it is not; questions are answered.
-pub(crate) fn fills(rt: &impl Abort, alloc: Global, front: &mut BoardFront) {
-    let Ok(texts) = all_texts(alloc) else {
-        return;
-    };
-    says(rt, alloc, front, &texts, 3440);
-    compare_events(rt, front.board.events(), 3439);
+/// Fills a journal of 3,439 entries. The last event there is room for is taken, and the one after it is not; questions
+/// are answered.
+fn fills_up(rt: &impl Abort, alloc: Global, front: &mut BoardFront) {
     let thaw = b"1 thaw 1 0\n".as_slice();
     let refused = b"refused no-access\n".as_slice();
     says_again(rt, alloc, front, thaw, 996_560, refused);
@@ -200,4 +189,14 @@ pub(crate) fn fills(rt: &impl Abort, alloc: Global, front: &mut BoardFront) {
     let question = b"1 check move customer 1000\n".as_slice();
     says_again(rt, alloc, front, question, 1, b"yes\n".as_slice());
     compare_events(rt, front.board.events(), 1_000_000);
+}
+
+/// A board's plan and rights, and then its journal, are filled.
+pub(crate) fn fills(rt: &impl Abort, alloc: Global, front: &mut BoardFront) {
+    let Ok(texts) = all_texts(alloc) else {
+        return;
+    };
+    says(rt, alloc, front, &texts, 3440);
+    compare_events(rt, front.board.events(), 3439);
+    fills_up(rt, alloc, front);
 }

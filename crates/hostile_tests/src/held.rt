@@ -59,7 +59,7 @@ pub(crate) const LAID_OUT: &[&str] = &[
     "1 open worker worker",
 ];
 
-const TURNS: [Turn; 10] = [
+const TURNS: &[Turn] = &[
     Turn {
         session: 2,
         first: &[],
@@ -264,22 +264,10 @@ impl<N: Naming, R: Wait + Drop, W: Wait> Task<W, Arc<Setup>, Seat<N, R>, Seat<N,
     }
 }
 
-/// A turn of one seat, and a round of the other. It gives the seats back with its tally.
-fn one_turn<N: Naming + Send + Sync, R: Wait + Drop + Send + Sync, W: Threads + Wait + Sync>(
-    rt: &W,
-    alloc: Global,
-    setup: &Arc<Setup>,
-    seats: (Seat<N, R>, Seat<N, R>),
-    turn: Turn,
-) -> Option<((Seat<N, R>, Seat<N, R>), Tally)>
-    requires { setting setup.now.value ≡ N.opening.setting }
-{
+/// The round and what another desk does in a turn.
+fn tasks_of(alloc: Global, turn: &Turn) -> Option<(OneRound, OneTurn)> {
     let words = Words::new(alloc)?;
     let gate = words.share()?;
-    let first = Arc::try_clone(setup).ok()?;
-    let second = Arc::try_clone(setup).ok()?;
-    let (mut own, other) = seats;
-    play(rt, alloc, setup, &mut own, turn.first);
     let round = OneRound {
         alloc,
         session: turn.session,
@@ -290,19 +278,53 @@ fn one_turn<N: Naming + Send + Sync, R: Wait + Drop + Send + Sync, W: Threads + 
         lines: turn.held,
         words,
     };
+    Some((round, call))
+}
+
+/// A turn of one seat, and a round of the other. It gives the seats back with its tally.
+fn one_turn<N: Naming + Send + Sync, R: Wait + Drop + Send + Sync, W: Threads + Wait + Sync>(
+    rt: &W,
+    alloc: Global,
+    setup: &Arc<Setup>,
+    seats: (Seat<N, R>, Seat<N, R>),
+    turn: &Turn,
+) -> Option<((Seat<N, R>, Seat<N, R>), Tally)>
+    requires { setting setup.now.value ≡ N.opening.setting }
+{
+    let (round, call) = tasks_of(alloc, turn)?;
+    let first = Arc::try_clone(setup).ok()?;
+    let second = Arc::try_clone(setup).ok()?;
+    let (mut own, other) = seats;
+    play(rt, alloc, setup, &mut own, turn.first);
     let ((other, tally), own) = beside(rt, round, second, other, call, first, own);
     Some(((own, other), tally))
 }
 
-/// The committed and denied rounds, and the journal.
-#[derive(Drop)]
-pub(crate) struct Ended {
-    committed: u32,
-    denied: u32,
-    journal: Option<Journal>,
+/// All turns, one after another. It gives the other desk's seat back, and how many rounds were committed and denied.
+fn all_turns<N: Naming + Send + Sync, R: Wait + Drop + Send + Sync, W: Threads + Wait + Sync>(
+    rt: &W,
+    alloc: Global,
+    setup: &Arc<Setup>,
+    seats: (Seat<N, R>, Seat<N, R>),
+) -> Option<(Seat<N, R>, (u32, u32))>
+    requires { setting setup.now.value ≡ N.opening.setting }
+{
+    let mut seats = seats;
+    let mut counts = (0u32, 0u32);
+    for turn in TURNS {
+        let (next, tally) = one_turn(rt, alloc, setup, seats, turn)?;
+        seats = next;
+        counts.0 = counts.0.wrapping_add(tally.committed);
+        counts.1 = counts.1.wrapping_add(tally.denied);
+    }
+    let (own, _worker) = seats;
+    Some((own, counts))
 }
 
-/// A turn and a round after another.
+/// How many rounds were committed and denied, and the journal.
+pub(crate) type Ended = ((u32, u32), Journal);
+
+/// The worker's rounds, each held while the other desk changes what its session may do.
 pub(crate) fn works_held<
     N: Naming + Send + Sync,
     R: Wait + Drop + Send + Sync,
@@ -311,27 +333,18 @@ pub(crate) fn works_held<
     requires opening { foyer.room.opening ≡ N.opening }
     requires book { foyer.room.book ≡ N.book }
 {
-    let (worker, setup, mut own) = open_two::<N, R>(alloc, foyer)?;
+    let (worker, other) = open_two::<N, R>(alloc, foyer)?;
+    let DeskOf { setup, seat } = other;
+    let mut own = seat;
     play(rt, alloc, &setup, &mut own, LAID_OUT);
-    let mut seats = (own, worker.seat);
-    let mut committed = 0u32;
-    let mut denied = 0u32;
-    for turn in TURNS {
-        let (next, tally) = one_turn(rt, alloc, &setup, seats, turn)?;
-        seats = next;
-        committed = committed.wrapping_add(tally.committed);
-        denied = denied.wrapping_add(tally.denied);
-    }
-    let journal = audit(rt, &mut seats.0, 5);
-    Some(Ended {
-        committed,
-        denied,
-        journal,
-    })
+    let (own, counts) = all_turns(rt, alloc, &setup, (own, worker.seat))?;
+    let mut own = own;
+    let journal = audit(rt, &mut own, 5)?;
+    Some((counts, journal))
 }
 
-fn compare_text(rt: &impl Abort, text: Option<&str>) {
-    assert_eq!(rt; text, Some(JOURNAL));
+fn compare_text(rt: &impl Abort, text: &str) {
+    assert_eq!(rt; text, JOURNAL);
 }
 
 fn compare_counts(rt: &impl Abort, counts: (u32, u32), again: Option<(u32, u32)>) {
@@ -346,18 +359,11 @@ pub(crate) fn compare_held(
     setup: Arc<Setup>,
     ended: Option<Ended>,
 ) {
-    let Some(
-        Ended {
-            committed,
-            denied,
-            journal: Some(journal),
-        },
-    ) = ended
-    else {
-        return compare_text(rt, None);
+    let Some((counts, journal)) = ended else {
+        return compare_text(rt, "no journal");
     };
     let text = text_of(alloc, &journal);
-    compare_text(rt, text.as_deref());
+    compare_text(rt, text.as_deref().unwrap_or("no text"));
     let again = judged_again(alloc, setup, &journal);
-    compare_counts(rt, (committed, denied), again);
+    compare_counts(rt, counts, again);
 }

@@ -11,6 +11,8 @@ mod desks;
 #[cfg(test)]
 mod full;
 #[cfg(test)]
+mod given_up;
+#[cfg(test)]
 mod held;
 #[cfg(test)]
 mod openings;
@@ -24,6 +26,8 @@ mod rows;
 mod runs;
 #[cfg(test)]
 mod scarce;
+#[cfg(test)]
+mod setups;
 #[cfg(test)]
 mod tests;
 #[cfg(test)]

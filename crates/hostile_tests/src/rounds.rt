@@ -63,10 +63,10 @@ pub(crate) fn works_on<N: Naming, R: Wait + Drop, W: Wait>(
     requires opening { foyer.room.opening ≡ N.opening }
     requires book { foyer.room.book ≡ N.book }
 {
-    let (worker, setup, mut own) = open_two::<N, R>(alloc, foyer)?;
-    play(rt, alloc, &setup, &mut own, LAID_OUT);
+    let (worker, mut own) = open_two::<N, R>(alloc, foyer)?;
+    play(rt, alloc, &own.setup, &mut own.seat, LAID_OUT);
     let (refused, last) = rounds_until(rt, alloc, hoard, worker);
-    let journal = audit(rt, &mut own, 1)?;
+    let journal = audit(rt, &mut own.seat, 1)?;
     Some((refused, last, text_of(alloc, &journal)))
 }
 

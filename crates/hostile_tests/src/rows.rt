@@ -101,12 +101,14 @@ pub(crate) const NO_ROOT: &str = "\
 1 add-user x => refused no-session\n\
 1 list => refused no-session";
 
+const QUESTIONS: &[&str] = &[
+    "1 list", "1 json", "1 users", "1 roles", "1 active", "1 check",
+];
+
 /// Whether a line is a question, which no journal has.
 fn is_question(line: &str) -> bool {
-    for word in [
-        "1 list", "1 json", "1 users", "1 roles", "1 active", "1 check",
-    ] {
-        if line.starts_with(word) {
+    for word in QUESTIONS {
+        if line.starts_with(*word) {
             return true;
         }
     }

@@ -28,7 +28,7 @@ fn judged(written: &[u8], faults: &[u8], status: u8, wanted: &str) -> Option<boo
 }
 
 /// What is run.
-#[derive(Clone, Copy, PartialEq, Eq, Drop)]
+#[derive(Clone, Copy, Drop)]
 enum Kind {
     /// A check of an instance.
     Check,
@@ -141,18 +141,29 @@ fn gets_through<T: Attempt>(
 /// What a check says of the instance.
 const REPORT: &str = "name A\ncustomers 4\nvehicles 2\ncapacity 10\nhorizon 1000\n";
 
-/// The lines of the scripts, or the replies to them.
-fn part_of(alloc: Global, first: &str, second: &str) -> Option<(String, String)> {
+/// Appends a row's line and its reply.
+fn push_row(alloc: Global, row: &str, lines: &mut String, replies: &mut String) -> Option<()> {
+    let (line, told) = row.split_once(" => ").unwrap_or((row, ""));
+    let reply = reply_of(alloc, told)?;
+    lines.push_str(line).ok()?;
+    lines.push('\n').ok()?;
+    replies.push_str(&reply).ok()
+}
+
+/// Appends the lines of a script and the replies to them.
+fn push_rows(alloc: Global, script: &str, lines: &mut String, replies: &mut String) -> Option<()> {
+    for row in script.split('\n') {
+        push_row(alloc, row, lines, replies)?;
+    }
+    Some(())
+}
+
+/// The lines of all moves and rights, and the replies to them.
+fn all_rows(alloc: Global) -> Option<(String, String)> {
     let mut lines = String::new(alloc);
     let mut replies = String::new(alloc);
-    for script in [first, second] {
-        for row in script.split('\n') {
-            let (line, told) = row.split_once(" => ").unwrap_or((row, ""));
-            lines.push_str(line).ok()?;
-            lines.push('\n').ok()?;
-            replies.push_str(reply_of(alloc, told)?.as_str()).ok()?;
-        }
-    }
+    push_rows(alloc, MOVES, &mut lines, &mut replies)?;
+    push_rows(alloc, RIGHTS, &mut lines, &mut replies)?;
     Some((lines, replies))
 }
 
@@ -175,7 +186,7 @@ pub(crate) fn runs_go_through(rt: &impl Abort, alloc: Global, hoard: &mut Hoard)
     gets_through(rt, hoard, &mut Reading { alloc }, A, "A");
     gets_through(rt, hoard, &mut Words { alloc }, "instance", "instance");
     run_goes_through(rt, alloc, hoard, Kind::Check, A, REPORT);
-    let Some((lines, replies)) = part_of(alloc, MOVES, RIGHTS) else {
+    let Some((lines, replies)) = all_rows(alloc) else {
         return;
     };
     run_goes_through(rt, alloc, hoard, Kind::Scripted, &lines, &replies);

@@ -153,7 +153,7 @@ pub(crate) trait Attempt {
 }
 
 /// How often memory ran out, how much was not enough the last time, how much was, and whether the answer then was what is wanted.
-#[derive(Clone, Copy, Debug, PartialEq, Eq, Drop)]
+#[derive(Clone, Copy, Debug, Drop)]
 pub(crate) struct Outcome {
     pub refused: u32,
     pub lacked: usize,

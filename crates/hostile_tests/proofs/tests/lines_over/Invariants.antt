@@ -1,4 +1,4 @@
-use Rattle.hostile_tests.proofs.tests.lines_go_through.Given as goal
+use Rattle.hostile_tests.proofs.tests.lines_over.Given as goal
 
 -- the foyer that was just made
 abbrev pub ghosts-desks_go_through : goal.ghosts-desks_go_through

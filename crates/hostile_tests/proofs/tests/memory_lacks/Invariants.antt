@@ -1,4 +1,4 @@
-use Rattle.hostile_tests.proofs.tests.rounds_and_halls_that_lack_memory.Given as goal
+use Rattle.hostile_tests.proofs.tests.memory_lacks.Given as goal
 
 -- the foyer that was just made
 abbrev pub ghosts-works_on : goal.ghosts-works_on

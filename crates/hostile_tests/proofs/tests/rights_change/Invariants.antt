@@ -1,4 +1,4 @@
-use Rattle.hostile_tests.proofs.tests.workers_whose_rights_change.Given as goal
+use Rattle.hostile_tests.proofs.tests.rights_change.Given as goal
 
 -- the foyer that was just made
 abbrev pub ghosts-works_held : goal.ghosts-works_held
