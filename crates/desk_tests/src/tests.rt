@@ -6,7 +6,7 @@ use crate::many::calls;
 use crate::one_thread::opens;
 use crate::questions::asks;
 use crate::scripts::{FULL, compare_replay, judged_again, reads_beside, runs};
-use crate::threads::side_by_side;
+use crate::threads::{call_for_one_vehicle, call_for_two_vehicles};
 use board_core::Board;
 use board_lock::make_foyer;
 use callback_store::{Registry, Transit};
@@ -55,7 +55,7 @@ fn two_desks_share_one_history(rt: HostRuntime) -> Result<(), Fail> {
     Ok(())
 }
 
-/// The same board, with room for the events of ten thousand commits.
+/// The same board, with room for the events of ten thousand commits, and a fresh one over the same setup.
 #[test]
 fn two_desks_call_at_once(rt: HostRuntime) -> Result<(), Fail> {
     let demands = vec![in rt.alloc();
@@ -89,9 +89,14 @@ fn two_desks_call_at_once(rt: HostRuntime) -> Result<(), Fail> {
     let time = registry.register(travel).map_err(|_| "room")?;
     let dimensions = load_and_time(alloc, &registry, load, time)?;
     let setup = Setup::new(4, 2, registry, dimensions, time, 20000).map_err(|_| "setup")?;
-    let board = Board::new(alloc, Arc::new(alloc, setup)?, 2)?;
+    let setup = Arc::new(alloc, setup)?;
+    let again = Arc::try_clone(&setup)?;
+    let board = Board::new(alloc, setup, 2)?;
     let foyer = make_foyer(&rt, alloc, board).map_err(|_| "foyer")?;
-    side_by_side::<Brand, _, _>(&rt, alloc, foyer);
+    call_for_one_vehicle::<Brand, _, _>(&rt, alloc, foyer);
+    let fresh = Board::new(alloc, again, 2)?;
+    let second = make_foyer(&rt, alloc, fresh).map_err(|_| "foyer")?;
+    call_for_two_vehicles::<Brand, _, _>(&rt, alloc, second);
     Ok(())
 }
 

@@ -2,7 +2,7 @@
 //!
 //! That a setup and a seat may go to another thread is found of each alone, and not of both in one closure. So the closures are made in a
 //! function that knows of its types no more than that each may go.
-ghost use Rattle.std.specs.Prelude.{◌≡◌};
+ghost use Rattle.std.specs.Prelude.{◌≡◌, IfSome};
 ghost use Rattle.dimension_core.specs.Setup.{setting};
 
 use crate::calls::{grant, insert, last, remove, submits};
@@ -152,8 +152,8 @@ fn compare_both(
 }
 
 fn compare_looks(rt: &impl Abort, version: u32, looks: (bool, u32)) {
-    assert_eq!(rt; version, 10004);
-    assert_eq!(rt; looks, (true, 10004u32));
+    assert_eq!(rt; version, 10002);
+    assert_eq!(rt; looks, (true, 10002u32));
 }
 
 /// Two calls at once, and what came of each.
@@ -181,7 +181,7 @@ fn race<N: Naming + Send + Sync, R: Wait + Drop + Send + Sync, W: Threads + Wait
     Some((one.0, two.0))
 }
 
-/// Ten thousand commits from version 4 on, while the other desk looks on.
+/// Ten thousand commits from version 2 on, while the other desk looks on.
 fn look_on<N: Naming + Send + Sync, R: Wait + Drop + Send + Sync, W: Threads + Wait + Abort + Sync>(
     rt: &W,
     setup: &Arc<Setup>,
@@ -192,56 +192,68 @@ fn look_on<N: Naming + Send + Sync, R: Wait + Drop + Send + Sync, W: Threads + W
     let first = Arc::try_clone(setup).ok()?;
     let second = Arc::try_clone(setup).ok()?;
     let commit = Commit {
-        from: 4,
+        from: 2,
         commits: 10000,
     };
-    let (version, looks) = beside(rt, commit, first, seats.0, Look(10004), second, seats.1);
+    let (version, looks) = beside(rt, commit, first, seats.0, Look(10002), second, seats.1);
     compare_looks(rt, version, looks);
     Some(version)
 }
 
-/// Two desks call for one vehicle, which then is empty again, then for two, and then one of them looks on.
-fn all_at_once<
+/// Two desks call for one vehicle, which is then emptied. It tells the reply to that.
+fn for_one_vehicle<
+    N: Naming + Send + Sync,
+    R: Wait + Drop + Send + Sync,
+    W: Threads + Wait + Abort + Sync,
+>(rt: &W, setup: &Arc<Setup>, seats: (Seat<N, R>, Seat<N, R>)) -> Option<Reply>
+    requires { setting setup.now.value ≡ N.opening.setting }
+{
+    let calls = (insert(1, 1, 0), insert(2, 1, 0));
+    let replies = (Reply::Committed(1), Reply::Denied(Denial::Stale(1)));
+    let (mut one, _two) = race(rt, setup, seats, calls, replies)?;
+    one.submit(rt, setup, remove(1, 1)).ok()
+}
+
+/// Two desks call for a vehicle each, and then one of them looks on. It tells the last version.
+fn for_two_vehicles<
     N: Naming + Send + Sync,
     R: Wait + Drop + Send + Sync,
     W: Threads + Wait + Abort + Sync,
 >(rt: &W, setup: &Arc<Setup>, seats: (Seat<N, R>, Seat<N, R>)) -> Option<u32>
     requires { setting setup.now.value ≡ N.opening.setting }
 {
-    let calls = (insert(1, 1, 0), insert(2, 1, 0));
-    let replies = (Reply::Committed(1), Reply::Denied(Denial::Stale(1)));
-    let seats = race(rt, setup, seats, calls, replies)?;
-    let (mut one, two) = seats;
-    let removed = one.submit(rt, setup, remove(1, 1)).ok();
-    assert!(rt; removed == Some(Reply::Committed(2)));
-    let seats = (one, two);
-    let calls = (insert(1, 1, 2), insert(4, 2, 2));
-    let replies = (Reply::Committed(3), Reply::Committed(4));
+    let calls = (insert(1, 1, 0), insert(4, 2, 0));
+    let replies = (Reply::Committed(1), Reply::Committed(2));
     let seats = race(rt, setup, seats, calls, replies)?;
     look_on(rt, setup, seats)
 }
 
-fn compare_end(rt: &impl Abort, found: Option<u32>) {
-    assert_eq!(rt; found, Some(10004));
+fn compare_emptied(rt: &impl Abort, found: Option<Reply>) {
+    assert!(rt; found == Some(Reply::Committed(2)));
 }
 
-/// The two desks of a hall, once the first one was granted all moves.
-pub(crate) fn side_by_side<
-    N: Naming + Send + Sync,
-    R: Wait + Drop + Send + Sync,
-    W: Threads + Wait + Abort + Sync,
->(rt: &W, alloc: Global, foyer: Foyer<R>)
+fn compare_end(rt: &impl Abort, found: Option<u32>) {
+    assert_eq!(rt; found, Some(10002));
+}
+
+/// The setup and the seats of the two desks of a hall, once the first one was granted all moves.
+fn granted<N: Naming, R: Wait + Drop, W: Wait + Abort>(
+    rt: &W,
+    alloc: Global,
+    foyer: Foyer<R>,
+) -> Option<(Arc<Setup>, (Seat<N, R>, Seat<N, R>))>
     requires opening { foyer.room.opening ≡ N.opening }
     requires book { foyer.room.book ≡ N.book }
+    ensures { IfSome result (λ t. setting t.0.value ≡ N.opening.setting) }
 {
     let Ok(desks) = open_hall::<N, R>(alloc, foyer) else {
-        return assert!(rt; false);
+        return None;
     };
     let Some((desks, two)) = last(desks) else {
-        return assert!(rt; false);
+        return None;
     };
     let Some((_desks, mut one)) = last(desks) else {
-        return assert!(rt; false);
+        return None;
     };
     submits(
         rt,
@@ -260,5 +272,35 @@ pub(crate) fn side_by_side<
         setup: _,
         seat: other,
     } = two;
-    compare_end(rt, all_at_once(rt, &setup, (seat, other)));
+    Some((setup, (seat, other)))
+}
+
+/// The two desks of a new hall call for one vehicle at once.
+pub(crate) fn call_for_one_vehicle<
+    N: Naming + Send + Sync,
+    R: Wait + Drop + Send + Sync,
+    W: Threads + Wait + Abort + Sync,
+>(rt: &W, alloc: Global, foyer: Foyer<R>)
+    requires opening { foyer.room.opening ≡ N.opening }
+    requires book { foyer.room.book ≡ N.book }
+{
+    match granted::<N, R, W>(rt, alloc, foyer) {
+        Some((setup, seats)) => compare_emptied(rt, for_one_vehicle(rt, &setup, seats)),
+        None => compare_emptied(rt, None),
+    }
+}
+
+/// The two desks of a new hall call for a vehicle each at once.
+pub(crate) fn call_for_two_vehicles<
+    N: Naming + Send + Sync,
+    R: Wait + Drop + Send + Sync,
+    W: Threads + Wait + Abort + Sync,
+>(rt: &W, alloc: Global, foyer: Foyer<R>)
+    requires opening { foyer.room.opening ≡ N.opening }
+    requires book { foyer.room.book ≡ N.book }
+{
+    match granted::<N, R, W>(rt, alloc, foyer) {
+        Some((setup, seats)) => compare_end(rt, for_two_vehicles(rt, &setup, seats)),
+        None => compare_end(rt, None),
+    }
 }

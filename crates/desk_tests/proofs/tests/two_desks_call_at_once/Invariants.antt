@@ -1,5 +1,9 @@
 use Rattle.desk_tests.proofs.tests.two_desks_call_at_once.Given as goal
 
 -- the foyer that was just made
-abbrev pub ghosts-side_by_side : goal.ghosts-side_by_side
-ghosts-side_by_side a b = record { book = b.foyer.room.book; opening = b.foyer.room.opening }
+abbrev pub ghosts-call_for_one_vehicle : goal.ghosts-call_for_one_vehicle
+ghosts-call_for_one_vehicle a b = record { book = b.foyer.room.book; opening = b.foyer.room.opening }
+
+-- the second foyer
+abbrev pub ghosts-call_for_two_vehicles : goal.ghosts-call_for_two_vehicles
+ghosts-call_for_two_vehicles a b = record { book = b.second.room.book; opening = b.second.room.opening }
