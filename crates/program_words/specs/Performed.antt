@@ -1,4 +1,5 @@
--- What the program does by the words of its command line: which file is which, which stream is which, and which status it ends with.
+-- What the program does by the words of its command line: what they ask for, which stream is which, and which status it ends with. Which file
+-- is which is not said: what is read of a file may be any bytes, and only the line on one that cannot be read has its path.
 use Rattle.std.specs.Prelude.{◌≡◌, ◌≢◌, ℕ, ◌⊎◌, List, drop, Option, Some, None, IfSome}
 use Rattle.std.specs.declared.io.ErrorKind.{ErrorKind}
 use Rattle.std.specs.declared.io.ErrorKind.TheVariants.{OutOfMemory}

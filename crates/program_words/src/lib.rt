@@ -1,4 +1,5 @@
-//! What the program does with the words of its command line: which file is which, which stream is which, and which status it ends with.
+//! What the program does with the words of its command line: what they ask for, which stream is which, and which status it ends with. Which
+//! file is which no clause says, since none sees what a path leads to.
 #![tactic(auto)]
 
 mod doing;

@@ -14,10 +14,9 @@ use Rattle.search_rounds.specs.declared.tally.Tally.{Tally}
 use Rattle.program_parts.specs.declared.stop.Stop.{Stop}
 use Rattle.program_parts.specs.declared.stop.Stop.TheVariants as stops
 use Rattle.worker_runs.specs.declared.orders.Orders.{Orders}
-use Rattle.search_rounds.specs.Jobs.{view_after}
-use Rattle.worker_runs.specs.Closings.{IsWrittenShort}
+use Rattle.worker_runs.specs.Closings.{IsVersionOf, IsWrittenShort}
 use Rattle.worker_runs.specs.Tallies.{closing_text}
-use Rattle.worker_runs.specs.Halls.{AreDone, AreMet, IsClosedShort, IsClosing, IsDone, Post, post, posts, worker_desks}
+use Rattle.worker_runs.specs.Halls.{AreDone, IsClosedShort, IsClosing, IsDone, Post, post, posts, worker_desks}
 
 -- ---- desks
 
@@ -90,12 +89,12 @@ seats_by es (suc n) ws rest w is some at left =
 pub whole_front : (was now : Option (List ℕ)) (text : List ℕ) → Appends was now text → AppendsFront was now text
 whole_front was now text a = (text, [], sym (append-nil text), a)
 
-pub closed_short : (o : Opening) (desks : List Watch) (tallies : List Tally) (was now : Option (List ℕ)) (fault : RunFault) (version : ℕ) → (es : List Entry) × AreMet o desks es × (version ≡ (view_after o es).version)
+pub closed_short : (o : Opening) (desks : List Watch) (tallies : List Tally) (was now : Option (List ℕ)) (fault : RunFault) (seen : List Entry) (version : ℕ) → IsVersionOf o desks seen version
     → IsWrittenShort fault was now (closing_text tallies version) → IsClosedShort o desks tallies was now (stops.Run fault)
-closed_short o desks tallies was now runs.NoMemory version m w = w
-closed_short o desks tallies was now runs.Write version m w = (closing_text tallies version, record { entries = m.0; met = m.1; text_is = ap (closing_text tallies) m.2 }, w)
-closed_short o desks tallies was now runs.Read version m w = absurd w
-closed_short o desks tallies was now runs.LongLine version m w = absurd w
+closed_short o desks tallies was now runs.NoMemory seen version m w = w
+closed_short o desks tallies was now runs.Write seen version m w = (closing_text tallies version, record { entries = m.entries; met = m.met; text_is = ap (closing_text tallies) m.version_is }, w)
+closed_short o desks tallies was now runs.Read seen version m w = absurd w
+closed_short o desks tallies was now runs.LongLine seen version m w = absurd w
 
 -- a prefix of the text was written, or nothing
 pub as_far : (o : Opening) (desks : List Watch) (tallies : List Tally) (was now : Option (List ℕ)) (r : Result (Unit {0}) Stop)

@@ -4,6 +4,7 @@ mod Ends
 mod Halls
 mod Lines
 mod Live
+mod Meetings
 mod Opening
 mod Prefixes
 mod Served

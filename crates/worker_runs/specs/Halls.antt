@@ -4,7 +4,7 @@ use Rattle.std.specs.Option.{IsSomeAnd}
 use Rattle.std.specs.Io.KnownBytes.{Appends}
 use mathlib.Core.List.{IsPrefix}
 use Rattle.board_rules.specs.declared.call.Entry.{Entry}
-use Rattle.board_rules.specs.History.{Opening}
+use Rattle.board_rules.specs.History.{Opening, turns_of}
 use Rattle.locked_board.specs.Commits.{Legal}
 use Rattle.board_seat.specs.Watches.{Watch, watch_at}
 use Rattle.line_engine.specs.Running.{AppendsFront}
@@ -57,12 +57,14 @@ AllSearched o orders befores afters tallies = AreDone o (posts orders 0 befores)
 
 -- ---- the end
 
--- These entries are a legal history, and begin with what each of the desks has seen.
+-- These entries are a legal history, and begin with what each of the desks has seen. Each of them has as many turns in it as it had: none of
+-- them submitted a call since.
 pub record AreMet (o : Opening) (desks : List Watch) (entries : List Entry) : Type 0 where
   pub legal : Legal o entries
   pub each : All (λ w. IsPrefix w.seen entries) desks
+  pub turns : All (λ w. turns_of w.number entries ≡ w.own) desks
 
--- the lines of these tallies, and the version of the plan after all that the desks have seen
+-- the lines of these tallies, and the version of the plan after all that the desks have seen, before any more call of theirs
 pub record IsClosing (o : Opening) (desks : List Watch) (tallies : List Tally) (text : List ℕ) : Type 0 where
   pub entries : List Entry
   pub met : AreMet o desks entries

@@ -1,17 +1,16 @@
 //! How a run with workers ends.
-ghost use Rattle.std.specs.Prelude.{◌≡◌, ◌∷◌, List, IfOk, IfErr, IfSome, OnOk, All, ℕ};
+ghost use Rattle.std.specs.Prelude.{◌≡◌, ◌∷◌, [], List, IfOk, IfErr, IfSome, OnOk, ℕ};
 ghost use Rattle.std.specs.Io.KnownBytes.{Appends};
 ghost use mathlib.Core.List.{IsPrefix};
-ghost use Rattle.board_rules.specs.declared.call.Entry.{Entry};
 ghost use Rattle.line_engine.specs.Running.{AppendsFront};
-ghost use Rattle.search_rounds.specs.Jobs.{view_after};
-ghost use Rattle.worker_runs.specs.Halls.{AreMet, IsClosing, IsClosedShort};
-ghost use Rattle.worker_runs.specs.Closings.{IsWrittenShort};
+ghost use Rattle.worker_runs.specs.Halls.{IsClosing, IsClosedShort};
+ghost use Rattle.worker_runs.specs.Closings.{IsVersionOf, IsWrittenShort};
 ghost use Rattle.worker_runs.specs.Tallies.{closing_text};
 
 use crate::search::Searched;
 use crate::tallies::closing_lines;
 use board_lock::{Naming, Seat};
+use board_rules::histories_go_on;
 use line_engine::{RunFault, write_whole};
 use program_parts::Stop;
 use rbac_core::{Object, Operation};
@@ -20,38 +19,42 @@ use std::alloc::Global;
 use std::io::Write;
 use std::sync::Wait;
 
-/// Brings a seat up to the journal with each of the others.
-#[tactic(auto, using(crate::proofs::Prefixes::prefix_self, crate::proofs::Prefixes::prefix_trans))]
-fn meet_all<N: Naming, D: Wait + Drop, W: Wait>(
-    rt: &W,
-    seat: &mut Seat<N, D>,
-    others: Vec<Seat<N, D>>,
-)
+/// The version of the plan after all that a seat has seen, and after no call more of its desk.
+#[tactic(auto, using(crate::proofs::Prefixes::prefix_trans))]
+fn version_at<N: Naming, D: Wait + Drop, W: Wait>(rt: &W, seat: &mut Seat<N, D>) -> Option<u32>
     ensures grows { IsPrefix seat.old.seen seat.new.seen }
-    ensures each { All (λ w. IsPrefix w.seen seat.new.seen) others.items }
+    ensures version { IfSome result (IsVersionOf N.opening (seat.old ∷ []) seat.new.seen) }
 {
-    let mut others = others;
-    let Some(mut last) = others.pop() else {
-        return;
-    };
-    seat.meet(rt, &mut last);
-    meet_all(rt, seat, others);
+    histories_go_on();
+    seat.turns_are_seen();
+    let view = seat.snapshot();
+    let _may = seat.check(rt, 1, Operation::View, Object::Board);
+    match view {
+        Ok(view) => Some(view.version),
+        Err(_) => None,
+    }
 }
 
-/// The version of the plan after all that the seat and the others have seen.
+/// The version of the plan after all that a seat and the others have seen, and after no call more of their desks: each of the others meets
+/// the seat before the version is read, and once more behind it.
+#[tactic(auto, using(crate::proofs::Prefixes::prefix_trans))]
 fn version_of<N: Naming, D: Wait + Drop, W: Wait>(
     rt: &W,
     seat: &mut Seat<N, D>,
     others: Vec<Seat<N, D>>,
 ) -> Option<u32>
-    ensures { IfSome result (λ version. (entries : List Entry) × AreMet N.opening (seat.old ∷ others.items) entries × (version ≡ (view_after N.opening entries).version)) }
+    ensures grows { IsPrefix seat.old.seen seat.new.seen }
+    ensures version { IfSome result (IsVersionOf N.opening (seat.old ∷ others.items) seat.new.seen) }
 {
-    meet_all(rt, seat, others);
-    let _may = seat.check(rt, 1, Operation::View, Object::Board);
-    match seat.snapshot() {
-        Ok(view) => Some(view.version),
-        Err(_) => None,
-    }
+    histories_go_on();
+    let mut others = others;
+    let Some(mut last) = others.pop() else {
+        return version_at(rt, seat);
+    };
+    seat.meet(rt, &mut last);
+    let version = version_of(rt, seat, others);
+    seat.meet(rt, &mut last);
+    version
 }
 
 /// Writes the lines of the workers and of the version, and flushes them.

@@ -1,5 +1,0 @@
-use Rattle.std.proofs.Common.{vec_len}
-use Rattle.worker_runs.proofs.closing.+meet_all.Given as goal
-
-abbrev pub decreases-meet_all : goal.decreases-meet_all
-decreases-meet_all g l = vec_len l.others
