@@ -46,11 +46,15 @@ module _ (o : Opening) (orders : Orders) (entries : List Entry) (left_old left_n
   abbrev Early : Watch → Option (List ℕ) → Option (List ℕ) → Type 0
   Early desk mid now = (now ≡ mid) ⊎ ((text : List ℕ) × IsSearched o orders entries desk text × AppendsFront mid now text)
 
-  may_close : (fault : RunFault) (desk : Watch) (mid now : Option (List ℕ)) → (fault ≡ runs.Write → now ≡ mid) → Early desk mid now → MayClose fault o orders entries desk mid now
-  may_close runs.Write desk mid now write early = write refl
-  may_close runs.Read desk mid now write early = early
-  may_close runs.LongLine desk mid now write early = early
-  may_close runs.NoMemory desk mid now write early = early
+  may_none : (n : ℕ) (fault : RunFault) (desk : Watch) (now : Option (List ℕ)) → n ≡ 0 → MayClose n fault o orders entries desk now now
+  may_none n fault desk now none = subst (λ (k : ℕ). MayClose k fault o orders entries desk now now) (sym none) refl
+
+  may_close : (n : ℕ) (fault : RunFault) (desk : Watch) (mid now : Option (List ℕ)) → n ≢ 0 → (fault ≡ runs.Write → now ≡ mid) → Early desk mid now → MayClose n fault o orders entries desk mid now
+  may_close zero fault desk mid now some write early = absurd (some refl)
+  may_close (suc n) runs.Write desk mid now some write early = write refl
+  may_close (suc n) runs.Read desk mid now some write early = early
+  may_close (suc n) runs.LongLine desk mid now some write early = early
+  may_close (suc n) runs.NoMemory desk mid now some write early = early
 
   -- without workers
   pub alone : (first desk : Watch) (now : Option (List ℕ)) (answered : Result Counts RunFault) (r : Result ℕ Stop) → first ≡ watch_at entries 1 → orders.workers ≡ 0
@@ -59,7 +63,7 @@ module _ (o : Opening) (orders : Orders) (entries : List Entry) (left_old left_n
   alone first desk now (Ok counts) r e none ok err is =
       subst (Hall now) (sym is) (record { desk = desk; mid = now; live = live first desk now counts e ok; closes = closes_none orders.workers desk now none })
   alone first desk now (Err fault) r e none ok err is =
-      subst (Hall now) (sym is) (inl (record { desk = desk; mid = now; stopped = subst (λ (w : Watch). Stopped w desk now fault) e err; may = may_close fault desk now now (λ w. refl) (inl refl) }))
+      subst (Hall now) (sym is) (inl (record { desk = desk; mid = now; stopped = subst (λ (w : Watch). Stopped w desk now fault) e err; may = may_none orders.workers fault desk now none }))
 
   searched : (desk : Watch) (afters : List Watch) (tallies : List Tally) (text : List ℕ) → AllSearched o orders (worker_desks entries orders.workers) afters tallies → IsClosing o (desk ∷ afters) tallies text → IsSearched o orders entries desk text
   searched desk afters tallies text all c = record { afters = afters; tallies = tallies; searched = all; closing = c }
@@ -67,11 +71,11 @@ module _ (o : Opening) (orders : Orders) (entries : List Entry) (left_old left_n
   abbrev AreFound : Found → Type 0
   AreFound found = IfSome found (λ f. AllSearched o orders (worker_desks entries orders.workers) f.0 f.1)
 
-  unclosed : (first desk : Watch) (mid now : Option (List ℕ)) (counts : Counts) (afters : List Watch) (tallies : List Tally) (stop : Stop) → first ≡ watch_at entries 1 → Answered first desk mid counts
+  unclosed : (first desk : Watch) (mid now : Option (List ℕ)) (counts : Counts) (afters : List Watch) (tallies : List Tally) (stop : Stop) → first ≡ watch_at entries 1 → orders.workers ≢ 0 → Answered first desk mid counts
       → AllSearched o orders (worker_desks entries orders.workers) afters tallies → IsClosedShort o (desk ∷ afters) tallies mid now stop → IsHallShort o orders entries left_old left_new was now stop
-  unclosed first desk mid now counts afters tallies stops.Open e a all c = inr (record { desk = desk; refusals = counts.refused; mid = mid; live = live first desk mid counts e a; why = inr (afters, tallies, all, c) })
-  unclosed first desk mid now counts afters tallies (stops.Run fault) e a all c = inr (record { desk = desk; refusals = counts.refused; mid = mid; live = live first desk mid counts e a; why = inr (afters, tallies, all, c) })
-  unclosed first desk mid now counts afters tallies (stops.Instance kind line) e a all c = absurd c
+  unclosed first desk mid now counts afters tallies stops.Open e some a all c = inr (record { desk = desk; refusals = counts.refused; mid = mid; some = some; live = live first desk mid counts e a; why = inr (afters, tallies, all, c) })
+  unclosed first desk mid now counts afters tallies (stops.Run fault) e some a all c = inr (record { desk = desk; refusals = counts.refused; mid = mid; some = some; live = live first desk mid counts e a; why = inr (afters, tallies, all, c) })
+  unclosed first desk mid now counts afters tallies (stops.Instance kind line) e some a all c = absurd c
 
   early : (found : Found) (desk : Watch) (mid now : Option (List ℕ)) → AreFound found → (now ≡ mid) ⊎ IsSomeAnd found (λ f. (text : List ℕ) × IsClosing o (desk ∷ f.0) f.1 text × AppendsFront mid now text) → Early desk mid now
   early None desk mid now all c = elim c [ inl e ↦ inl e | inr t ↦ absurd t ]
@@ -86,10 +90,10 @@ module _ (o : Opening) (orders : Orders) (entries : List Entry) (left_old left_n
       → IfOk answered (Answered first desk mid) → IfErr answered (Stopped first desk mid) → AreFound found → IsEnd o desk answered found mid now r → Hall now r
   with_workers first desk mid now (Ok counts) (Some f) (Ok refusals) e some ok err all end =
       subst (IsHallRun o orders entries left_old left_new was now) (sym end.0) (record { desk = desk; mid = mid; live = live first desk mid counts e ok; closes = closes_by orders.workers desk mid now end.1 some (searched desk f.0 f.1 end.1 all end.2) end.3 })
-  with_workers first desk mid now (Ok counts) (Some f) (Err stop) e some ok err all end = unclosed first desk mid now counts f.0 f.1 stop e ok all end
+  with_workers first desk mid now (Ok counts) (Some f) (Err stop) e some ok err all end = unclosed first desk mid now counts f.0 f.1 stop e some ok all end
   with_workers first desk mid now (Ok counts) None (Err stop) e some ok err all end =
-      subst (IsHallShort o orders entries left_old left_new was now) (sym end.0) (inr (record { desk = desk; refusals = counts.refused; mid = mid; live = live first desk mid counts e ok; why = inl (refl, end.1) }))
+      subst (IsHallShort o orders entries left_old left_new was now) (sym end.0) (inr (record { desk = desk; refusals = counts.refused; mid = mid; some = some; live = live first desk mid counts e ok; why = inl (refl, end.1) }))
   with_workers first desk mid now (Ok counts) None (Ok refusals) e some ok err all end = absurd end
   with_workers first desk mid now (Err fault) found (Err stop) e some ok err all end =
-      subst (IsHallShort o orders entries left_old left_new was now) (sym end.0) (inl (record { desk = desk; mid = mid; stopped = subst (λ (w : Watch). Stopped w desk mid fault) e err; may = may_close fault desk mid now end.1 (early found desk mid now all end.2) }))
+      subst (IsHallShort o orders entries left_old left_new was now) (sym end.0) (inl (record { desk = desk; mid = mid; stopped = subst (λ (w : Watch). Stopped w desk mid fault) e err; may = may_close orders.workers fault desk mid now some end.1 (early found desk mid now all end.2) }))
   with_workers first desk mid now (Err fault) found (Ok refusals) e some ok err all end = absurd end

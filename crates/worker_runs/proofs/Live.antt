@@ -1,5 +1,5 @@
 -- How a run of files ends.
-use Rattle.std.proofs.Common.{◌≡◌, ℕ, List, refl, sym, subst, inl, inr, Bool, true, false, Option, Some, None, Result, Ok}
+use Rattle.std.proofs.Common.{◌≡◌, ℕ, List, [], refl, sym, subst, inl, inr, Bool, true, false, Option, Some, None, Result, Ok}
 use Rattle.std.specs.Prelude.{◌⊎◌}
 use Rattle.solomon_reader.specs.Checks.{Fault}
 use Rattle.solomon_reader.specs.Instances.{Plain}
@@ -22,8 +22,8 @@ pub by_instance : (instance script : List ℕ) (live : Option (List ℕ)) (order
 by_instance instance script live orders was told_was told_now status u = inr (inl (refl, u))
 
 pub by_run : (instance script : List ℕ) (live : Option (List ℕ)) (orders : Orders) (a b c d was now told_was told_now : Option (List ℕ)) (status : ℕ) (bytes : List ℕ) (read : Result Plain Fault)
-    → read_of bytes ≡ read → IsRunOfBytes read orders (flow_of a b c d was now) told_was told_now status → IsOfPaths instance script live orders (streams_of was now told_was told_now) status
-by_run instance script live orders a b c d was now told_was told_now status bytes read e h = inr (inr (bytes, inr (a, b, c, d, subst (λ (r : Result Plain Fault). IsRunOfBytes r orders (flow_of a b c d was now) told_was told_now status) (sym e) h)))
+    → read_of bytes ≡ read → (live ≡ None → c ≡ Some []) → IsRunOfBytes read orders (flow_of a b c d was now) told_was told_now status → IsOfPaths instance script live orders (streams_of was now told_was told_now) status
+by_run instance script live orders a b c d was now told_was told_now status bytes read e none h = inr (inr (bytes, inr (a, b, c, d, none, subst (λ (r : Result Plain Fault). IsRunOfBytes r orders (flow_of a b c d was now) told_was told_now status) (sym e) h)))
 
 pub by_alone : (instance script : List ℕ) (live : Option (List ℕ)) (orders : Orders) (was now told_was told_now : Option (List ℕ)) (status : ℕ) → orders.workers ≡ 0 → live ≡ None
     → IsOfFiles instance script (streams_of was now told_was told_now) status → IsOfPaths instance script live orders (streams_of was now told_was told_now) status

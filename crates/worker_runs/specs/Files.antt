@@ -1,5 +1,5 @@
 -- A run of files.
-use Rattle.std.specs.Prelude.{◌≡◌, ℕ, ◌⊎◌, List, Option, Some, None, Result, Ok}
+use Rattle.std.specs.Prelude.{◌≡◌, ℕ, ◌⊎◌, List, [], Option, Some, None, Result, Ok}
 use Rattle.solomon_reader.specs.Checks.{Fault}
 use Rattle.solomon_reader.specs.Instances.{Plain}
 use Rattle.solomon_reader.specs.Reading.{read_of}
@@ -20,14 +20,15 @@ IsUnreadLive (Some path) s status = IsUnreadFile path s status
 abbrev pub IsJudged : List ℕ → Type 0
 IsJudged bytes = (i : Plain) × (read_of bytes ≡ Ok i)
 
--- the run of these orders over what was read of an instance, a script and a live script, whatever the bytes of the two are
-abbrev pub IsRunOfSome : Result Plain Fault → Orders → Streams → ℕ → Type 0
-IsRunOfSome read orders s status = (script_old : Option (List ℕ)) × (script_new : Option (List ℕ)) × (live_old : Option (List ℕ)) × (live_new : Option (List ℕ))
-    × IsRunOfBytes read orders (flow_of script_old script_new live_old live_new s.was s.now) s.told_was s.told_now status
+-- the run of these orders over what was read of an instance, a script and a live script, whatever the bytes of the two are; where there is no
+-- live script there are no live lines
+abbrev pub IsRunOfSome : Result Plain Fault → Option (List ℕ) → Orders → Streams → ℕ → Type 0
+IsRunOfSome read live orders s status = (script_old : Option (List ℕ)) × (script_new : Option (List ℕ)) × (live_old : Option (List ℕ)) × (live_new : Option (List ℕ))
+    × (live ≡ None → live_old ≡ Some []) × IsRunOfBytes read orders (flow_of script_old script_new live_old live_new s.was s.now) s.told_was s.told_now status
 
 -- once some bytes of an instance are read: they are judged, and the script or then the live script cannot be read; or it is the run of them
 abbrev pub IsOfInstance : List ℕ → List ℕ → Option (List ℕ) → Orders → Streams → ℕ → Type 0
-IsOfInstance bytes script live orders s status = (IsJudged bytes × (IsUnreadFile script s status ⊎ IsUnreadLive live s status)) ⊎ IsRunOfSome (read_of bytes) orders s status
+IsOfInstance bytes script live orders s status = (IsJudged bytes × (IsUnreadFile script s status ⊎ IsUnreadLive live s status)) ⊎ IsRunOfSome (read_of bytes) live orders s status
 
 -- Without workers and a live script it is a run on a board of one thread. Else the instance's file cannot be read, or it is read first.
 abbrev pub IsOfPaths : List ℕ → List ℕ → Option (List ℕ) → Orders → Streams → ℕ → Type 0

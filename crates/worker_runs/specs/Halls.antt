@@ -1,5 +1,5 @@
 -- What comes of a hall: the live lines of desk 1, and the rounds of the workers at the other desks, in a history that all of them share.
-use Rattle.std.specs.Prelude.{◌≡◌, ℕ, zero, suc, ◌+◌, ◌⊎◌, List, [], ◌∷◌, ◌++◌, All, Option, Some, None, Result, Ok, Err}
+use Rattle.std.specs.Prelude.{◌≡◌, ◌≢◌, ℕ, zero, suc, ◌+◌, ◌⊎◌, List, [], ◌∷◌, ◌++◌, All, Option, Some, None, Result, Ok, Err}
 use Rattle.std.specs.Option.{IsSomeAnd}
 use Rattle.std.specs.Io.KnownBytes.{Appends}
 use mathlib.Core.List.{IsPrefix}
@@ -106,9 +106,10 @@ Closes zero o orders entries desk was now = now ≡ was
 Closes (suc n) o orders entries desk was now = (text : List ℕ) × IsSearched o orders entries desk text × Appends was now text
 
 -- After a fault of the live lines it does so too, as far as memory and the writer allow, but not where the writer failed.
-abbrev pub MayClose : RunFault → Opening → Orders → List Entry → Watch → Option (List ℕ) → Option (List ℕ) → Type 0
-MayClose runs.Write o orders entries desk was now = now ≡ was
-MayClose _ o orders entries desk was now = (now ≡ was) ⊎ ((text : List ℕ) × IsSearched o orders entries desk text × AppendsFront was now text)
+abbrev pub MayClose : ℕ → RunFault → Opening → Orders → List Entry → Watch → Option (List ℕ) → Option (List ℕ) → Type 0
+MayClose zero fault o orders entries desk was now = now ≡ was
+MayClose (suc n) runs.Write o orders entries desk was now = now ≡ was
+MayClose (suc n) _ o orders entries desk was now = (now ≡ was) ⊎ ((text : List ℕ) × IsSearched o orders entries desk text × AppendsFront was now text)
 
 -- the live lines were all answered on desk 1, which had seen these entries
 pub record IsLive (o : Opening) (entries : List Entry) (left_old left_new was now : Option (List ℕ)) (desk : Watch) (refusals : ℕ) : Type 0 where
@@ -122,11 +123,12 @@ pub record IsHallRun (o : Opening) (orders : Orders) (entries : List Entry) (lef
   pub live : IsLive o entries left_old left_new was mid desk refusals
   pub closes : Closes orders.workers o orders entries desk mid now
 
--- the live lines were answered, and the workers could not be started, or the run could not be closed
+-- there are workers, the live lines were answered, and the workers could not be started, or the run could not be closed
 pub record IsUnclosed (o : Opening) (orders : Orders) (entries : List Entry) (left_old left_new was now : Option (List ℕ)) (stop : Stop) : Type 0 where
   pub desk : Watch
   pub refusals : ℕ
   pub mid : Option (List ℕ)
+  pub some : orders.workers ≢ 0
   pub live : IsLive o entries left_old left_new was mid desk refusals
   pub why : ((stop ≡ stops.Open) × (now ≡ mid))
       ⊎ ((afters : List Watch) × (tallies : List Tally) × AllSearched o orders (worker_desks entries orders.workers) afters tallies × IsClosedShort o (desk ∷ afters) tallies mid now stop)
@@ -136,7 +138,7 @@ pub record IsLiveStopped (o : Opening) (orders : Orders) (entries : List Entry) 
   pub desk : Watch
   pub mid : Option (List ℕ)
   pub stopped : IsHeldAtStop o fault (watch_at entries 1) desk left_old left_new was mid
-  pub may : MayClose fault o orders entries desk mid now
+  pub may : MayClose orders.workers fault o orders entries desk mid now
 
 -- Why a hall came to no end: its desks could not be opened, and nothing was read or written; or the live lines ended early; or they were
 -- answered, and the run was not closed.
