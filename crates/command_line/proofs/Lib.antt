@@ -1,3 +1,4 @@
+mod Bytes
 mod CommandLines
 mod Flags
 mod Found

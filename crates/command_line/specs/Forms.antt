@@ -1,11 +1,13 @@
 -- What the words of the command line ask for.
 use Rattle.std.specs.Prelude.{ℕ, ◌≤◌, nat_le, Bool, List, Option, Some, None, is_some, option_map, option_and_then, if◌then◌else◌, Result, Ok, Err}
+use Rattle.std.specs.Result.{result_ok}
 use Rattle.text_words.specs.Words.{number}
 use Rattle.command_line.specs.Words.{Request, RunWords, requested}
 use Rattle.command_line.specs.Words as words
 use Rattle.command_line.specs.declared.form.Options.{Options}
 use Rattle.command_line.specs.declared.form.Options.TheVariants as options
 use Rattle.command_line.specs.declared.form.NumberFault.{NumberFault}
+use Rattle.command_line.specs.declared.form.NumberFault.TheVariants.{Workers, Rounds, Seed}
 
 -- a run: its files, how many workers do how many rounds from which seed, and whether it reports how far they are, and what refusals mean
 pub record Run : Type 0 where
@@ -43,9 +45,9 @@ form (options.Run instance script workers rounds seed live progress explain) = r
 })
 
 -- the same of an answer that may be a fault
-abbrev pub form_in : Result Options NumberFault → Option Form
-form_in (Ok o) = Some (form o)
-form_in (Err fault) = None
+abbrev pub form_in : Result Options NumberFault → Result Form NumberFault
+form_in (Ok o) = Ok (form o)
+form_in (Err fault) = Err fault
 
 -- a number that is not above a limit
 abbrev pub up_to : ℕ → ℕ → Option ℕ
@@ -69,21 +71,30 @@ with_numbers w workers rounds seed = run (record {
   explain = is_some w.explain;
 })
 
--- the numbers of a run
-abbrev pub numbered : RunWords → Option Form
-numbered w = option_and_then (λ workers. option_and_then (λ rounds. option_map (λ seed. with_numbers w workers rounds seed)
-    (number_or 4294967295 1 w.seed)) (number_or 1000000 100 w.rounds)) (number_or 63 0 w.workers)
+-- what a number leads to, and the fault of its option where it is none
+abbrev pub with_number : NumberFault → Option ℕ → (ℕ → Result Form NumberFault) → Result Form NumberFault
+with_number fault None next = Err fault
+with_number fault (Some n) next = next n
 
-abbrev pub form_of : Request → Option Form
-form_of words.joined = Some joined
-form_of (words.check instance) = Some (check instance)
+-- a run with its numbers, or the first of its options, in this order, whose text is no number in its range
+abbrev pub numbered : RunWords → Result Form NumberFault
+numbered w = with_number Workers (number_or 63 0 w.workers) (λ workers. with_number Rounds (number_or 1000000 100 w.rounds)
+    (λ rounds. with_number Seed (number_or 4294967295 1 w.seed) (λ seed. Ok (with_numbers w workers rounds seed))))
+
+abbrev pub form_of : Request → Result Form NumberFault
+form_of words.joined = Ok joined
+form_of (words.check instance) = Ok (check instance)
 form_of (words.run w) = numbered w
-form_of (words.draw instance rows) = Some (draw instance rows)
-form_of (words.sums instance rows) = Some (sums instance rows)
+form_of (words.draw instance rows) = Ok (draw instance rows)
+form_of (words.sums instance rows) = Ok (sums instance rows)
+
+-- what words ask for, or the option at fault, where they have the shape of a command
+abbrev pub answer : List (List ℕ) → Option (Result Form NumberFault)
+answer ws = option_map form_of (requested ws)
 
 -- what words ask for
 abbrev pub asked : List (List ℕ) → Option Form
-asked ws = option_and_then form_of (requested ws)
+asked ws = option_and_then result_ok (answer ws)
 
 -- the numbers of a run are in their ranges
 abbrev pub IsInRange : Options → Type 0

@@ -1,2 +1,4 @@
 pub mod Holds
+pub mod Sums
 pub mod Told
+pub mod Unshown

@@ -1,6 +1,7 @@
 -- What is written of a plan: its picture, or its sums.
 use Rattle.std.specs.Prelude.{◌≡◌, ℕ, ◌≤◌, ◌⊎◌, All, List, length, Option, Ok}
 use Rattle.std.specs.Io.KnownBytes.{Appends, Keeps}
+use Rattle.line_engine.specs.Running.{AppendsFront}
 use Rattle.solomon_reader.specs.Checks.{fault}
 use Rattle.solomon_reader.specs.Instances.{Plain}
 use Rattle.solomon_reader.specs.Reading.{read_of}
@@ -36,18 +37,27 @@ pub record IsShown (text_of : Places → List Row → List ℕ) (instance output
   pub listed : AreLastRows places output rows
   pub written : Appends was now (text_of places rows)
 
--- Why it is not: there is no instance, or a row is at fault, and nothing is written; or the writer fails, or memory runs out.
-abbrev pub IsUnshown : List ℕ → List ℕ → Option (List ℕ) → Option (List ℕ) → ViewStop → Type 0
-IsUnshown instance output was now (views.Parts (stops.Instance kind line)) = (read_of instance ≡ fault kind line) × Keeps was now
-IsUnshown instance output was now (views.Parts stops.Open) = Unit {0}
-IsUnshown instance output was now (views.Parts (stops.Run runs.Write)) = Unit {0}
-IsUnshown instance output was now (views.Parts (stops.Run _)) = ⊥
-IsUnshown instance output was now (views.Rows line) = (p : Places) × IsInstanceOf instance p × IsFault p output (faults.Line line) × Keeps was now
+-- A prefix of that text is written.
+pub record IsPartShown (text_of : Places → List Row → List ℕ) (instance output : List ℕ) (was now : Option (List ℕ)) : Type 0 where
+  pub places : Places
+  pub of : IsInstanceOf instance places
+  pub rows : List Row
+  pub listed : AreLastRows places output rows
+  pub written : AppendsFront was now (text_of places rows)
+
+-- Why it is not: there is no instance, or a row is at fault, and nothing is written; or the writer fails, or memory runs out, maybe before
+-- anything is written, and a prefix of the text is.
+abbrev pub IsUnshown : (Places → List Row → List ℕ) → List ℕ → List ℕ → Option (List ℕ) → Option (List ℕ) → ViewStop → Type 0
+IsUnshown text_of instance output was now (views.Parts (stops.Instance kind line)) = (read_of instance ≡ fault kind line) × Keeps was now
+IsUnshown text_of instance output was now (views.Parts stops.Open) = Keeps was now ⊎ IsPartShown text_of instance output was now
+IsUnshown text_of instance output was now (views.Parts (stops.Run runs.Write)) = IsPartShown text_of instance output was now
+IsUnshown text_of instance output was now (views.Parts (stops.Run _)) = ⊥
+IsUnshown text_of instance output was now (views.Rows line) = (p : Places) × IsInstanceOf instance p × IsFault p output (faults.Line line) × Keeps was now
 
 -- By both inputs: all is written, nothing is told, and the status is 0; or not, which is told, and it is 3.
 abbrev pub IsView : (Places → List Row → List ℕ) → List ℕ → List ℕ → Streams → ℕ → Type 0
 IsView text_of instance output streams status = ((status ≡ 0) × IsShown text_of instance output streams.was streams.now × Keeps streams.told_was streams.told_now)
-    ⊎ ((stop : ViewStop) × IsUnshown instance output streams.was streams.now stop × IsViewTold stop streams.told_was streams.told_now status)
+    ⊎ ((stop : ViewStop) × IsUnshown text_of instance output streams.was streams.now stop × IsViewTold stop streams.told_was streams.told_now status)
 
 -- ---- before anything is written
 

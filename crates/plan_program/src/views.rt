@@ -18,6 +18,7 @@ use std::io::Write;
 use std::rt::Files;
 
 /// Reads what is to be drawn, writes its picture and flushes it.
+#[tactic(auto, using(crate::proofs::Unshown::unopened))]
 fn run_draw<W: Write>(
     alloc: Global,
     instance: &[u8],
@@ -25,7 +26,7 @@ fn run_draw<W: Write>(
     writer: &mut W,
 ) -> Result<(), ViewStop>
     ensures ok { OnOk result (IsShown svg_text instance.now output.now (W.contents writer.old) (W.contents writer.new)) }
-    ensures err { IfErr result (IsUnshown instance.now output.now (W.contents writer.old) (W.contents writer.new)) }
+    ensures err { IfErr result (IsUnshown svg_text instance.now output.now (W.contents writer.old) (W.contents writer.new)) }
 {
     let plan = opened(alloc, instance, output)?;
     write_picture(
@@ -42,6 +43,7 @@ fn run_draw<W: Write>(
 }
 
 /// The same of the sums.
+#[tactic(auto, using(crate::proofs::Unshown::unopened))]
 fn run_sums<W: Write>(
     alloc: Global,
     instance: &[u8],
@@ -49,7 +51,7 @@ fn run_sums<W: Write>(
     writer: &mut W,
 ) -> Result<(), ViewStop>
     ensures ok { OnOk result (IsShown sums_text instance.now output.now (W.contents writer.old) (W.contents writer.new)) }
-    ensures err { IfErr result (IsUnshown instance.now output.now (W.contents writer.old) (W.contents writer.new)) }
+    ensures err { IfErr result (IsUnshown sums_text instance.now output.now (W.contents writer.old) (W.contents writer.new)) }
 {
     let plan = opened(alloc, instance, output)?;
     write_sums(

@@ -1,10 +1,11 @@
 -- What the program does by the words of its command line: what they ask for, which stream is which, and which status it ends with. Which file
 -- is which is not said: what is read of a file may be any bytes, and only the line on one that cannot be read has its path.
-use Rattle.std.specs.Prelude.{◌≡◌, ◌≢◌, ℕ, ◌⊎◌, List, drop, Option, Some, None, IfSome}
+use Rattle.std.specs.Prelude.{◌≡◌, ◌≢◌, ℕ, ◌⊎◌, List, drop, Option, Some, IfSome}
 use Rattle.std.specs.declared.io.ErrorKind.{ErrorKind}
 use Rattle.std.specs.declared.io.ErrorKind.TheVariants.{OutOfMemory}
 use Rattle.solomon_reader.specs.Reading.{read_of}
 use Rattle.line_engine.specs.Running.{AppendsFront}
+use Rattle.line_engine.specs.declared.run_fault.RunFault.TheVariants as runs
 use Rattle.plan_picture.specs.Texts.{svg_text}
 use Rattle.plan_sums.specs.Texts.{sums_text}
 use Rattle.plan_program.specs.Views.{IsViewOfFiles}
@@ -13,6 +14,7 @@ use Rattle.program_parts.specs.Report.{IsChecked}
 use Rattle.program_parts.specs.Streams.{Streams, stop_line}
 use Rattle.program_parts.specs.declared.stop.Stop.TheVariants as stops
 use Rattle.board_program.specs.Joined.{IsJoined, IsOfHalves}
+use Rattle.command_line.specs.CommandLine.{AreWrong, AskForHelp}
 use Rattle.command_line.specs.Forms.{Form, Run, asked}
 use Rattle.command_line.specs.Forms as forms
 use Rattle.worker_runs.specs.Files.{IsOfPaths, IsUnreadFile}
@@ -41,14 +43,24 @@ IsDone (forms.run run) left s status = (orders : Orders) × AreOrdersOf run orde
 IsDone (forms.draw instance rows) left s status = IsViewOfFiles svg_text instance rows s status
 IsDone (forms.sums instance rows) left s status = IsViewOfFiles sums_text instance rows s status
 
--- Nothing can be done: help or the version is written, and nothing else; or the words are wrong, and nothing is written; or help could not be.
-abbrev pub IsSaid : Streams → ℕ → Type 0
-IsSaid s status = ((status ≡ 0) × (s.told_now ≡ s.told_was)) ⊎ (((status ≡ 2) × (s.now ≡ s.was)) ⊎ (status ≡ 3))
+-- Nothing is reported where help or the version is written; where it cannot be, that is.
+abbrev pub IsAnswered : Streams → ℕ → Type 0
+IsAnswered s status = ((status ≡ 0) × (s.told_now ≡ s.told_was))
+    ⊎ ((status ≡ 3) × AppendsFront s.told_was s.told_now (stop_line (stops.Run runs.Write)))
 
--- The words ask for something, which is done; or they ask for nothing, which is said; or memory ran out while they were read.
-abbrev pub IsPerformed : Option Form → Option (List ℕ) → Streams → ℕ → Type 0
-IsPerformed wanted left s status = ((form : Form) × (wanted ≡ Some form) × IsDone form left s status)
-    ⊎ (((wanted ≡ None) × IsSaid s status) ⊎ ((status ≡ 3) × (s.now ≡ s.was)))
+-- Nothing can be done: the words ask for help or the version; or they are wrong, and nothing is written.
+abbrev pub IsSaid : List (List ℕ) → Streams → ℕ → Type 0
+IsSaid words s status = (AskForHelp words × IsAnswered s status) ⊎ (AreWrong words × (status ≡ 2) × (s.now ≡ s.was))
+
+-- Memory ran out while the words were read, which is reported, and nothing is written.
+abbrev pub IsOutOfMemory : Streams → ℕ → Type 0
+IsOutOfMemory s status = (s.now ≡ s.was) × (status ≡ 3) × AppendsFront s.told_was s.told_now (stop_line stops.Open)
+
+-- The words, of which the first is the program's own name, ask for something, which is done; or they ask for nothing, which is said; or
+-- memory ran out.
+abbrev pub IsPerformed : List (List ℕ) → Option (List ℕ) → Streams → ℕ → Type 0
+IsPerformed words left s status = ((form : Form) × (asked (drop 1 words) ≡ Some form) × IsDone form left s status)
+    ⊎ (IsSaid words s status ⊎ IsOutOfMemory s status)
 
 -- The words could not be read, and nothing is written: memory ran out, which is reported, with status 3; or a word is not UTF-8, with status 2.
 abbrev pub AreUnread : ErrorKind → Streams → ℕ → Type 0
@@ -57,4 +69,4 @@ AreUnread kind s status = (s.now ≡ s.was)
 
 -- All of the program: it has words, and does what they ask for; or they could not be read.
 abbrev pub IsProgram : Option (List ℕ) → Streams → ℕ → Type 0
-IsProgram left s status = ((words : List (List ℕ)) × IsPerformed (asked (drop 1 words)) left s status) ⊎ ((kind : ErrorKind) × AreUnread kind s status)
+IsProgram left s status = ((words : List (List ℕ)) × IsPerformed words left s status) ⊎ ((kind : ErrorKind) × AreUnread kind s status)

@@ -1,7 +1,6 @@
 //! What words ask for, done.
 
-ghost use Rattle.std.specs.Prelude.{drop, map};
-ghost use Rattle.command_line.specs.Forms.{asked};
+ghost use Rattle.std.specs.Prelude.{map};
 ghost use Rattle.program_parts.specs.Streams.{streams_of};
 ghost use Rattle.program_words.specs.Performed.{IsPerformed};
 
@@ -22,7 +21,7 @@ use worker_runs::{Orders, Paths, run_paths};
 /// ended them early, and, if they are asked to, what refusals mean.
 ///
 /// The status is 3 also where memory runs out while the words are read.
-#[tactic(auto, using(crate::proofs::Said::done, crate::proofs::Said::ran, crate::proofs::Said::said))]
+#[tactic(auto, using(crate::proofs::Said::done, crate::proofs::Said::ran))]
 pub fn perform<
     W: Threads + Wait + Files + Clock + Eprint + Copy + Drop + Send + Sync + 'static,
     S: AsStr,
@@ -39,7 +38,7 @@ pub fn perform<
     faults: &mut F,
     notes: &mut E,
 ) -> u8
-    ensures { IsPerformed (asked (drop 1 (map S.text words.now))) (I.remaining input.old)
+    ensures { IsPerformed (map S.text words.now) (I.remaining input.old)
         (streams_of (O.contents output.old) (O.contents output.new) (F.contents faults.old) (F.contents faults.new)) result }
 {
     match options(alloc, words) {

@@ -1,8 +1,7 @@
 //! The words of the command line.
 
-ghost use Rattle.std.specs.Prelude.{drop, map, string_bytes, MatchResult};
+ghost use Rattle.std.specs.Prelude.{map, string_bytes, MatchResult};
 ghost use Rattle.std.specs.IoError.{error_kind};
-ghost use Rattle.command_line.specs.Forms.{asked};
 ghost use Rattle.program_parts.specs.Streams.{streams_of};
 ghost use Rattle.program_words.specs.Performed.{AreUnread, IsPerformed, IsProgram};
 
@@ -39,7 +38,7 @@ pub fn run_words<
     notes: &mut E,
 ) -> u8
     ensures { MatchResult words
-        (λ words. IsPerformed (asked (drop 1 (map string_bytes words.items))) (I.remaining input.old)
+        (λ words. IsPerformed (map string_bytes words.items) (I.remaining input.old)
         (streams_of (O.contents output.old) (O.contents output.new) (F.contents faults.old) (F.contents faults.new)) result)
         (λ error. AreUnread (error_kind error)
         (streams_of (O.contents output.old) (O.contents output.new) (F.contents faults.old) (F.contents faults.new)) result) }

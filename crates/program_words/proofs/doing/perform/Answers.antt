@@ -1,8 +1,8 @@
-use Rattle.std.proofs.Common.{drop, map, refl}
+use Rattle.std.proofs.Common.{map, refl}
 use Rattle.std.specs.Prelude.{option_map}
-use Rattle.command_line.specs.Forms.{Run, asked}
+use Rattle.command_line.specs.Forms.{Run}
 use Rattle.program_parts.specs.Streams.{streams_of}
-use Rattle.program_words.proofs.Said.{ran}
+use Rattle.program_words.proofs.Said.{ran, said}
 use Rattle.program_words.proofs.doing.perform.Goals as goal
 
 pub returns-after-explain : goal.returns-after-explain
@@ -18,6 +18,12 @@ returns-after-explain g c =
       progress = found.progress;
       explain = found.explain;
     } in
-    ran (asked (drop 1 (map g.S.AsStr.text c.args.words.now))) run _ (g.I.Read.remaining c.args.input.now)
+    ran (map g.S.AsStr.text c.args.words.now) run _ (g.I.Read.remaining c.args.input.now)
     (streams_of (g.O.Write.contents c.args.output.now) (g.O.Write.contents c.run_paths.new.writer) (g.F.Write.contents c.args.faults.now) (g.F.Write.contents c.run_paths.new.faults)) c.run_paths.result
     (rw found.field-0-is at found.ensures.ok) refl refl refl refl c.run_paths.ensures.files
+
+pub returns-in-Err : goal.returns-in-Err
+returns-in-Err g c =
+    said (map g.S.AsStr.text c.args.words.now) (g.I.Read.remaining c.args.input.now) c.in-Err.fault
+    (streams_of (g.O.Write.contents c.args.output.now) (g.O.Write.contents c.told.new.output) (g.F.Write.contents c.args.faults.now) (g.F.Write.contents c.told.new.faults)) c.told.result
+    c.in-Err.ensures.err c.told.ensures.status c.told.ensures.unwritten c.told.ensures.untold c.told.ensures.reported
