@@ -408,3 +408,23 @@ fn tells_of_words(rt: HostRuntime) {
     let unopened = ("", "dispatch: open fault\n", 3);
     tells_fault(&rt, &OptionFault::NoMemory, 0, 0, unopened);
 }
+
+/// The first option whose value is no number in its range is named, whichever of them comes first.
+#[test]
+fn tells_of_numbers(rt: HostRuntime) {
+    let workers = "error: invalid value for '--workers <N>': not a number from 0 to 63\n";
+    let rounds = "error: invalid value for '--rounds <N>': not a number from 0 to 1000000\n";
+    let seed = "error: invalid value for '--seed <N>': not a number from 0 to 4294967295\n";
+    for (words, fault) in [
+        (["--workers=64", "--rounds=5", "--seed=5"], workers),
+        (["--rounds=1000001", "--workers=5", "--seed=5"], rounds),
+        (["--seed=4294967296", "--workers=5", "--rounds=5"], seed),
+        (["--seed=", "--rounds=5", "--workers=x"], workers),
+        (["--seed=-", "--rounds= 5", "--workers=5"], rounds),
+        (["--seed=x", "--rounds=x", "--workers=x"], workers),
+    ] {
+        let [first, second, third] = words;
+        let words = ["dispatch", "run", "a", first, "b", second, third];
+        tells(&rt, &words, 0, 0, ("", fault, 2));
+    }
+}

@@ -24,3 +24,34 @@ pub(crate) fn compare_written<R: Abort, D: Display>(
     let text = format!(in alloc; "{value}").expect(rt, "memory");
     compare_text(rt, &text, wanted, wanted);
 }
+
+/// The first lines of a text, so many of them.
+pub(crate) fn first_lines(text: &str, count: usize) -> &[u8] {
+    let bytes = text.as_bytes();
+    let mut left = count;
+    for (at, byte) in bytes.iter().enumerate() {
+        if left == 0 {
+            return bytes.split_at(at.min(bytes.len())).0;
+        }
+        if *byte == b'\n' {
+            left -= 1;
+        }
+    }
+    bytes
+}
+
+/// How many lines end in these bytes.
+pub(crate) fn count_lines(bytes: &[u8]) -> usize {
+    let mut count = 0usize;
+    for byte in bytes {
+        if *byte == b'\n' {
+            count = count.saturating_add(1);
+        }
+    }
+    count
+}
+
+/// Compares what was written with what is wanted.
+pub(crate) fn compare_bytes(rt: &impl Abort, found: &[u8], wanted: &[u8]) {
+    assert_eq!(rt; found, wanted);
+}

@@ -1,24 +1,27 @@
 //! Boards as fronts of the engine of lines.
 ghost use Rattle.std.specs.Prelude.{◌≡◌, ◌+◌};
 
-use crate::comparing::{compare_count, compare_text};
+use crate::comparing::{compare_bytes, compare_count, compare_text, first_lines};
+use crate::program::devices::{make_line_by_line, make_narrow};
 use board_core::Board;
-use board_text::{BoardFront, Counts, run_lines};
+use board_text::{BoardFront, Counts, RunFault, run_board_lines};
 use callback_store::{Registry, Unary};
 use dimension_core::{Dimension, Range, Setup};
+use std::io::{Read, Write};
 use std::process::Abort;
 use std::sync::Arc;
 
-/// Runs a script on desk 2 of a board, from a turn on. It gives what is written, and the counts.
+/// Runs a script on desk 2 of a board, from a turn on.
 ///
 /// There are two customers, two vehicles and two desks. The way from the depot takes 10, that from customer 1 takes 11 and that from
 /// customer 2 takes 12, and a vehicle is under way for 30 at most.
-fn run<H: AllocGlobal + Abort>(
+fn run_to<H: AllocGlobal + Abort, I: Read, W: Write>(
     rt: &H,
     max_events: u32,
     turn: u32,
-    script: &str,
-) -> (String, Counts) {
+    reader: &mut I,
+    writer: &mut W,
+) -> Result<Counts, RunFault> {
     let call = Box::new(
         rt.alloc(),
         move |i: u32| -> u64
@@ -41,9 +44,19 @@ fn run<H: AllocGlobal + Abort>(
         desk: 2,
         turn,
     };
+    run_board_lines(&(), rt.alloc(), &mut front, reader, writer)
+}
+
+/// What is written for a script, and the counts.
+fn run<H: AllocGlobal + Abort>(
+    rt: &H,
+    max_events: u32,
+    turn: u32,
+    script: &str,
+) -> (String, Counts) {
     let mut written = Vec::new(rt.alloc());
     let mut reader = script.as_bytes();
-    let counts = run_lines(&(), rt.alloc(), &mut front, &mut reader, &mut written);
+    let counts = run_to(rt, max_events, turn, &mut reader, &mut written);
     let counts = counts.expect(rt, "a whole run");
     let written = String::from_utf8(written).expect(rt, "text");
     (written, counts)
@@ -162,4 +175,21 @@ fn calls_that_are_not_taken(rt: HostRuntime) {
     gives(&rt, 3, 1, (FOUR_USERS, full, 5, 1));
     let late = "fault out-of-turn\nfault out-of-turn\nfault out-of-turn\nfault out-of-turn\nend\n";
     gives(&rt, 9, 2, (FOUR_USERS, late, 5, 4));
+}
+
+/// The calls, a line a read, to a writer that fails after so many writes.
+fn writes_fail<H: AllocGlobal + Abort>(rt: &H, writes: usize) {
+    let mut reader = make_line_by_line(CALLS.as_bytes(), usize::MAX);
+    let mut output = make_narrow(Vec::new(rt.alloc()), usize::MAX, writes, usize::MAX);
+    let end = run_to(rt, 100, 1, &mut reader, &mut output);
+    assert!(rt; matches!(end, Err(RunFault::Write)));
+    compare_bytes(rt, output.taken.as_slice(), first_lines(REPLIES, writes));
+}
+
+/// Where the n-th write fails, just the replies before it were written: none is held back.
+#[test]
+fn replies_before_a_write_that_fails(rt: HostRuntime) {
+    for writes in 0..7 {
+        writes_fail(&rt, writes);
+    }
 }

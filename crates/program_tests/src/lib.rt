@@ -13,3 +13,5 @@ mod fronts;
 mod program;
 #[cfg(test)]
 mod rows;
+#[cfg(test)]
+mod views;

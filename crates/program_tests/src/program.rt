@@ -1,8 +1,8 @@
 //! The program's runs: instances and scripts in, replies out.
-mod devices;
+pub(crate) mod devices;
 mod examples;
 
-use crate::comparing::compare_written;
+use crate::comparing::{compare_bytes, compare_written, count_lines, first_lines};
 use crate::rows::{CASES, LISTED, cut};
 use board_program::{
     Stop, check_bytes, check_file, joined, read_file, run_files, scripted, stopped,
@@ -17,7 +17,7 @@ use std::rt::Files;
 use std::{fs, str};
 
 /// An instance of four customers and two vehicles.
-const A: &str =
+pub(crate) const A: &str =
     "A\n\nVEHICLE\nNUMBER     CAPACITY\n  2          10\n\nCUSTOMER\nCUST NO.  XCOORD.  YCOORD.  DEMAND  READY TIME  DUE DATE  SERVICE TIME\n\n    0      0      0      0      0     100      0\n    1      2      2      4      0      50      0\n    2      6      6      3      0      50      0\n    3     10     10      3      0      14      0\n    4      3      4      5      0      50      0\n";
 
 /// What a check says of it.
@@ -699,4 +699,77 @@ fn refusals_are_explained(rt: HostRuntime) {
     notes_give(&rt, long.as_str(), note, ("end\n", fault, 3));
     fs::remove_file(&rt, NOTED_SCRIPT_FILE).expect(&rt, "a file");
     fs::remove_file(&rt, NOTED_INSTANCE_FILE).expect(&rt, "a file");
+}
+
+const STEPPED_INSTANCE_FILE: &str = "program_tests_stepped_instance";
+
+const STEPPED_SCRIPT_FILE: &str = "program_tests_stepped_script";
+
+/// The refusals and their notes, to a writer that fails after so many writes or flushes: the status, and the notes.
+fn stepped<H: AllocGlobal + Abort + Files>(rt: &H, output: &mut Narrow) -> (u8, Vec<u8>) {
+    let mut faults = Vec::new(rt.alloc());
+    let mut heard = Vec::new(rt.alloc());
+    let status = run_files(
+        rt,
+        rt.alloc(),
+        STEPPED_INSTANCE_FILE,
+        STEPPED_SCRIPT_FILE,
+        output,
+        &mut faults,
+        Some(&mut heard),
+    );
+    (status, heard)
+}
+
+/// How many notes belong to the first replies, by the number of those.
+const HEARD: &[usize] = &[0, 0, 0, 0, 1, 2, 3, 4, 5, 6, 7, 8, 9, 9, 9, 9, 10, 11, 11];
+
+fn heard_after(rt: &impl Abort, replies: usize) -> usize {
+    *HEARD.get(replies).expect(rt, "replies")
+}
+
+/// To a writer that fails after so many writes come just the replies before, and to the notes those on them, and why the run ended. The
+/// third line is a comment.
+fn writes_keep_step<H: AllocGlobal + Abort + Files>(rt: &H, writes: usize) {
+    let mut output = make_narrow(Vec::new(rt.alloc()), usize::MAX, writes, usize::MAX);
+    let (status, heard) = stepped(rt, &mut output);
+    compare_bytes(rt, output.taken.as_slice(), first_lines(REPLIES, writes));
+    let line = if writes < 2 { writes + 1 } else { writes + 2 };
+    let end = format!(in rt.alloc(); "line {line}: the reply cannot be written\n").expect(
+        rt, "memory",
+    );
+    let notes = first_lines(NOTES, heard_after(rt, writes));
+    let mut wanted = Vec::from_slice(rt.alloc(), notes).expect(rt, "memory");
+    wanted
+        .extend_from_slice(end.as_bytes())
+        .expect(rt, "memory");
+    compare_bytes(rt, heard.as_slice(), wanted.as_slice());
+    assert_eq!(rt; status, 3);
+}
+
+/// Notes come on flushed replies alone, and where the run ended early one says so.
+fn notes_come_behind<H: AllocGlobal + Abort + Files>(rt: &H, flushes: usize) {
+    let mut output = make_narrow(Vec::new(rt.alloc()), usize::MAX, usize::MAX, flushes);
+    let (status, heard) = stepped(rt, &mut output);
+    let flushed = output
+        .taken
+        .split_at(output.flushed.min(output.taken.len()))
+        .0;
+    let most = heard_after(rt, count_lines(flushed)).saturating_add(usize::from(status == 3));
+    assert!(rt; count_lines(&heard) <= most, "{flushes}");
+}
+
+/// Each note comes when its reply was written and flushed.
+#[test]
+fn notes_keep_step_with_replies(rt: HostRuntime) {
+    fs::write(&rt, STEPPED_INSTANCE_FILE, A).expect(&rt, "a file");
+    fs::write(&rt, STEPPED_SCRIPT_FILE, REFUSED).expect(&rt, "a file");
+    for writes in 0..18 {
+        writes_keep_step(&rt, writes);
+    }
+    for flushes in 0..60 {
+        notes_come_behind(&rt, flushes);
+    }
+    fs::remove_file(&rt, STEPPED_SCRIPT_FILE).expect(&rt, "a file");
+    fs::remove_file(&rt, STEPPED_INSTANCE_FILE).expect(&rt, "a file");
 }

@@ -66,10 +66,12 @@ impl Read for LineByLine<'_> {
     }
 }
 
-/// Takes at most so many bytes a write, and fails at a write or a flush once there were so many of it.
+/// Takes at most so many bytes a write, and fails at a write or a flush once there were so many of it. `flushed` of the bytes were taken
+/// before the last flush.
 #[derive(Drop)]
 pub(crate) struct Narrow {
     pub(crate) taken: Vec<u8>,
+    pub(crate) flushed: usize,
     most: usize,
     writes: usize,
     flushes: usize,
@@ -78,6 +80,7 @@ pub(crate) struct Narrow {
 pub(crate) fn make_narrow(taken: Vec<u8>, most: usize, writes: usize, flushes: usize) -> Narrow {
     Narrow {
         taken,
+        flushed: 0,
         most,
         writes,
         flushes,
@@ -100,6 +103,7 @@ impl Write for Narrow {
             return Err(failure());
         }
         self.flushes -= 1;
+        self.flushed = self.taken.len();
         Ok(())
     }
 }

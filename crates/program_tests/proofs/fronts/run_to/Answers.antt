@@ -2,8 +2,8 @@ use Rattle.std.proofs.Common.{rules, refl, arith, ◌+◌}
 use borrow.Pointer.Called.{post_made}
 use Rattle.callback_store.specs.Closures.{table_of_function}
 use Rattle.callback_store.specs.Boxed.{post_of_closure}
-use Rattle.program_tests.proofs.fronts.run.OwnLists.{own-1, at-1-1}
-use Rattle.program_tests.proofs.fronts.run.Goals as goal
+use Rattle.program_tests.proofs.fronts.run_to.OwnLists.{own-1, at-1-1}
+use Rattle.program_tests.proofs.fronts.run_to.Goals as goal
 
 pub new-ways-requires-clause-table : goal.new-ways-requires-clause-table
 new-ways-requires-clause-table g c =
