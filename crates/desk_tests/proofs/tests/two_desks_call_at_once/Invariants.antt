@@ -6,4 +6,4 @@ ghosts-call_for_one_vehicle a b = record { book = b.foyer.room.book; opening = b
 
 -- the second foyer
 abbrev pub ghosts-call_for_two_vehicles : goal.ghosts-call_for_two_vehicles
-ghosts-call_for_two_vehicles a b = record { book = b.second.room.book; opening = b.second.room.opening }
+ghosts-call_for_two_vehicles a b = record { book = b.foyer.room.book; opening = b.foyer.room.opening }
