@@ -734,7 +734,7 @@ fn writes_keep_step<H: AllocGlobal + Abort + Files>(rt: &H, writes: usize) {
     let mut output = make_narrow(Vec::new(rt.alloc()), usize::MAX, writes, usize::MAX);
     let (status, heard) = stepped(rt, &mut output);
     compare_bytes(rt, output.taken.as_slice(), first_lines(REPLIES, writes));
-    let line = if writes < 2 { writes + 1 } else { writes + 2 };
+    let line = writes.saturating_add(if writes < 2 { 1 } else { 2 });
     let end = format!(in rt.alloc(); "line {line}: the reply cannot be written\n").expect(
         rt, "memory",
     );
