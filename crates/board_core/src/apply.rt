@@ -31,6 +31,7 @@ impl Core {
         ensures ok { IfOk result (λ reply. self.new.journal ≡ self.old.journal ++ entry_of event reply ∷ []) }
         ensures desks { length self.new.turns ≡ length self.old.turns }
         ensures err { OnErr result (self.new.journal ≡ self.old.journal) }
+        ensures untried { self.old.held.policy.tried ≡ self.old.held.policy.now → self.new.held.policy.tried ≡ self.new.held.policy.now }
         ensures out_of_turn { IsErrOf result Fault.OutOfTurn ↔ (is_turn (length self.old.turns) self.old.journal event.desk event.turn ≡ false) }
         ensures full { IsErrOf result Fault.Full ↔ ((is_turn (length self.old.turns) self.old.journal event.desk event.turn ≡ true) × (length self.old.journal ≡ (setting setup.now).max_events)) }
         ensures untaken { IfErr result (λ fault. fault ≢ Fault.NoMemory → meter.new ≡ meter.old) }
@@ -106,6 +107,7 @@ impl Core {
         ensures ok { IfOk result (λ verdict. self.new.journal ≡ self.old.journal ++ proposed proposal verdict ∷ []) }
         ensures desks { length self.new.turns ≡ length self.old.turns }
         ensures err { OnErr result (self.new.journal ≡ self.old.journal) }
+        ensures untried { self.old.held.policy.tried ≡ self.old.held.policy.now → self.new.held.policy.tried ≡ self.new.held.policy.now }
         ensures out_of_turn { IsErrOf result Fault.OutOfTurn ↔ (is_turn (length self.old.turns) self.old.journal proposal.desk proposal.turn ≡ false) }
         ensures full { IsErrOf result Fault.Full ↔ ((is_turn (length self.old.turns) self.old.journal proposal.desk proposal.turn ≡ true) × (length self.old.journal ≡ (setting setup.now).max_events)) }
         ensures untaken { IfErr result (λ fault. fault ≢ Fault.NoMemory → meter.new ≡ meter.old) }
@@ -137,6 +139,7 @@ impl Core {
         ensures ok { IfOk result (λ verdict. self.new.journal ≡ self.old.journal ++ proposed proposal verdict ∷ []) }
         ensures desks { length self.new.turns ≡ length self.old.turns }
         ensures err { OnErr result (self.new.journal ≡ self.old.journal) }
+        ensures untried { self.old.held.policy.tried ≡ self.old.held.policy.now → self.new.held.policy.tried ≡ self.new.held.policy.now }
         ensures work { IfOk result (λ verdict. IsWorkOf (setting setup.now) (state_after (setting setup.now) self.old.journal).pins (state_after (setting setup.now) self.old.journal).routes (call_of proposal) (reply_by verdict) meter.old meter.new) }
         ensures most { WorksAtMost meter.old meter.new
             (call_asks (setting setup.now) (state_after (setting setup.now) self.old.journal).routes (call_of proposal))
@@ -175,6 +178,7 @@ impl Core {
         ensures ok { IfOk result (λ reply. self.new.journal ≡ self.old.journal ++ record { desk = desk; turn = turn; call = hold_call hold; reply = reply } ∷ []) }
         ensures desks { length self.new.turns ≡ length self.old.turns }
         ensures err { OnErr result (self.new.journal ≡ self.old.journal) }
+        ensures untried { self.old.held.policy.tried ≡ self.old.held.policy.now → self.new.held.policy.tried ≡ self.new.held.policy.now }
         ensures out_of_turn { IsErrOf result Fault.OutOfTurn ↔ (is_turn (length self.old.turns) self.old.journal desk turn ≡ false) }
         ensures full { IsErrOf result Fault.Full ↔ ((is_turn (length self.old.turns) self.old.journal desk turn ≡ true) × (length self.old.journal ≡ (setting setup.now).max_events)) }
         ensures untaken { IfErr result (λ fault. fault ≢ Fault.NoMemory → meter.new ≡ meter.old) }
@@ -208,6 +212,7 @@ impl Core {
         ensures ok { IfOk result (λ ruling. self.new.journal ≡ self.old.journal ++ held desk turn hold ruling ∷ []) }
         ensures desks { length self.new.turns ≡ length self.old.turns }
         ensures err { OnErr result (self.new.journal ≡ self.old.journal) }
+        ensures untried { self.old.held.policy.tried ≡ self.old.held.policy.now → self.new.held.policy.tried ≡ self.new.held.policy.now }
         ensures work { IfOk result (λ ruling. IsWorkOf (setting setup.now) (state_after (setting setup.now) self.old.journal).pins (state_after (setting setup.now) self.old.journal).routes (hold_call hold) (reply_to ruling) meter.old meter.new) }
         ensures most { WorksAtMost meter.old meter.new
             (call_asks (setting setup.now) (state_after (setting setup.now) self.old.journal).routes (hold_call hold))
@@ -239,6 +244,7 @@ impl Core {
         ensures ok { IfOk result (λ reply. self.new.journal ≡ self.old.journal ++ commanded desk turn session command reply ∷ []) }
         ensures desks { length self.new.turns ≡ length self.old.turns }
         ensures err { OnErr result (self.new.journal ≡ self.old.journal) }
+        ensures untried { self.old.held.policy.tried ≡ self.old.held.policy.now → self.new.held.policy.tried ≡ self.new.held.policy.now }
         ensures out_of_turn { IsErrOf result Fault.OutOfTurn ↔ (is_turn (length self.old.turns) self.old.journal desk turn ≡ false) }
         ensures full { IsErrOf result Fault.Full ↔ ((is_turn (length self.old.turns) self.old.journal desk turn ≡ true) × (length self.old.journal ≡ (setting setup.now).max_events)) }
         ensures untaken { IfErr result (λ fault. fault ≢ Fault.NoMemory → meter.new ≡ meter.old) }
@@ -271,6 +277,7 @@ impl Core {
         ensures ok { IfOk result (λ reply. self.new.journal ≡ self.old.journal ++ commanded desk turn session command reply ∷ []) }
         ensures desks { length self.new.turns ≡ length self.old.turns }
         ensures err { OnErr result (self.new.journal ≡ self.old.journal) }
+        ensures untried { self.old.held.policy.tried ≡ self.old.held.policy.now → self.new.held.policy.tried ≡ self.new.held.policy.now }
         ensures work { OnOk result (WorksJust meter.old meter.new 0 1) }
         ensures most { WorksAtMost meter.old meter.new 0 1 }
     {

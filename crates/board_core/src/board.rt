@@ -62,6 +62,7 @@ impl Board {
         ensures full { IsErrOf result Fault.Full ↔ ((is_turn (history self.old).opening.desks (history self.old).entries event.desk event.turn ≡ true) × (length (history self.old).entries ≡ (history self.old).opening.setting.max_events)) }
         ensures untaken { IfErr result (λ fault. fault ≢ Fault.NoMemory → meter.new ≡ meter.old) }
         ensures err { OnErr result (history self.new ≡ history self.old) }
+        ensures untried { self.old.core.held.policy.tried ≡ self.old.core.held.policy.now → self.new.core.held.policy.tried ≡ self.new.core.held.policy.now }
         ensures legal { IsLegal (history self.new) }
         ensures work { IfOk result (λ reply. IsWorkOf (history self.old).opening.setting (state_of (history self.old)).pins (state_of (history self.old)).routes event.call reply meter.old meter.new) }
         ensures most { WorksAtMost meter.old meter.new

@@ -49,7 +49,7 @@ abbrev pub stamps_of : ℕ → List (List ℕ) → List ℕ
 stamps_of n commits = map (λ v. last_commit v commits) (range_with_len 1 n)
 
 -- New routes lead from one state to another: they are of vehicles of the fleet, each once, and the routes and the stamps of the other
--- state are those of the one with the named vehicles changed. Where nothing is committed there are none.
+-- state are those of the one with the named vehicles changed.
 pub record AreRoutesOf (old new : BoardState) (changes : Changes) : Type 0 where
   pub apart : AreApart (length old.routes) changes
   pub routes : with_routes changes old.routes ≡ new.routes

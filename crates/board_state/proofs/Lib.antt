@@ -4,6 +4,7 @@ pub mod NewPlans
 pub mod Proposals
 pub mod Commanding
 pub mod Stepping
+pub mod Holding
 pub mod Opened
 pub mod Numbers
 pub mod Spots

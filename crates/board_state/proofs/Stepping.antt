@@ -1,8 +1,7 @@
 -- What is held answers the rules as the state does, and stands for the next state once a call is in place.
 use Rattle.std.proofs.Common.{◌≡◌, ◌↔◌, ℕ, ◌+◌, ◌≤◌, ◌++◌, ◌∷◌, [], Bool, true, List, length, Option, Some, None, Ok, Err, Result, refl, sym, ap, ◌∙◌, subst, arith}
 use Rattle.std.specs.Prelude.{nat_lt}
-use Rattle.std.specs.Prelude.{MatchResult, IfOk}
-use Rattle.std.specs.Result.{result_err}
+use Rattle.std.specs.Prelude.{IfOk}
 use Rattle.std.proofs.Math.Logic.{∥∥₁_map}
 use Rattle.dimension_core.specs.Setting.{Setting}
 use Rattle.plan_core.specs.Plan.{PlanState, Changes, AreApart, changes_of, replaced, with_routes, stamp_of}
@@ -19,12 +18,9 @@ use Rattle.permission_table.specs.Compiled.{AreCompiled, HasSizes}
 use Rattle.move_core.specs.declared.moves.Move.{Move}
 use Rattle.move_core.specs.Moves.{named_by, changes_by, effect}
 use Rattle.board_rules.specs.declared.reply.Denial.{Denial}
-use Rattle.board_rules.specs.declared.reply.Refusal.{Refusal}
-use Rattle.board_rules.specs.declared.hold.HoldRefusal.{HoldRefusal}
-use Rattle.board_rules.specs.Holds.{refusal_for}
 use Rattle.board_rules.specs.State.{BoardState}
-use Rattle.board_rules.specs.Rules.{Basis, Agree, basis_of, is_changed_after, routes_after}
-use Rattle.std.specs.Option.{option_or, option_map}
+use Rattle.board_rules.specs.Rules.{Agree, basis_of, is_changed_after, routes_after}
+use Rattle.std.specs.Option.{option_or}
 use Rattle.policy_core.specs.declared.refusal.Refusal.{Refusal as PolicyRefusal}
 use Rattle.rbac_core.specs.declared.command.Command.{Command as PolicyCommand}
 use Rattle.rbac_core.specs.declared.command.Outcome.{Outcome}
@@ -34,9 +30,7 @@ use Rattle.board_rules.specs.Policies.{reply_of, policy_reply, policy_after}
 use Rattle.board_rules.specs.declared.call.Call.{Call}
 use Rattle.board_rules.specs.declared.call.Call.TheVariants.{Policy}
 use Rattle.board_rules.specs.declared.reply.Reply.{Reply}
-use Rattle.board_rules.specs.declared.reply.Reply.TheVariants.{Done, Refused}
-use Rattle.board_rules.specs.Step.{committed, after, refused_by}
-use Rattle.board_rules.specs.Pinning.{pin_guard, freeze_guard, pin_refusal, unpin_refusal, freeze_refusal, thaw_refusal}
+use Rattle.board_rules.specs.Step.{committed, after}
 use Rattle.rbac_core.specs.Tried.{Tried}
 use Rattle.permission_table.specs.Tables.{TablesState}
 use Rattle.board_state.specs.declared.change.Commit.{Commit}
@@ -45,7 +39,7 @@ use Rattle.board_state.specs.declared.change.Change.{Change}
 use Rattle.board_state.specs.declared.change.Change.TheVariants.{Nothing, Replace, Pins, Command}
 use Rattle.board_state.specs.declared.change.PinChange.{PinChange}
 use Rattle.board_state.specs.Held.{HeldState, Holds, IsReady, held_basis}
-use Rattle.board_state.specs.Changes.{Tries, WillHold, WillCompile, WillKeep, IsSettleable, PinsWillBe, PolicyWillBe, policy_made, plan_after, pins_after}
+use Rattle.board_state.specs.Changes.{Tries, WillHold, WillCompile, WillKeep, PinsWillBe, PolicyWillBe, policy_made, plan_after, pins_after}
 use Rattle.board_state.proofs.Commanding.{allows_access}
 
 module _ (s : Setting) (held : HeldState) (state : BoardState) (holds : Holds s held state) where
@@ -147,62 +141,6 @@ policy_will s old new state (Command rows command) next holds kept will =
     (record { policy = will.made; compiled = will.compiled; sizes = will.sizes; customers = holds.customers; routes = holds.routes; stamps = holds.stamps; pins = holds.pins; cache = holds.cache })
 policy_will s old new state (Replace commit) next holds kept will = absurd will.ready
 policy_will s old new state (Pins change) next holds kept will = absurd will.ready
-
--- ---- calls on pins
-
--- a value that does not depend on the commits is the same for facts that agree
-agreeing : {X : Type 0} (s : Setting) (b c : Basis) → Agree s b c → (F : Basis → X) → F (record c { is_changed = b.is_changed }) ≡ F c → F b ≡ F c
-agreeing s b c a F same =
-    ap F (λ i. record {
-      is_open = a.is_open i;
-      may = λ operation object. a.may operation object i;
-      version = a.version i;
-      is_changed = b.is_changed;
-      routes = a.routes i;
-      pins = a.pins i;
-    }) ∙ same
-
-pub pin_same : (s : Setting) (b c : Basis) (customer : ℕ) → Agree s b c → pin_refusal s b customer ≡ pin_refusal s c customer
-unfolding pin_refusal pin_guard
-pin_same s b c customer a = agreeing s b c a (λ x. pin_refusal s x customer) refl
-
-pub unpin_same : (s : Setting) (b c : Basis) (customer : ℕ) → Agree s b c → unpin_refusal s b customer ≡ unpin_refusal s c customer
-unfolding unpin_refusal pin_guard
-unpin_same s b c customer a = agreeing s b c a (λ x. unpin_refusal s x customer) refl
-
-pub freeze_same : (s : Setting) (b c : Basis) (vehicle n : ℕ) → Agree s b c → freeze_refusal s b vehicle n ≡ freeze_refusal s c vehicle n
-unfolding freeze_refusal freeze_guard
-freeze_same s b c vehicle n a = agreeing s b c a (λ x. freeze_refusal s x vehicle n) refl
-
-pub thaw_same : (s : Setting) (b c : Basis) (vehicle n : ℕ) → Agree s b c → thaw_refusal s b vehicle n ≡ thaw_refusal s c vehicle n
-unfolding thaw_refusal freeze_guard
-thaw_same s b c vehicle n a = agreeing s b c a (λ x. thaw_refusal s x vehicle n) refl
-
--- what a call on pins changes
-pub pins_call : (s : Setting) (held : HeldState) (state : BoardState) (call : Call) (judged : Result PinChange HoldRefusal) (reply : Reply) (change : Change) (old next : PinState) → Holds s held state
-    → after state call Done ≡ record state { pins = next } → ((e : Refusal) → after state call (Refused e) ≡ state)
-    → reply ≡ refused_by (option_map refusal_for (result_err judged)) → MatchResult judged (λ made. change ≡ Pins made) (λ e. change ≡ Nothing)
-    → IfOk judged (λ made. PinsWillBe held made old) → old ≡ next → WillHold s held change (after state call reply)
-pins_call s held state call (Ok made) reply change old next holds done none said is will same =
-    subst (λ (x : Change). WillHold s held x (after state call reply)) (sym is)
-    (subst (λ (b : BoardState). WillHold s held (Pins made) b) (sym (ap (after state call) said ∙ done)) (pins_will s held state holds made old next will same))
-pins_call s held state call (Err e) reply change old next holds done none said is will same =
-    subst (λ (x : Change). WillHold s held x (after state call reply)) (sym is)
-    (subst (λ (b : BoardState). WillHold s held Nothing b) (sym (ap (after state call) said ∙ none (refusal_for e))) (stays s held state holds))
-
--- the same, said of the judged change itself
-pub pins_made : (s : Setting) (held : HeldState) (state : BoardState) (call : Call) (judged : Result PinChange HoldRefusal) (reply : Reply) (old next : PinState) → Holds s held state
-    → after state call Done ≡ record state { pins = next } → ((e : Refusal) → after state call (Refused e) ≡ state)
-    → reply ≡ refused_by (option_map refusal_for (result_err judged)) → IfOk judged (λ made. PinsWillBe held made old) → old ≡ next
-    → MatchResult judged (λ made. WillHold s held (Pins made) (after state call reply)) (λ e. Holds s held (after state call reply))
-pins_made s held state call (Ok made) reply old next holds done none said will same =
-    subst (λ (b : BoardState). WillHold s held (Pins made) b) (sym (ap (after state call) said ∙ done)) (pins_will s held state holds made old next will same)
-pins_made s held state call (Err e) reply old next holds done none said will same =
-    subst (λ (b : BoardState). Holds s held b) (sym (ap (after state call) said ∙ none (refusal_for e))) holds
-
-pub pins_ready : (held : HeldState) (judged : Result PinChange HoldRefusal) (next : PinState) → IfOk judged (λ made. PinsWillBe held made next) → IfOk judged (λ made. IsSettleable held (Pins made))
-pins_ready held (Ok made) next will = will.ready
-pins_ready held (Err e) next will = tt
 
 -- what is held once a change is in place
 pub holds_from : (s : Setting) (old new : HeldState) (change : Change) (next : BoardState) → new.policy.now ≡ policy_made old.policy change

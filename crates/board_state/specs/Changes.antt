@@ -1,5 +1,5 @@
 -- What a judged call changes of what is held.
-use Rattle.std.specs.Prelude.{◌≡◌, ◌≢◌, ℕ, ◌≤◌, ◌<◌, ◌⊎◌, List, length, Some, None, All}
+use Rattle.std.specs.Prelude.{◌≡◌, ◌≢◌, ℕ, ◌≤◌, ◌<◌, ◌⊎◌, List, length, Some, None, Result, MatchResult, All}
 use Rattle.std.specs.Option.{option_map}
 use Rattle.dimension_core.specs.Setting.{Setting}
 use Rattle.plan_core.specs.Plan.{PlanState, IsPlan, AreChanges, AreSizes, changes_of, replaced, route_at, with_routes}
@@ -17,6 +17,7 @@ use Rattle.policy_core.specs.State.{PolicyState}
 use Rattle.permission_table.specs.Tables.{TablesState}
 use Rattle.permission_table.specs.Compiled.{AreCompiled, WillBeCompiled, HasSizes}
 use Rattle.board_rules.specs.State.{BoardState}
+use Rattle.board_rules.specs.declared.hold.HoldRefusal.{HoldRefusal}
 use Rattle.board_rules.specs.declared.reply.Reply.{Reply}
 use Rattle.board_state.specs.declared.change.Commit.{Commit}
 use Rattle.board_state.specs.declared.change.NewRoutes.{NewRoutes}
@@ -25,7 +26,7 @@ use Rattle.board_state.specs.declared.change.Change.{Change}
 use Rattle.board_state.specs.declared.change.Change.TheVariants.{Nothing, Replace, Pins, Command}
 use Rattle.board_state.specs.declared.change.PinChange.{PinChange}
 use Rattle.board_state.specs.declared.change.PinChange.TheVariants.{Pin, Unpin, Front}
-use Rattle.board_state.specs.Held.{HeldState}
+use Rattle.board_state.specs.Held.{HeldState, Holds, routes_with}
 use Rattle.board_state.specs.Deltas.{AreFreed}
 
 -- a judged call as contracts see it: what it was judged on, the reply, and what changes
@@ -60,7 +61,8 @@ WillCompile tables _ p = AreCompiled tables p
 
 -- the kept ranges are those of the routes once the change is in place
 abbrev pub WillKeep : Setting → HeldState → Change → List (List ℕ) → Type 0
-WillKeep s held (Replace commit) routes = IsCacheOf s held.plan.routes held.cache × AreNewRows s (changes_of commit.new.changes.items) commit.new.pending.rows
+WillKeep s held (Replace commit) routes = IsCacheOf s held.plan.routes held.cache
+    × AreNewRows s (changes_of commit.new.changes.items) commit.new.pending.rows
     × (with_routes (changes_of commit.new.changes.items) held.plan.routes ≡ routes)
 WillKeep s held _ routes = IsCacheOf s routes held.cache
 
@@ -75,16 +77,20 @@ pub record WillHold (s : Setting) (held : HeldState) (change : Change) (next : B
   pub pins : pins_after held change ≡ next.pins
   pub cache : WillKeep s held change next.routes
 
+-- what is held stands for the state once a judged change of pins is in place, or as it is where the call is refused
+abbrev pub WillHoldPins : Setting → HeldState → Result PinChange HoldRefusal → BoardState → Type 0
+WillHoldPins s held judged next = MatchResult judged (λ change. WillHold s held (Pins change) next) (λ refusal. Holds s held next)
+
 -- New routes may be put in place: there are one or two of them, they make a plan, every customer that leaves its vehicle is touched, and
 -- those whose pins are released are marked.
 pub record ArePlaceableRoutes (held : HeldState) (new : NewRoutes) : Type 0 where
   pub lengths : All (λ c. length c.1.value ≤ 1000) new.changes.items
-  pub freed : AreFreed held.pins (with_routes (changes_of new.changes.items) held.plan.routes) new.touched.items new.freed.items
+  pub freed : AreFreed held.pins (routes_with held new.changes.items) new.touched.items new.freed.items
   pub changes : AreChanges (length held.plan.routes) (changes_of new.changes.items)
-  pub plan : IsPlan held.plan.customers (with_routes (changes_of new.changes.items) held.plan.routes)
+  pub plan : IsPlan held.plan.customers (routes_with held new.changes.items)
   pub room : held.plan.version < 16777216
   pub known : All (λ t. (1 ≤ t.customer) × (t.customer ≤ length held.pins.pins)) new.touched.items
-  pub touched : (c : ℕ) → 1 ≤ c → IsHeld held.pins (with_routes (changes_of new.changes.items) held.plan.routes) c ⊎ IsTouched new.touched.items c
+  pub touched : (c : ℕ) → 1 ≤ c → IsHeld held.pins (routes_with held new.changes.items) c ⊎ IsTouched new.touched.items c
   pub pending : new.pending.of ≡ held.cache
 
 -- new routes are those of a move that has an effect, with the customers that it touches
@@ -111,7 +117,8 @@ ArePinsSettleable pins (Front vehicle n) = (1 ≤ vehicle) × (vehicle ≤ lengt
 abbrev pub IsSettleable : HeldState → Change → Type 0
 IsSettleable held (Replace commit) = IsCommittable held commit
 IsSettleable held (Pins change) = ArePinsSettleable held.pins change
-IsSettleable held (Command rows command) = (rows.of ≡ held.tables) × (refusal_of held.policy.now command ≡ None) × (held.policy.tried ≡ after held.policy.now command)
+IsSettleable held (Command rows command) = (rows.of ≡ held.tables) × (refusal_of held.policy.now command ≡ None)
+    × (held.policy.tried ≡ after held.policy.now command)
 IsSettleable held Nothing = Unit {0}
 
 -- a judged call may be put in place, has the version of what it was judged on, and the numbers of that plan are a plan's
@@ -127,7 +134,8 @@ pub record PinsWillBe (held : HeldState) (change : PinChange) (next : PinState) 
 
 -- the change is of the policy alone, or there is none, and it may be put in place
 abbrev pub IsCommandReady : Tried → TablesState → Change → Type 0
-IsCommandReady policy tables (Command rows command) = (rows.of ≡ tables) × (refusal_of policy.now command ≡ None) × (policy.tried ≡ after policy.now command)
+IsCommandReady policy tables (Command rows command) = (rows.of ≡ tables) × (refusal_of policy.now command ≡ None)
+    × (policy.tried ≡ after policy.now command)
 IsCommandReady policy tables Nothing = Unit {0}
 IsCommandReady policy tables _ = ⊥
 
@@ -149,6 +157,10 @@ Tries old new = new ≡ record old {
 abbrev pub IsGivenUp : Change → Tried → Type 0
 IsGivenUp (Command rows command) policy = Unit {0}
 IsGivenUp _ policy = policy.tried ≡ policy.now
+
+-- the same of a call's result with this change in it, and nothing is tried where memory ran out
+abbrev pub IsNonePending : {R E : Type 0} → Result R E → (R → Change) → Tried → Type 0
+IsNonePending result change policy = MatchResult result (λ r. IsGivenUp (change r) policy) (λ _. policy.tried ≡ policy.now)
 
 -- nothing that is held differs, except that nothing is tried on the spare policy any more
 abbrev pub GivesUp : HeldState → HeldState → Type 0

@@ -2,7 +2,7 @@
 use Rattle.std.specs.Prelude.{ℕ, ◌+◌, ◌-◌, ◌≡◌, ◌≤◌, Bool, true, not, ◌&&◌, ◌==◌, nat_le, List, [], ◌∷◌, ◌++◌, length, map, filter, drop, zip, flat_map, slice_get, slice_index, Option, Some, None}
 use Rattle.std.specs.Option.{option_map, option_to_list}
 use Rattle.plan_core.specs.declared.touch.Touch.{Touch}
-use Rattle.plan_core.specs.Plan.{Changes, PlanState, changes_of, route_at, with_routes}
+use Rattle.plan_core.specs.Plan.{Changes, changes_of, route_at}
 use Rattle.pin_core.specs.Pins.{PinState, IsHeld}
 use Rattle.pin_core.specs.Override.{DoPinsPass}
 use Rattle.move_core.specs.declared.moves.Move.{Move}
@@ -14,7 +14,7 @@ use Rattle.board_state.specs.declared.change.Change.{Change}
 use Rattle.board_state.specs.declared.change.Change.TheVariants.{Replace, Pins}
 use Rattle.board_state.specs.declared.change.PinChange.{PinChange}
 use Rattle.board_state.specs.declared.change.PinChange.TheVariants.{Pin, Unpin, Front}
-use Rattle.board_state.specs.Held.{HeldState}
+use Rattle.board_state.specs.Held.{HeldState, routes_with}
 
 -- ---- places
 
@@ -45,14 +45,20 @@ taken_off routes _ = None
 
 -- the new spots on the vehicles that a move names, in its order, and the customer that no longer stands anywhere
 abbrev pub places_by : List (List ℕ) → List (List ℕ) → Move → List (ℕ × Option (ℕ × ℕ))
-places_by routes others mv = flat_map (new_spots routes others mv) (named_by mv) ++ option_to_list (option_map {U = ℕ × Option (ℕ × ℕ)} (λ c. (c, None)) (taken_off routes mv))
+places_by routes others mv = flat_map (new_spots routes others mv) (named_by mv)
+    ++ option_to_list (option_map {U = ℕ × Option (ℕ × ℕ)} (λ c. (c, None)) (taken_off routes mv))
 
 -- ---- pins
+
+-- each marked touch is of a customer that leaves the vehicle of its pin
+abbrev pub DoMarkedLeave : PinState → List (List ℕ) → List Touch → List Bool → Type 0
+DoMarkedLeave pins others touched marks =
+    (k : ℕ) (t : Touch) → slice_get touched k ≡ Some t → slice_get marks k ≡ Some true → ¬ IsHeld pins others t.customer
 
 -- Marks for the touches in order: a marked customer leaves the vehicle of its pin, and each one that leaves it is marked.
 pub record AreFreed (pins : PinState) (others : List (List ℕ)) (touched : List Touch) (freed : List Bool) : Type 0 where
   pub short : length freed ≤ length touched
-  pub leave : (k : ℕ) (t : Touch) → slice_get touched k ≡ Some t → slice_get freed k ≡ Some true → ¬ IsHeld pins others t.customer
+  pub leave : DoMarkedLeave pins others touched freed
   pub stay : DoPinsPass pins others touched freed
 
 -- the pins of the marked customers are gone
@@ -67,7 +73,7 @@ changed_routes (Replace commit) = changes_of commit.new.changes.items
 changed_routes _ = []
 
 abbrev pub changed_places : HeldState → Change → List (ℕ × Option (ℕ × ℕ))
-changed_places held (Replace commit) = places_by held.plan.routes (with_routes (changes_of commit.new.changes.items) held.plan.routes) commit.mv
+changed_places held (Replace commit) = places_by held.plan.routes (routes_with held commit.new.changes.items) commit.mv
 changed_places held _ = []
 
 abbrev pub pin_changes : PinChange → List (ℕ × Option ℕ)

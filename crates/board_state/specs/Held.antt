@@ -1,8 +1,9 @@
 -- What is held of a board's state, and that it stands for the state.
-use Rattle.std.specs.Prelude.{◌≡◌, ℕ, ◌<◌, nat_lt, length}
+use Rattle.std.specs.declared.sync.Arc.{Arc}
+use Rattle.std.specs.Prelude.{◌≡◌, ℕ, ◌<◌, nat_lt, List, [], length, replicate, Bool, None}
 use Rattle.dimension_core.specs.Setting.{Setting}
 use Rattle.dimension_core.specs.Feasible.{IsFeasible}
-use Rattle.plan_core.specs.Plan.{PlanState, stamp_of}
+use Rattle.plan_core.specs.Plan.{PlanState, changes_of, stamp_of, with_routes}
 use Rattle.plan_core.specs.Commits.{AreStamps}
 use Rattle.pin_core.specs.Pins.{PinState, DoPinsHold, DoFrontsFit}
 use Rattle.range_cache.specs.Cache.{CacheState, IsCacheOf}
@@ -12,7 +13,7 @@ use Rattle.policy_core.specs.State.{PolicyState, is_session}
 use Rattle.permission_table.specs.Tables.{TablesState, allows}
 use Rattle.permission_table.specs.Compiled.{AreCompiled, HasSizes}
 use Rattle.board_rules.specs.State.{BoardState, opening_state}
-use Rattle.board_rules.specs.Rules.{Basis}
+use Rattle.board_rules.specs.Rules.{Basis, may_override}
 
 -- the policy with its spare, the compiled permissions, the plan, its pins and freezes, and the kept ranges
 pub record HeldState : Type 0 where
@@ -45,6 +46,14 @@ held_basis held session = record {
   pins = held.pins;
 }
 
+-- whether the session may override the pin of a customer
+abbrev pub may_free : HeldState → ℕ → ℕ → Bool
+may_free held session = may_override (held_basis held session)
+
+-- the routes with new ones in their places
+abbrev pub routes_with : {Z : Type 0} → HeldState → List (ℕ × Arc (List ℕ) Z) → List (List ℕ)
+routes_with held changes = with_routes (changes_of changes) held.plan.routes
+
 -- What judging requires of what is held: the plan has the setup's sizes, with a row for each customer's pin and each vehicle's frozen
 -- front; the pins hold; the fronts are within their routes; the routes are feasible; the ranges are those of the plan; the tables are those
 -- of the policy; and one more commit may be counted.
@@ -60,6 +69,13 @@ pub record IsReady (s : Setting) (held : HeldState) : Type 0 where
   pub compiled : ∥ AreCompiled held.tables held.policy.now ∥₁
   pub sizes : HasSizes held.policy.now held.tables
   pub room : held.plan.version < 16777216
+
+-- a plan of this many customers and vehicles on which nobody stands, and no pin or frozen stop on it
+abbrev pub empty_plan : ℕ → ℕ → PlanState
+empty_plan customers vehicles = record { customers = customers; routes = replicate vehicles []; version = 0; stamps = replicate vehicles 0 }
+
+abbrev pub no_pins : ℕ → ℕ → PinState
+no_pins customers vehicles = record { pins = replicate customers None; fronts = replicate vehicles 0 }
 
 -- what is held stands for the state of a board before its first call
 unfoldable pub IsOpening : Setting → HeldState → Type 0

@@ -4,3 +4,4 @@ pub mod Verdicts
 pub mod Deltas
 pub mod Differences
 pub mod Changes
+pub mod Replies

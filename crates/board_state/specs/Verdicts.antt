@@ -15,7 +15,9 @@ use Rattle.board_rules.specs.Rules.{Basis, IsVerdictBy}
 use Rattle.board_state.specs.declared.stop.Stop.{Stop}
 use Rattle.board_state.specs.declared.stop.Stop.TheVariants.{Denied, NoMemory}
 use Rattle.board_state.specs.Held.{HeldState}
-use Rattle.board_state.specs.Work.{denial_least, denial_most, denial_asks, denial_asks_least}
+use Rattle.callback_store.specs.declared.meter.Meter.{Meter}
+use Rattle.move_core.specs.Moves.{changes_by}
+use Rattle.board_state.specs.Work.{Works, leaving_by, denial_least, denial_most, denial_asks, denial_asks_least}
 
 -- a proposal is stopped by the denial that is right for it
 abbrev pub IsStop : Setting → Basis → ℕ → Move → Stop → Type 0
@@ -24,7 +26,8 @@ IsStop s b base mv NoMemory = ⊤
 
 -- new routes are stopped by a frozen front, or by a pin that the session may not override
 abbrev pub IsPinStop : PinState → (ℕ → Bool) → List (List ℕ) → Changes → List Touch → Stop → Type 0
-IsPinStop pins free routes changes touched (Denied (Frozen v)) = IsFirstThawed pins routes (with_routes changes routes) (named_vehicles changes) v
+IsPinStop pins free routes changes touched (Denied (Frozen v)) =
+    IsFirstThawed pins routes (with_routes changes routes) (named_vehicles changes) v
 IsPinStop pins free routes changes touched (Denied (Pinned v p)) = AreFreezesKept pins routes (with_routes changes routes)
     × ((t : Touch) × IsFirstHeldBack pins free (with_routes changes routes) touched t × (t.vehicle ≡ v) × (t.place ≡ p))
 IsPinStop pins free routes changes touched (Denied _) = ⊥
@@ -95,3 +98,16 @@ probes_most n t l (Err stop) = stop_most n t l stop
 abbrev pub early_least : ℕ → Option Denial → ℕ
 early_least n None = n
 early_least n (Some denial) = denial_least n 0 0 denial
+
+-- the work of judging a move on what is held, by its result, where n named vehicles and t touched customers were still to be probed
+abbrev pub IsWorkOfMove : {C : Type 0} → Setting → HeldState → Move → ℕ → ℕ → Result C Stop → Meter → Meter → Type 0
+IsWorkOfMove s held mv n t result old new =
+    let changes = changes_by held.plan.routes mv in
+    let asks = judge_asks (length s.dimensions) held.plan.routes changes in
+    let left = leaving_by held.pins held.plan.routes mv in
+    Works old new (asks_least (length s.dimensions) held.plan.routes changes result) (asks_most asks result)
+    (probes_least n t left result) (probes_most n t left result)
+
+-- the work of judging the pins of new routes, by its result, where this many customers would leave the vehicle of their pin
+abbrev pub IsWorkOfPins : {C : Type 0} → ℕ → Result C Stop → Meter → Meter → Type 0
+IsWorkOfPins left result old new = Works old new 0 0 (probes_least 0 0 left result) left

@@ -1,4 +1,5 @@
 -- How much work one call counts.
+use Rattle.std.specs.declared.sync.Arc.{Arc}
 use Rattle.std.specs.Prelude.{◌≡◌, ℕ, ◌+◌, ◌≤◌, min, Bool, ◌&&◌, is_some, is_none, List, length, count_by}
 use Rattle.callback_store.specs.declared.meter.Meter.{Meter}
 use Rattle.plan_core.specs.declared.touch.Touch.{Touch}
@@ -7,6 +8,7 @@ use Rattle.pin_core.specs.Override.{after_commit}
 use Rattle.dimension_core.specs.Setting.{Setting}
 use Rattle.plan_core.specs.Plan.{Changes}
 use Rattle.range_cache.specs.Asks.{judge_asks, asks_before}
+use Rattle.move_core.specs.declared.moves.Move.{Move}
 use Rattle.move_core.specs.Moves.{named_by, changes_by}
 use Rattle.move_core.specs.Touched.{touched_by}
 use Rattle.board_rules.specs.declared.call.Call.{Call}
@@ -16,6 +18,7 @@ use Rattle.board_rules.specs.declared.reply.Denial.TheVariants.{Ahead, Stale, Ba
 use Rattle.board_rules.specs.declared.reply.Reply.{Reply}
 use Rattle.board_rules.specs.declared.reply.Reply.TheVariants.{Committed, Denied}
 use Rattle.board_rules.specs.Rules.{routes_after}
+use Rattle.board_state.specs.Held.{HeldState, routes_with}
 
 -- From the old meter to the new one between these many asks and between these many probes were counted, and no walk. A count that stops
 -- at its greatest value shows as many as it can.
@@ -44,6 +47,14 @@ is_leaving pins others c = is_some (pin_of pins c) && is_none (pin_of (after_com
 abbrev pub leaving : PinState → List (List ℕ) → List Touch → ℕ
 leaving pins others touched = count_by (λ t. is_leaving pins others t.customer) touched
 
+-- how many of them new routes would take off that vehicle
+abbrev pub leaving_with : {Z : Type 0} → HeldState → List (ℕ × Arc (List ℕ) Z) → List Touch → ℕ
+leaving_with held changes touched = leaving held.pins (routes_with held changes) touched
+
+-- how many of those that a move touches it would take off that vehicle
+abbrev pub leaving_by : PinState → List (List ℕ) → Move → ℕ
+leaving_by pins routes mv = leaving pins (routes_after routes mv) (touched_by routes mv)
+
 -- ---- what one call may cost
 
 -- the asks of a proposal: for each named vehicle and dimension one for each stop of its new route after the longest common prefix with the
@@ -56,11 +67,12 @@ call_asks s routes _ = 0
 -- is pinned; every other call makes one
 abbrev pub call_probes : PinState → List (List ℕ) → Call → ℕ
 call_probes pins routes (Propose session base mv) =
-    length (named_by mv) + length (touched_by routes mv) + leaving pins (routes_after routes mv) (touched_by routes mv)
+    length (named_by mv) + length (touched_by routes mv) + leaving_by pins routes mv
 call_probes pins routes _ = 1
 
 -- How many probes a denied proposal makes, at least and at most, where it names n vehicles and touches t customers of which l would leave:
--- a rule that is tried makes its probes in their order up to the first that fails, and a later rule makes none.
+-- the rules before the one that fails make all their probes, that one makes at least one, and a later rule none; but where frozen stops would
+-- change, those on pins may be made too.
 abbrev pub denial_least : ℕ → ℕ → ℕ → Denial → ℕ
 denial_least n t l Ahead = n
 denial_least n t l (Stale v) = n
@@ -114,8 +126,17 @@ reply_probes n t l _ = n + t + l
 abbrev pub IsWorkOf : Setting → PinState → List (List ℕ) → Call → Reply → Meter → Meter → Type 0
 IsWorkOf s pins routes (Propose session base mv) reply old new =
     let asks = judge_asks (length s.dimensions) routes (changes_by routes mv) in
-    let touched = touched_by routes mv in
-    let left = leaving pins (routes_after routes mv) touched in
+    let named = length (named_by mv) in
+    let touched = length (touched_by routes mv) in
+    let left = leaving_by pins routes mv in
     Works old new (reply_asks_least (length s.dimensions) routes (changes_by routes mv) reply) (reply_asks asks reply)
-    (reply_probes_least (length (named_by mv)) (length touched) left reply) (reply_probes (length (named_by mv)) (length touched) left reply)
+    (reply_probes_least named touched left reply) (reply_probes named touched left reply)
 IsWorkOf s pins routes _ reply old new = WorksJust old new 0 1
+
+-- the work of a call that was answered on what is held
+abbrev pub IsWorkOn : Setting → HeldState → Call → Reply → Meter → Meter → Type 0
+IsWorkOn s held call reply old new = IsWorkOf s held.pins held.plan.routes call reply old new
+
+-- no more work than the call may cost on what is held
+abbrev pub IsWithinCost : Setting → HeldState → Call → Meter → Meter → Type 0
+IsWithinCost s held call old new = WorksAtMost old new (call_asks s held.plan.routes call) (call_probes held.pins held.plan.routes call)

@@ -1,20 +1,20 @@
 //! Calls, judged and put in place at once.
-ghost use Rattle.std.specs.Prelude.{◌≡◌, ℕ, IfOk, OnErr, MatchResult};
-ghost use Rattle.std.specs.Option.{option_map};
-ghost use Rattle.std.specs.Result.{result_err};
+ghost use Rattle.std.specs.Prelude.{◌≡◌, IfOk, OnErr};
 ghost use Rattle.dimension_core.specs.Setting.{Setting};
 ghost use Rattle.dimension_core.specs.Setup.{setting};
 ghost use Rattle.permission_table.specs.Compiled.{AreCompiled, HasSizes};
 ghost use Rattle.board_rules.specs.State.{BoardState};
-ghost use Rattle.board_rules.specs.Holds.{call_of, reply_to, refusal_for};
-ghost use Rattle.board_rules.specs.Step.{IsReply, after, refused_by, reply_by};
+ghost use Rattle.board_rules.specs.Holds.{call_of, reply_to};
+ghost use Rattle.board_rules.specs.Step.{reply_by};
 ghost use Rattle.board_rules.specs.declared.call.Call.TheVariants.{Propose, Policy};
 ghost use Rattle.board_state.specs.declared.change.Change.TheVariants.{Pins};
 ghost use Rattle.board_state.specs.Held.{Holds, IsReady};
-ghost use Rattle.board_state.specs.Changes.{Tries, WillHold, IsSettleable};
-ghost use Rattle.board_state.specs.Work.{WorksAtMost, WorksJust, IsWorkOf, call_asks, call_probes};
+ghost use Rattle.board_state.specs.Changes.{Tries, WillHoldPins, IsSettleable};
+ghost use Rattle.board_state.specs.Replies.{hold_reply, IsRightReply, HoldsAfter, RepliesRightly, HoldsNext};
+ghost use Rattle.board_state.specs.Work.{WorksJust, IsWorkOn, IsWithinCost};
 
 use crate::change::{Change, PinChange};
+use crate::proposal::Proposal;
 use crate::state::State;
 use crate::stop::Stop;
 use board_rules::{Denial, Hold, HoldRefusal, Reply, Ruling, verdicts_by_agreeing_facts};
@@ -40,18 +40,21 @@ impl State {
         meter: &mut Meter,
     ) -> Result<Result<u32, Denial>, AllocError>
         requires { IsReady (setting setup.now) self.old }
-        ensures reply { (state : BoardState) → Holds (setting setup.now) self.old state → IfOk result (λ verdict. ∥ IsReply (setting setup.now) state (Propose session base mv.now) (reply_by verdict) ∥₁) }
-        ensures holds { (state : BoardState) → Holds (setting setup.now) self.old state → IfOk result (λ verdict. Holds (setting setup.now) self.new (after state (Propose session base mv.now) (reply_by verdict))) }
+        ensures reply { RepliesRightly (setting setup.now) self.old (Propose session base mv.now) result reply_by }
+        ensures holds { HoldsNext (setting setup.now) self.old self.new (Propose session base mv.now) result reply_by }
         ensures err { OnErr result (self.new ≡ self.old) }
-        ensures work { IfOk result (λ verdict. IsWorkOf (setting setup.now) self.old.pins self.old.plan.routes (Propose session base mv.now) (reply_by verdict) meter.old meter.new) }
-        ensures most { WorksAtMost meter.old meter.new (call_asks (setting setup.now) self.old.plan.routes (Propose session base mv.now)) (call_probes self.old.pins self.old.plan.routes (Propose session base mv.now)) }
+        ensures untried { self.old.policy.tried ≡ self.old.policy.now → self.new.policy.tried ≡ self.new.policy.now }
+        ensures work { IfOk result
+            (λ verdict. IsWorkOn (setting setup.now) self.old (Propose session base mv.now) (reply_by verdict) meter.old meter.new) }
+        ensures most { IsWithinCost (setting setup.now) self.old (Propose session base mv.now) meter.old meter.new }
     {
         self.agrees();
         verdicts_by_agreeing_facts();
         moves_name_vehicles();
         stamps_by_one_more();
         let version = self.plan.version();
-        match self.judge_proposal(alloc, setup, session, base, mv, meter) {
+        let proposal = Proposal { session, base, mv };
+        match self.judge_proposal(alloc, setup, &proposal, meter) {
             Ok(new) => {
                 self.replace(new);
                 Ok(Ok(version + 1))
@@ -66,47 +69,24 @@ impl State {
     /// `prepare`.
     pub fn hold(&mut self, setup: &Setup, hold: Hold, meter: &mut Meter) -> Ruling
         requires { IsReady (setting setup.now) self.old }
-        ensures reply { (state : BoardState) → Holds (setting setup.now) self.old state → ∥ IsReply (setting setup.now) state (call_of hold) (reply_to result) ∥₁ }
-        ensures holds { (state : BoardState) → Holds (setting setup.now) self.old state → Holds (setting setup.now) self.new (after state (call_of hold) (reply_to result)) }
-        ensures work { IsWorkOf (setting setup.now) self.old.pins self.old.plan.routes (call_of hold) (reply_to result) meter.old meter.new }
-        ensures most { WorksAtMost meter.old meter.new (call_asks (setting setup.now) self.old.plan.routes (call_of hold)) (call_probes self.old.pins self.old.plan.routes (call_of hold)) }
+        ensures reply { IsRightReply (setting setup.now) self.old (call_of hold) (reply_to result) }
+        ensures holds { HoldsAfter (setting setup.now) self.old self.new (call_of hold) (reply_to result) }
+        ensures untried { self.old.policy.tried ≡ self.old.policy.now → self.new.policy.tried ≡ self.new.policy.now }
+        ensures work { IsWorkOn (setting setup.now) self.old (call_of hold) (reply_to result) meter.old meter.new }
+        ensures most { IsWithinCost (setting setup.now) self.old (call_of hold) meter.old meter.new }
     {
-        self.agrees();
-        match hold {
-            Hold::Pin { session, customer } => {
-                let judged = self.judge_pin(setup, session, customer, meter);
-                self.finish(judged)
-            }
-            Hold::Unpin { session, customer } => {
-                let judged = self.judge_unpin(setup, session, customer, meter);
-                self.finish(judged)
-            }
-            Hold::Freeze {
-                session,
-                vehicle,
-                length,
-            } => {
-                let judged = self.judge_freeze(setup, session, vehicle, length, meter);
-                self.finish(judged)
-            }
-            Hold::Thaw {
-                session,
-                vehicle,
-                length,
-            } => {
-                let judged = self.judge_thaw(setup, session, vehicle, length, meter);
-                self.finish(judged)
-            }
-        }
+        let judged = self.judge_hold(setup, hold, meter);
+        self.finish(judged)
     }
 
-    /// Puts a judged call on pins in place, and gives its ruling. It is inlined for each kind of call, so that none makes room for the
-    /// changes of the others.
+    /// Puts a judged call on pins in place, and gives its ruling. It is inlined, so that a call on pins makes no room for the changes of
+    /// other calls.
     #[inline(always)]
     fn finish(&mut self, judged: Result<PinChange, HoldRefusal>) -> Ruling
         requires { IfOk judged (λ change. IsSettleable self.old (Pins change)) }
-        ensures reply { reply_to result ≡ refused_by (option_map refusal_for (result_err judged)) }
-        ensures holds { (s : Setting) (next : BoardState) → MatchResult judged (λ change. WillHold s self.old (Pins change) next) (λ refusal. Holds s self.old next) → Holds s self.new next }
+        ensures reply { reply_to result ≡ hold_reply judged }
+        ensures holds { (s : Setting) (next : BoardState) → WillHoldPins s self.old judged next → Holds s self.new next }
+        ensures untried { self.old.policy.tried ≡ self.old.policy.now → self.new.policy.tried ≡ self.new.policy.now }
     {
         match judged {
             Ok(change) => {
@@ -129,8 +109,8 @@ impl State {
     ) -> Result<Reply, AllocError>
         requires compiled { ∥ AreCompiled self.old.tables self.old.policy.now ∥₁ }
         requires sizes { HasSizes self.old.policy.now self.old.tables }
-        ensures reply { (s : Setting) (state : BoardState) → Holds s self.old state → IfOk result (λ reply. ∥ IsReply s state (Policy session command.now) reply ∥₁) }
-        ensures holds { (s : Setting) (state : BoardState) → Holds s self.old state → IfOk result (λ reply. Holds s self.new (after state (Policy session command.now) reply)) }
+        ensures reply { (s : Setting) → RepliesRightly s self.old (Policy session command.now) result (λ reply. reply) }
+        ensures holds { (s : Setting) → HoldsNext s self.old self.new (Policy session command.now) result (λ reply. reply) }
         ensures err { OnErr result (Tries self.old self.new) }
         ensures given_up { self.new.policy.tried ≡ self.new.policy.now }
         ensures work { WorksJust meter.old meter.new 0 1 }

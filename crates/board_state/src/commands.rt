@@ -1,5 +1,5 @@
 //! Policy commands: tried on the spare policy, with the rows of the sessions whose access they change.
-ghost use Rattle.std.specs.Prelude.{◌≡◌, ℕ, Option, None, Some, Ok, IfOk, OnOk, OnErr, MatchResult};
+ghost use Rattle.std.specs.Prelude.{◌≡◌, ℕ, Option, None, Some, Ok, IfOk, OnOk, OnErr};
 ghost use Rattle.policy_core.specs.State.{slot_of};
 ghost use Rattle.policy_core.specs.Commands.{Says};
 ghost use Rattle.policy_core.specs.declared.refusal.Refusal.{Refusal as PolicyRefusal};
@@ -11,7 +11,7 @@ ghost use Rattle.permission_core.specs.declared.objects.Object.TheVariants as ob
 ghost use Rattle.board_rules.specs.Policies.{board_refusal, reply_of, policy_reply, policy_after};
 ghost use Rattle.board_rules.specs.declared.reply.Reply.TheVariants.{Refused};
 ghost use Rattle.board_state.specs.declared.change.Change.TheVariants.{Nothing};
-ghost use Rattle.board_state.specs.Changes.{PolicyWillBe, Tries, IsGivenUp};
+ghost use Rattle.board_state.specs.Changes.{PolicyWillBe, Tries, IsGivenUp, IsNonePending};
 ghost use Rattle.board_state.specs.Work.{WorksJust};
 
 use crate::change::Change;
@@ -36,7 +36,8 @@ impl State {
         meter: &mut Meter,
     ) -> Option<PolicyRefusal>
         requires { ∥ AreCompiled self.now.tables self.now.policy.now ∥₁ }
-        ensures refused { result ≡ guard_by (allows self.now.tables session operations.Admin objects.Board) self.now.policy.now session command.now }
+        ensures refused { result
+            ≡ guard_by (allows self.now.tables session operations.Admin objects.Board) self.now.policy.now session command.now }
         ensures work { WorksJust meter.old meter.new 0 1 }
     {
         let admin = self.may(session, Operation::Admin, Object::Board, meter);
@@ -58,8 +59,9 @@ impl State {
         requires sizes { HasSizes self.old.policy.now self.old.tables }
         ensures kept { Tries self.old self.new }
         ensures reply { IfOk result (λ r. r.0 ≡ policy_reply self.old.policy.now session command.now) }
-        ensures change { IfOk result (λ r. PolicyWillBe self.new.policy self.new.tables r.1 (policy_after self.old.policy.now session command.now)) }
-        ensures given_up { MatchResult result (λ r. IsGivenUp r.1 self.new.policy) (λ _. self.new.policy.tried ≡ self.new.policy.now) }
+        ensures change { IfOk result
+            (λ r. PolicyWillBe self.new.policy self.new.tables r.1 (policy_after self.old.policy.now session command.now)) }
+        ensures given_up { IsNonePending result (λ r. r.1) self.new.policy }
         ensures work { WorksJust meter.old meter.new 0 1 }
     {
         if let Some(refusal) = self.command_guard(session, command, meter) {
@@ -82,7 +84,8 @@ impl State {
         requires sizes { HasSizes self.old.policy.now self.old.tables }
         ensures others { self.new ≡ record self.old { policy = self.new.policy; tables = self.new.tables } }
         ensures reply { IfOk result (λ reply. reply ≡ policy_reply self.old.policy.now session command.now) }
-        ensures made { IfOk result (λ _. PolicyWillBe self.new.policy self.new.tables Nothing (policy_after self.old.policy.now session command.now)) }
+        ensures made { IfOk result
+            (λ _. PolicyWillBe self.new.policy self.new.tables Nothing (policy_after self.old.policy.now session command.now)) }
         ensures err { OnErr result (Tries self.old self.new) }
         ensures given_up { self.new.policy.tried ≡ self.new.policy.now }
         ensures work { WorksJust meter.old meter.new 0 1 }
@@ -105,8 +108,10 @@ fn keep_command(
 ) -> Result<Reply, AllocError>
     requires compiled { ∥ AreCompiled tables.old policy.old.now ∥₁ }
     requires sizes { HasSizes policy.old.now tables.old }
-    ensures reply { (session : ℕ) → guard policy.old.now session command.now ≡ None → IfOk result (λ reply. reply ≡ policy_reply policy.old.now session command.now) }
-    ensures made { (session : ℕ) → guard policy.old.now session command.now ≡ None → IfOk result (λ _. PolicyWillBe policy.new tables.new Nothing (policy_after policy.old.now session command.now)) }
+    ensures reply { (session : ℕ) → guard policy.old.now session command.now ≡ None
+        → IfOk result (λ reply. reply ≡ policy_reply policy.old.now session command.now) }
+    ensures made { (session : ℕ) → guard policy.old.now session command.now ≡ None
+        → IfOk result (λ _. PolicyWillBe policy.new tables.new Nothing (policy_after policy.old.now session command.now)) }
     ensures policy { OnErr result (policy.new.now ≡ policy.old.now) }
     ensures given_up { policy.new.tried ≡ policy.new.now }
     ensures tables { OnErr result (tables.new ≡ record tables.old { room = tables.new.room }) }
@@ -226,9 +231,11 @@ fn try_command(
     requires sizes { HasSizes policy.old.now tables.old }
     ensures policy { policy.new.now ≡ policy.old.now }
     ensures tables { tables.new ≡ record tables.old { room = tables.new.room } }
-    ensures reply { (session : ℕ) → guard policy.old.now session command.now ≡ None → IfOk result (λ r. r.0 ≡ policy_reply policy.old.now session command.now) }
-    ensures given_up { MatchResult result (λ r. IsGivenUp r.1 policy.new) (λ _. policy.new.tried ≡ policy.new.now) }
-    ensures change { (session : ℕ) → guard policy.old.now session command.now ≡ None → IfOk result (λ r. PolicyWillBe policy.new tables.new r.1 (policy_after policy.old.now session command.now)) }
+    ensures reply { (session : ℕ) → guard policy.old.now session command.now ≡ None
+        → IfOk result (λ r. r.0 ≡ policy_reply policy.old.now session command.now) }
+    ensures given_up { IsNonePending result (λ r. r.1) policy.new }
+    ensures change { (session : ℕ) → guard policy.old.now session command.now ≡ None
+        → IfOk result (λ r. PolicyWillBe policy.new tables.new r.1 (policy_after policy.old.now session command.now)) }
 {
     match policy.prepare(command) {
         Ok(outcome) => match compile(alloc, policy, tables, command) {

@@ -1,12 +1,11 @@
 //! What a judged call makes different.
 ghost use Rattle.std.specs.Prelude.{◌≡◌, ◌==◌, ◌+◌, ◌≤◌, ℕ, ◌++◌, Some, length, drop, flat_map, min, if◌then◌else◌, IfOk, OnOk};
 ghost use Rattle.dimension_core.specs.Setting.{Setting};
-ghost use Rattle.plan_core.specs.Plan.{changes_of, with_routes};
 ghost use Rattle.move_core.specs.Moves.{named_by};
 ghost use Rattle.board_rules.specs.Delta.{IsDelta};
 ghost use Rattle.board_rules.specs.Good.{IsGood};
 ghost use Rattle.board_rules.specs.State.{BoardState};
-ghost use Rattle.board_state.specs.Held.{Holds};
+ghost use Rattle.board_state.specs.Held.{Holds, routes_with};
 ghost use Rattle.board_state.specs.Changes.{WillHold, IsCommittable};
 ghost use Rattle.board_state.specs.declared.change.Change.TheVariants.{Replace};
 ghost use Rattle.board_state.specs.Deltas.{changed_places, changed_fronts, new_spots, spots_behind, stood_there, kept_by, taken_off};
@@ -28,7 +27,8 @@ impl Judged {
     /// What the call changes of the plan, the pins and the freezes, and the version afterwards. Only the named vehicles' routes are walked,
     /// from the first changed place on, and, where a pin is released, the touched customers.
     pub fn delta(&self) -> Result<Delta, AllocError>
-        ensures { (s : Setting) (state next : BoardState) → Holds s self.now.of state → IsGood s state → WillHold s self.now.of self.now.change next → IfOk result (IsDelta s state next) }
+        ensures { (s : Setting) (state next : BoardState) → Holds s self.now.of state → IsGood s state
+            → WillHold s self.now.of self.now.change next → IfOk result (IsDelta s state next) }
     {
         customers_have_one_spot();
         customers_stand_by_route();
@@ -82,7 +82,9 @@ impl Judged {
     /// The customers that stand on a named vehicle where they did not stand before.
     fn new_spots(&self, commit: &Commit) -> Result<Spots, AllocError>
         requires { IsCommittable self.now.of commit.now }
-        ensures { IfOk result (λ places. places.items ≡ flat_map (new_spots self.now.of.plan.routes (with_routes (changes_of commit.now.new.changes.items) self.now.of.plan.routes) commit.now.mv) (named_by commit.now.mv)) }
+        ensures { IfOk result (λ places. places.items
+            ≡ flat_map (new_spots self.now.of.plan.routes (routes_with self.now.of commit.now.new.changes.items) commit.now.mv)
+            (named_by commit.now.mv)) }
     {
         routes_replaced();
         moves_name_vehicles();

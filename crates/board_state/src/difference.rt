@@ -42,7 +42,8 @@ impl Judged {
     /// What the call changes of the plan, the pins and the freezes, and the version afterwards. No route is walked or copied, and memory is
     /// taken only where a pin differs.
     pub fn difference(&self) -> Result<Difference, AllocError>
-        ensures { (s : Setting) (state next : BoardState) → Holds s self.now.of state → IsGood s state → WillHold s self.now.of self.now.change next → IfOk result (IsDifference s state next) }
+        ensures { (s : Setting) (state next : BoardState) → Holds s self.now.of state → IsGood s state
+            → WillHold s self.now.of self.now.change next → IfOk result (IsDifference s state next) }
     {
         customers_have_one_spot();
         customers_stand_by_route();

@@ -45,7 +45,8 @@ impl State {
         named: Named,
         meter: &mut Meter,
     ) -> Option<u32>
-        ensures first { result ≡ find (λ v. not (allows self.now.tables session operations.Move (objects.Vehicle v))) (named.0 ∷ option_to_list named.1) }
+        ensures first { result
+            ≡ find (λ v. not (allows self.now.tables session operations.Move (objects.Vehicle v))) (named.0 ∷ option_to_list named.1) }
         ensures work { Works meter.old meter.new 0 0 1 (length (named.0 ∷ option_to_list named.1)) }
         ensures whole { IfNone result (WorksJust meter.old meter.new 0 (length (named.0 ∷ option_to_list named.1))) }
     {

@@ -6,21 +6,57 @@ ghost use Rattle.dimension_core.specs.Setup.{setting};
 ghost use Rattle.pin_core.specs.Pins.{with_pin, with_front};
 ghost use Rattle.permission_table.specs.Compiled.{AreCompiled};
 ghost use Rattle.board_rules.specs.Pinning.{vehicle_of, pinned, pin_guard, freeze_guard, pin_refusal, unpin_refusal, freeze_refusal, thaw_refusal};
-ghost use Rattle.board_rules.specs.Holds.{refusal_for};
+ghost use Rattle.board_rules.specs.State.{BoardState};
+ghost use Rattle.board_rules.specs.Holds.{call_of, refusal_for};
+ghost use Rattle.board_rules.specs.Step.{after};
 ghost use Rattle.board_rules.specs.Rules.{is_one_of};
-ghost use Rattle.board_state.specs.Held.{held_basis};
-ghost use Rattle.board_state.specs.Changes.{PinsWillBe};
+ghost use Rattle.board_state.specs.declared.change.Change.TheVariants.{Pins};
+ghost use Rattle.board_state.specs.Held.{Holds, IsReady, held_basis};
+ghost use Rattle.board_state.specs.Changes.{IsSettleable, PinsWillBe, WillHoldPins};
+ghost use Rattle.board_state.specs.Replies.{hold_reply, IsRightReply};
 ghost use Rattle.board_state.specs.Work.{WorksJust};
 
 use crate::change::PinChange;
 use crate::named::is_one_of;
 use crate::state::State;
-use board_rules::{HoldRefusal, customers_have_one_spot};
+use board_rules::{Hold, HoldRefusal, customers_have_one_spot};
 use callback_store::Meter;
 use dimension_core::Setup;
 use rbac_core::{Object, Operation};
 
 impl State {
+    /// Judges a call on a pin or a frozen front: what it changes, or why it is refused.
+    #[inline(always)]
+    pub(crate) fn judge_hold(
+        &self,
+        setup: &Setup,
+        hold: Hold,
+        meter: &mut Meter,
+    ) -> Result<PinChange, HoldRefusal>
+        requires { IsReady (setting setup.now) self.now }
+        ensures ready { IfOk result (λ change. IsSettleable self.now (Pins change)) }
+        ensures reply { IsRightReply (setting setup.now) self.now (call_of hold) (hold_reply result) }
+        ensures change { (state : BoardState) → Holds (setting setup.now) self.now state
+            → WillHoldPins (setting setup.now) self.now result (after state (call_of hold) (hold_reply result)) }
+        ensures work { WorksJust meter.old meter.new 0 1 }
+    {
+        self.agrees();
+        match hold {
+            Hold::Pin { session, customer } => self.judge_pin(setup, session, customer, meter),
+            Hold::Unpin { session, customer } => self.judge_unpin(setup, session, customer, meter),
+            Hold::Freeze {
+                session,
+                vehicle,
+                length,
+            } => self.judge_freeze(setup, session, vehicle, length, meter),
+            Hold::Thaw {
+                session,
+                vehicle,
+                length,
+            } => self.judge_thaw(setup, session, vehicle, length, meter),
+        }
+    }
+
     #[tactic(auto, unfolding(board_rules::specs::Pinning::pin_guard))]
     fn pin_guard(
         &self,
@@ -89,7 +125,7 @@ impl State {
     /// Judges a pin of a customer to the vehicle on which it stands.
     #[inline(always)]
     #[tactic(auto, unfolding(board_rules::specs::Pinning::pin_refusal))]
-    pub(crate) fn judge_pin(
+    fn judge_pin(
         &self,
         setup: &Setup,
         session: u32,
@@ -98,7 +134,8 @@ impl State {
     ) -> Result<PinChange, HoldRefusal>
         requires compiled { ∥ AreCompiled self.now.tables self.now.policy.now ∥₁ }
         requires pins { length self.now.pins.pins ≡ (setting setup.now).customers }
-        ensures refused { option_map refusal_for (result_err result) ≡ pin_refusal (setting setup.now) (held_basis self.now session) customer }
+        ensures refused { option_map refusal_for (result_err result)
+            ≡ pin_refusal (setting setup.now) (held_basis self.now session) customer }
         ensures change { IfOk result (λ change. PinsWillBe self.now change (pinned self.now.plan.routes customer self.now.pins)) }
         ensures work { WorksJust meter.old meter.new 0 1 }
     {
@@ -117,7 +154,7 @@ impl State {
     /// Judges whether a customer may be unpinned.
     #[inline(always)]
     #[tactic(auto, unfolding(board_rules::specs::Pinning::unpin_refusal))]
-    pub(crate) fn judge_unpin(
+    fn judge_unpin(
         &self,
         setup: &Setup,
         session: u32,
@@ -126,7 +163,8 @@ impl State {
     ) -> Result<PinChange, HoldRefusal>
         requires compiled { ∥ AreCompiled self.now.tables self.now.policy.now ∥₁ }
         requires pins { length self.now.pins.pins ≡ (setting setup.now).customers }
-        ensures refused { option_map refusal_for (result_err result) ≡ unpin_refusal (setting setup.now) (held_basis self.now session) customer }
+        ensures refused { option_map refusal_for (result_err result)
+            ≡ unpin_refusal (setting setup.now) (held_basis self.now session) customer }
         ensures change { IfOk result (λ change. PinsWillBe self.now change (with_pin customer None self.now.pins)) }
         ensures work { WorksJust meter.old meter.new 0 1 }
     {
@@ -142,7 +180,7 @@ impl State {
     /// Judges a longer frozen front. The length may be any number.
     #[inline(always)]
     #[tactic(auto, unfolding(board_rules::specs::Pinning::freeze_refusal))]
-    pub(crate) fn judge_freeze(
+    fn judge_freeze(
         &self,
         setup: &Setup,
         session: u32,
@@ -153,7 +191,8 @@ impl State {
         requires compiled { ∥ AreCompiled self.now.tables self.now.policy.now ∥₁ }
         requires routes { length self.now.plan.routes ≡ (setting setup.now).vehicles }
         requires fronts { length self.now.pins.fronts ≡ (setting setup.now).vehicles }
-        ensures refused { option_map refusal_for (result_err result) ≡ freeze_refusal (setting setup.now) (held_basis self.now session) vehicle frozen }
+        ensures refused { option_map refusal_for (result_err result)
+            ≡ freeze_refusal (setting setup.now) (held_basis self.now session) vehicle frozen }
         ensures change { IfOk result (λ change. PinsWillBe self.now change (with_front vehicle frozen self.now.pins)) }
         ensures work { WorksJust meter.old meter.new 0 1 }
     {
@@ -169,7 +208,7 @@ impl State {
     /// Judges a shorter frozen front.
     #[inline(always)]
     #[tactic(auto, unfolding(board_rules::specs::Pinning::thaw_refusal))]
-    pub(crate) fn judge_thaw(
+    fn judge_thaw(
         &self,
         setup: &Setup,
         session: u32,
@@ -179,7 +218,8 @@ impl State {
     ) -> Result<PinChange, HoldRefusal>
         requires compiled { ∥ AreCompiled self.now.tables self.now.policy.now ∥₁ }
         requires fronts { length self.now.pins.fronts ≡ (setting setup.now).vehicles }
-        ensures refused { option_map refusal_for (result_err result) ≡ thaw_refusal (setting setup.now) (held_basis self.now session) vehicle left }
+        ensures refused { option_map refusal_for (result_err result)
+            ≡ thaw_refusal (setting setup.now) (held_basis self.now session) vehicle left }
         ensures change { IfOk result (λ change. PinsWillBe self.now change (with_front vehicle left self.now.pins)) }
         ensures work { WorksJust meter.old meter.new 0 1 }
     {

@@ -1,18 +1,15 @@
 //! The rules on frozen fronts and pins, over new routes.
-ghost use Rattle.std.specs.Prelude.{◌≡◌, ◌≤◌, ◌+◌, ◌⊎◌, ℕ, true, Some, slice_get, length, if◌then◌else◌, IfOk, IfErr, OnOk, MatchResult};
-ghost use Rattle.plan_core.specs.declared.touch.Touch.{Touch};
-ghost use Rattle.plan_core.specs.Plan.{AreApart, changes_of, with_routes};
-ghost use Rattle.plan_core.specs.Commits.{named_vehicles};
+ghost use Rattle.std.specs.Prelude.{◌≡◌, ◌≤◌, ◌⊎◌, true, length, if◌then◌else◌, IfOk, IfErr, OnOk, MatchResult};
+ghost use Rattle.plan_core.specs.Plan.{AreApart, changes_of};
 ghost use Rattle.pin_core.specs.Pins.{IsHeld, DoPinsHold, AreFreezesKept};
 ghost use Rattle.permission_table.specs.Tables.{allows};
 ghost use Rattle.permission_core.specs.declared.objects.Operation.TheVariants as operations;
 ghost use Rattle.permission_core.specs.declared.objects.Object.TheVariants as objects;
 ghost use Rattle.board_rules.specs.Override.{DoPinsAllow, AreAnswers};
-ghost use Rattle.board_rules.specs.Rules.{may_override};
-ghost use Rattle.board_state.specs.Deltas.{AreFreed};
-ghost use Rattle.board_state.specs.Held.{held_basis};
-ghost use Rattle.board_state.specs.Verdicts.{ArePlaceable, IsPinStop, IsLate, probes_least};
-ghost use Rattle.board_state.specs.Work.{Works, WorksJust, WorksAtMost, is_leaving, leaving};
+ghost use Rattle.board_state.specs.Deltas.{AreFreed, DoMarkedLeave};
+ghost use Rattle.board_state.specs.Held.{may_free, routes_with};
+ghost use Rattle.board_state.specs.Verdicts.{ArePlaceable, IsPinStop, IsLate, IsWorkOfPins};
+ghost use Rattle.board_state.specs.Work.{WorksJust, WorksAtMost, is_leaving, leaving_with};
 
 use crate::state::State;
 use crate::stop::Stop;
@@ -36,12 +33,13 @@ impl State {
         meter: &mut Meter,
     ) -> Result<Vec<bool>, Stop>
         requires { ArePlaceable self.now (changes_of changes.now) touched.now }
-        ensures freed { IfOk result (λ freed. AreFreed self.now.pins (with_routes (changes_of changes.now) self.now.plan.routes) touched.now freed.items) }
-        ensures fronts { OnOk result (AreFreezesKept self.now.pins self.now.plan.routes (with_routes (changes_of changes.now) self.now.plan.routes)) }
-        ensures pins { OnOk result (DoPinsAllow self.now.pins (may_override (held_basis self.now session)) (with_routes (changes_of changes.now) self.now.plan.routes)) }
-        ensures stop { IfErr result (IsPinStop self.now.pins (may_override (held_basis self.now session)) self.now.plan.routes (changes_of changes.now) touched.now) }
+        ensures freed { IfOk result (λ freed. AreFreed self.now.pins (routes_with self.now changes.now) touched.now freed.items) }
+        ensures fronts { OnOk result (AreFreezesKept self.now.pins self.now.plan.routes (routes_with self.now changes.now)) }
+        ensures pins { OnOk result (DoPinsAllow self.now.pins (may_free self.now session) (routes_with self.now changes.now)) }
+        ensures stop { IfErr result
+            (IsPinStop self.now.pins (may_free self.now session) self.now.plan.routes (changes_of changes.now) touched.now) }
         ensures late { IfErr result IsLate }
-        ensures work { Works meter.old meter.new 0 0 (probes_least 0 0 (leaving self.now.pins (with_routes (changes_of changes.now) self.now.plan.routes) touched.now) result) (leaving self.now.pins (with_routes (changes_of changes.now) self.now.plan.routes) touched.now) }
+        ensures work { IsWorkOfPins (leaving_with self.now changes.now touched.now) result meter.old meter.new }
     {
         pins_after_commits();
         match self.pins.allows(&self.plan, changes, touched) {
@@ -63,12 +61,13 @@ impl State {
         meter: &mut Meter,
     ) -> Result<Vec<bool>, Stop>
         requires { ArePlaceable self.now (changes_of changes.now) touched.now }
-        ensures freed { IfOk result (λ freed. AreFreed self.now.pins (with_routes (changes_of changes.now) self.now.plan.routes) touched.now freed.items) }
-        ensures fronts { OnOk result (AreFreezesKept self.now.pins self.now.plan.routes (with_routes (changes_of changes.now) self.now.plan.routes)) }
-        ensures pins { OnOk result (DoPinsAllow self.now.pins (may_override (held_basis self.now session)) (with_routes (changes_of changes.now) self.now.plan.routes)) }
-        ensures stop { IfErr result (IsPinStop self.now.pins (may_override (held_basis self.now session)) self.now.plan.routes (changes_of changes.now) touched.now) }
+        ensures freed { IfOk result (λ freed. AreFreed self.now.pins (routes_with self.now changes.now) touched.now freed.items) }
+        ensures fronts { OnOk result (AreFreezesKept self.now.pins self.now.plan.routes (routes_with self.now changes.now)) }
+        ensures pins { OnOk result (DoPinsAllow self.now.pins (may_free self.now session) (routes_with self.now changes.now)) }
+        ensures stop { IfErr result
+            (IsPinStop self.now.pins (may_free self.now session) self.now.plan.routes (changes_of changes.now) touched.now) }
         ensures late { IfErr result IsLate }
-        ensures work { Works meter.old meter.new 0 0 (probes_least 0 0 (leaving self.now.pins (with_routes (changes_of changes.now) self.now.plan.routes) touched.now) result) (leaving self.now.pins (with_routes (changes_of changes.now) self.now.plan.routes) touched.now) }
+        ensures work { IsWorkOfPins (leaving_with self.now changes.now touched.now) result meter.old meter.new }
     {
         let Ok(free) = self.overrides(alloc, session, changes, touched, meter) else {
             return Err(Stop::NoMemory);
@@ -92,10 +91,11 @@ impl State {
         meter: &mut Meter,
     ) -> Result<Vec<bool>, AllocError>
         requires { ArePlaceable self.now (changes_of changes.now) touched.now }
-        ensures leave { IfOk result (λ free. (k : ℕ) (t : Touch) → slice_get touched.now k ≡ Some t → slice_get free.items k ≡ Some true → ¬ IsHeld self.now.pins (with_routes (changes_of changes.now) self.now.plan.routes) t.customer) }
-        ensures answers { IfOk result (λ free. AreAnswers self.now.pins (may_override (held_basis self.now session)) (with_routes (changes_of changes.now) self.now.plan.routes) touched.now free.items) }
-        ensures work { WorksAtMost meter.old meter.new 0 (leaving self.now.pins (with_routes (changes_of changes.now) self.now.plan.routes) touched.now) }
-        ensures whole { OnOk result (WorksJust meter.old meter.new 0 (leaving self.now.pins (with_routes (changes_of changes.now) self.now.plan.routes) touched.now)) }
+        ensures leave { IfOk result (λ free. DoMarkedLeave self.now.pins (routes_with self.now changes.now) touched.now free.items) }
+        ensures answers { IfOk result
+            (λ free. AreAnswers self.now.pins (may_free self.now session) (routes_with self.now changes.now) touched.now free.items) }
+        ensures work { WorksAtMost meter.old meter.new 0 (leaving_with self.now changes.now touched.now) }
+        ensures whole { OnOk result (WorksJust meter.old meter.new 0 (leaving_with self.now changes.now touched.now)) }
     {
         let mut free = Vec::new(alloc);
         for touch in touched {
@@ -117,10 +117,11 @@ impl State {
         requires high { customer ≤ length self.now.pins.pins }
         requires holding { DoPinsHold self.now.pins self.now.plan.routes }
         requires apart { AreApart (length self.now.plan.routes) (changes_of changes.now) }
-        ensures leaves { result ≡ true → ¬ IsHeld self.now.pins (with_routes (changes_of changes.now) self.now.plan.routes) customer }
-        ensures may { IsHeld self.now.pins (with_routes (changes_of changes.now) self.now.plan.routes) customer
+        ensures leaves { result ≡ true → ¬ IsHeld self.now.pins (routes_with self.now changes.now) customer }
+        ensures may { IsHeld self.now.pins (routes_with self.now changes.now) customer
             ⊎ (result ≡ allows self.now.tables session operations.Override (objects.Customer customer)) }
-        ensures work { WorksJust meter.old meter.new 0 (if is_leaving self.now.pins (with_routes (changes_of changes.now) self.now.plan.routes) customer then 1 else 0) }
+        ensures work { WorksJust meter.old meter.new 0
+            (if is_leaving self.now.pins (routes_with self.now changes.now) customer then 1 else 0) }
     {
         pins_after_commits();
         if !self.pins.leaves(&self.plan, changes, customer) {

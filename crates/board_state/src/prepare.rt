@@ -1,24 +1,22 @@
 //! Calls: judged, with what they change.
 ghost use Rattle.std.specs.Prelude.{◌≡◌, ◌+◌, ◌≤◌, ℕ, length, Some, IfOk, OnOk, MatchResult};
-ghost use Rattle.std.specs.Option.{option_map};
-ghost use Rattle.std.specs.Result.{result_err};
 ghost use Rattle.dimension_core.specs.Setup.{setting};
 ghost use Rattle.move_core.specs.declared.moves.Move.{Move};
 ghost use Rattle.board_rules.specs.State.{BoardState};
 ghost use Rattle.dimension_core.specs.Setting.{Setting};
 ghost use Rattle.board_rules.specs.Rules.{Agree, basis_of};
-ghost use Rattle.board_rules.specs.Holds.{refusal_for};
-ghost use Rattle.board_rules.specs.Step.{IsReply, after, refused_by};
 ghost use Rattle.board_rules.specs.declared.call.Call.TheVariants.{Propose, Policy};
 ghost use Rattle.rbac_core.specs.declared.command.Command.{Command};
 ghost use Rattle.board_state.specs.Held.{Holds, IsReady, held_basis};
-ghost use Rattle.board_state.specs.Changes.{Tries, WillHold, IsSettleable, IsGivenUp};
-ghost use Rattle.board_state.specs.Work.{WorksAtMost, IsWorkOf, call_asks, call_probes};
+ghost use Rattle.board_state.specs.Changes.{Tries, IsSettleable, IsNonePending};
+ghost use Rattle.board_state.specs.Replies.{hold_reply, RepliesRightly, WillHoldNext};
+ghost use Rattle.board_state.specs.Work.{IsWorkOn, IsWithinCost};
 
 use crate::change::{Change, Commit, Judged, PinChange};
+use crate::proposal::Proposal;
 use crate::state::State;
 use crate::stop::Stop;
-use board_rules::{Call, HoldRefusal, Reply, changes_by_stamps, verdicts_by_agreeing_facts};
+use board_rules::{Call, Hold, HoldRefusal, Reply, changes_by_stamps, verdicts_by_agreeing_facts};
 use callback_store::Meter;
 use dimension_core::Setup;
 use move_core::{Move, moves_name_vehicles};
@@ -41,12 +39,13 @@ impl State {
         requires { IsReady (setting setup.now) self.old }
         ensures kept { Tries self.old self.new }
         ensures of { IfOk result (λ judged. judged.of ≡ self.new) }
-        ensures reply { (state : BoardState) → Holds (setting setup.now) self.old state → IfOk result (λ judged. ∥ IsReply (setting setup.now) state call.now judged.reply ∥₁) }
-        ensures change { (state : BoardState) → Holds (setting setup.now) self.old state → IfOk result (λ judged. WillHold (setting setup.now) self.new judged.change (after state call.now judged.reply)) }
-        ensures given_up { (session : ℕ) (command : Command) → call.now ≡ Policy session command → MatchResult result (λ judged. IsGivenUp judged.change self.new.policy) (λ _. self.new.policy.tried ≡ self.new.policy.now) }
-        ensures untried { self.old.policy.tried ≡ self.old.policy.now → MatchResult result (λ judged. IsGivenUp judged.change self.new.policy) (λ _. self.new.policy.tried ≡ self.new.policy.now) }
-        ensures work { IfOk result (λ judged. IsWorkOf (setting setup.now) self.old.pins self.old.plan.routes call.now judged.reply meter.old meter.new) }
-        ensures most { WorksAtMost meter.old meter.new (call_asks (setting setup.now) self.old.plan.routes call.now) (call_probes self.old.pins self.old.plan.routes call.now) }
+        ensures reply { RepliesRightly (setting setup.now) self.old call.now result (λ judged. judged.reply) }
+        ensures change { WillHoldNext (setting setup.now) self.old self.new call.now result (λ judged. (judged.reply, judged.change)) }
+        ensures given_up { (session : ℕ) (command : Command) → call.now ≡ Policy session command
+            → IsNonePending result (λ judged. judged.change) self.new.policy }
+        ensures untried { self.old.policy.tried ≡ self.old.policy.now → IsNonePending result (λ judged. judged.change) self.new.policy }
+        ensures work { IfOk result (λ judged. IsWorkOn (setting setup.now) self.old call.now judged.reply meter.old meter.new) }
+        ensures most { IsWithinCost (setting setup.now) self.old call.now meter.old meter.new }
     {
         let (reply, change) = self.judge(alloc, setup, call, meter)?;
         Ok(Judged {
@@ -60,7 +59,8 @@ impl State {
 
     /// A law: what is held answers the rules as the state for which it stands does.
     pub(crate) fn agrees(&self)
-        ensures { (s : Setting) (state : BoardState) → Holds s self.now state → length self.now.plan.routes ≡ s.vehicles → (session : ℕ) → Agree s (held_basis self.now session) (basis_of state session) }
+        ensures { (s : Setting) (state : BoardState) → Holds s self.now state → length self.now.plan.routes ≡ s.vehicles
+            → (session : ℕ) → Agree s (held_basis self.now session) (basis_of state session) }
     {
         changes_by_stamps();
         let _sizes = self.plan.version();
@@ -77,36 +77,26 @@ impl State {
         requires { IsReady (setting setup.now) self.old }
         ensures kept { Tries self.old self.new }
         ensures ready { IfOk result (λ r. IsSettleable self.new r.1) }
-        ensures reply { (state : BoardState) → Holds (setting setup.now) self.old state → IfOk result (λ r. ∥ IsReply (setting setup.now) state call.now r.0 ∥₁) }
-        ensures change { (state : BoardState) → Holds (setting setup.now) self.old state → IfOk result (λ r. WillHold (setting setup.now) self.new r.1 (after state call.now r.0)) }
-        ensures given_up { (session : ℕ) (command : Command) → call.now ≡ Policy session command → MatchResult result (λ r. IsGivenUp r.1 self.new.policy) (λ _. self.new.policy.tried ≡ self.new.policy.now) }
-        ensures untried { self.old.policy.tried ≡ self.old.policy.now → MatchResult result (λ r. IsGivenUp r.1 self.new.policy) (λ _. self.new.policy.tried ≡ self.new.policy.now) }
-        ensures work { IfOk result (λ r. IsWorkOf (setting setup.now) self.old.pins self.old.plan.routes call.now r.0 meter.old meter.new) }
-        ensures most { WorksAtMost meter.old meter.new (call_asks (setting setup.now) self.old.plan.routes call.now) (call_probes self.old.pins self.old.plan.routes call.now) }
+        ensures reply { RepliesRightly (setting setup.now) self.old call.now result (λ r. r.0) }
+        ensures change { WillHoldNext (setting setup.now) self.old self.new call.now result (λ r. r) }
+        ensures given_up { (session : ℕ) (command : Command) → call.now ≡ Policy session command
+            → IsNonePending result (λ r. r.1) self.new.policy }
+        ensures untried { self.old.policy.tried ≡ self.old.policy.now → IsNonePending result (λ r. r.1) self.new.policy }
+        ensures work { IfOk result (λ r. IsWorkOn (setting setup.now) self.old call.now r.0 meter.old meter.new) }
+        ensures most { IsWithinCost (setting setup.now) self.old call.now meter.old meter.new }
     {
-        self.agrees();
+        if let Some(hold) = Hold::of(call) {
+            return Ok(answered(self.judge_hold(setup, hold, meter)));
+        }
         match call {
             Call::Propose { session, base, mv } => {
                 self.answer_proposal(alloc, setup, *session, *base, mv, meter)
             }
-            Call::Pin { session, customer } => {
-                Ok(answered(self.judge_pin(setup, *session, *customer, meter)))
-            }
-            Call::Unpin { session, customer } => {
-                Ok(answered(self.judge_unpin(setup, *session, *customer, meter)))
-            }
-            Call::Freeze {
-                session,
-                vehicle,
-                length,
-            } => Ok(answered(self.judge_freeze(setup, *session, *vehicle, *length, meter))),
-            Call::Thaw {
-                session,
-                vehicle,
-                length,
-            } => Ok(answered(self.judge_thaw(setup, *session, *vehicle, *length, meter))),
             Call::Policy { session, command } => {
                 self.judge_command(alloc, *session, command, meter)
+            }
+            Call::Pin { .. } | Call::Unpin { .. } | Call::Freeze { .. } | Call::Thaw { .. } => {
+                unreachable!()
             }
         }
     }
@@ -124,17 +114,18 @@ impl State {
         requires { IsReady (setting setup.now) self.old }
         ensures same { self.new ≡ self.old }
         ensures ready { IfOk result (λ r. IsSettleable self.old r.1) }
-        ensures reply { (state : BoardState) → Holds (setting setup.now) self.old state → IfOk result (λ r. ∥ IsReply (setting setup.now) state (Propose session base mv.now) r.0 ∥₁) }
-        ensures change { (state : BoardState) → Holds (setting setup.now) self.old state → IfOk result (λ r. WillHold (setting setup.now) self.old r.1 (after state (Propose session base mv.now) r.0)) }
-        ensures work { IfOk result (λ r. IsWorkOf (setting setup.now) self.old.pins self.old.plan.routes (Propose session base mv.now) r.0 meter.old meter.new) }
-        ensures most { WorksAtMost meter.old meter.new (call_asks (setting setup.now) self.old.plan.routes (Propose session base mv.now)) (call_probes self.old.pins self.old.plan.routes (Propose session base mv.now)) }
+        ensures reply { RepliesRightly (setting setup.now) self.old (Propose session base mv.now) result (λ r. r.0) }
+        ensures change { WillHoldNext (setting setup.now) self.old self.old (Propose session base mv.now) result (λ r. r) }
+        ensures work { IfOk result (λ r. IsWorkOn (setting setup.now) self.old (Propose session base mv.now) r.0 meter.old meter.new) }
+        ensures most { IsWithinCost (setting setup.now) self.old (Propose session base mv.now) meter.old meter.new }
     {
         self.agrees();
         verdicts_by_agreeing_facts();
         moves_name_vehicles();
         stamps_by_one_more();
         let version = self.plan.version();
-        match self.judge_proposal(alloc, setup, session, base, mv, meter) {
+        let proposal = Proposal { session, base, mv };
+        match self.judge_proposal(alloc, setup, &proposal, meter) {
             Ok(new) => {
                 let (former, other) = self.former_routes(mv)?;
                 let commit = Commit {
@@ -153,7 +144,7 @@ impl State {
 
 /// The reply to a judged call on pins, and what it changes.
 fn answered(judged: Result<PinChange, HoldRefusal>) -> (Reply, Change)
-    ensures reply { result.0 ≡ refused_by (option_map refusal_for (result_err judged)) }
+    ensures reply { result.0 ≡ hold_reply judged }
     ensures change { MatchResult judged (λ change. result.1 ≡ Change.Pins change) (λ refusal. result.1 ≡ Change.Nothing) }
 {
     match judged {

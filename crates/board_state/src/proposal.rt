@@ -1,5 +1,5 @@
-//! Proposals: the rules in their order, and what passes them all.
-ghost use Rattle.std.specs.Prelude.{◌≡◌, ◌≤◌, ◌+◌, ℕ, true, length, All, None, Some, IfOk, IfErr, IfSome, OnOk, MatchOption};
+//! Proposals: the first rule that fails, and what passes them all.
+ghost use Rattle.std.specs.Prelude.{◌≡◌, ◌≤◌, ℕ, true, length, All, None, Some, IfOk, IfErr, IfSome, OnOk, MatchOption};
 ghost use Rattle.dimension_core.specs.NewRoutes.{AllKnown};
 ghost use Rattle.dimension_core.specs.Setting.{Setting};
 ghost use Rattle.dimension_core.specs.Setup.{setting};
@@ -10,13 +10,13 @@ ghost use Rattle.plan_core.specs.Commits.{named_vehicles};
 ghost use Rattle.pin_core.specs.Pins.{DoPinsHold, DoFrontsFit};
 ghost use Rattle.move_core.specs.Moves.{vehicles_of, named_by, changes_by, effect};
 ghost use Rattle.move_core.specs.Touched.{touched_by};
-ghost use Rattle.range_cache.specs.Asks.{judge_asks};
 ghost use Rattle.range_cache.specs.Pending.{AreNewRows};
-ghost use Rattle.board_rules.specs.Rules.{is_one_of, IsVerdictBy, PassesEffect, PassesCustomers, PassesAll, routes_after};
+ghost use Rattle.board_rules.specs.Rules.{is_one_of, IsVerdictBy, PassesEffect, PassesCustomers, PassesAll};
+ghost use Rattle.board_rules.specs.declared.call.Call.TheVariants.{Propose};
 ghost use Rattle.board_state.specs.Held.{held_basis, IsReady};
 ghost use Rattle.board_state.specs.Changes.{ArePlaceableRoutes, AreMadeBy};
-ghost use Rattle.board_state.specs.Verdicts.{ArePlaceable, IsStop, ComesEarly, IsLate, asks_least, asks_most, probes_least, probes_most, early_least};
-ghost use Rattle.board_state.specs.Work.{Works, WorksAtMost, leaving};
+ghost use Rattle.board_state.specs.Verdicts.{ArePlaceable, IsStop, ComesEarly, IsLate, IsWorkOfMove, early_least};
+ghost use Rattle.board_state.specs.Work.{Works, IsWithinCost};
 
 use crate::change::{NewRoutes, Workspace};
 use crate::state::State;
@@ -32,6 +32,14 @@ use std::alloc::{AllocError, Global};
 use std::mem::replace;
 use std::sync::Arc;
 
+/// What a proposal says: the session that gives it, the version on which it is based, and the move.
+#[derive(Clone, Copy)]
+pub(crate) struct Proposal<'a> {
+    pub(crate) session: u32,
+    pub(crate) base: u32,
+    pub(crate) mv: &'a Move,
+}
+
 impl State {
     /// Judges a proposal: the new routes that it may put in place, or the first rule that it fails. Where a rule denies it, the kept memory
     /// is kept on.
@@ -40,30 +48,30 @@ impl State {
         &mut self,
         alloc: Global,
         setup: &Setup,
-        session: u32,
-        base: u32,
-        mv: &Move,
+        proposal: &Proposal,
         meter: &mut Meter,
     ) -> Result<NewRoutes, Stop>
         requires { IsReady (setting setup.now) self.old }
         ensures same { self.new ≡ self.old }
-        ensures passes { OnOk result (PassesAll (setting setup.now) (held_basis self.old session) base mv.now) }
-        ensures changes { IfOk result (λ new. changes_of new.changes.items ≡ changes_by self.old.plan.routes mv.now) }
+        ensures passes { OnOk result
+            (PassesAll (setting setup.now) (held_basis self.old proposal.now.session) proposal.now.base proposal.now.mv.now) }
+        ensures changes { IfOk result (λ new. changes_of new.changes.items ≡ changes_by self.old.plan.routes proposal.now.mv.now) }
         ensures ready { IfOk result (ArePlaceableRoutes self.old) }
-        ensures made { IfOk result (AreMadeBy self.old mv.now) }
-        ensures ranges { IfOk result (λ new. AreNewRows (setting setup.now) (changes_by self.old.plan.routes mv.now) new.pending.rows) }
-        ensures stop { IfErr result (IsStop (setting setup.now) (held_basis self.old session) base mv.now) }
-        ensures work { Works meter.old meter.new (asks_least (length (setting setup.now).dimensions) self.old.plan.routes (changes_by self.old.plan.routes mv.now) result) (asks_most (judge_asks (length (setting setup.now).dimensions) self.old.plan.routes (changes_by self.old.plan.routes mv.now)) result)
-            (probes_least (length (named_by mv.now)) (length (touched_by self.old.plan.routes mv.now)) (leaving self.old.pins (routes_after self.old.plan.routes mv.now) (touched_by self.old.plan.routes mv.now)) result)
-            (probes_most (length (named_by mv.now)) (length (touched_by self.old.plan.routes mv.now)) (leaving self.old.pins (routes_after self.old.plan.routes mv.now) (touched_by self.old.plan.routes mv.now)) result) }
-        ensures most { WorksAtMost meter.old meter.new (judge_asks (length (setting setup.now).dimensions) self.old.plan.routes (changes_by self.old.plan.routes mv.now))
-            (length (named_by mv.now) + length (touched_by self.old.plan.routes mv.now) + leaving self.old.pins (routes_after self.old.plan.routes mv.now) (touched_by self.old.plan.routes mv.now)) }
+        ensures made { IfOk result (AreMadeBy self.old proposal.now.mv.now) }
+        ensures ranges { IfOk result
+            (λ new. AreNewRows (setting setup.now) (changes_by self.old.plan.routes proposal.now.mv.now) new.pending.rows) }
+        ensures stop { IfErr result
+            (IsStop (setting setup.now) (held_basis self.old proposal.now.session) proposal.now.base proposal.now.mv.now) }
+        ensures work { IsWorkOfMove (setting setup.now) self.old proposal.now.mv.now (length (named_by proposal.now.mv.now))
+            (length (touched_by self.old.plan.routes proposal.now.mv.now)) result meter.old meter.new }
+        ensures most { IsWithinCost (setting setup.now) self.old
+            (Propose proposal.now.session proposal.now.base proposal.now.mv.now) meter.old meter.new }
     {
-        if let Some(denial) = self.early_denial(setup, session, base, mv, meter) {
+        if let Some(denial) = self.early_denial(setup, proposal, meter) {
             return Err(Stop::Denied(denial));
         }
         let mut room = self.workspace(alloc);
-        let judged = self.judge_move(alloc, setup, session, base, mv, &mut room, meter);
+        let judged = self.judge_move(alloc, setup, proposal, &mut room, meter);
         if judged.is_err() {
             self.workspace = room;
         }
@@ -72,23 +80,19 @@ impl State {
 
     /// The denial of a proposal by its session, its vehicles, its base or its places.
     #[inline(always)]
-    fn early_denial(
-        &self,
-        setup: &Setup,
-        session: u32,
-        base: u32,
-        mv: &Move,
-        meter: &mut Meter,
-    ) -> Option<Denial>
+    fn early_denial(&self, setup: &Setup, proposal: &Proposal, meter: &mut Meter) -> Option<Denial>
         requires { IsReady (setting setup.now) self.now }
-        ensures denial { MatchOption result (PassesEffect (setting setup.now) (held_basis self.now session) base mv.now)
-            (λ d. IsVerdictBy (setting setup.now) (held_basis self.now session) base mv.now (Some d)) }
+        ensures denial { MatchOption result
+            (PassesEffect (setting setup.now) (held_basis self.now proposal.now.session) proposal.now.base proposal.now.mv.now)
+            (λ d. IsVerdictBy (setting setup.now) (held_basis self.now proposal.now.session)
+            proposal.now.base proposal.now.mv.now (Some d)) }
         ensures early { IfSome result ComesEarly }
-        ensures work { Works meter.old meter.new 0 0 (early_least (length (named_by mv.now)) result) (length (named_by mv.now)) }
+        ensures work { Works meter.old meter.new 0 0
+            (early_least (length (named_by proposal.now.mv.now)) result) (length (named_by proposal.now.mv.now)) }
     {
-        match self.base_denial(setup, session, base, mv, meter) {
+        match self.base_denial(setup, proposal, meter) {
             Some(denial) => Some(denial),
-            None => if mv.is_possible(&self.plan) {
+            None => if proposal.mv.is_possible(&self.plan) {
                 None
             } else {
                 Some(Denial::BadPlace)
@@ -103,24 +107,26 @@ impl State {
         &self,
         alloc: Global,
         setup: &Setup,
-        session: u32,
-        base: u32,
-        mv: &Move,
+        proposal: &Proposal,
         room: &mut Workspace,
         meter: &mut Meter,
     ) -> Result<NewRoutes, Stop>
         requires ready { IsReady (setting setup.now) self.now }
-        requires passes { PassesEffect (setting setup.now) (held_basis self.now session) base mv.now }
-        ensures passes { OnOk result (PassesAll (setting setup.now) (held_basis self.now session) base mv.now) }
-        ensures changes { IfOk result (λ new. changes_of new.changes.items ≡ changes_by self.now.plan.routes mv.now) }
+        requires passes { PassesEffect (setting setup.now) (held_basis self.now proposal.now.session)
+            proposal.now.base proposal.now.mv.now }
+        ensures passes { OnOk result
+            (PassesAll (setting setup.now) (held_basis self.now proposal.now.session) proposal.now.base proposal.now.mv.now) }
+        ensures changes { IfOk result (λ new. changes_of new.changes.items ≡ changes_by self.now.plan.routes proposal.now.mv.now) }
         ensures ready { IfOk result (ArePlaceableRoutes self.now) }
-        ensures made { IfOk result (AreMadeBy self.now mv.now) }
-        ensures ranges { IfOk result (λ new. AreNewRows (setting setup.now) (changes_by self.now.plan.routes mv.now) new.pending.rows) }
-        ensures stop { IfErr result (IsStop (setting setup.now) (held_basis self.now session) base mv.now) }
-        ensures work { Works meter.old meter.new (asks_least (length (setting setup.now).dimensions) self.now.plan.routes (changes_by self.now.plan.routes mv.now) result) (asks_most (judge_asks (length (setting setup.now).dimensions) self.now.plan.routes (changes_by self.now.plan.routes mv.now)) result)
-            (probes_least 0 (length (touched_by self.now.plan.routes mv.now)) (leaving self.now.pins (routes_after self.now.plan.routes mv.now) (touched_by self.now.plan.routes mv.now)) result)
-            (probes_most 0 (length (touched_by self.now.plan.routes mv.now)) (leaving self.now.pins (routes_after self.now.plan.routes mv.now) (touched_by self.now.plan.routes mv.now)) result) }
+        ensures made { IfOk result (AreMadeBy self.now proposal.now.mv.now) }
+        ensures ranges { IfOk result
+            (λ new. AreNewRows (setting setup.now) (changes_by self.now.plan.routes proposal.now.mv.now) new.pending.rows) }
+        ensures stop { IfErr result
+            (IsStop (setting setup.now) (held_basis self.now proposal.now.session) proposal.now.base proposal.now.mv.now) }
+        ensures work { IsWorkOfMove (setting setup.now) self.now proposal.now.mv.now
+            0 (length (touched_by self.now.plan.routes proposal.now.mv.now)) result meter.old meter.new }
     {
+        let Proposal { session, mv, .. } = *proposal;
         let kept = replace(&mut room.touched, Vec::new(alloc));
         let Ok(touched) = mv.touches_in(kept, &self.plan) else {
             return Err(Stop::NoMemory);
@@ -129,7 +135,7 @@ impl State {
             room.touched = touched;
             return Err(Stop::Denied(Denial::AccessCustomer(touch.vehicle, touch.place)));
         }
-        self.judge_routes(alloc, setup, session, base, mv, touched, room, meter)
+        self.judge_routes(alloc, setup, proposal, touched, room, meter)
     }
 
     /// The rules on the new routes: fronts, pins and bounds.
@@ -137,28 +143,29 @@ impl State {
         &self,
         alloc: Global,
         setup: &Setup,
-        session: u32,
-        base: u32,
-        mv: &Move,
+        proposal: &Proposal,
         touched: Vec<Touch>,
         room: &mut Workspace,
         meter: &mut Meter,
     ) -> Result<NewRoutes, Stop>
         requires ready { IsReady (setting setup.now) self.now }
-        requires passes { PassesCustomers (setting setup.now) (held_basis self.now session) base mv.now }
-        requires touched { touched.items ≡ touched_by self.now.plan.routes mv.now }
-        ensures passes { OnOk result (PassesAll (setting setup.now) (held_basis self.now session) base mv.now) }
-        ensures changes { IfOk result (λ new. changes_of new.changes.items ≡ changes_by self.now.plan.routes mv.now) }
+        requires passes { PassesCustomers (setting setup.now) (held_basis self.now proposal.now.session)
+            proposal.now.base proposal.now.mv.now }
+        requires touched { touched.items ≡ touched_by self.now.plan.routes proposal.now.mv.now }
+        ensures passes { OnOk result
+            (PassesAll (setting setup.now) (held_basis self.now proposal.now.session) proposal.now.base proposal.now.mv.now) }
+        ensures changes { IfOk result (λ new. changes_of new.changes.items ≡ changes_by self.now.plan.routes proposal.now.mv.now) }
         ensures ready { IfOk result (ArePlaceableRoutes self.now) }
-        ensures made { IfOk result (AreMadeBy self.now mv.now) }
-        ensures ranges { IfOk result (λ new. AreNewRows (setting setup.now) (changes_by self.now.plan.routes mv.now) new.pending.rows) }
-        ensures stop { IfErr result (IsStop (setting setup.now) (held_basis self.now session) base mv.now) }
+        ensures made { IfOk result (AreMadeBy self.now proposal.now.mv.now) }
+        ensures ranges { IfOk result
+            (λ new. AreNewRows (setting setup.now) (changes_by self.now.plan.routes proposal.now.mv.now) new.pending.rows) }
+        ensures stop { IfErr result
+            (IsStop (setting setup.now) (held_basis self.now proposal.now.session) proposal.now.base proposal.now.mv.now) }
         ensures late { IfErr result IsLate }
-        ensures work { Works meter.old meter.new (asks_least (length (setting setup.now).dimensions) self.now.plan.routes (changes_by self.now.plan.routes mv.now) result) (asks_most (judge_asks (length (setting setup.now).dimensions) self.now.plan.routes (changes_by self.now.plan.routes mv.now)) result)
-            (probes_least 0 0 (leaving self.now.pins (routes_after self.now.plan.routes mv.now) (touched_by self.now.plan.routes mv.now)) result)
-            (probes_most 0 0 (leaving self.now.pins (routes_after self.now.plan.routes mv.now) (touched_by self.now.plan.routes mv.now)) result) }
+        ensures work { IsWorkOfMove (setting setup.now) self.now proposal.now.mv.now 0 0 result meter.old meter.new }
     {
         pins_after_commits();
+        let Proposal { session, mv, .. } = *proposal;
         let kept = replace(&mut room.changes, Vec::new(alloc));
         let Ok(changes) = self.new_routes(alloc, kept, mv, &touched) else {
             return Err(Stop::NoMemory);
@@ -204,7 +211,8 @@ impl State {
         ensures sound { IsPlan self.now.plan.customers self.now.plan.routes }
         ensures changes { IfOk result (λ changes. changes_of changes.items ≡ changes_by self.now.plan.routes mv.now) }
         ensures named { named_vehicles (changes_by self.now.plan.routes mv.now) ≡ named_by mv.now }
-        ensures known { (s : Setting) → length self.now.plan.routes ≡ s.vehicles → self.now.plan.customers ≡ s.customers → AllKnown s (changes_by self.now.plan.routes mv.now) }
+        ensures known { (s : Setting) → length self.now.plan.routes ≡ s.vehicles → self.now.plan.customers ≡ s.customers
+            → AllKnown s (changes_by self.now.plan.routes mv.now) }
         ensures short { IfOk result (λ changes. All (λ c. length c.1.value ≤ 1000) changes.items) }
         ensures placeable { OnOk result (ArePlaceable self.now (changes_by self.now.plan.routes mv.now) touched.now) }
     {
@@ -227,7 +235,8 @@ impl State {
     ) -> Result<(Arc<Route>, Option<Arc<Route>>), AllocError>
         requires { list_all (is_one_of (length self.now.plan.routes)) (named_by mv.now) ≡ true }
         ensures former { IfOk result (λ r. r.0.value ≡ route_at self.now.plan.routes (vehicles_of mv.now).0) }
-        ensures other { IfOk result (λ r. option_map (λ route. route.value) r.1 ≡ option_map (route_at self.now.plan.routes) (vehicles_of mv.now).1) }
+        ensures other { IfOk result
+            (λ r. option_map (λ route. route.value) r.1 ≡ option_map (route_at self.now.plan.routes) (vehicles_of mv.now).1) }
     {
         let (first, second) = mv.vehicles();
         let former = Arc::try_clone(self.plan.route(first))?;

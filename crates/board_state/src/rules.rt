@@ -1,4 +1,4 @@
-//! The rules of proposals that need no new route, in their order.
+//! The rules of proposals that need no new route: which of them fails first.
 ghost use Rattle.std.specs.Prelude.{◌≡◌, ◌≤◌, ◌+◌, ℕ, ◌∷◌, length, find, not, true, MatchOption, Some, IfSome, OnSome, IfNone};
 ghost use Rattle.dimension_core.specs.Setup.{setting};
 ghost use Rattle.permission_table.specs.Tables.{allows};
@@ -13,11 +13,11 @@ ghost use Rattle.board_state.specs.Verdicts.{ComesEarly, early_least};
 ghost use Rattle.board_state.specs.Work.{Works, WorksJust};
 
 use crate::named::are_in_fleet;
+use crate::proposal::Proposal;
 use crate::state::State;
 use board_rules::Denial;
 use callback_store::Meter;
 use dimension_core::Setup;
-use move_core::Move;
 use plan_core::Touch;
 use rbac_core::{Object, Operation};
 
@@ -26,19 +26,23 @@ impl State {
     pub(crate) fn base_denial(
         &self,
         setup: &Setup,
-        session: u32,
-        base: u32,
-        mv: &Move,
+        proposal: &Proposal,
         meter: &mut Meter,
     ) -> Option<Denial>
         requires sized { length self.now.plan.routes ≡ (setting setup.now).vehicles }
         requires compiled { ∥ AreCompiled self.now.tables self.now.policy.now ∥₁ }
-        ensures denial { MatchOption result (PassesBase (setting setup.now) (held_basis self.now session) base mv.now)
-            (λ d. IsVerdictBy (setting setup.now) (held_basis self.now session) base mv.now (Some d)) }
+        ensures denial { MatchOption result
+            (PassesBase (setting setup.now) (held_basis self.now proposal.now.session) proposal.now.base proposal.now.mv.now)
+            (λ d. IsVerdictBy (setting setup.now) (held_basis self.now proposal.now.session)
+            proposal.now.base proposal.now.mv.now (Some d)) }
         ensures early { IfSome result ComesEarly }
-        ensures work { Works meter.old meter.new 0 0 (early_least (length (named_by mv.now)) result) (length (named_by mv.now)) }
+        ensures work { Works meter.old meter.new 0 0
+            (early_least (length (named_by proposal.now.mv.now)) result) (length (named_by proposal.now.mv.now)) }
     {
+        let Proposal { session, base, mv } = *proposal;
         let named = mv.vehicles();
+        // The access to the vehicles is asked first: a session that has it exists, and need not be looked for. The denial is still that of
+        // the first rule that fails.
         let barred = self.first_barred_vehicle(session, named, meter);
         if !self.is_open(session, barred.is_none()) {
             return Some(Denial::NoSession);
@@ -66,7 +70,8 @@ impl State {
         touched: &[Touch],
         meter: &mut Meter,
     ) -> Option<Touch>
-        ensures first { result ≡ find (λ t. not (allows self.now.tables session operations.Move (objects.Customer t.customer))) touched.now }
+        ensures first { result
+            ≡ find (λ t. not (allows self.now.tables session operations.Move (objects.Customer t.customer))) touched.now }
         ensures some { OnSome result (Works meter.old meter.new 0 0 1 (length touched.now)) }
         ensures whole { IfNone result (WorksJust meter.old meter.new 0 (length touched.now)) }
     {

@@ -8,7 +8,7 @@ ghost use Rattle.range_cache.specs.Pending.{AreNewRows};
 ghost use Rattle.policy_core.specs.State.{PolicyState};
 ghost use Rattle.permission_table.specs.Compiled.{AreCompiled};
 ghost use Rattle.board_rules.specs.State.{BoardState};
-ghost use Rattle.board_state.specs.Held.{Holds};
+ghost use Rattle.board_state.specs.Held.{Holds, routes_with};
 ghost use Rattle.board_state.specs.Changes.{WillHold, WillCompile, WillKeep, ArePlaceableRoutes, IsSettleable, IsGivenUp, GivesUp, policy_made, plan_after, pins_after};
 
 use crate::change::{Change, Judged, NewRoutes, PinChange, Workspace};
@@ -85,8 +85,9 @@ impl State {
         ensures policy { self.new.policy ≡ self.old.policy }
         ensures tables { self.new.tables ≡ self.old.tables }
         ensures plan { self.new.plan ≡ replaced (changes_of new.changes.items) self.old.plan }
-        ensures pins { self.new.pins ≡ after_commit (with_routes (changes_of new.changes.items) self.old.plan.routes) self.old.pins }
-        ensures cache { (s : Setting) (routes : List (List ℕ)) (changes : Changes) → IsCacheOf s routes self.old.cache → AreNewRows s changes new.pending.rows → IsCacheOf s (with_routes changes routes) self.new.cache }
+        ensures pins { self.new.pins ≡ after_commit (routes_with self.old new.changes.items) self.old.pins }
+        ensures cache { (s : Setting) (routes : List (List ℕ)) (changes : Changes) → IsCacheOf s routes self.old.cache
+            → AreNewRows s changes new.pending.rows → IsCacheOf s (with_routes changes routes) self.new.cache }
     {
         let NewRoutes {
             changes,

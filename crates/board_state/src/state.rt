@@ -1,12 +1,12 @@
 //! What is held of a board's state.
-ghost use Rattle.std.specs.Prelude.{◌≡◌, ◌≤◌, ℕ, true, replicate, [], None, IfOk};
+ghost use Rattle.std.specs.Prelude.{◌≡◌, ◌≤◌, ℕ, true, replicate, [], IfOk};
 ghost use Rattle.dimension_core.specs.Setting.{Setting};
 ghost use Rattle.dimension_core.specs.Setup.{setting};
 ghost use Rattle.policy_core.specs.Access.{has_access};
 ghost use Rattle.policy_core.specs.Opening.{opening};
 ghost use Rattle.permission_table.specs.Compiled.{AreCompiled, HasSizes};
 ghost use Rattle.board_rules.specs.State.{BoardState};
-ghost use Rattle.board_state.specs.Held.{Holds, IsOpening, IsOpened};
+ghost use Rattle.board_state.specs.Held.{Holds, IsOpening, IsOpened, empty_plan, no_pins};
 ghost use Rattle.range_cache.specs.Cache.{IsCacheOf};
 ghost use Rattle.board_state.specs.Work.{WorksJust};
 ghost use Rattle.permission_table.specs.Tables.{allows, rows_of};
@@ -127,7 +127,8 @@ impl State {
         object: Object,
     ) -> bool
         ensures { (s : Setting) (state : BoardState) (session : ℕ) → Holds s self.now state
-            → option_map (λ rows. rows.now) found.entry ≡ rows_of self.now.tables session → result ≡ has_access state.policy session operation object }
+            → option_map (λ rows. rows.now) found.entry ≡ rows_of self.now.tables session
+            → result ≡ has_access state.policy session operation object }
     {
         self.tables.allows(found, operation, object)
     }
@@ -209,8 +210,8 @@ fn opening_permissions(
 
 /// An empty plan with no pin, and its ranges.
 fn empty_plan(alloc: Global, setup: &Setup) -> Result<(Plan, Pins, Cache), AllocError>
-    ensures plan { IfOk result (λ r. r.0 ≡ record { customers = (setting setup.now).customers; routes = replicate (setting setup.now).vehicles []; version = 0; stamps = replicate (setting setup.now).vehicles 0 }) }
-    ensures pins { IfOk result (λ r. r.1 ≡ record { pins = replicate (setting setup.now).customers None; fronts = replicate (setting setup.now).vehicles 0 }) }
+    ensures plan { IfOk result (λ r. r.0 ≡ empty_plan (setting setup.now).customers (setting setup.now).vehicles) }
+    ensures pins { IfOk result (λ r. r.1 ≡ no_pins (setting setup.now).customers (setting setup.now).vehicles) }
     ensures cache { IfOk result (λ r. IsCacheOf (setting setup.now) (replicate (setting setup.now).vehicles []) r.2) }
 {
     let customers = setup.customers();

@@ -38,10 +38,11 @@ setup_refusal s =
     else if not (nat_le 1 s.max_events && nat_le s.max_events 16777216) then Some Limit
     else None
 
--- the dimension at a number from 1 on
+-- no dimension, for a place at which there is none
 abbrev pub no_bounds : Bounds
 no_bounds = record { id = 0; slack_max = 0; caps = []; fixed = false; ranges = [] }
 
+-- the dimension at a place, from 0 on
 abbrev pub dimension_at : Setting → ℕ → Bounds
 dimension_at s k = slice_index_or s.dimensions k no_bounds
 

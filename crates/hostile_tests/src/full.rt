@@ -147,7 +147,7 @@ fn says_again(
     compare(rt, counts, u64::from(times), writer.others);
 }
 
-/// The plan and the rights, and how many lines they are.
+/// The plan, its listing and the rights.
 fn all_texts(alloc: Global) -> Result<Texts, AllocError> {
     let mut texts = Texts {
         lines: String::new(alloc),

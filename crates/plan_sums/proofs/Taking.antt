@@ -12,7 +12,8 @@ use Rattle.plan_sums.specs.Places.{Places}
 use Rattle.plan_sums.specs.Rows.{AllFit, AreRows, AreSeen, IsRow, fits, is_row, no_row, row_at}
 use Rattle.plan_sums.specs.Progress.{AreTaken}
 use Rattle.plan_sums.specs.Lines.{line_at}
-use Rattle.plan_sums.specs.Reading.{row_of, row_of_words}
+use Rattle.plan_sums.specs.declared.finding.Span.{Span}
+use Rattle.plan_sums.specs.Reading.{IsBadRowAt, IsNoRow, row_of, row_of_words}
 
 -- one more row, at a place before the last one and at the last
 row_before : (rows : List Row) (row : Row) (k : ℕ) → k < length rows → row_at (rows ++ row ∷ []) k ≡ row_at rows k
@@ -90,6 +91,16 @@ taken_more p rows new row seen e f few h = subst (λ (l : List Row). AreTaken p 
 
 pub read_more : (ls : List (List ℕ)) (first k : ℕ) (rows new : List Row) (row : Row) → new ≡ rows ++ row ∷ [] → first + length rows ≡ k → row_of (line_at ls k) ≡ Some row → ((j : ℕ) → j < length rows → row_of (line_at ls (first + j)) ≡ Some (row_at rows j)) → (j : ℕ) → j < length new → row_of (line_at ls (first + j)) ≡ Some (row_at new j)
 read_more ls first k rows new row e here is h = subst (λ (l : List Row). (j : ℕ) → j < length l → row_of (line_at ls (first + j)) ≡ Some (row_at l j)) (sym e) (each_more (λ j r. row_of (line_at ls (first + j)) ≡ Some r) rows row h (subst (λ (n : ℕ). row_of (line_at ls n) ≡ Some row) (sym here) is))
+
+-- a line that is no row, or one that does not fit, behind those that were read
+pub bad_row : (p : Places) (ls : List (List ℕ)) (span : Span) (k : ℕ) (rows : List Row) → k < span.end → span.first + length rows ≡ k → AllFit p rows → ((j : ℕ) → j < length rows → row_of (line_at ls (span.first + j)) ≡ Some (row_at rows j)) → IsNoRow p rows (line_at ls k) → IsBadRowAt p ls span (k + 1)
+bad_row p ls span k rows within counted fit read bad = record {
+  before = rows;
+  within = omega (arith, within, counted);
+  rows_from = record { read = read; fit = fit };
+  bad = subst (λ (n : ℕ). IsNoRow p rows (line_at ls n)) (sym counted) bad;
+  here = omega (arith, counted);
+}
 
 -- a line of five words is no row
 pub five_words : (ws : List (List ℕ)) → 5 ≤ length ws → length ws < 6 → None ≡ row_of_words ws

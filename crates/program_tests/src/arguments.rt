@@ -409,7 +409,7 @@ fn tells_of_words(rt: HostRuntime) {
     tells_fault(&rt, &OptionFault::NoMemory, 0, 0, unopened);
 }
 
-/// The first option whose value is no number in its range is named, whichever of them comes first.
+/// Of workers, rounds and seed the first with no number in its range is named, in whatever order they come.
 #[test]
 fn tells_of_numbers(rt: HostRuntime) {
     let workers = "error: invalid value for '--workers <N>': not a number from 0 to 63\n";

@@ -200,7 +200,7 @@ fn compare_first(rt: &impl Abort, routes: &[(u32, Arc<Route>)], wanted: Option<(
     assert_eq!(rt; found, wanted);
 }
 
-/// How many permissions a call looks up: those of its rules in their order, up to the first that fails.
+/// How many permissions a call looks up, vehicles before the session, up to the first that fails.
 const PROBES: &str = "\
 1 revoke root move customer 4 4 => 1\n\
 1 reverse 2 1 3 11 => 3\n\

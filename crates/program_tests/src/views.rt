@@ -1,4 +1,4 @@
-//! Pictures and sums that are not written, and why.
+//! Pictures and sums that end with a fault.
 use crate::comparing::compare_bytes;
 use crate::program::A;
 use crate::program::devices::{Narrow, make_narrow};

@@ -48,7 +48,7 @@ abbrev pub IsAnswered : Streams → ℕ → Type 0
 IsAnswered s status = ((status ≡ 0) × (s.told_now ≡ s.told_was))
     ⊎ ((status ≡ 3) × AppendsFront s.told_was s.told_now (stop_line (stops.Run runs.Write)))
 
--- Nothing can be done: the words ask for help or the version; or they are wrong, and nothing is written.
+-- Nothing can be done: the parse may fail with help or the version; or otherwise, with nothing written.
 abbrev pub IsSaid : List (List ℕ) → Streams → ℕ → Type 0
 IsSaid words s status = (AskForHelp words × IsAnswered s status) ⊎ (AreWrong words × (status ≡ 2) × (s.now ≡ s.was))
 

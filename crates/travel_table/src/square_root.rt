@@ -8,11 +8,11 @@ use std::num::nearest_u64_to_f64;
 const SHIFT: f64 = 4503599627370495.5;
 
 /// A little more than 1. The root of a square, multiplied by this, is not one half below it after the shift.
-pub const UP: f64 = 1.0000000000001;
+pub(crate) const UP: f64 = 1.0000000000001;
 
 /// The whole part of a number below 2 to the 32nd, or one less. Nothing is proved of it, and nothing depends on it.
 #[inline(always)]
-pub fn whole_part(x: f64) -> u32 {
+pub(crate) fn whole_part(x: f64) -> u32 {
     let sum = x + SHIFT;
     if sum <= f64::MAX {
         (sum.to_bits() & 0xffff_ffff) as u32
@@ -55,7 +55,7 @@ fn halved(n: u64) -> u32
 
 /// The greatest whole number whose square is at most `n`. It is found at once where the guess is right.
 #[inline(always)]
-pub fn root_near(n: u64, guess: u32) -> u32
+pub(crate) fn root_near(n: u64, guess: u32) -> u32
     ensures { IsRoot n result }
 {
     if is_root(n, u64::from(guess)) {

@@ -57,14 +57,14 @@ AllSearched o orders befores afters tallies = AreDone o (posts orders 0 befores)
 
 -- ---- the end
 
--- These entries are a legal history, and begin with what each of the desks has seen. Each of them has as many turns in it as it had: none of
--- them submitted a call since.
+-- These entries are a legal history, and begin with what each of the desks has seen. Each desk has as many turns in them as it had: none
+-- submitted a call since.
 pub record AreMet (o : Opening) (desks : List Watch) (entries : List Entry) : Type 0 where
   pub legal : Legal o entries
   pub each : All (λ w. IsPrefix w.seen entries) desks
   pub turns : All (λ w. turns_of w.number entries ≡ w.own) desks
 
--- the lines of these tallies, and the version of the plan after all that the desks have seen, before any more call of theirs
+-- the lines of these tallies, and the version of the plan after all that the desks have seen, before a new call of theirs
 pub record IsClosing (o : Opening) (desks : List Watch) (tallies : List Tally) (text : List ℕ) : Type 0 where
   pub entries : List Entry
   pub met : AreMet o desks entries

@@ -19,7 +19,7 @@ use std::alloc::Global;
 use std::io::Write;
 use std::sync::Wait;
 
-/// The version of the plan after all that a seat has seen, and after no call more of its desk.
+/// The version of the plan after all that a seat has seen, and no further call of its desk.
 #[tactic(auto, using(crate::proofs::Prefixes::prefix_trans))]
 fn version_at<N: Naming, D: Wait + Drop, W: Wait>(rt: &W, seat: &mut Seat<N, D>) -> Option<u32>
     ensures grows { IsPrefix seat.old.seen seat.new.seen }
@@ -35,8 +35,8 @@ fn version_at<N: Naming, D: Wait + Drop, W: Wait>(rt: &W, seat: &mut Seat<N, D>)
     }
 }
 
-/// The version of the plan after all that a seat and the others have seen, and after no call more of their desks: each of the others meets
-/// the seat before the version is read, and once more behind it.
+/// The version of the plan after all that a seat and the others have seen, and no further call of their desks: each of the others meets
+/// the seat before the version is read, and once more after it.
 #[tactic(auto, using(crate::proofs::Prefixes::prefix_trans))]
 fn version_of<N: Naming, D: Wait + Drop, W: Wait>(
     rt: &W,

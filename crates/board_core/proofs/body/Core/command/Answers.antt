@@ -66,3 +66,12 @@ returns-clause-kept g c =
     (c.push_command.ensures.entries ∙ ap (λ es. es ++ e ∷ []) (c.make_room.ensures.entries ∙ ap (λ (x : CoreState). x.journal) c.self.view_is))
     (ap (λ (x : CoreState). slice_set x.turns (desk - 1) turn) c.self.view_is)
     (c.in_ok-reply.ensures.holds s state holds)
+
+pub returns-in_err-make_room-clause-untried : goal.returns-in_err-make_room-clause-untried
+returns-in_err-make_room-clause-untried g c tried = subst (λ (x : CoreState). x.held.policy.tried ≡ x.held.policy.now) (sym c.self.view_is) tried
+
+pub returns-in_err-reply-clause-untried : goal.returns-in_err-reply-clause-untried
+returns-in_err-reply-clause-untried g c tried = c.command.ensures.given_up
+
+pub returns-clause-untried : goal.returns-clause-untried
+returns-clause-untried g c tried = c.command.ensures.given_up

@@ -76,3 +76,14 @@ returns-clause-most g c =
     let holds = subst (λ (x : CoreState). Holds s x.held state) (sym c.self.view_is) c.requires.kept.held in
     subst (λ (rs : List (List ℕ)). WorksAtMost c.args.meter.now c.propose.new.meter (call_asks s rs call) (call_probes state.pins rs call)) holds.routes
     (subst (λ (p : PinState). WorksAtMost c.args.meter.now c.propose.new.meter (call_asks s inside.plan.routes call) (call_probes p inside.plan.routes call)) holds.pins c.propose.ensures.most)
+
+pub returns-in_err-make_room-clause-untried : goal.returns-in_err-make_room-clause-untried
+returns-in_err-make_room-clause-untried g c tried = subst (λ (x : CoreState). x.held.policy.tried ≡ x.held.policy.now) (sym c.self.view_is) tried
+
+pub returns-in_err-verdict-clause-untried : goal.returns-in_err-verdict-clause-untried
+returns-in_err-verdict-clause-untried g c tried =
+    c.propose.ensures.untried (subst (λ (x : CoreState). x.held.policy.tried ≡ x.held.policy.now) (sym c.self.view_is) tried)
+
+pub returns-clause-untried : goal.returns-clause-untried
+returns-clause-untried g c tried =
+    c.propose.ensures.untried (subst (λ (x : CoreState). x.held.policy.tried ≡ x.held.policy.now) (sym c.self.view_is) tried)

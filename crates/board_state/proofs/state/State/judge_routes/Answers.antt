@@ -24,9 +24,9 @@ returns-in-Err-clause-stop g c =
     let a = c.args in
     let held = a.self.now in
     let changes = ap (λ xs. changes_of xs) c.deref-2.ensures.value ∙ c.in-Ok.ensures.changes in
-    pin_stop (setting a.setup.now) held a.session a.base a.mv.now c.requires.ready c.requires.passes c.in-Ok.ensures.named a.touched.items c.in-Err.stop c.requires.touched
-    (subst (λ (cs : Changes). IsPinStop held.pins (may_override (held_basis held a.session)) held.plan.routes cs a.touched.items c.in-Err.stop) changes
-    (subst (λ (ts : List Touch). IsPinStop held.pins (may_override (held_basis held a.session)) held.plan.routes (changes_of c.deref-2.result.now) ts c.in-Err.stop) c.deref-3.ensures.value c.in-Err.ensures.stop))
+    pin_stop (setting a.setup.now) held a.proposal.now.session a.proposal.now.base a.proposal.now.mv.now c.requires.ready c.requires.passes c.in-Ok.ensures.named a.touched.items c.in-Err.stop c.requires.touched
+    (subst (λ (cs : Changes). IsPinStop held.pins (may_override (held_basis held a.proposal.now.session)) held.plan.routes cs a.touched.items c.in-Err.stop) changes
+    (subst (λ (ts : List Touch). IsPinStop held.pins (may_override (held_basis held a.proposal.now.session)) held.plan.routes (changes_of c.deref-2.result.now) ts c.in-Err.stop) c.deref-3.ensures.value c.in-Err.ensures.stop))
 
 pub returns-in-Ok-judge_in-clause-passes : goal.returns-in-Ok-judge_in-clause-passes
 returns-in-Ok-judge_in-clause-passes g c =
@@ -34,9 +34,9 @@ returns-in-Ok-judge_in-clause-passes g c =
     let held = a.self.now in
     let changes = ap (λ xs. changes_of xs) c.deref-2.ensures.value ∙ c.in-Ok.ensures.changes in
     let judged = ap (λ xs. changes_of xs) c.deref-4.ensures.value ∙ c.in-Ok.ensures.changes in
-    passes_all (setting a.setup.now) held a.session a.base a.mv.now c.requires.ready c.requires.passes c.in-Ok.ensures.named c.deref.result.now c.in-Ok.ensures.placeable
+    passes_all (setting a.setup.now) held a.proposal.now.session a.proposal.now.base a.proposal.now.mv.now c.requires.ready c.requires.passes c.in-Ok.ensures.named c.deref.result.now c.in-Ok.ensures.placeable
     (subst (λ (cs : Changes). AreFreezesKept held.pins held.plan.routes (with_routes cs held.plan.routes)) changes c.in-Ok-judge_pins.ensures.fronts)
-    (subst (λ (cs : Changes). DoPinsAllow held.pins (may_override (held_basis held a.session)) (with_routes cs held.plan.routes)) changes c.in-Ok-judge_pins.ensures.pins)
+    (subst (λ (cs : Changes). DoPinsAllow held.pins (may_override (held_basis held a.proposal.now.session)) (with_routes cs held.plan.routes)) changes c.in-Ok-judge_pins.ensures.pins)
     (subst (λ (cs : Changes). AllFit (setting a.setup.now) cs) judged c.in-Ok-judge_in.ensures.fits)
 
 pub returns-in-Ok-judge_in-clause-ready : goal.returns-in-Ok-judge_in-clause-ready
@@ -44,7 +44,7 @@ returns-in-Ok-judge_in-clause-ready g c =
     let a = c.args in
     let held = a.self.now in
     let same = sym c.in-Ok.ensures.changes in
-    let placeable = subst (λ (ts : List Touch). ArePlaceable held (changes_by held.plan.routes a.mv.now) ts) c.deref.ensures.value c.in-Ok.ensures.placeable in
+    let placeable = subst (λ (ts : List Touch). ArePlaceable held (changes_by held.plan.routes a.proposal.now.mv.now) ts) c.deref.ensures.value c.in-Ok.ensures.placeable in
     record {
       lengths = c.in-Ok.ensures.short;
       freed = subst (λ (ts : List Touch). AreFreed held.pins (with_routes (changes_of c.in-Ok.changes.items) held.plan.routes) ts c.in-Ok-judge_pins.freed.items) c.deref-3.ensures.value
@@ -54,7 +54,7 @@ returns-in-Ok-judge_in-clause-ready g c =
       room = c.requires.ready.room;
       known = subst (λ (n : ℕ). All (λ t. (1 ≤ t.customer) × (t.customer ≤ n)) a.touched.items) (sym placeable.pinned) placeable.known;
       touched = subst (λ (cs : Changes). (d : ℕ) → 1 ≤ d → IsHeld held.pins (with_routes cs held.plan.routes) d ⊎ IsTouched a.touched.items d) same
-          (c.pins_after_commits.ensures.touched held.pins held.plan.routes (with_routes (changes_by held.plan.routes a.mv.now) held.plan.routes) a.touched.items placeable.holding placeable.touched);
+          (c.pins_after_commits.ensures.touched held.pins held.plan.routes (with_routes (changes_by held.plan.routes a.proposal.now.mv.now) held.plan.routes) a.touched.items placeable.holding placeable.touched);
       pending = c.in-Ok-judge_in.ensures.of ∙ ap (λ (h : HeldState). h.cache) c.self.view_is;
     }
 
@@ -64,7 +64,7 @@ returns-in-Ok-judge_in-clause-made g c =
     let held = a.self.now in
     record {
       sound = c.new_routes.ensures.sound;
-      possible = subst (λ (n : ℕ). effect n held.plan.routes a.mv.now ≡ Some (changes_by held.plan.routes a.mv.now)) (sym c.requires.ready.customers) c.requires.passes.0.1 ∙ ap Some (sym c.in-Ok.ensures.changes);
+      possible = subst (λ (n : ℕ). effect n held.plan.routes a.proposal.now.mv.now ≡ Some (changes_by held.plan.routes a.proposal.now.mv.now)) (sym c.requires.ready.customers) c.requires.passes.0.1 ∙ ap Some (sym c.in-Ok.ensures.changes);
       by = c.requires.touched;
     }
 
@@ -77,9 +77,9 @@ returns-in-Err-Bound-clause-stop g c =
     let changes = ap (λ xs. changes_of xs) c.deref-2.ensures.value ∙ c.in-Ok.ensures.changes in
     let judged = ap (λ xs. changes_of xs) c.deref-4.ensures.value ∙ c.in-Ok.ensures.changes in
     let out = rw c.in-Err-Bound.field-0-is at c.in-Err-Bound.ensures.fault in
-    out_of_bounds (setting a.setup.now) held a.session a.base a.mv.now c.requires.ready c.requires.passes c.in-Ok.ensures.named c.deref.result.now c.in-Ok.ensures.placeable
+    out_of_bounds (setting a.setup.now) held a.proposal.now.session a.proposal.now.base a.proposal.now.mv.now c.requires.ready c.requires.passes c.in-Ok.ensures.named c.deref.result.now c.in-Ok.ensures.placeable
     (subst (λ (cs : Changes). AreFreezesKept held.pins held.plan.routes (with_routes cs held.plan.routes)) changes c.in-Ok-judge_pins.ensures.fronts)
-    (subst (λ (cs : Changes). DoPinsAllow held.pins (may_override (held_basis held a.session)) (with_routes cs held.plan.routes)) changes c.in-Ok-judge_pins.ensures.pins)
+    (subst (λ (cs : Changes). DoPinsAllow held.pins (may_override (held_basis held a.proposal.now.session)) (with_routes cs held.plan.routes)) changes c.in-Ok-judge_pins.ensures.pins)
     v d (subst (λ (cs : Changes). IsOut (setting a.setup.now) cs v d) judged out)
 
 pub returns-in-Ok-judge_in-clause-work : goal.returns-in-Ok-judge_in-clause-work
@@ -93,8 +93,8 @@ returns-in-Ok-judge_in-clause-work g c =
     (leaving held.pins (with_routes cs held.plan.routes) a.touched.items)) changes
     (subst (λ (ts : List Touch). Works a.meter.now c.judge_pins.new.meter 0 0 (probes_least 0 0 (leaving held.pins (with_routes (changes_of c.deref-2.result.now) held.plan.routes) ts) c.judge_pins.result)
     (leaving held.pins (with_routes (changes_of c.deref-2.result.now) held.plan.routes) ts)) c.deref-3.ensures.value c.judge_pins.ensures.work) in
-    let touched = subst (λ (ts : List Touch). Works a.meter.now c.judge_pins.new.meter 0 0 (probes_least 0 0 (leaving held.pins (routes_after held.plan.routes a.mv.now) ts) c.judge_pins.result)
-    (leaving held.pins (routes_after held.plan.routes a.mv.now) ts)) c.requires.touched pins in
+    let touched = subst (λ (ts : List Touch). Works a.meter.now c.judge_pins.new.meter 0 0 (probes_least 0 0 (leaving held.pins (routes_after held.plan.routes a.proposal.now.mv.now) ts) c.judge_pins.result)
+    (leaving held.pins (routes_after held.plan.routes a.proposal.now.mv.now) ts)) c.requires.touched pins in
     let bounds = subst (λ (cs : Changes). AsksJust c.judge_pins.new.meter c.judge_in.new.meter (judge_asks (length s.dimensions) held.plan.routes cs)) judged
     (subst (λ (h : HeldState). AsksJust c.judge_pins.new.meter c.judge_in.new.meter (judge_asks (length s.dimensions) h.plan.routes (changes_of c.deref-4.result.now))) c.self.view_is c.in-Ok-judge_in.ensures.whole) in
     both_within _ _ _ _ _ _ _ _ _ _ _ _ _ _ _ (pinned_whole _ _ _ _ c.in-Ok-judge_pins.is touched) (asks_alone _ _ _ _ bounds) (omega arith) (omega arith) (omega arith) (omega arith)
@@ -110,8 +110,8 @@ returns-in-Err-Bound-clause-work g c =
     (leaving held.pins (with_routes cs held.plan.routes) a.touched.items)) changes
     (subst (λ (ts : List Touch). Works a.meter.now c.judge_pins.new.meter 0 0 (probes_least 0 0 (leaving held.pins (with_routes (changes_of c.deref-2.result.now) held.plan.routes) ts) c.judge_pins.result)
     (leaving held.pins (with_routes (changes_of c.deref-2.result.now) held.plan.routes) ts)) c.deref-3.ensures.value c.judge_pins.ensures.work) in
-    let touched = subst (λ (ts : List Touch). Works a.meter.now c.judge_pins.new.meter 0 0 (probes_least 0 0 (leaving held.pins (routes_after held.plan.routes a.mv.now) ts) c.judge_pins.result)
-    (leaving held.pins (routes_after held.plan.routes a.mv.now) ts)) c.requires.touched pins in
+    let touched = subst (λ (ts : List Touch). Works a.meter.now c.judge_pins.new.meter 0 0 (probes_least 0 0 (leaving held.pins (routes_after held.plan.routes a.proposal.now.mv.now) ts) c.judge_pins.result)
+    (leaving held.pins (routes_after held.plan.routes a.proposal.now.mv.now) ts)) c.requires.touched pins in
     let v = c.in-Err-Bound.vehicle in
     let d = c.in-Err-Bound.dimension in
     let least = rw c.in-Err-Bound.field-0-is at c.in-Err-Bound.ensures.least in
@@ -134,11 +134,11 @@ returns-in-Err-clause-work g c =
     (leaving held.pins (with_routes cs held.plan.routes) a.touched.items)) changes
     (subst (λ (ts : List Touch). Works a.meter.now c.judge_pins.new.meter 0 0 (probes_least 0 0 (leaving held.pins (with_routes (changes_of c.deref-2.result.now) held.plan.routes) ts) c.judge_pins.result)
     (leaving held.pins (with_routes (changes_of c.deref-2.result.now) held.plan.routes) ts)) c.deref-3.ensures.value c.judge_pins.ensures.work) in
-    let touched = subst (λ (ts : List Touch). Works a.meter.now c.judge_pins.new.meter 0 0 (probes_least 0 0 (leaving held.pins (routes_after held.plan.routes a.mv.now) ts) c.judge_pins.result)
-    (leaving held.pins (routes_after held.plan.routes a.mv.now) ts)) c.requires.touched pins in
-    let stopped = subst (λ (n : ℕ). Works a.meter.now c.judge_pins.new.meter 0 0 n (leaving held.pins (routes_after held.plan.routes a.mv.now) (touched_by held.plan.routes a.mv.now)))
-    (ap (λ r. probes_least 0 0 (leaving held.pins (routes_after held.plan.routes a.mv.now) (touched_by held.plan.routes a.mv.now)) r) c.in-Err.is) touched in
-    pinned_stop _ _ _ _ _ _ _ held.pins (may_override (held_basis held a.session)) held.plan.routes (changes_of c.deref-2.result.now) c.deref-3.result.now c.in-Err.stop c.in-Err.ensures.stop stopped
+    let touched = subst (λ (ts : List Touch). Works a.meter.now c.judge_pins.new.meter 0 0 (probes_least 0 0 (leaving held.pins (routes_after held.plan.routes a.proposal.now.mv.now) ts) c.judge_pins.result)
+    (leaving held.pins (routes_after held.plan.routes a.proposal.now.mv.now) ts)) c.requires.touched pins in
+    let stopped = subst (λ (n : ℕ). Works a.meter.now c.judge_pins.new.meter 0 0 n (leaving held.pins (routes_after held.plan.routes a.proposal.now.mv.now) (touched_by held.plan.routes a.proposal.now.mv.now)))
+    (ap (λ r. probes_least 0 0 (leaving held.pins (routes_after held.plan.routes a.proposal.now.mv.now) (touched_by held.plan.routes a.proposal.now.mv.now)) r) c.in-Err.is) touched in
+    pinned_stop _ _ _ _ _ _ _ held.pins (may_override (held_basis held a.proposal.now.session)) held.plan.routes (changes_of c.deref-2.result.now) c.deref-3.result.now c.in-Err.stop c.in-Err.ensures.stop stopped
 
 pub returns-in-Err-NoMemory-clause-work : goal.returns-in-Err-NoMemory-clause-work
 returns-in-Err-NoMemory-clause-work g c =
@@ -151,8 +151,8 @@ returns-in-Err-NoMemory-clause-work g c =
     (leaving held.pins (with_routes cs held.plan.routes) a.touched.items)) changes
     (subst (λ (ts : List Touch). Works a.meter.now c.judge_pins.new.meter 0 0 (probes_least 0 0 (leaving held.pins (with_routes (changes_of c.deref-2.result.now) held.plan.routes) ts) c.judge_pins.result)
     (leaving held.pins (with_routes (changes_of c.deref-2.result.now) held.plan.routes) ts)) c.deref-3.ensures.value c.judge_pins.ensures.work) in
-    let touched = subst (λ (ts : List Touch). Works a.meter.now c.judge_pins.new.meter 0 0 (probes_least 0 0 (leaving held.pins (routes_after held.plan.routes a.mv.now) ts) c.judge_pins.result)
-    (leaving held.pins (routes_after held.plan.routes a.mv.now) ts)) c.requires.touched pins in
+    let touched = subst (λ (ts : List Touch). Works a.meter.now c.judge_pins.new.meter 0 0 (probes_least 0 0 (leaving held.pins (routes_after held.plan.routes a.proposal.now.mv.now) ts) c.judge_pins.result)
+    (leaving held.pins (routes_after held.plan.routes a.proposal.now.mv.now) ts)) c.requires.touched pins in
     let bounds = subst (λ (cs : Changes). AsksAtMost c.judge_pins.new.meter c.judge_in.new.meter (judge_asks (length s.dimensions) held.plan.routes cs)) judged
     (subst (λ (h : HeldState). AsksAtMost c.judge_pins.new.meter c.judge_in.new.meter (judge_asks (length s.dimensions) h.plan.routes (changes_of c.deref-4.result.now))) c.self.view_is c.judge_in.ensures.asks) in
     both_within _ _ _ _ _ _ _ _ _ _ _ _ _ _ _ (pinned_whole _ _ _ _ c.in-Ok-judge_pins.is touched) (asks_alone _ _ _ _ bounds) (omega arith) (omega arith) (omega arith) (omega arith)
