@@ -1,7 +1,9 @@
 //! Events, judged and journaled at once.
-ghost use Rattle.std.specs.Prelude.{◌≡◌, ◌≢◌, ◌↔◌, ◌∷◌, ◌++◌, [], true, false, length, IfOk, IfErr, OnOk, OnErr, IsErrOf};
+ghost use Rattle.std.specs.Prelude.{◌≡◌, ◌≢◌, ℕ, ◌↔◌, ◌∷◌, ◌++◌, [], true, false, length, IfOk, IfErr, OnOk, OnErr, IsErrOf};
 ghost use Rattle.dimension_core.specs.Setup.{setting};
+ghost use Rattle.board_rules.specs.declared.call.Call.TheVariants.{Policy};
 ghost use Rattle.board_rules.specs.declared.reply.Fault.{Fault};
+ghost use Rattle.rbac_core.specs.declared.command.Command.{Command};
 ghost use Rattle.board_rules.specs.History.{is_turn, state_after};
 ghost use Rattle.board_state.specs.Work.{WorksAtMost, WorksJust, IsWorkOf, call_asks, call_probes};
 ghost use Rattle.board_rules.specs.Step.{reply_by};
@@ -24,6 +26,7 @@ use std::alloc::AllocError;
 impl Core {
     /// Judges an event, and journals it with its reply, as `prepare` and then `settle` do. No judged event is built in between, so none has
     /// to be moved. The setup is the one with which the core was opened. Faults, in order: `OutOfTurn`, `Full`, `NoMemory`.
+    /// After a policy command that is answered nothing is tried on the spare policy, nor after any other call where nothing was before.
     #[inline(always)]
     pub fn apply(&mut self, setup: &Setup, event: Event, meter: &mut Meter) -> Result<Reply, Fault>
         requires { IsKept (setting setup.now) self.old }
@@ -31,6 +34,7 @@ impl Core {
         ensures ok { IfOk result (λ reply. self.new.journal ≡ self.old.journal ++ entry_of event reply ∷ []) }
         ensures desks { length self.new.turns ≡ length self.old.turns }
         ensures err { OnErr result (self.new.journal ≡ self.old.journal) }
+        ensures given_up { (session : ℕ) (command : Command) → event.call ≡ Policy session command → OnOk result (self.new.held.policy.tried ≡ self.new.held.policy.now) }
         ensures untried { self.old.held.policy.tried ≡ self.old.held.policy.now → self.new.held.policy.tried ≡ self.new.held.policy.now }
         ensures out_of_turn { IsErrOf result Fault.OutOfTurn ↔ (is_turn (length self.old.turns) self.old.journal event.desk event.turn ≡ false) }
         ensures full { IsErrOf result Fault.Full ↔ ((is_turn (length self.old.turns) self.old.journal event.desk event.turn ≡ true) × (length self.old.journal ≡ (setting setup.now).max_events)) }
@@ -244,6 +248,7 @@ impl Core {
         ensures ok { IfOk result (λ reply. self.new.journal ≡ self.old.journal ++ commanded desk turn session command reply ∷ []) }
         ensures desks { length self.new.turns ≡ length self.old.turns }
         ensures err { OnErr result (self.new.journal ≡ self.old.journal) }
+        ensures given_up { OnOk result (self.new.held.policy.tried ≡ self.new.held.policy.now) }
         ensures untried { self.old.held.policy.tried ≡ self.old.held.policy.now → self.new.held.policy.tried ≡ self.new.held.policy.now }
         ensures out_of_turn { IsErrOf result Fault.OutOfTurn ↔ (is_turn (length self.old.turns) self.old.journal desk turn ≡ false) }
         ensures full { IsErrOf result Fault.Full ↔ ((is_turn (length self.old.turns) self.old.journal desk turn ≡ true) × (length self.old.journal ≡ (setting setup.now).max_events)) }
@@ -277,6 +282,7 @@ impl Core {
         ensures ok { IfOk result (λ reply. self.new.journal ≡ self.old.journal ++ commanded desk turn session command reply ∷ []) }
         ensures desks { length self.new.turns ≡ length self.old.turns }
         ensures err { OnErr result (self.new.journal ≡ self.old.journal) }
+        ensures given_up { OnOk result (self.new.held.policy.tried ≡ self.new.held.policy.now) }
         ensures untried { self.old.held.policy.tried ≡ self.old.held.policy.now → self.new.held.policy.tried ≡ self.new.held.policy.now }
         ensures work { OnOk result (WorksJust meter.old meter.new 0 1) }
         ensures most { WorksAtMost meter.old meter.new 0 1 }

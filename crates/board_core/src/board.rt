@@ -1,5 +1,5 @@
 //! A board: a setup and the core that was opened with it.
-ghost use Rattle.std.specs.Prelude.{◌≡◌, ◌≢◌, ◌≤◌, ◌↔◌, ◌∷◌, ◌++◌, [], true, false, length, Some, None, IfOk, OnOk, IfErr, OnErr, IsErrOf, MatchResult};
+ghost use Rattle.std.specs.Prelude.{◌≡◌, ◌≢◌, ℕ, ◌≤◌, ◌↔◌, ◌∷◌, ◌++◌, [], true, false, length, Some, None, IfOk, OnOk, IfErr, OnErr, IsErrOf, MatchResult};
 ghost use Rattle.std.specs.Result.{result_err};
 ghost use Rattle.dimension_core.specs.Setup.{setting};
 ghost use Rattle.plan_core.specs.Plan.{route_at};
@@ -8,7 +8,9 @@ ghost use Rattle.board_core.specs.Kept.{IsKept, entry_of};
 ghost use Rattle.board_core.specs.Alone.{IsKept-prop};
 ghost use Rattle.board_core.specs.Plans.{IsPlanOf};
 ghost use Rattle.board_core.specs.Prepared.{Makes};
+ghost use Rattle.board_rules.specs.declared.call.Call.TheVariants.{Policy};
 ghost use Rattle.board_rules.specs.declared.reply.Fault.{Fault};
+ghost use Rattle.rbac_core.specs.declared.command.Command.{Command};
 ghost use Rattle.board_rules.specs.declared.reply.AskFault.{AskFault};
 ghost use Rattle.board_rules.specs.Good.{state_of};
 ghost use Rattle.board_rules.specs.History.{is_turn, turns_of, IsLegal};
@@ -62,6 +64,7 @@ impl Board {
         ensures full { IsErrOf result Fault.Full ↔ ((is_turn (history self.old).opening.desks (history self.old).entries event.desk event.turn ≡ true) × (length (history self.old).entries ≡ (history self.old).opening.setting.max_events)) }
         ensures untaken { IfErr result (λ fault. fault ≢ Fault.NoMemory → meter.new ≡ meter.old) }
         ensures err { OnErr result (history self.new ≡ history self.old) }
+        ensures given_up { (session : ℕ) (command : Command) → event.call ≡ Policy session command → OnOk result (self.new.core.held.policy.tried ≡ self.new.core.held.policy.now) }
         ensures untried { self.old.core.held.policy.tried ≡ self.old.core.held.policy.now → self.new.core.held.policy.tried ≡ self.new.core.held.policy.now }
         ensures legal { IsLegal (history self.new) }
         ensures work { IfOk result (λ reply. IsWorkOf (history self.old).opening.setting (state_of (history self.old)).pins (state_of (history self.old)).routes event.call reply meter.old meter.new) }
@@ -79,6 +82,7 @@ impl Board {
         ensures of { IfOk result (λ prepared. prepared.of ≡ self.new.core) }
         ensures entry { IfOk result (λ prepared. prepared.entry ≡ entry_of event prepared.entry.reply) }
         ensures makes { IfOk result (Makes (history self.old).opening.setting) }
+        ensures given_up { (session : ℕ) (command : Command) → event.call ≡ Policy session command → IfOk result (λ prepared. IsGivenUp prepared.judged.change self.new.core.held.policy) }
         ensures untried { self.old.core.held.policy.tried ≡ self.old.core.held.policy.now → MatchResult result (λ prepared. IsGivenUp prepared.judged.change self.new.core.held.policy) (λ _. self.new.core.held.policy.tried ≡ self.new.core.held.policy.now) }
         ensures out_of_turn { IsErrOf result Fault.OutOfTurn ↔ (is_turn (history self.old).opening.desks (history self.old).entries event.desk event.turn ≡ false) }
         ensures full { IsErrOf result Fault.Full ↔ ((is_turn (history self.old).opening.desks (history self.old).entries event.desk event.turn ≡ true) × (length (history self.old).entries ≡ (history self.old).opening.setting.max_events)) }

@@ -1,8 +1,10 @@
 //! The data of a board: what is held of its state, its journal and the turns of its desks.
-ghost use Rattle.std.specs.Prelude.{◌≡◌, ◌≢◌, ◌≤◌, ◌<◌, ◌↔◌, ◌∷◌, ◌++◌, [], true, false, length, IfOk, IfErr, OnOk, IsErrOf, MatchOption, MatchResult};
+ghost use Rattle.std.specs.Prelude.{◌≡◌, ◌≢◌, ℕ, ◌≤◌, ◌<◌, ◌↔◌, ◌∷◌, ◌++◌, [], true, false, length, IfOk, IfErr, OnOk, IsErrOf, MatchOption, MatchResult};
 ghost use Rattle.dimension_core.specs.Setup.{setting};
 ghost use Rattle.dimension_core.specs.Setting.{Setting};
+ghost use Rattle.board_rules.specs.declared.call.Call.TheVariants.{Policy};
 ghost use Rattle.board_rules.specs.declared.reply.Fault.{Fault};
+ghost use Rattle.rbac_core.specs.declared.command.Command.{Command};
 ghost use Rattle.board_rules.specs.History.{is_turn, state_after};
 ghost use Rattle.board_state.specs.Changes.{IsGivenUp, GivesUp};
 ghost use Rattle.board_state.specs.Work.{WorksAtMost, IsWorkOf, call_asks, call_probes};
@@ -92,8 +94,9 @@ impl Core {
 
     /// Judges an event, and makes every growth that it needs. The setup is the one with which the core was opened. Faults, in order:
     /// `OutOfTurn`, `Full`, `NoMemory`. The journal and the turns stay as they are; what was tried on the spare policy and the room for
-    /// growth may differ afterwards, also after a fault. Where nothing was tried before, nothing is tried afterwards, unless the event is a
-    /// policy command that is answered otherwise than by a refusal: then it stays tried until it is settled or given up.
+    /// growth may differ afterwards, also after a fault. After a policy command that is refused nothing is tried. Where nothing was tried
+    /// before, nothing is tried afterwards, unless a policy command is answered otherwise than by a refusal: then it stays tried until it is
+    /// settled or given up.
     pub fn prepare(
         &mut self,
         setup: &Setup,
@@ -107,6 +110,7 @@ impl Core {
         ensures of { IfOk result (λ prepared. prepared.of ≡ self.new) }
         ensures entry { IfOk result (λ prepared. prepared.entry ≡ entry_of event prepared.entry.reply) }
         ensures makes { IfOk result (Makes (setting setup.now)) }
+        ensures given_up { (session : ℕ) (command : Command) → event.call ≡ Policy session command → IfOk result (λ prepared. IsGivenUp prepared.judged.change self.new.held.policy) }
         ensures untried { self.old.held.policy.tried ≡ self.old.held.policy.now → MatchResult result (λ prepared. IsGivenUp prepared.judged.change self.new.held.policy) (λ _. self.new.held.policy.tried ≡ self.new.held.policy.now) }
         ensures out_of_turn { IsErrOf result Fault.OutOfTurn ↔ (is_turn (length self.old.turns) self.old.journal event.desk event.turn ≡ false) }
         ensures full { IsErrOf result Fault.Full ↔ ((is_turn (length self.old.turns) self.old.journal event.desk event.turn ≡ true) × (length self.old.journal ≡ (setting setup.now).max_events)) }
@@ -140,6 +144,7 @@ impl Core {
         ensures of { IfOk result (λ prepared. prepared.of ≡ self.new) }
         ensures entry { IfOk result (λ prepared. prepared.entry ≡ entry_of event prepared.entry.reply) }
         ensures makes { IfOk result (Makes (setting setup.now)) }
+        ensures given_up { (session : ℕ) (command : Command) → event.call ≡ Policy session command → IfOk result (λ prepared. IsGivenUp prepared.judged.change self.new.held.policy) }
         ensures untried { self.old.held.policy.tried ≡ self.old.held.policy.now → MatchResult result (λ prepared. IsGivenUp prepared.judged.change self.new.held.policy) (λ _. self.new.held.policy.tried ≡ self.new.held.policy.now) }
         ensures work { IfOk result (λ prepared. IsWorkOf (setting setup.now) (state_after (setting setup.now) self.old.journal).pins (state_after (setting setup.now) self.old.journal).routes event.call prepared.entry.reply meter.old meter.new) }
         ensures most { WorksAtMost meter.old meter.new

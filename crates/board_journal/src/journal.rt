@@ -84,7 +84,7 @@ impl Journal {
     }
 
     /// Makes room for one more entry of any kind. A journal without room gets a new page, and so room for 4,096 more. The room for entries
-    /// that stand whole is 16 on each page, and doubles there. Where it fails there was no memory, or there are 1,048,576 full pages.
+    /// that stand whole is 16 on each page, and grows there by at least as many. Where it fails there was no memory, or there are 1,048,576 full pages.
     pub fn make_room(&mut self) -> Result<(), AllocError>
         ensures entries { self.new.entries ≡ self.old.entries }
         ensures ready { OnOk result (HasRoom self.new) }

@@ -76,7 +76,7 @@ impl Page {
         self.records.len()
     }
 
-    /// Makes room for one more whole entry, where there is none: the room doubles.
+    /// Makes room for one more whole entry, where there is none: room for 16 or more at a time.
     pub(crate) fn make_spare(&mut self) -> Result<(), AllocError>
         ensures entries { self.new.entries ≡ self.old.entries }
         ensures room { self.new.room ≡ self.old.room }

@@ -147,8 +147,9 @@ impl<N: Naming, R: Wait + Drop> DeskOf<N, Held<N, R>> {
 }
 
 impl<N: Naming, L: Drop> DeskOf<N, L> {
-    /// Brings the view that the desk keeps up to what is published, and so what the desk has seen. Only what changed since is read, and
-    /// memory is taken only where there is no view yet. It waits for nobody. After `NoMemory` there is no view until a later call makes one.
+    /// Brings the view that the desk keeps up to what is published, and so what the desk has seen: the routes that changed are taken over,
+    /// and all pins and frozen lengths where one did. Memory is taken only where there is no view yet. It waits for nobody. After `NoMemory`
+    /// there is no view until a later call makes one.
     pub fn refresh(&mut self) -> Result<(), SnapFault>
         ensures setup { setting self.new.setup.value ≡ setting self.old.setup.value }
         ensures kept { (self.new.seat.number ≡ self.old.seat.number) × (self.new.seat.own ≡ self.old.seat.own) }

@@ -72,8 +72,9 @@ impl<N: Naming, L: Drop> SeatOf<N, L> {
         }
     }
 
-    /// Brings the view that the desk keeps up to what is published, and so what the desk has seen. Only what changed since is read, and
-    /// memory is taken only where there is no view yet. It waits for nobody. After `NoMemory` there is no view until a later call makes one.
+    /// Brings the view that the desk keeps up to what is published, and so what the desk has seen: the routes that changed are taken over,
+    /// and all pins and frozen lengths where one did. Memory is taken only where there is no view yet. It waits for nobody. After `NoMemory`
+    /// there is no view until a later call makes one.
     pub fn refresh(&mut self) -> Result<(), SnapFault>
         ensures kept { (self.new.number ≡ self.old.number) × (self.new.own ≡ self.old.own) }
         ensures grows { IsPrefix self.old.seen self.new.seen }

@@ -121,8 +121,8 @@ abbrev pub reply_probes : ℕ → ℕ → ℕ → Reply → ℕ
 reply_probes n t l (Denied denial) = denial_most n t l denial
 reply_probes n t l _ = n + t + l
 
--- The work of a call that was answered: a proposal makes its asks and probes up to the first rule that fails, all of them where it is
--- committed, and every other call makes one probe.
+-- The work of a call that was answered: a proposal makes all its asks and probes where it is committed, and as many as its denial allows
+-- where it is denied; every other call makes one probe.
 abbrev pub IsWorkOf : Setting → PinState → List (List ℕ) → Call → Reply → Meter → Meter → Type 0
 IsWorkOf s pins routes (Propose session base mv) reply old new =
     let asks = judge_asks (length s.dimensions) routes (changes_by routes mv) in

@@ -27,8 +27,8 @@ use std::snapshot::Snapshot;
 impl State {
     /// Judges a call, and makes every growth that it needs. Contracts see no change, except in what is tried on the spare policy and in how
     /// many rows there is room for; those may change also where memory runs out. After a policy command that is refused, or given up where
-    /// memory runs out, nothing is tried; any other call leaves what is tried as it is. What it requires of the setup and of what is held is
-    /// `IsReady`.
+    /// memory runs out, nothing is tried; where nothing was tried before, any other call leaves it so. What it requires of the setup and of
+    /// what is held is `IsReady`.
     pub fn prepare(
         &mut self,
         alloc: Global,

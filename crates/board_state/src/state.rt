@@ -103,7 +103,7 @@ impl State {
         &self.cache
     }
 
-    /// CheckAccess of the policy: one probe.
+    /// CheckAccess of the policy.
     pub fn check(&self, session: u32, operation: Operation, object: Object) -> bool
         ensures { (s : Setting) (state : BoardState) → Holds s self.now state → result ≡ has_access state.policy session operation object }
     {

@@ -2,11 +2,13 @@
 ghost use Rattle.std.specs.Prelude.{◌≡◌};
 ghost use Rattle.dimension_core.specs.Setup.{setting};
 
-use crate::calls::{compare_count, grant, insert, last, remove, sees, submits};
+use crate::calls::{compare_count, compare_reply, grant, insert, last, remove, sees, submits};
 use crate::questions::{compare_grant, shows};
+use board_core::Board;
 use board_journal::Journal;
 use board_lock::{Desk, Foyer, Naming, commits_stay_in_views, open_hall};
-use board_rules::{AskFault, Call, Reply, Review, Row};
+use board_rules::{AskFault, Call, Event, Reply, Review, Row};
+use callback_store::Meter;
 use rbac_core::{Object, ObjectRange, Operation};
 use std::alloc::Global;
 use std::process::Abort;
@@ -117,8 +119,6 @@ fn share<N: Naming, R: Wait + Drop, W: Wait + Abort>(
     requires one { setting one.old.setup.value ≡ N.opening.setting }
     requires two { setting two.old.setup.value ≡ N.opening.setting }
 {
-    submits(rt, one, grant(rt, Operation::Move, VEHICLES), Reply::Done);
-    submits(rt, one, grant(rt, Operation::Move, CUSTOMERS), Reply::Done);
     sees(rt, two, 0, &[]);
     submits(rt, one, insert(1, 1, 0), Reply::Committed(1));
     sees(rt, one, 1, &[1]);
@@ -141,6 +141,27 @@ fn share<N: Naming, R: Wait + Drop, W: Wait + Abort>(
     sees(rt, one, 2, &[1]);
     compare_turns(rt, one.turn(), two.turn(), (7, 2));
     compare_commits(rt, commits(rt, one, two, remove(1, 2)), 3);
+}
+
+/// Grants the moves of a range, in this turn of desk 1.
+fn grants_moves(rt: &impl Abort, board: &mut Board, turn: u32, range: ObjectRange) {
+    let call = grant(rt, Operation::Move, range);
+    let mut meter = Meter::new();
+    let reply = board.apply(
+        Event {
+            desk: 1,
+            turn,
+            call,
+        },
+        &mut meter,
+    );
+    compare_reply(rt, reply, Reply::Done);
+}
+
+/// The first two entries, from before the hall is opened: all moves are granted.
+pub(crate) fn grants(rt: &impl Abort, board: &mut Board) {
+    grants_moves(rt, board, 1, VEHICLES);
+    grants_moves(rt, board, 2, CUSTOMERS);
 }
 
 /// The two desks of a hall.

@@ -3,7 +3,7 @@ ghost use Rattle.std.specs.Prelude.{◌≡◌, ◌+◌, ◌*◌, ◌<◌, slice_
 
 use crate::boards::{free_board, load_and_time};
 use crate::many::calls;
-use crate::one_thread::opens;
+use crate::one_thread::{grants, opens};
 use crate::questions::asks;
 use crate::scripts::{FULL, compare_replay, judged_again, reads_beside, runs};
 use crate::threads::{call_for_one_vehicle, call_for_two_vehicles};
@@ -49,7 +49,8 @@ fn two_desks_share_one_history(rt: HostRuntime) -> Result<(), Fail> {
     let time = registry.register(travel).map_err(|_| "room")?;
     let dimensions = load_and_time(alloc, &registry, load, time)?;
     let setup = Setup::new(4, 2, registry, dimensions, time, 100).map_err(|_| "setup")?;
-    let board = Board::new(alloc, Arc::new(alloc, setup)?, 2)?;
+    let mut board = Board::new(alloc, Arc::new(alloc, setup)?, 2)?;
+    grants(&rt, &mut board);
     let foyer = make_foyer(&rt, alloc, board).map_err(|_| "foyer")?;
     opens::<Brand, _, _>(&rt, alloc, foyer);
     Ok(())

@@ -43,7 +43,7 @@ ComesNext more left line = NextLine more line ⊎ ((more ≡ line) × IsLine lin
 abbrev pub IsNear : {S : Type 0} → (S → Command → Answer → S → Type 0) → (S → Command → S → Type 0) → S → S → List ℕ → Option (List ℕ) → Type 0
 IsNear step refuses mid new more left = (new ≡ mid) ⊎ ((line : List ℕ) × ComesNext more left line × Leaves step refuses mid (read_of (body line)) new)
 
--- at most this many lines are seen
+-- as many lines as a run may have
 abbrev pub AllLines : List ℕ → Type 0
 AllLines used = length (lines_of used) ≡ 4294967296
 

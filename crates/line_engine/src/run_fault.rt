@@ -18,7 +18,7 @@ pub struct Counts {
 /// Why a run ended before the end of its input.
 #[derive(Clone, Copy, Debug, PartialEq, Eq, Error)]
 pub enum RunFault {
-    /// The reader failed, or there are more than 4,294,967,296 lines, skipped ones counted.
+    /// The reader failed, there are more than 4,294,967,296 lines, skipped ones counted, or 2^64 - 1 reads did not come to the end.
     #[error("read")]
     Read,
     /// The writer failed, or took no byte.

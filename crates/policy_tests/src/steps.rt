@@ -116,7 +116,7 @@ fn stand(rt: &impl Abort, alloc: Global, twin: &mut Twin, line: &str) {
     }
 }
 
-/// Tries the command, and gives it up.
+/// Tries the command, and leaves it tried.
 fn give_up(rt: &impl Abort, alloc: Global, twin: &mut Twin, line: &str, wanted: bool) {
     let (_, command) = command(rt, alloc, line);
     let is_tried = twin.prepare(&command).is_ok();

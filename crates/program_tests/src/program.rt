@@ -677,6 +677,108 @@ fn notes_give<H: AllocGlobal + Abort + Files>(
     compare(rt, heard.as_slice(), b"", 0, (notes, "", 0));
 }
 
+/// A line of each other kind of refusal, but those of a policy that is full.
+const MORE: &str = "\
+9 pin 1\n\
+1 pin 9\n\
+1 pin 1\n\
+1 freeze 3 1\n\
+1 grant root pin customer 1 4\n\
+1 grant root freeze vehicle 1 2\n\
+1 pin 1\n\
+1 unpin 1\n\
+1 freeze 1 1\n\
+1 assign ann root\n\
+1 ssd-delete s\n\
+1 grant root move customer 0 1\n\
+1 add-role root\n\
+1 add-role a\n\
+1 add-role b\n\
+1 activate 1 a\n\
+1 inherit a b\n\
+1 inherit b a\n\
+1 ssd-create s 1 root a\n\
+1 ssd-create s 2 root a\n\
+1 delete-role a\n\
+1 assign root a\n\
+1 dsd-create d 2 root b\n\
+1 assign root b\n\
+1 activate 1 b\n\
+1 grant root audit board\n\
+1 users x\n\
+1 roles x\n\
+1 active 9\n\
+9 list\n\
+1 add-user a!\n\
+1 grant root fly board\n\
+1 check move truck 1\n\
+1\n";
+
+/// The replies to them.
+const MORE_REPLIES: &str = "\
+refused no-session\n\
+refused bad-customer\n\
+refused no-access\n\
+refused bad-vehicle\n\
+done\n\
+done\n\
+refused not-placed\n\
+refused not-there\n\
+refused length\n\
+refused no-user\n\
+refused no-set\n\
+refused bad-object\n\
+refused already\n\
+done\n\
+done\n\
+refused not-authorized\n\
+done\n\
+refused cycle\n\
+refused number\n\
+done\n\
+refused in-set\n\
+refused ssd s\n\
+done\n\
+done\n\
+refused dsd d\n\
+done\n\
+refused no-role\n\
+refused no-user\n\
+refused not-there\n\
+refused no-session\n\
+bad name\n\
+bad op\n\
+bad object\n\
+bad word\n";
+
+/// The notes on them.
+const MORE_NOTES: &str = "\
+line 1: there is no such session\n\
+line 2: there is no such customer\n\
+line 3: the session lacks the permission that the call needs\n\
+line 4: the vehicle is not in the fleet\n\
+line 7: the customer is not planned\n\
+line 8: what the call would change or take away is not there\n\
+line 9: the length is not above the old one, or not below it, or above the route's\n\
+line 10: there is no such user\n\
+line 11: there is no such set of roles\n\
+line 12: the range of objects is empty, begins at 0 or ends too high\n\
+line 13: what the call would add is there already\n\
+line 16: the user is not authorized for the role\n\
+line 18: the senior role would be its own junior\n\
+line 19: the number of the set would be below 2 or above the number of its roles\n\
+line 21: the role is in a set of separation of duty\n\
+line 22: static separation of duty would break in that set\n\
+line 25: dynamic separation of duty would break in that set\n\
+line 27: there is no such role\n\
+line 28: there is no such user\n\
+line 29: there is no such session to review\n\
+line 30: there is no such session\n\
+line 31: 'a!' is not a name\n\
+line 32: 'fly' is not an operation\n\
+line 33: 'truck' is not board, vehicle or customer\n\
+line 34: the line has no command\n";
+
 /// Each refusal has its note, with the number of its line, and the replies are those of a run without notes.
 #[test]
 fn refusals_are_explained(rt: HostRuntime) {
@@ -688,6 +790,7 @@ fn refusals_are_explained(rt: HostRuntime) {
         NOTED_SCRIPT_FILE,
         (REPLIES, "", 1),
     );
+    notes_give(&rt, MORE, MORE_NOTES, (MORE_REPLIES, "", 1));
     notes_give(&rt, "\n1 list", "", ("end\n", "", 0));
     let mut long = String::new(rt.alloc());
     long.push_str("1 list\n").expect(&rt, "memory");

@@ -120,8 +120,8 @@ fn shared(alloc: Global, routes: &[Arc<Route>]) -> Result<Vec<Arc<Route>>, Alloc
 impl<N: Naming> Eye<N> {
     ghost use Rattle.std.specs.Prelude.{MatchOption};
 
-    /// Brings the view up to what is published: only what changed since is read. It waits for nobody. Where memory runs out, the view is
-    /// lost, and the next call makes it anew.
+    /// Brings the view up to what is published, by the routes that changed, and by all pins and lengths where one did. It waits for nobody.
+    /// Where memory runs out, the view is lost, and the next call makes it anew.
     pub fn refresh(&mut self, alloc: Global) -> Result<(), SnapFault>
         ensures grows { IsPrefix self.old.seen self.new.seen }
         ensures legal { IsLegal (record { opening = N.opening; entries = self.new.seen }) }

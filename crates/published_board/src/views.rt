@@ -63,7 +63,7 @@ impl Cells {
         })
     }
 
-    /// Brings a view, which has so many entries, up to what the cells show. Only what changed since is touched; the memory is there.
+    /// Brings a view, which has so many entries, up to what the cells show, in the memory that it has.
     pub(crate) fn renew(&self, view: View, entries: u64) -> Result<View, AllocError>
         ensures { (s : Setting) (es before : List Entry) → IsGood s (state_after s es) → IsGood s (state_after s before) → Shows s es (cells_of self.now)
             → IsPrefix before es → entries ≡ length before → view ≡ view_of (state_after s before) → IfOk result (λ v. v ≡ view_of (state_after s es)) }

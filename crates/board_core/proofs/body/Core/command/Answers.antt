@@ -75,3 +75,6 @@ returns-in_err-reply-clause-untried g c tried = c.command.ensures.given_up
 
 pub returns-clause-untried : goal.returns-clause-untried
 returns-clause-untried g c tried = c.command.ensures.given_up
+
+pub returns-clause-given_up : goal.returns-clause-given_up
+returns-clause-given_up g c = c.command.ensures.given_up

@@ -51,3 +51,6 @@ returns-clause-makes g c =
 pub returns-clause-untried : goal.returns-clause-untried
 returns-clause-untried g c tried =
     c.in_ok-judged.ensures.untried (subst (λ (x : CoreState). x.held.policy.tried ≡ x.held.policy.now) (sym c.self.view_is) tried)
+
+pub returns-clause-given_up : goal.returns-clause-given_up
+returns-clause-given_up g c = c.in_ok-judged.ensures.given_up
