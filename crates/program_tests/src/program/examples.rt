@@ -272,7 +272,7 @@ fly
 1 grant root move truck 1 2
 1 check move vehicle
 
-# Proposals, by the order of the rules.
+# Proposals, and rules that deny them.
 9 insert 1 1 1 0
 1 insert 1 3 1 0
 1 insert 1 1 1 0
