@@ -32,3 +32,5 @@ mod setups;
 mod tests;
 #[cfg(test)]
 mod threads;
+#[cfg(test)]
+mod works;

@@ -12,6 +12,7 @@ use crate::rounds::{compare_rounds, works_on};
 use crate::runs::runs_go_through;
 use crate::scarce::Hoard;
 use crate::setups::{bounded, foyer_of, free, widest};
+use crate::works::{compare_started, starts_until};
 use board_core::Board;
 use board_text::BoardFront;
 use callback_store::Transit;
@@ -115,8 +116,12 @@ fn workers_whose_rights_change(rt: HostRuntime) -> Result<(), Fail> {
     rights_change(&rt, rt.alloc(), setup)
 }
 
-/// Rounds of a worker, and then openings of halls, that lack memory.
-fn memory_lacks<W: Wait + Abort>(rt: &W, alloc: Global, setup: Arc<Setup>) -> Result<(), Fail> {
+/// Rounds of a worker, openings of halls, and then starts of workers, that lack memory.
+fn memory_lacks<W: Threads + Wait + Abort + Sync>(
+    rt: &W,
+    alloc: Global,
+    setup: Arc<Setup>,
+) -> Result<(), Fail> {
     let mut hoard = Hoard::new(alloc).ok_or("memory")?;
     let again = Arc::try_clone(&setup)?;
     let foyer = foyer_of(rt, alloc, again, 2).ok_or("a foyer")?;
@@ -124,6 +129,8 @@ fn memory_lacks<W: Wait + Abort>(rt: &W, alloc: Global, setup: Arc<Setup>) -> Re
     compare_rounds(rt, &hoard, &ended);
     let opened = opens_until(rt, alloc, &mut hoard, &setup);
     compare_opened(rt, &hoard, opened);
+    let started = starts_until(rt, alloc, &mut hoard, &setup);
+    compare_started(rt, &hoard, started);
     Ok(())
 }
 

@@ -47,6 +47,23 @@ pub(crate) const GRANTED: &str = "\
 1 insert 1 1 2 1\n\
 1 insert 3 1 3 2\n";
 
+/// Five customers in a line, and one vehicle.
+const F: &str =
+    "F\nVEHICLE\nNUMBER CAPACITY\n1 10\nCUSTOMER\nCUST NO.\n0 0 0 0 0 1000 0\n1 3 0 1 0 1000 0\n2 6 0 1 0 1000 0\n3 9 0 1 0 1000 0\n4 12 0 1 0 1000 0\n5 15 0 1 0 1000 0\n";
+
+/// The customers in the order 3, 2, 4, 1, 5, which no one move mends, and worker 1 without a session.
+const CLOSED: &str = "\
+1 grant root move vehicle 1 1\n\
+1 grant root move customer 1 5\n\
+1 grant worker move vehicle 1 1\n\
+1 grant worker move customer 1 5\n\
+1 close 2\n\
+1 insert 3 1 1 0\n\
+1 insert 2 1 2 1\n\
+1 insert 4 1 3 2\n\
+1 insert 1 1 4 3\n\
+1 insert 5 1 5 4\n";
+
 /// The set-up of two workers, and that their role was granted nothing.
 const AUDITED: &str = "\
 1 grant root audit board\n\
@@ -81,10 +98,10 @@ version 0\n";
 
 const LONG_LINE: &str = "dispatch: run fault long-line\n";
 
-/// Lines of 4,097 bytes are made of this, since no word of a table is so long.
+/// A line of 4,097 bytes is made of this at the end of a script, since no word of a table is so long.
 pub(crate) const LONG: &str = "LONG";
 
-pub(crate) const CASES: [Case; 13] = [
+pub(crate) const CASES: [Case; 14] = [
     Case {
         instance: A,
         script: "",
@@ -143,6 +160,18 @@ pub(crate) const CASES: [Case; 13] = [
             0,
         ),
     },
+    // Whoever comes first, worker 1 is denied and worker 2 commits.
+    Case {
+        instance: F,
+        script: CLOSED,
+        live: "",
+        orders: (2, 1, 1),
+        wanted: (
+            "done\ndone\ndone\ndone\ndone\ncommitted 1\ncommitted 2\ncommitted 3\ncommitted 4\ncommitted 5\nworker 1 tried 1 committed 0 denied 1 refused 0\nworker 2 tried 1 committed 1 denied 0 refused 0\nversion 6\n",
+            "",
+            0,
+        ),
+    },
     Case {
         instance: A,
         script: AUDITED,
@@ -176,10 +205,10 @@ pub(crate) const CASES: [Case; 13] = [
     Case {
         instance: A,
         script: "1 fly\n",
-        live: LONG,
+        live: "1 list\nLONG",
         orders: (1, 0, 1),
         wanted: (
-            "bad word\nworker 1 tried 0 committed 0 denied 0 refused 0\nversion 0\n",
+            "bad word\nend\nworker 1 tried 0 committed 0 denied 0 refused 0\nversion 0\n",
             LONG_LINE,
             3,
         ),

@@ -2,9 +2,15 @@
 #![tactic(auto)]
 
 #[cfg(test)]
+mod beside;
+#[cfg(test)]
 mod cases;
 #[cfg(test)]
 mod devices;
+#[cfg(test)]
+mod example;
+#[cfg(test)]
+mod heard;
 #[cfg(test)]
 mod runs;
 #[cfg(test)]

@@ -2,6 +2,7 @@
 
 use crate::cases::{A, B, CASES, CROSSED, Case, GRANTED, LONG};
 use crate::devices::{Narrow, Repeated, Tail, Torn};
+use crate::torn::devices::{Failing, make_sink};
 use program_parts::read_path;
 use std::alloc::Global;
 use std::io::{Eprint, Read};
@@ -31,12 +32,14 @@ fn orders(rt: &impl Abort, numbers: (u32, u32, u32)) -> Orders {
     }
 }
 
-/// A script of a case: the text itself, or a line that is too long.
+/// A script of a case. Its last line may be one that is too long.
 fn text_of(alloc: Global, text: &str) -> Option<Vec<u8>> {
-    if text == LONG {
-        return vec![in alloc; b'x'; 4097].ok();
-    }
-    Vec::from_slice(alloc, text.as_bytes()).ok()
+    let Some(front) = text.strip_suffix(LONG) else {
+        return Vec::from_slice(alloc, text.as_bytes()).ok();
+    };
+    let mut bytes = Vec::from_slice(alloc, front.as_bytes()).ok()?;
+    bytes.resize(front.len().saturating_add(4097), b'x').ok()?;
+    Some(bytes)
 }
 
 /// Runs inputs: what was written and said, and the status.
@@ -108,6 +111,48 @@ fn two_workers_want_the_same(rt: HostRuntime) {
     let one_of_them = ends_with_one(written.as_slice(), &CROSSED);
     assert!(rt; one_of_them);
     assert_eq!(rt; status, 0);
+}
+
+/// The run of a worker without rounds, whose writer fails at a flush, gives what is wanted.
+fn flush_gives<
+    H: Threads + Wait + Clock + Eprint + AllocGlobal + Abort + Copy + Drop + Send + Sync + 'static,
+>(rt: H, flush: u32, wanted: (&str, &str, u8)) {
+    let orders = orders(&rt, (1, 0, 1));
+    let mut writer = make_sink(Vec::new(rt.alloc()), 10_000, Failing::Flush(flush));
+    let mut faults = Vec::new(rt.alloc());
+    let status = scripted(
+        rt,
+        rt.alloc(),
+        A.as_bytes(),
+        &mut b"1 fly\n".as_slice(),
+        &mut b"".as_slice(),
+        orders,
+        &mut writer,
+        &mut faults,
+    );
+    compare(
+        &rt,
+        writer.taken.as_slice(),
+        faults.as_slice(),
+        status,
+        wanted,
+    );
+}
+
+/// Three flushes are the script's, two the live script's, and the sixth is behind the workers' lines.
+#[test]
+fn a_flush_that_fails(rt: HostRuntime) {
+    let lines = "bad word\nworker 1 tried 0 committed 0 denied 0 refused 0\nversion 0\n";
+    let fault = "dispatch: run fault write\n";
+    for (flush, wanted) in [
+        (0u32, ("", fault, 3u8)),
+        (1, ("bad word\n", fault, 3)),
+        (4, ("bad word\n", fault, 3)),
+        (5, (lines, fault, 3)),
+        (6, (lines, "", 1)),
+    ] {
+        flush_gives(rt, flush, wanted);
+    }
 }
 
 /// As many workers as there may be.

@@ -19,7 +19,7 @@ pub(crate) const LAID_OUT: &[&str] = &[
 ];
 
 /// Customer 1 behind customer 2 again.
-const BACK: &[&str] = &["1 shift 1 1 1 1 2 4"];
+pub(crate) const BACK: &[&str] = &["1 shift 1 1 1 1 2 4"];
 
 /// The moves of the route 2, 1, 3 that save 60, in the order of ties, are proposed one after another by a session that is not there. Then
 /// session 1 commits the first of them, and after that it is taken back.

@@ -5,7 +5,7 @@ ghost use Rattle.dimension_core.specs.Setup.{setting};
 use crate::alone::{LAID_OUT, ends_of};
 use crate::desks::{audit, open_all, play};
 use board_lock::{Desk, Foyer, Naming};
-use search_workers::{Gate, Point, Share, Tally, work_all};
+use search_workers::{Gate, Outcome, Point, Share, Tally, work_all};
 use std::alloc::Global;
 use std::process::Abort;
 use std::sync::Wait;
@@ -34,6 +34,9 @@ struct Crossed {
     looked: AtomicU64,
     /// Whether the second one has its reply.
     replied: AtomicU64,
+    /// What it heard of rounds that are over: 1 for the one round of the first one, if denied, 10 for that of the second one, if committed, and
+    /// 100 for anything else.
+    heard: AtomicU64,
 }
 
 impl<W: Wait> Gate<W> for Crossed {
@@ -54,6 +57,15 @@ impl<W: Wait> Gate<W> for Crossed {
                 }
             }
         }
+    }
+
+    fn done(&self, _rt: &W, worker: u32, round: u32, outcome: Outcome) {
+        let what = match (worker, round, outcome) {
+            (1, 1, Outcome::Denied) => 1,
+            (2, 1, Outcome::Committed) => 10,
+            _ => 100,
+        };
+        self.heard.fetch_add(what, Ordering::SeqCst);
     }
 }
 
@@ -92,13 +104,21 @@ fn two_of<N: Naming, R: Wait + Drop>(shares: &[Share<N, R>]) -> Option<(Tally, T
     }
 }
 
+/// What came of two workers: their tallies, what their gate heard of rounds that are over, and the journal.
+#[derive(Drop)]
+pub(crate) struct Two {
+    tallies: Option<(Tally, Tally)>,
+    heard: u64,
+    journal: Option<String>,
+}
+
 /// Both workers look before either proposes, and worker 1 proposes after worker 2 has its reply. So both run at once, the second one commits,
-/// and the first one is denied as stale. It gives their tallies and the journal.
+/// and the first one is denied as stale.
 pub(crate) fn works_crossed<
     N: Naming + Send + Sync,
     R: Wait + Drop + Send + Sync,
     W: Threads + Wait + Sync,
->(rt: &W, alloc: Global, foyer: Foyer<R>) -> Option<(Option<(Tally, Tally)>, Option<String>)>
+>(rt: &W, alloc: Global, foyer: Foyer<R>) -> Option<Two>
     requires opening { foyer.room.opening ≡ N.opening }
     requires book { foyer.room.book ≡ N.book }
 {
@@ -107,9 +127,14 @@ pub(crate) fn works_crossed<
     let gate = Crossed {
         looked: AtomicU64::new(0),
         replied: AtomicU64::new(0),
+        heard: AtomicU64::new(0),
     };
     let shares = at_once(rt, alloc, desks, &[1, 1], &[3, 4], 1, &gate)?;
-    Some((two_of(shares.as_slice()), audit(rt, alloc, &mut own)))
+    Some(Two {
+        tallies: two_of(shares.as_slice()),
+        heard: gate.heard.load(Ordering::SeqCst),
+        journal: audit(rt, alloc, &mut own),
+    })
 }
 
 const JOURNAL: &str = "event 1 3 1 | 1 grant root audit board | done
@@ -123,14 +148,19 @@ event 8 1 1 | 1 shift 1 1 1 1 2 3 | denied stale 1
 end
 ";
 
-pub(crate) fn compare_crossed(
-    rt: &impl Abort,
-    ended: &Option<(Option<(Tally, Tally)>, Option<String>)>,
-) {
-    let Some((Some((one, two)), Some(journal))) = ended else {
+pub(crate) fn compare_crossed(rt: &impl Abort, ended: &Option<Two>) {
+    let Some(
+        Two {
+            tallies: Some((one, two)),
+            heard,
+            journal: Some(journal),
+        },
+    ) = ended
+    else {
         return assert!(rt; false);
     };
     assert_eq!(rt; ends_of(*one), (0u32, 1u32, 0u32, 0u32));
     assert_eq!(rt; ends_of(*two), (1u32, 0u32, 0u32, 0u32));
+    assert_eq!(rt; *heard, 11);
     assert_eq!(rt; journal.as_str(), JOURNAL);
 }

@@ -1,5 +1,5 @@
 //! One worker that has found a move, and before it proposes it another desk takes something away: its session, a role of its user, a
-//! permission, or the freedom of the vehicle's front.
+//! permission, or the freedom of the vehicle's front. Last, one that has looked where no move counts, while another desk makes one count again.
 ghost use Rattle.std.specs.Prelude.{◌≡◌};
 ghost use Rattle.dimension_core.specs.Setup.{setting};
 
@@ -9,17 +9,19 @@ use crate::desks::{audit, open_two, play};
 use crate::threads::{Task, beside};
 use board_lock::{DeskOf, Foyer, Naming, Seat};
 use dimension_core::Setup;
-use search_workers::{Gate, Point, Share, work};
+use search_workers::{Gate, Outcome, Point, Share, work};
 use std::alloc::Global;
 use std::process::Abort;
-use std::sync::atomic::AtomicU64;
+use std::sync::atomic::{AtomicU64, Ordering};
 use std::sync::{Arc, Wait};
 use std::thread::Threads;
 
-/// What another desk submits before a round of a session, and what while the worker is held before its proposal.
+/// What another desk submits before the rounds of a session, and what while the worker is held at a point.
 #[derive(Clone, Copy, Drop)]
 struct Turn {
     session: u32,
+    rounds: u32,
+    point: Point,
     first: &'static [&'static str],
     held: &'static [&'static str],
 }
@@ -33,26 +35,41 @@ const HIRED: &[&str] = &[
     "1 grant worker move customer 1 3",
 ];
 
-const TURNS: [Turn; 4] = [
+const TURNS: [Turn; 5] = [
     Turn {
         session: 2,
+        rounds: 1,
+        point: Point::Before,
         first: &["1 assign worker worker", "1 open worker worker"],
         held: &["1 close 2"],
     },
     Turn {
         session: 3,
+        rounds: 1,
+        point: Point::Before,
         first: &["1 open worker worker"],
         held: &["1 deassign worker worker"],
     },
     Turn {
         session: 4,
+        rounds: 1,
+        point: Point::Before,
         first: &["1 assign worker worker", "1 open worker worker"],
         held: &["1 revoke worker move customer 2 2"],
     },
     Turn {
         session: 4,
+        rounds: 1,
+        point: Point::Before,
         first: &["1 grant worker move customer 2 2"],
         held: &["1 freeze 1 3"],
+    },
+    Turn {
+        session: 4,
+        rounds: 2,
+        point: Point::Seen,
+        first: &["1 thaw 1 0", "1 shift 1 1 1 1 2 3"],
+        held: &["1 shift 1 1 1 1 2 4"],
     },
 ];
 
@@ -81,6 +98,10 @@ event 22 1 3 | 4 shift 1 1 1 1 2 3 | denied access customer 1 1
 event 23 2 20 | 1 grant worker move customer 2 2 | done
 event 24 2 21 | 1 freeze 1 3 | done
 event 25 1 4 | 4 shift 1 1 1 1 2 3 | denied frozen 1
+event 26 2 22 | 1 thaw 1 0 | done
+event 27 2 23 | 1 shift 1 1 1 1 2 3 | committed 4
+event 28 2 24 | 1 shift 1 1 1 1 2 4 | committed 5
+event 29 1 5 | 4 shift 1 1 1 1 2 5 | committed 6
 end
 ";
 
@@ -108,36 +129,63 @@ impl Words {
     }
 }
 
-impl<W: Wait> Gate<W> for Words {
+/// Holds a worker at a point until it is let go, and adds up the numbers of the rounds that found nothing.
+#[derive(Drop)]
+struct Latch {
+    point: Point,
+    words: Words,
+    idle: AtomicU64,
+}
+
+impl<W: Wait> Gate<W> for Latch {
     fn pass(&self, _rt: &W, _worker: u32, _round: u32, point: Point) {
-        if point == Point::Before {
-            say(&self.there);
-            wait_for(&self.free, 1);
+        if point == self.point {
+            say(&self.words.there);
+            wait_for(&self.words.free, 1);
+        }
+    }
+
+    fn done(&self, _rt: &W, _worker: u32, round: u32, outcome: Outcome) {
+        if outcome == Outcome::Idle {
+            self.idle.fetch_add(u64::from(round), Ordering::SeqCst);
         }
     }
 }
 
-/// One round of a worker, which is held before its proposal. It gives the seat back with the number of proposals that were denied.
+/// The rounds of a worker, which is held at a point. It gives the seat back with the number of proposals that were denied, and what the
+/// numbers of the rounds that found nothing add up to.
 #[derive(Drop)]
-struct OneRound {
+struct Rounds {
     alloc: Global,
     session: u32,
-    gate: Words,
+    rounds: u32,
+    gate: Latch,
 }
 
-impl<N: Naming, R: Wait + Drop, W: Wait> Task<W, Arc<Setup>, Seat<N, R>, (Seat<N, R>, u32)>
-    for OneRound {
+impl<N: Naming, R: Wait + Drop, W: Wait> Task<W, Arc<Setup>, Seat<N, R>, (Seat<N, R>, (u32, u64))>
+    for Rounds {
     ghost use Rattle.dimension_core.specs.Setup.{setting};
 
     ghost may = { λ setup seat. setting setup.value ≡ N.opening.setting };
 
-    fn run(self, rt: &W, first: Arc<Setup>, second: Seat<N, R>) -> (Seat<N, R>, u32) {
+    fn run(self, rt: &W, first: Arc<Setup>, second: Seat<N, R>) -> (Seat<N, R>, (u32, u64)) {
         let desk = DeskOf {
             setup: first,
             seat: second,
         };
-        let Share { desk, tally } = work(rt, self.alloc, desk, self.session, 7, 1, &self.gate);
-        (desk.seat, tally.denied)
+        let Share { desk, tally } = work(
+            rt,
+            self.alloc,
+            desk,
+            self.session,
+            7,
+            self.rounds,
+            &self.gate,
+        );
+        (
+            desk.seat,
+            (tally.denied, self.gate.idle.load(Ordering::SeqCst)),
+        )
     }
 }
 
@@ -163,25 +211,30 @@ impl<N: Naming, R: Wait + Drop, W: Wait> Task<W, Arc<Setup>, Seat<N, R>, Seat<N,
     }
 }
 
-/// A turn of one seat, and a round of the other. It gives the seats back with the number of proposals that were denied.
+/// A turn of one seat, and the rounds of the other. It gives the seats back with what `Rounds` gives.
 fn one_turn<N: Naming + Send + Sync, R: Wait + Drop + Send + Sync, W: Threads + Wait + Sync>(
     rt: &W,
     alloc: Global,
     setup: &Arc<Setup>,
     seats: (Seat<N, R>, Seat<N, R>),
     turn: Turn,
-) -> Option<((Seat<N, R>, Seat<N, R>), u32)>
+) -> Option<((Seat<N, R>, Seat<N, R>), (u32, u64))>
     requires { setting setup.now.value ≡ N.opening.setting }
 {
     let words = Words::new(alloc)?;
-    let gate = words.share()?;
+    let gate = Latch {
+        point: turn.point,
+        words: words.share()?,
+        idle: AtomicU64::new(0),
+    };
     let first = Arc::try_clone(setup).ok()?;
     let second = Arc::try_clone(setup).ok()?;
     let (mut own, other) = seats;
     play(rt, alloc, setup, &mut own, turn.first);
-    let round = OneRound {
+    let rounds = Rounds {
         alloc,
         session: turn.session,
+        rounds: turn.rounds,
         gate,
     };
     let call = OneTurn {
@@ -189,16 +242,16 @@ fn one_turn<N: Naming + Send + Sync, R: Wait + Drop + Send + Sync, W: Threads + 
         lines: turn.held,
         words,
     };
-    let ((other, denied), own) = beside(rt, round, second, other, call, first, own);
-    Some(((own, other), denied))
+    let ((other, ends), own) = beside(rt, rounds, second, other, call, first, own);
+    Some(((own, other), ends))
 }
 
-/// How many of the four rounds were denied, and the journal.
+/// How many rounds were denied, what the numbers of those that found nothing add up to, and the journal.
 pub(crate) fn works_held<
     N: Naming + Send + Sync,
     R: Wait + Drop + Send + Sync,
     W: Threads + Wait + Sync,
->(rt: &W, alloc: Global, foyer: Foyer<R>) -> Option<(u32, Option<String>)>
+>(rt: &W, alloc: Global, foyer: Foyer<R>) -> Option<((u32, u64), Option<String>)>
     requires opening { foyer.room.opening ≡ N.opening }
     requires book { foyer.room.book ≡ N.book }
 {
@@ -207,18 +260,21 @@ pub(crate) fn works_held<
     play(rt, alloc, &setup, &mut own, HIRED);
     let mut seats = (own, worker.seat);
     let mut denied = 0u32;
+    let mut idle = 0u64;
     for turn in TURNS {
         let (next, more) = one_turn(rt, alloc, &setup, seats, turn)?;
         seats = next;
-        denied = denied.wrapping_add(more);
+        denied = denied.wrapping_add(more.0);
+        idle = idle.wrapping_add(more.1);
     }
-    Some((denied, audit(rt, alloc, &mut seats.0)))
+    Some(((denied, idle), audit(rt, alloc, &mut seats.0)))
 }
 
-pub(crate) fn compare_held(rt: &impl Abort, ended: &Option<(u32, Option<String>)>) {
-    let Some((denied, Some(journal))) = ended else {
+/// Four rounds were denied, and of the last two the first one found nothing.
+pub(crate) fn compare_held(rt: &impl Abort, ended: &Option<((u32, u64), Option<String>)>) {
+    let Some((ends, Some(journal))) = ended else {
         return assert!(rt; false);
     };
-    assert_eq!(rt; *denied, 4);
     assert_eq!(rt; journal.as_str(), JOURNAL);
+    assert_eq!(rt; *ends, (4u32, 1u64));
 }

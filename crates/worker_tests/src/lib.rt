@@ -1,5 +1,5 @@
-//! Tests of workers: one alone, one that is held while rights change, two at once, and eight beside a busy desk. Calls, replies and journals
-//! are compared as the text of their lines.
+//! Tests of workers: one alone, one that is held while rights or the plan change, two at once, what a gate hears, and eight beside a busy desk.
+//! Calls, replies and journals are compared as the text of their lines.
 #![tactic(auto)]
 
 #[cfg(test)]
@@ -16,6 +16,8 @@ mod crowd;
 mod desks;
 #[cfg(test)]
 mod held;
+#[cfg(test)]
+mod noted;
 #[cfg(test)]
 mod replay;
 #[cfg(test)]

@@ -7,6 +7,7 @@ use crate::boards::free_foyer;
 use crate::crossed::{compare_crossed, works_crossed};
 use crate::crowd::{compare_crowd, works_beside};
 use crate::held::{compare_held, works_held};
+use crate::noted::{compare_noted, works_noted};
 use callback_store::Transit;
 use std::marker::Brand;
 use std::test::Fail;
@@ -53,6 +54,21 @@ fn two_workers_cross(rt: HostRuntime) -> Result<(), Fail> {
     let drives = Transit::new(4, drive);
     let foyer = free_foyer(&rt, alloc, drives, (3, 1), 3, 100).ok_or("a foyer")?;
     compare_crossed(&rt, &works_crossed::<Brand, _, _>(&rt, alloc, foyer));
+    Ok(())
+}
+
+#[test]
+fn a_gate_hears_each_round(rt: HostRuntime) -> Result<(), Fail> {
+    let alloc = rt.alloc();
+    let drive = Box::new(
+        alloc,
+        move |i: u32, j: u32| -> u64
+            ensures { result ≡ 30 * way i j }
+        { u64::from(i.abs_diff(j)) * 30 },
+    )?;
+    let drives = Transit::new(4, drive);
+    let foyer = free_foyer(&rt, alloc, drives, (3, 1), 2, 10).ok_or("a foyer")?;
+    compare_noted(&rt, &works_noted::<Brand, _, _>(&rt, alloc, foyer));
     Ok(())
 }
 
