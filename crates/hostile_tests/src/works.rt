@@ -12,7 +12,7 @@ use std::process::Abort;
 use std::sync::{Arc, Wait};
 use std::thread::Threads;
 
-/// How many shares come of eight workers without rounds that are started with so many bytes, or why none do; nothing where their hall was not
+/// How many shares come of five workers without rounds that are started with so many bytes, or why none do; nothing where their hall was not
 /// opened.
 fn shares_of<N: Naming + Send + Sync, R: Wait + Drop + Send + Sync, W: Threads + Wait + Sync>(
     rt: &W,
@@ -27,11 +27,11 @@ fn shares_of<N: Naming + Send + Sync, R: Wait + Drop + Send + Sync, W: Threads +
     let Ok(desks) = open_hall::<N, R>(alloc, foyer) else {
         return None;
     };
-    if desks.len() != 8 {
+    if desks.len() != 5 {
         return None;
     }
-    let sessions = Vec::from_slice(alloc, &[1u32, 1, 1, 1, 1, 1, 1, 1]).ok()?;
-    let seeds = Vec::from_slice(alloc, &[1u64, 2, 3, 4, 5, 6, 7, 8]).ok()?;
+    let sessions = Vec::from_slice(alloc, &[1u32, 1, 1, 1, 1]).ok()?;
+    let seeds = Vec::from_slice(alloc, &[1u64, 2, 3, 4, 5]).ok()?;
     hoard.leave(bytes);
     let worked = work_all(rt, alloc, desks, sessions, seeds, 0, &OpenGate);
     hoard.give_back();
@@ -49,32 +49,34 @@ fn started_with<W: Threads + Wait + Sync>(
     setup: &Arc<Setup>,
     bytes: usize,
 ) -> Option<Result<usize, WorkFault>> {
-    let foyer = foyer_of(rt, alloc, Arc::try_clone(setup).ok()?, 8)?;
+    let foyer = foyer_of(rt, alloc, Arc::try_clone(setup).ok()?, 5)?;
     shares_of::<Brand, _, _>(rt, alloc, hoard, foyer, bytes)
 }
 
-/// Starts eight workers time and again, each time with twice the memory and more, until all are started: how often a thread was not, and how
-/// many shares there are then.
+/// No memory for a thread, memory for some of five, whose stacks take eight megabytes each as a rule, and for all.
+const LEFT: [usize; 3] = [0, 36 << 20, 1 << 28];
+
+/// Starts five workers time and again, each time with more memory, until all are started: how often one was not, and how many shares there
+/// are then.
 pub(crate) fn starts_until<W: Threads + Wait + Sync>(
     rt: &W,
     alloc: Global,
     hoard: &mut Hoard,
     setup: &Arc<Setup>,
 ) -> (u32, Option<usize>) {
-    let mut bytes = 0usize;
-    for refused in 0..20u32 {
+    let mut refused = 0u32;
+    for bytes in LEFT {
         match started_with(rt, alloc, hoard, setup, bytes) {
-            Some(Err(WorkFault::Spawn)) => {}
+            Some(Err(WorkFault::Spawn)) => refused = refused.wrapping_add(1),
             Some(Ok(shares)) => return (refused, Some(shares)),
             _ => return (refused, None),
         }
-        bytes = bytes.saturating_mul(2).saturating_add(1 << 16);
     }
-    (20, None)
+    (refused, None)
 }
 
 /// Where memory lacked for a thread, for the first one or for a later one, the fault was `Spawn`, and the next start gave all shares.
 pub(crate) fn compare_started(rt: &impl Abort, hoard: &Hoard, started: (u32, Option<usize>)) {
     assert!(rt; hoard.is_enough(started.0, 1), "{started:?}");
-    assert_eq!(rt; started.1, Some(8usize));
+    assert_eq!(rt; started.1, Some(5usize));
 }
