@@ -9,3 +9,4 @@ pub mod Tabled
 pub mod Rows
 pub mod Saved
 pub mod Still
+pub mod Gathers

@@ -1,11 +1,15 @@
 -- Moves whose numbers are in range, by the stops of their vehicles.
-use Rattle.std.proofs.Common.{◌≡◌, ◌≢◌, ℕ, ◌+◌, ◌<◌, ◌≤◌, ◌⊎◌, inl, inr, ap, refl, arith, List, length, true}
+use Rattle.std.proofs.Common.{◌≡◌, ◌≢◌, ◌==◌, ◌∙◌, ℕ, ◌+◌, ◌<◌, ◌≤◌, ◌⊎◌, inl, inr, ap, refl, sym, arith, List, length, Bool, true}
+use Rattle.std.proofs.lemmas.Bool.{eqb-true}
 use Rattle.plan_core.specs.Plan.{route_at}
+use Rattle.dimension_core.specs.Setting.{Setting}
+use Rattle.pin_core.specs.View.{ViewState}
 use Rattle.move_core.specs.declared.moves.Move.{Move}
 use Rattle.move_core.specs.declared.moves.Move.TheVariants.{Insert, Remove, Shift, Swap, Reverse, Cross}
 use Rattle.move_core.specs.Moves.{is_possible}
 use Rattle.move_judge.specs.Near.{IsNear}
 use Rattle.way_costs.specs.Ways.{AreStops}
+use Rattle.neighbourhood.specs.Best.{IsIdle}
 use Rattle.neighbourhood.specs.Laws.{Laws}
 
 module _ (law : Laws) (n : ℕ) (routes : List (List ℕ)) where
@@ -92,3 +96,9 @@ module _ (law : Laws) (n : ℕ) (routes : List (List ℕ)) where
         | inl less ↦ absurd (omega arith)
         | inr less ↦ absurd (omega arith)
       ]
+
+-- so no move near two vehicles counts where a test of each says that it has none
+pub none_idle : (law : Laws) (view : ViewState) (v w : ℕ) (r q : List ℕ) (x y : Bool) → r ≡ route_at view.routes v → q ≡ route_at view.routes w → x ≡ (length r == 0) → y ≡ (length q == 0)
+    → x ≡ true → y ≡ true → (s : Setting) (skip : List Move) → IsIdle s view skip v w
+none_idle law view v w r q x y here there one other first second s skip = λ mv counts.
+    none_possible law s.customers view.routes v w (ap length (sym here) ∙ eqb-true (length r) 0 (sym one ∙ first)) (ap length (sym there) ∙ eqb-true (length q) 0 (sym other ∙ second)) mv counts.near counts.possible

@@ -1,4 +1,4 @@
-use Rattle.std.proofs.Common.{◌≡◌, ◌∙◌, ℕ, suc, ◌+◌, ◌-◌, ◌*◌, ◌<◌, ◌≤◌, ap, refl, arith, List, [], ◌∷◌, ◌++◌, length, slice_index, true, false, Bool}
+use Rattle.std.proofs.Common.{◌≡◌, ◌∙◌, ℕ, suc, ◌+◌, ◌-◌, ◌*◌, ◌<◌, ◌≤◌, ap, refl, sym, arith, List, [], ◌∷◌, ◌++◌, length, slice_index, true, false, Bool}
 use Rattle.std.proofs.lemmas.List.{get_or-append_right}
 use Rattle.callback_store.specs.Tables.{Table}
 use Rattle.plan_core.specs.Plan.{route_at}
@@ -54,6 +54,27 @@ pub row_from : (turned : Bool) (t : Table) (from to cells one : List ℕ) (row c
     → row ≤ a → a + 1 < length from + row
     → ((k : ℕ) → k < length to → slice_index one k ≡ slice_index cells (a * length to + k)) → IsRowFrom turned t from to column a one
 row_from turned t from to cells one row column a few all low high is k l h = is k (omega arith) ∙ all.hops a k low high l h
+
+-- the way from the depot to a stop of the first vehicle is among those back from there, and the way from a stop to the depot among those out
+pub closed_first : (t : Table) (n : ℕ) (routes : List (List ℕ)) (v w : ℕ) (from to into comes : List ℕ) (before after : ℕ) → AreStops n routes v from → AreStops n routes w to
+    → AreHopsFrom true t from to 1 0 into → before ≡ 0 → before < after → after < length from
+    → ((k : ℕ) → k < length to → slice_index comes k ≡ slice_index into (after * length to + k)) → slice_index comes 0 ≡ hop t (slice_index from before) (slice_index from after)
+closed_first t n routes v w from to into comes before after f g all e order high is =
+    let wide = g.sized in
+    let way = row_from true t from to into comes 1 0 after (omega arith) all (omega arith) (omega arith) is 0 (omega arith) (omega arith) in
+    let depot : slice_index to 0 ≡ slice_index from before = (stops_ends n routes w to g).0 ∙ sym (ap (λ (k : ℕ). slice_index from k) e ∙ (stops_ends n routes v from f).0) in
+    way ∙ ap (λ (k : ℕ). hop t k (slice_index from after)) depot
+
+pub closed_last : (t : Table) (n : ℕ) (routes : List (List ℕ)) (v w : ℕ) (from to out goes : List ℕ) (before after : ℕ) → AreStops n routes v from → AreStops n routes w to
+    → AreHopsFrom false t from to 0 1 out → after + 1 ≡ length from → before < after
+    → ((k : ℕ) → k < length to → slice_index goes k ≡ slice_index out (before * length to + k))
+    → slice_index goes (length to - 1) ≡ hop t (slice_index from before) (slice_index from after)
+closed_last t n routes v w from to out goes before after f g all e order is =
+    let wide = g.sized in
+    let last : after ≡ length from - 1 = omega arith in
+    let way = row_from false t from to out goes 0 1 before (omega arith) all (omega arith) (omega arith) is (length to - 1) (omega arith) (omega arith) in
+    let depot : slice_index to (length to - 1) ≡ slice_index from after = (stops_ends n routes w to g).1 ∙ sym (ap (λ (k : ℕ). slice_index from k) last ∙ (stops_ends n routes v from f).1) in
+    way ∙ ap (λ (k : ℕ). hop t (slice_index from before) k) depot
 
 -- none of its ways is below the number that it has where it lacks a way
 pub floor_from : (from to cells one : List ℕ) (row column a : ℕ) → column ≤ 1 → spare_of column to < length to → AreFloors from to row column cells

@@ -1,6 +1,7 @@
 //! The best move.
-ghost use Rattle.std.specs.Prelude.{◌≡◌, ◌≢◌, ◌≤◌, false, List, IfOk, IsTrue, MatchOption};
+ghost use Rattle.std.specs.Prelude.{◌≡◌, ◌≢◌, ◌≤◌, false, List, length, IfOk, IsTrue, MatchOption};
 ghost use Rattle.callback_store.specs.Tables.{table_at};
+ghost use Rattle.dimension_core.specs.Setting.{Setting};
 ghost use Rattle.dimension_core.specs.Setup.{setting};
 ghost use Rattle.move_core.specs.declared.moves.Move.{Move};
 ghost use Rattle.move_judge.specs.View.{IsViewOf};
@@ -56,12 +57,11 @@ fn best_of_two(search: &Search, gathered: &Gathered) -> Option<(Move, u64)>
 }
 
 /// Whether neither of two vehicles, which may be one, has a customer. Then no move counts.
-fn are_empty(view: &View, setup: &Setup, v: u32, w: u32) -> bool
+fn are_empty(view: &View, v: u32, w: u32) -> bool
     requires laws { Laws }
-    requires view { IsViewOf (setting setup.now) view.now }
-    requires v { (1 ≤ v) × (v ≤ (setting setup.now).vehicles) }
-    requires w { (1 ≤ w) × (w ≤ (setting setup.now).vehicles) }
-    ensures { IsTrue result → (skip : List Move) → IsIdle (setting setup.now) view.now skip v w }
+    requires v { (1 ≤ v) × (v ≤ length view.now.routes) }
+    requires w { (1 ≤ w) × (w ≤ length view.now.routes) }
+    ensures { IsTrue result → (s : Setting) (skip : List Move) → IsIdle s view.now skip v w }
 {
     if !view.customers(v).is_empty() {
         return false;
@@ -125,7 +125,7 @@ impl Searcher {
         requires v { (1 ≤ v) × (v ≤ (setting setup.now).vehicles) }
         ensures { IfOk result (λ best. MatchOption best (IsIdle (setting setup.now) view.now skip.now v v) (λ p. IsBest (setting setup.now) view.now skip.now v v p.0 p.1)) }
     {
-        if are_empty(view, setup, v, v) {
+        if are_empty(view, v, v) {
             return Ok(None);
         }
         fill_stops(view, setup, v, &mut self.sides.stops)?;
@@ -133,7 +133,7 @@ impl Searcher {
         let stops = sides.stops.as_slice();
         self.ways.gather_among(setup, stops)?;
         let ways = &self.ways;
-        self.along.gather(setup, stops, &ways.out)?;
+        self.along.gather(stops, &ways.out)?;
         let along = &self.along;
         let (sums, back_sums) = along.sums.split_at(stops.len() - 1);
         let gathered = Gathered {
@@ -186,13 +186,13 @@ impl Searcher {
         requires apart { v ≢ w }
         ensures { IfOk result (λ best. MatchOption best (IsIdle (setting setup.now) view.now skip.now v w) (λ p. IsBest (setting setup.now) view.now skip.now v w p.0 p.1)) }
     {
-        if are_empty(view, setup, v, w) {
+        if are_empty(view, v, w) {
             return Ok(None);
         }
         self.sides.gather(view, setup, v, w)?;
         let sides = &self.sides;
         let (stops, edges) = (sides.stops.as_slice(), sides.edges.as_slice());
-        let (from, to, from_edges, to_edges) = parts_of(view, setup, v, w, stops, edges);
+        let (from, to, from_edges, to_edges) = parts_of(view, setup, v, stops, edges);
         self.ways.gather_between(setup, from, to)?;
         let ways = &self.ways;
         let gathered = Gathered {

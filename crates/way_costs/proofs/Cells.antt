@@ -7,7 +7,7 @@ use borrow.Rule.Slice.PartMut.{put_mid, post_of}
 use Rattle.callback_store.specs.Tables.{Table, entry}
 use Rattle.plan_core.specs.Cost.{way}
 use Rattle.way_costs.proofs.WayParts.{way_append, last_take}
-use Rattle.way_costs.specs.Ways.{hop, hop_by, entry_by, along, AreHopsFrom, AreSums, AddsSums, AreBothSums}
+use Rattle.way_costs.specs.Ways.{hop, hop_by, entry_by, along, AreHopsFrom, AreEdges, ArePicked, IsTurned, AreSums, AddsSums, AreBothSums}
 
 -- a row lies inside its table
 pub row_fits : (a n w : ℕ) → a < n → a * w + w ≤ n * w
@@ -120,55 +120,83 @@ floored to cells filled row column i spare x few wide apart room f kept low = re
   ];
 }
 
+-- one row more of a table that lacks a column, with that number
+pub rows_more : (turned : Bool) (t : Table) (from to asked old cells filled new : List ℕ) (row column i spare x : ℕ)
+    → row ≤ 1 → column ≤ 1 → i < row + length from - 1 → 1 ≤ length from → 1 ≤ length to → spare < length to
+    → ((b : ℕ) → column ≤ b → b + 1 < length to + column → b ≢ spare) → asked ≡ take (length to - 1) (drop column to) → cells ≡ old
+    → AreFilledFrom turned t from to row column i old → AreFlooredTo to row column spare i old → length filled ≡ length cells
+    → ((k : ℕ) → k < length asked → slice_index filled (i * length to + column + k) ≡ hop_by turned t (slice_index from i) (slice_index asked k))
+    → ((k : ℕ) → k < i * length to + column → slice_index filled k ≡ slice_index cells k)
+    → ((k : ℕ) → k < length asked → x ≤ slice_index filled (i * length to + column + k)) → filled ≡ new
+    → AreFilledFrom turned t from to row column (i + 1) (set new (i * length to + spare) x) × AreFlooredTo to row column spare (i + 1) (set new (i * length to + spare) x)
+rows_more turned t from to asked old cells filled new row column i spare x low few below some wide within apart is same f g sized ways kept least back =
+    let w = length to in
+    let long : length asked ≡ w - 1 = ap length is ∙ length-take-le (w - 1) (drop column to) (let d = length-drop column to in omega arith) in
+    let before : AreFilledFrom turned t from to row column i cells = subst (λ (xs : List ℕ). AreFilledFrom turned t from to row column i xs) (sym same) f in
+    let lower : AreFlooredTo to row column spare i cells = subst (λ (xs : List ℕ). AreFlooredTo to row column spare i xs) (sym same) g in
+    let more = filled_from turned t from to cells filled row column i few before sized (rw (sym is) ways) kept in
+    let fits = row_fits i (length from) w (omega arith) in
+    let whole = more.whole in (
+      subst (λ (xs : List ℕ). AreFilledFrom turned t from to row column (i + 1) (set xs (i * w + spare) x)) back (spared turned t from to filled row column i spare x few within apart more),
+      subst (λ (xs : List ℕ). AreFlooredTo to row column spare (i + 1) (set xs (i * w + spare) x)) back
+          (floored to cells filled row column i spare x few within apart (omega arith) lower kept (λ k h. least k (omega arith))),
+    )
+
 -- a table that is turned: the rows before one, and the first numbers of this one
-pub record AreTurned (t : Table) (S : List ℕ) (i j : ℕ) (cells : List ℕ) : Type 0 where
-  pub rows : AreFilledFrom true t S S 1 0 i cells
-  pub row : (b : ℕ) → b < j → slice_index cells (i * length S + b) ≡ hop_by true t (slice_index S i) (slice_index S b)
+pub record IsTurnedTo (w i j : ℕ) (cells back : List ℕ) : Type 0 where
+  pub rows : IsTurned w i cells back
+  pub row : (b : ℕ) → b < j → slice_index back (i * w + b) ≡ slice_index cells (b * w + i)
 
-pub turned_none : (t : Table) (S cells : List ℕ) → length cells ≡ length S * length S → AreFilledFrom true t S S 1 0 1 cells
-turned_none t S cells e = record { whole = e; hops = λ a b la ha lb hb. absurd (omega arith) }
+pub turned_none : (w : ℕ) (cells back : List ℕ) → length back ≡ w * w → IsTurned w 1 cells back
+turned_none w cells back e = record { whole = e; turned = λ a b la ha lb. absurd (omega arith) }
 
-pub turned_begin : (t : Table) (S cells : List ℕ) (i : ℕ) → AreFilledFrom true t S S 1 0 i cells → AreTurned t S i 0 cells
-turned_begin t S cells i f = record { rows = f; row = λ b h. absurd (omega arith) }
+pub turned_begin : (w i : ℕ) (cells back : List ℕ) → IsTurned w i cells back → IsTurnedTo w i 0 cells back
+turned_begin w i cells back f = record { rows = f; row = λ b h. absurd (omega arith) }
 
 -- one number more
-pub turned_more : (t : Table) (S cells : List ℕ) (i j x : ℕ) → i < length S → j < length S → AreTurned t S i j cells
-    → x ≡ hop_by true t (slice_index S i) (slice_index S j) → AreTurned t S i (j + 1) (set cells (i * length S + j) x)
-turned_more t S cells i j x g h f r =
-    let w = length S in
+pub turned_more : (w : ℕ) (cells back : List ℕ) (i j x : ℕ) → i < w → j < w → IsTurnedTo w i j cells back → x ≡ slice_index cells (j * w + i)
+    → IsTurnedTo w i (j + 1) cells (set back (i * w + j) x)
+turned_more w cells back i j x g h f r =
     let fits = row_fits i w w g in
     let whole = f.rows.whole in
-    let room : i * w + j < length cells = omega arith in
+    let room : i * w + j < length back = omega arith in
     record {
       rows = record {
-        whole = length-set cells (i * w + j) x ∙ f.rows.whole;
-        hops = λ a b la ha lb hb.
+        whole = length-set back (i * w + j) x ∙ f.rows.whole;
+        turned = λ a b la ha lb.
             let before = row_fits a i w ha in
-            get_or-set_other cells (i * w + j) (a * w + b) x 0 (λ same. absurd (omega (arith, same))) ∙ f.rows.hops a b la ha lb hb;
+            get_or-set_other back (i * w + j) (a * w + b) x 0 (λ same. absurd (omega (arith, same))) ∙ f.rows.turned a b la ha lb;
       };
       row = λ b below. elim (cases_lt b j) [
-        | inl less ↦ get_or-set_other cells (i * w + j) (i * w + b) x 0 (λ same. absurd (omega (arith, same))) ∙ f.row b less
+        | inl less ↦ get_or-set_other back (i * w + j) (i * w + b) x 0 (λ same. absurd (omega (arith, same))) ∙ f.row b less
         | inr more ↦
             let same : j ≡ b = omega arith in
-            subst (λ (n : ℕ). slice_index (set cells (i * w + j) x) (i * w + n) ≡ hop_by true t (slice_index S i) (slice_index S n)) same
-            (get_or-set_same cells (i * w + j) x 0 room ∙ r)
+            subst (λ (n : ℕ). slice_index (set back (i * w + j) x) (i * w + n) ≡ slice_index cells (n * w + i)) same
+            (get_or-set_same back (i * w + j) x 0 room ∙ r)
       ];
     }
 
 -- one row more
-pub turned_row : (t : Table) (S cells : List ℕ) (i j : ℕ) → length S ≤ j + 1 → AreTurned t S i j cells → AreFilledFrom true t S S 1 0 (i + 1) cells
-turned_row t S cells i j all f = record {
+pub turned_row : (w i j : ℕ) (cells back : List ℕ) → w ≤ j + 1 → IsTurnedTo w i j cells back → IsTurned w (i + 1) cells back
+turned_row w i j cells back all f = record {
   whole = f.rows.whole;
-  hops = λ a b la ha lb hb. elim (cases_lt a i) [
-    | inl less ↦ f.rows.hops a b la less lb hb
+  turned = λ a b la ha lb. elim (cases_lt a i) [
+    | inl less ↦ f.rows.turned a b la less lb
     | inr more ↦
         let same : i ≡ a = omega arith in
-        subst (λ (n : ℕ). slice_index cells (n * length S + b) ≡ hop_by true t (slice_index S n) (slice_index S b)) same (f.row b (omega arith))
+        subst (λ (n : ℕ). slice_index back (n * w + b) ≡ slice_index cells (b * w + n)) same (f.row b (omega arith))
   ];
 }
 
-pub turned_all : (t : Table) (S cells : List ℕ) (i : ℕ) → length S ≤ i → AreFilledFrom true t S S 1 0 i cells → AreHopsFrom true t S S 1 0 cells
-turned_all t S cells i all f = record { counted = f.whole; hops = λ a b la ha lb hb. f.hops a b la (omega arith) lb hb }
+pub turned_all : (w i : ℕ) (cells back : List ℕ) → w ≤ i → IsTurned w i cells back → IsTurned w w cells back
+turned_all w i cells back all f = record { whole = f.whole; turned = λ a b la ha lb. f.turned a b la (omega arith) lb }
+
+-- such a table of the ways as they are driven has those as they are driven back
+pub turned_ways : (t : Table) (S out into : List ℕ) → AreHopsFrom false t S S 0 1 out → IsTurned (length S) (length S) out into → AreHopsFrom true t S S 1 0 into
+turned_ways t S out into all f = record {
+  counted = f.whole;
+  hops = λ a b la ha lb hb. f.turned a b la (omega arith) (omega arith) ∙ all.hops b a (omega arith) (omega arith) la (omega arith);
+}
 
 -- the first answers of a row, and a number that none of them is below
 pub record AreAsked (turned : Bool) (t : Table) (stop : ℕ) (to : List ℕ) (n least : ℕ) (row : List ℕ) : Type 0 where
@@ -291,17 +319,25 @@ steps_by true t S cells i all l h = all.hops (i + 1) i (omega arith) (omega arit
 steps_by false t S cells i all l h = all.hops i (i + 1) (omega arith) (omega arith) (omega arith) (omega arith)
 
 -- one edge more
-pub edges_more : (t : Table) (stops edges : List ℕ) (x : ℕ) → ((k : ℕ) → k < length edges → slice_index edges k ≡ hop t (slice_index stops k) (slice_index stops (k + 1)))
-    → x ≡ hop t (slice_index stops (length edges)) (slice_index stops (length edges + 1))
-    → (k : ℕ) → k < length (edges ++ x ∷ []) → slice_index (edges ++ x ∷ []) k ≡ hop t (slice_index stops k) (slice_index stops (k + 1))
-edges_more t stops edges x all new k h =
-    let long : length (edges ++ x ∷ []) ≡ length edges + 1 = length-append edges (x ∷ []) in
-    elim (cases_lt k (length edges)) [
-      | inl less ↦ pushed_before edges x k less ∙ all k less
-      | inr more ↦
-          let same : length edges ≡ k = omega arith in
-          pushed_last edges x k same ∙ subst (λ (n : ℕ). x ≡ hop t (slice_index stops n) (slice_index stops (n + 1))) same new
-    ]
+pub picked_more : (w n : ℕ) (cells edges new : List ℕ) (x : ℕ) → ArePicked w n cells edges → new ≡ edges ++ x ∷ [] → x ≡ slice_index cells (n * w + (n + 1))
+    → ArePicked w (n + 1) cells new
+picked_more w n cells edges new x all e here = record {
+  counted = ap length e ∙ length-append edges (x ∷ []) ∙ ap (λ (k : ℕ). k + 1) all.counted;
+  picked = λ k h. ap (λ (xs : List ℕ). slice_index xs k) e ∙ elim (cases_lt k n) [
+    | inl less ↦ pushed_before edges x k (subst (λ (m : ℕ). k < m) (sym all.counted) less) ∙ all.picked k less
+    | inr more ↦
+        let same : n ≡ k = omega arith in
+        pushed_last edges x k (all.counted ∙ same) ∙ subst (λ (m : ℕ). x ≡ slice_index cells (m * w + (m + 1))) same here
+  ];
+}
+
+pub picked_edges : (t : Table) (S cells edges : List ℕ) → 1 ≤ length S → AreHopsFrom false t S S 0 1 cells → ArePicked (length S) (length S - 1) cells edges → AreEdges t S edges
+picked_edges t S cells edges some all p =
+    let counted = p.counted in
+    record {
+      counted = omega arith;
+      hops = λ k h. p.picked k (omega arith) ∙ all.hops k (k + 1) (omega arith) (omega arith) (omega arith) (omega arith);
+    }
 
 -- one way more of a sum
 pub along_more : (f : ℕ → ℕ → ℕ) (R : List ℕ) (k : ℕ) → k < length R → along f (0 ∷ R) (k + 1) ≡ along f (0 ∷ R) k + f (slice_index (0 ∷ R) k) (slice_index (0 ∷ R) (k + 1))

@@ -78,3 +78,13 @@ pub record AreBothSums (t : Table) (stops : List ℕ) (cells : List ℕ) : Type 
   pub sums : AreSums false t stops (length stops - 1) (take (length stops - 1) cells)
   pub back_sums : AreSums true t stops (length stops - 1) (drop (length stops - 1) cells)
   pub small : All (λ x. x ≤ 2 ^ 42) (take (length stops - 1) cells) × All (λ x. x ≤ 2 ^ 42) (drop (length stops - 1) cells)
+
+-- the first n rows of a square table, turned, without its first row and its last column
+pub record IsTurned (w n : ℕ) (cells back : List ℕ) : Type 0 where
+  pub whole : length back ≡ w * w
+  pub turned : (a b : ℕ) → 1 ≤ a → a < n → b + 1 < w → slice_index back (a * w + b) ≡ slice_index cells (b * w + a)
+
+-- the first n numbers beside its diagonal
+pub record ArePicked (w n : ℕ) (cells edges : List ℕ) : Type 0 where
+  pub counted : length edges ≡ n
+  pub picked : (k : ℕ) → k < n → slice_index edges k ≡ slice_index cells (k * w + (k + 1))

@@ -24,7 +24,6 @@ pub fn hop(setup: &Setup, i: u32, j: u32) -> u64
     if j == 0 && i == 0 {
         return 0;
     }
-    let _customers = setup.customers();
     setup.registry().ask(setup.cost(), &mut Meter::new(), i, j)
 }
 

@@ -1,7 +1,7 @@
 //! What is gathered before a search: the stops of the vehicles, and the ways between them. Each group is made by one function, so that a
 //! search owns few values.
 ghost use Rattle.std.specs.Prelude.{◌≡◌, ◌≤◌, ◌*◌, ◌∷◌, ℕ, false, List, length, All, IfOk};
-ghost use Rattle.callback_store.specs.Tables.{table_at};
+ghost use Rattle.callback_store.specs.Tables.{Table, table_at};
 ghost use Rattle.dimension_core.specs.Setup.{setting};
 ghost use Rattle.plan_core.specs.Plan.{IsPlan, route_at};
 ghost use Rattle.way_costs.specs.Sides.{AreSides, AreWaysBetween, AreFloored, IsAlong, stops_of_both};
@@ -90,18 +90,17 @@ pub fn parts_of<'a>(
     view: &View,
     setup: &Setup,
     v: u32,
-    w: u32,
     stops: &'a [u32],
     edges: &'a [u32],
 ) -> (&'a [u32], &'a [u32], &'a [u32], &'a [u32])
     requires plan { IsPlan (setting setup.now).customers view.now.routes }
     requires vehicles { length view.now.routes ≡ (setting setup.now).vehicles }
     requires v { (1 ≤ v) × (v ≤ (setting setup.now).vehicles) }
-    requires w { (1 ≤ w) × (w ≤ (setting setup.now).vehicles) }
-    requires stops { stops.now ≡ stops_of_both (route_at view.now.routes v) (route_at view.now.routes w) }
+    requires stops { (others : List ℕ) × (stops.now ≡ stops_of_both (route_at view.now.routes v) others) }
     requires edges { AreEdges (table_at (setting setup.now).tables (setting setup.now).cost) stops.now edges.now }
     ensures from { AreStops (setting setup.now).customers view.now.routes v result.0.now }
-    ensures to { AreStops (setting setup.now).customers view.now.routes w result.1.now }
+    ensures to { (w : ℕ) → 1 ≤ w → w ≤ (setting setup.now).vehicles → stops.now ≡ stops_of_both (route_at view.now.routes v) (route_at view.now.routes w)
+        → AreStops (setting setup.now).customers view.now.routes w result.1.now }
     ensures from_edges { AreEdges (table_at (setting setup.now).tables (setting setup.now).cost) result.0.now result.2.now }
     ensures to_edges { AreEdges (table_at (setting setup.now).tables (setting setup.now).cost) result.1.now result.3.now }
 {
@@ -151,7 +150,7 @@ impl Ways {
         ensures { IfOk result (λ _. AreWaysBetween (table_at (setting setup.now).tables (setting setup.now).cost) stops.now stops.now self.new) }
     {
         fill_ways(setup, false, stops, stops, &mut self.out)?;
-        fill_turned(setup, stops, &self.out, &mut self.into)
+        fill_turned(stops, &self.out, &mut self.into)
     }
 }
 
@@ -167,15 +166,15 @@ impl Along {
     }
 
     /// Gathers the ways along some stops, by the ways between them all, in place of what was gathered.
-    pub fn gather(&mut self, setup: &Setup, stops: &[u32], cells: &[u32]) -> Result<(), AllocError>
-        requires cells { AreHopsFrom false (table_at (setting setup.now).tables (setting setup.now).cost) stops.now stops.now 0 1 cells.now }
+    pub fn gather(&mut self, stops: &[u32], cells: &[u32]) -> Result<(), AllocError>
+        requires sized { length cells.now ≡ length stops.now * length stops.now }
         requires depot { (rest : List ℕ) × (stops.now ≡ 0 ∷ rest) }
         requires long { 2 ≤ length stops.now }
         requires short { length stops.now ≤ 1002 }
-        ensures { IfOk result (λ _. IsAlong (table_at (setting setup.now).tables (setting setup.now).cost) stops.now self.new) }
+        ensures { IfOk result (λ _. (t : Table) → AreHopsFrom false t stops.now stops.now 0 1 cells.now → IsAlong t stops.now self.new) }
     {
-        pick_edges(setup, stops, cells, &mut self.edges)?;
+        pick_edges(stops, cells, &mut self.edges)?;
         self.most = most_of(&self.edges);
-        fill_sums(setup, stops, cells, &mut self.sums)
+        fill_sums(stops, cells, &mut self.sums)
     }
 }

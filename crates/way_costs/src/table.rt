@@ -1,8 +1,8 @@
 //! What the ways between stops cost, asked once and kept.
 ghost use Rattle.std.specs.Prelude.{◌≡◌, ◌≢◌, ◌≤◌, ◌<◌, ◌+◌, ◌-◌, ◌*◌, ◌^◌, ◌∷◌, ◌==◌, if◌then◌else◌, ℕ, true, false, List, length, slice_index, take, drop, All, IfOk};
-ghost use Rattle.callback_store.specs.Tables.{table_at};
+ghost use Rattle.callback_store.specs.Tables.{Table, table_at};
 ghost use Rattle.dimension_core.specs.Setup.{setting};
-ghost use Rattle.way_costs.specs.Ways.{entry_by, hop_by, AreHopsFrom, AreFloors, AreEdges, AddsSums, AreBothSums};
+ghost use Rattle.way_costs.specs.Ways.{entry_by, hop_by, AreHopsFrom, AreFloors, AreEdges, ArePicked, AddsSums, AreBothSums, IsTurned};
 
 use crate::hops::hop;
 use callback_store::Meter;
@@ -17,7 +17,6 @@ fn ask_ways(setup: &Setup, turned: bool, stop: u32, to: &[u32], row: &mut [u32])
     ensures sized { length row.new ≡ length to.now }
     ensures answers { (k : ℕ) → k < length to.now → slice_index row.new k ≡ entry_by turned (table_at (setting setup.now).tables (setting setup.now).cost) stop (slice_index to.now k) }
 {
-    let _customers = setup.customers();
     if turned {
         setup
             .registry()
@@ -86,7 +85,6 @@ fn ask_out(setup: &Setup, stop: u32, to: &[u32], row: &mut [u32]) -> u32
     ensures ways { (k : ℕ) → k < length to.now → slice_index row.new k ≡ hop_by false (table_at (setting setup.now).tables (setting setup.now).cost) stop (slice_index to.now k) }
     ensures least { All (λ x. result ≤ x) row.new }
 {
-    let _customers = setup.customers();
     let mut least = NONE;
     for k in 0..to.len() {
         let way = setup
@@ -109,7 +107,6 @@ fn ask_back(setup: &Setup, stop: u32, to: &[u32], row: &mut [u32]) -> u32
     ensures ways { (k : ℕ) → k < length to.now → slice_index row.new k ≡ hop_by true (table_at (setting setup.now).tables (setting setup.now).cost) stop (slice_index to.now k) }
     ensures least { All (λ x. result ≤ x) row.new }
 {
-    let _customers = setup.customers();
     let mut least = NONE;
     for k in 0..to.len() {
         let way = setup
@@ -288,14 +285,13 @@ fn cell(cells: &[u32], width: usize, from: usize, to: usize) -> u32
 /// Fills a table with what the ways between some stops cost, driven back, by those as they are driven. What it held is given up.
 #[inline(never)]
 pub(crate) fn fill_turned(
-    setup: &Setup,
     stops: &[u32],
     cells: &[u32],
     back: &mut Vec<u32>,
 ) -> Result<(), AllocError>
-    requires cells { AreHopsFrom false (table_at (setting setup.now).tables (setting setup.now).cost) stops.now stops.now 0 1 cells.now }
+    requires sized { length cells.now ≡ length stops.now * length stops.now }
     requires short { length stops.now ≤ 1002 }
-    ensures { IfOk result (λ _. AreHopsFrom true (table_at (setting setup.now).tables (setting setup.now).cost) stops.now stops.now 1 0 back.new.items) }
+    ensures { IfOk result (λ _. IsTurned (length stops.now) (length stops.now) cells.now back.new.items) }
 {
     let width = stops.len();
     back.resize(width * width, UNFILLED)?;
@@ -309,14 +305,13 @@ pub(crate) fn fill_turned(
 
 /// Puts what the way from each stop to the next one costs, by the ways between them all, in place of what `edges` held.
 pub(crate) fn pick_edges(
-    setup: &Setup,
     stops: &[u32],
     cells: &[u32],
     edges: &mut Vec<u32>,
 ) -> Result<(), AllocError>
-    requires cells { AreHopsFrom false (table_at (setting setup.now).tables (setting setup.now).cost) stops.now stops.now 0 1 cells.now }
+    requires sized { length cells.now ≡ length stops.now * length stops.now }
     requires some { 1 ≤ length stops.now }
-    ensures { IfOk result (λ _. AreEdges (table_at (setting setup.now).tables (setting setup.now).cost) stops.now edges.new.items) }
+    ensures { IfOk result (λ _. ArePicked (length stops.now) (length stops.now - 1) cells.now edges.new.items) }
 {
     let last = stops.len() - 1;
     edges.clear();
@@ -344,17 +339,17 @@ fn step(cells: &[u32], width: usize, turned: bool, from: usize) -> u32
 /// Adds what the ways over the first stops cost together, but the first of these ways, for each number of stops from 1 on, as they are
 /// driven or driven back, by the ways between all. The last way is in no sum.
 fn add_sums(
-    setup: &Setup,
     turned: bool,
     stops: &[u32],
     cells: &[u32],
     sums: &mut Vec<u64>,
 ) -> Result<(), AllocError>
-    requires cells { AreHopsFrom false (table_at (setting setup.now).tables (setting setup.now).cost) stops.now stops.now 0 1 cells.now }
+    requires sized { length cells.now ≡ length stops.now * length stops.now }
     requires depot { (rest : List ℕ) × (stops.now ≡ 0 ∷ rest) }
     requires long { 2 ≤ length stops.now }
     requires short { length stops.now ≤ 1002 }
-    ensures { IfOk result (λ _. AddsSums turned (table_at (setting setup.now).tables (setting setup.now).cost) stops.now (length stops.now - 1) sums.old.items sums.new.items) }
+    ensures { IfOk result (λ _. (t : Table) → AreHopsFrom false t stops.now stops.now 0 1 cells.now
+        → AddsSums turned t stops.now (length stops.now - 1) sums.old.items sums.new.items) }
 {
     let last = stops.len() - 1;
     let mut sum = 0u64;
@@ -368,21 +363,20 @@ fn add_sums(
 
 /// Puts these sums as the ways are driven, and behind them as they are driven back, in place of what `sums` held.
 pub(crate) fn fill_sums(
-    setup: &Setup,
     stops: &[u32],
     cells: &[u32],
     sums: &mut Vec<u64>,
 ) -> Result<(), AllocError>
-    requires cells { AreHopsFrom false (table_at (setting setup.now).tables (setting setup.now).cost) stops.now stops.now 0 1 cells.now }
+    requires sized { length cells.now ≡ length stops.now * length stops.now }
     requires depot { (rest : List ℕ) × (stops.now ≡ 0 ∷ rest) }
     requires long { 2 ≤ length stops.now }
     requires short { length stops.now ≤ 1002 }
-    ensures { IfOk result (λ _. AreBothSums (table_at (setting setup.now).tables (setting setup.now).cost) stops.now sums.new.items) }
+    ensures { IfOk result (λ _. (t : Table) → AreHopsFrom false t stops.now stops.now 0 1 cells.now → AreBothSums t stops.now sums.new.items) }
 {
     sums.clear();
     sums.reserve(2 * stops.len())?;
-    add_sums(setup, false, stops, cells, sums)?;
-    add_sums(setup, true, stops, cells, sums)?;
+    add_sums(false, stops, cells, sums)?;
+    add_sums(true, stops, cells, sums)?;
     Ok(())
 }
 

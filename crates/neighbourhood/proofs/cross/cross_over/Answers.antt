@@ -1,10 +1,10 @@
-use Rattle.std.proofs.Common.{◌≡◌, ℕ, ◌+◌, ◌-◌, ◌<◌, ◌⊎◌, arith, subst, inl, inr, [], ◌∷◌, length}
+use Rattle.std.proofs.Common.{◌≡◌, ℕ, ◌+◌, ◌-◌, ◌<◌, ◌⊎◌, arith, subst, inl, inr, [], ◌∷◌, length, ◌≤◌}
 use Rattle.plan_core.specs.Plan.{route_at}
 use Rattle.neighbourhood.specs.Search.{IsBestSoFar}
 use Rattle.neighbourhood.specs.Searched.{searched}
 use Rattle.neighbourhood.proofs.Orders.{cross_none}
 use Rattle.neighbourhood.proofs.Rows.{crosses_past}
-use Rattle.neighbourhood.proofs.Saved.{cross_most, cross_possible, cross_saved, into_room}
+use Rattle.neighbourhood.proofs.Saved.{cross_most, cross_possible, cross_saved, into_room, out_room}
 use Rattle.neighbourhood.proofs.cross.cross_over.Goals.{then-last, else-last}
 use Rattle.neighbourhood.proofs.cross.cross_over.Goals as goal
 
@@ -95,3 +95,29 @@ returns-then-lost-from g c =
     c.row-here.ensures.cells c.row-next.ensures.cells in
     omega arith)
     c.requires.best
+
+pub row-here-requires : goal.row-here-requires
+row-here-requires g c =
+    let fit = c.requires.keep in
+    record { high = out_room (searched c.args.search.now) c.requires.search c.args.gathered.now c.requires.gathered (c.args.keep) (omega arith) }
+
+pub cross_row-requires-clause-ways : goal.cross_row-requires-clause-ways
+cross_row-requires-clause-ways g c =
+    let counted = c.requires.gathered.to_edges.counted in
+    let wide = c.requires.gathered.to.sized in
+    let to = c.row-next.ensures.sized in
+    let on = c.row-here.ensures.sized in
+    let high : c.if-last.end + 1 ≤ length c.args.gathered.now.to.now = elim c.if-last.branch [
+      | then-last w ↦ let e = w.end-is in omega arith
+      | else-last w ↦ let e = w.end-is in omega arith
+    ] in
+    record { edges = omega arith; to = omega arith; on = omega arith }
+
+pub cross_row-requires-clause-most : goal.cross_row-requires-clause-most
+cross_row-requires-clause-most g c = c.requires.gathered.most
+
+pub cross_row-requires-clause-short : goal.cross_row-requires-clause-short
+cross_row-requires-clause-short g c =
+    let on = c.row-here.ensures.sized in
+    let short = c.requires.gathered.to.short in
+    omega arith

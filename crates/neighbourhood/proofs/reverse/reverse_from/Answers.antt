@@ -1,7 +1,7 @@
 use Rattle.std.proofs.Common.{◌+◌, ◌-◌, arith, length}
 use Rattle.neighbourhood.specs.Searched.{searched}
 use Rattle.neighbourhood.proofs.Rows.{reverses_past}
-use Rattle.neighbourhood.proofs.Saved.{reverse_possible, reverse_saved}
+use Rattle.neighbourhood.proofs.Saved.{reverse_possible, reverse_saved, edges_inside, out_room_inside}
 use Rattle.neighbourhood.proofs.Still.{reverse_free}
 use Rattle.neighbourhood.proofs.reverse.reverse_from.Goals as goal
 
@@ -29,3 +29,36 @@ returns-then-first-first_free g c =
     let front = reverse_free q c.requires.search c.args.first k counts in
     absurd (omega arith))
     c.requires.best
+
+pub row-requires : goal.row-requires
+row-requires g c =
+    let low = c.requires.first.0 in
+    let fit = c.requires.first.1 in
+    record { high = out_room_inside (searched c.args.search.now) c.requires.search c.args.gathered.now c.requires.gathered c.requires.inside (c.args.first - 1) (omega arith) }
+
+pub row-requires-2 : goal.row-requires-2
+row-requires-2 g c =
+    let fit = c.requires.first.1 in
+    record { high = out_room_inside (searched c.args.search.now) c.requires.search c.args.gathered.now c.requires.gathered c.requires.inside (c.args.first) (omega arith) }
+
+pub reverse_row-requires-clause-ways : goal.reverse_row-requires-clause-ways
+reverse_row-requires-clause-ways g c =
+    let fit = c.requires.first.1 in
+    let counted = edges_inside (searched c.args.search.now) c.requires.search c.args.gathered.now c.requires.gathered c.requires.inside in
+    let on = c.requires.sums.sums.counted in
+    let back = c.requires.sums.back_sums.counted in
+    let before = c.row.ensures.sized in
+    let here = c.row-2.ensures.sized in
+    record { edges = omega arith; sums = omega arith; back_sums = omega arith; before = omega arith; here = omega arith; small = c.requires.sums.small }
+
+pub reverse_row-requires-clause-short : goal.reverse_row-requires-clause-short
+reverse_row-requires-clause-short g c =
+    let here = c.row-2.ensures.sized in
+    let short = c.requires.gathered.from.short in
+    omega arith
+
+pub reverse_row-requires-clause-best : goal.reverse_row-requires-clause-best
+reverse_row-requires-clause-best g c = c.requires.best
+
+pub returns : goal.returns
+returns g c = c.reverse_row.ensures

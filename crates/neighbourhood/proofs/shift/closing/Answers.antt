@@ -1,19 +1,55 @@
-use Rattle.std.proofs.Common.{◌≡◌, ◌∙◌, ℕ, ◌-◌, ap, arith, sym, false, length, slice_index}
-use Rattle.way_costs.specs.Ways.{hop}
+use Rattle.std.proofs.Common.{◌∙◌, arith, true, false}
 use Rattle.neighbourhood.specs.Searched.{searched, costs_of}
-use Rattle.neighbourhood.proofs.Tabled.{row_from, stops_ends}
+use Rattle.neighbourhood.proofs.Tabled.{room_from, closed_first, closed_last}
 use Rattle.neighbourhood.proofs.shift.closing.Goals as goal
 
 pub returns-then-after-from-clause-value : goal.returns-then-after-from-clause-value
 returns-then-after-from-clause-value g c =
     let q = searched c.args.search.now in
-    let r = c.requires.gathered in
     let a = c.args.gathered.now in
-    let wide = r.to.sized in
+    let r = c.requires.gathered in
+    c.from-then-after-from.ensures ∙ closed_last (costs_of q) q.setting.customers q.view.routes q.v q.w a.from.now a.to.now a.out.now c.row-goes.result.now c.args.before c.args.after r.from r.to r.out c.if-after-from.true c.requires.order c.row-goes.ensures.cells
+
+pub row-comes-requires : goal.row-comes-requires
+row-comes-requires g c =
+    let q = searched c.args.search.now in
+    let a = c.args.gathered.now in
+    record { high = room_from true (costs_of q) a.from.now a.to.now a.into.now 1 0 c.args.after c.requires.gathered.into c.requires.after }
+
+pub bounds-comes-0 : goal.bounds-comes-0
+bounds-comes-0 g c =
+    let wide = c.requires.gathered.to.sized in
+    let long = c.row-comes.ensures.sized in
+    omega arith
+
+pub returns-then-before-eq0-clause-value : goal.returns-then-before-eq0-clause-value
+returns-then-before-eq0-clause-value g c =
+    let q = searched c.args.search.now in
+    let a = c.args.gathered.now in
+    let r = c.requires.gathered in
+    c.from.ensures ∙ closed_first (costs_of q) q.setting.customers q.view.routes q.v q.w a.from.now a.to.now a.into.now c.row-comes.result.now c.args.before c.args.after r.from r.to r.into c.if-before-eq0.true c.requires.order c.requires.after c.row-comes.ensures.cells
+
+pub hop-requires-clause-from : goal.hop-requires-clause-from
+hop-requires-clause-from g c =
     let order = c.requires.order in
-    let last : c.args.after ≡ length a.from.now - 1 = let t = c.if-after-from.true in omega arith in
-    let goes : slice_index c.row-goes.result.now (length a.to.now - 1) ≡ hop (costs_of q) (slice_index a.from.now c.args.before) (slice_index a.to.now (length a.to.now - 1)) =
-    row_from false (costs_of q) a.from.now a.to.now a.out.now c.row-goes.result.now 0 1 c.args.before (omega arith) r.out (omega arith) (omega arith) c.row-goes.ensures.cells (length a.to.now - 1) (omega arith) (omega arith) in
-    let depot : slice_index a.to.now (length a.to.now - 1) ≡ slice_index a.from.now c.args.after =
-    (stops_ends q.setting.customers q.view.routes q.w a.to.now r.to).1 ∙ sym (ap (λ (n : ℕ). slice_index a.from.now n) last ∙ (stops_ends q.setting.customers q.view.routes q.v a.from.now r.from).1) in
-    c.from-then-after-from.ensures ∙ goes ∙ ap (λ (n : ℕ). hop (costs_of q) (slice_index a.from.now c.args.before) n) depot
+    let high = c.requires.after in
+    c.requires.gathered.from.known c.args.before 0 (omega arith)
+
+pub hop-requires-clause-to : goal.hop-requires-clause-to
+hop-requires-clause-to g c = c.requires.gathered.from.known c.args.after 0 c.requires.after
+
+pub returns-clause-value : goal.returns-clause-value
+returns-clause-value g c = c.hop.ensures.value
+
+pub returns-clause-small : goal.returns-clause-small
+returns-clause-small g c =
+    let small = c.hop.ensures.small in
+    omega arith
+
+pub row-goes-requires : goal.row-goes-requires
+row-goes-requires g c =
+    let q = searched c.args.search.now in
+    let a = c.args.gathered.now in
+    let order = c.requires.order in
+    let high = c.requires.after in
+    record { high = room_from false (costs_of q) a.from.now a.to.now a.out.now 0 1 c.args.before c.requires.gathered.out (omega arith) }

@@ -1,7 +1,7 @@
 use Rattle.std.proofs.Common.{◌≡◌, ℕ, ◌+◌, ◌-◌, ap, arith, length, refl, slice_index}
 use Rattle.way_costs.specs.Ways.{hop}
 use Rattle.neighbourhood.specs.Searched.{searched, costs_of}
-use Rattle.neighbourhood.proofs.Saved.{out_room, shift_most, shift_saved}
+use Rattle.neighbourhood.proofs.Saved.{out_room, shift_most, shift_saved, into_room, shift_possible}
 use Rattle.neighbourhood.proofs.Shifts.{shifts_past}
 use Rattle.neighbourhood.proofs.Still.{shift_free}
 use Rattle.neighbourhood.proofs.shift.shift_over.Goals as goal
@@ -84,3 +84,36 @@ shift_row-requires-clause-best g c =
     let front = (shift_free q c.requires.search c.args.place c.args.count k c.requires.apart counts).1 in
     absurd (omega arith))
     c.requires.best
+
+pub row-comes-requires : goal.row-comes-requires
+row-comes-requires g c =
+    let fit = c.requires.place.1 in
+    record { high = into_room (searched c.args.search.now) c.requires.search c.args.gathered.now c.requires.gathered (c.args.place) (omega arith) }
+
+pub shift_row-requires-clause-ways : goal.shift_row-requires-clause-ways
+shift_row-requires-clause-ways g c =
+    let some = c.requires.count.0 in
+    let low = c.requires.place.0 in
+    let fit = c.requires.place.1 in
+    let wide = c.requires.gathered.to.sized in
+    let counted = c.requires.gathered.to_edges.counted in
+    let to = c.row-comes.ensures.sized in
+    let on = c.row-goes.ensures.sized in
+    record { edges = omega arith; to = omega arith; on = omega arith }
+
+pub shift_row-requires-clause-most : goal.shift_row-requires-clause-most
+shift_row-requires-clause-most g c = c.requires.gathered.most
+
+pub shift_row-requires-clause-short : goal.shift_row-requires-clause-short
+shift_row-requires-clause-short g c =
+    let on = c.row-goes.ensures.sized in
+    let short = c.requires.gathered.to.short in
+    omega arith
+
+pub shift_row-requires-clause-possible : goal.shift_row-requires-clause-possible
+shift_row-requires-clause-possible g c =
+    let begin = c.first_free-begin.ensures.value in
+    λ at l h. shift_possible (searched c.args.search.now) c.requires.search c.args.gathered.now c.requires.gathered c.args.place c.args.count at c.requires.apart c.requires.place.0 c.requires.count.0 c.requires.place.1 (omega arith) h
+
+pub returns : goal.returns
+returns g c = c.shift_row.ensures

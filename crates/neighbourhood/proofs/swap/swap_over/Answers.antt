@@ -1,7 +1,7 @@
 use Rattle.std.proofs.Common.{◌+◌, ◌-◌, arith, length}
 use Rattle.neighbourhood.specs.Searched.{searched}
 use Rattle.neighbourhood.proofs.Rows.{swaps_past}
-use Rattle.neighbourhood.proofs.Saved.{into_room, swap_most, swap_saved}
+use Rattle.neighbourhood.proofs.Saved.{into_room, out_room, swap_most, swap_possible, swap_saved}
 use Rattle.neighbourhood.proofs.Still.{swap_free}
 use Rattle.neighbourhood.proofs.swap.swap_over.Goals as goal
 
@@ -66,3 +66,50 @@ returns-then-lost-from g c =
     c.row-before.ensures.cells c.row-here.ensures.cells c.row-next.ensures.cells c.row-back.ensures.cells in
     omega arith)
     c.requires.best
+
+pub row-before-requires : goal.row-before-requires
+row-before-requires g c =
+    let fit = c.requires.place.1 in
+    record { high = out_room (searched c.args.search.now) c.requires.search c.args.gathered.now c.requires.gathered (c.args.place - 1) (omega arith) }
+
+pub row-here-requires : goal.row-here-requires
+row-here-requires g c =
+    let fit = c.requires.place.1 in
+    record { high = out_room (searched c.args.search.now) c.requires.search c.args.gathered.now c.requires.gathered c.args.place (omega arith) }
+
+pub swap_row-requires-clause-order : goal.swap_row-requires-clause-order
+swap_row-requires-clause-order g c =
+    let wide = c.requires.gathered.to.sized in
+    let high = c.first_free-begin.ensures.high in
+    omega arith
+
+pub swap_row-requires-clause-near : goal.swap_row-requires-clause-near
+swap_row-requires-clause-near g c = λ e. absurd (c.requires.apart e)
+
+pub swap_row-requires-clause-ways : goal.swap_row-requires-clause-ways
+swap_row-requires-clause-ways g c =
+    let wide = c.requires.gathered.to.sized in
+    let counted = c.requires.gathered.to_edges.counted in
+    let before = c.row-before.ensures.sized in
+    let here = c.row-here.ensures.sized in
+    let next = c.row-next.ensures.sized in
+    let back = c.row-back.ensures.sized in
+    record { edges = omega arith; before = omega arith; here = omega arith; next = omega arith; back = omega arith }
+
+pub swap_row-requires-clause-most : goal.swap_row-requires-clause-most
+swap_row-requires-clause-most g c = c.requires.gathered.most
+
+pub swap_row-requires-clause-short : goal.swap_row-requires-clause-short
+swap_row-requires-clause-short g c =
+    let here = c.row-here.ensures.sized in
+    let short = c.requires.gathered.to.short in
+    omega arith
+
+pub swap_row-requires-clause-possible : goal.swap_row-requires-clause-possible
+swap_row-requires-clause-possible g c =
+    let begin = c.first_free-begin.ensures.value in
+    λ at l h.
+    swap_possible (searched c.args.search.now) c.requires.search c.args.gathered.now c.requires.gathered c.args.place at (λ e. absurd (c.requires.apart e)) c.requires.place.0 c.requires.place.1 (omega arith) (omega arith)
+
+pub returns : goal.returns
+returns g c = c.swap_row.ensures

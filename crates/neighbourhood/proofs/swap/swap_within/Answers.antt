@@ -2,7 +2,7 @@ use Rattle.std.proofs.Common.{◌≡◌, ℕ, ◌+◌, ◌-◌, arith, subst, []
 use Rattle.neighbourhood.specs.Search.{IsBestSoFar}
 use Rattle.neighbourhood.specs.Searched.{searched}
 use Rattle.neighbourhood.proofs.Rows.{swaps_past}
-use Rattle.neighbourhood.proofs.Saved.{into_room_inside, swap_inside_possible, swap_inside_saved}
+use Rattle.neighbourhood.proofs.Saved.{into_room_inside, swap_inside_possible, swap_inside_saved, edges_inside, out_room_inside}
 use Rattle.neighbourhood.proofs.Still.{swap_inside_free}
 use Rattle.neighbourhood.proofs.swap.swap_within.Goals as goal
 
@@ -52,3 +52,47 @@ swap_row-requires-clause-saving g c =
     c.row.result.now c.row-2.result.now c.row-3.result.now c.row-4.result.now c.requires.place.0 (omega arith) (omega arith)
     c.row.ensures.cells c.row-2.ensures.cells c.row-3.ensures.cells c.row-4.ensures.cells in
     omega arith
+
+pub row-requires : goal.row-requires
+row-requires g c =
+    let low = c.requires.place.0 in
+    let fit = c.requires.place.1 in
+    record { high = out_room_inside (searched c.args.search.now) c.requires.search c.args.gathered.now c.requires.gathered c.requires.inside (c.args.place - 1) (omega arith) }
+
+pub row-requires-2 : goal.row-requires-2
+row-requires-2 g c =
+    let fit = c.requires.place.1 in
+    record { high = out_room_inside (searched c.args.search.now) c.requires.search c.args.gathered.now c.requires.gathered c.requires.inside (c.args.place) (omega arith) }
+
+pub row-requires-4 : goal.row-requires-4
+row-requires-4 g c =
+    let fit = c.requires.place.1 in
+    record { high = into_room_inside (searched c.args.search.now) c.requires.search c.args.gathered.now c.requires.gathered c.requires.inside (c.args.place) (omega arith) }
+
+pub swap_row-requires-clause-near : goal.swap_row-requires-clause-near
+swap_row-requires-clause-near g c = λ e. omega arith
+
+pub swap_row-requires-clause-ways : goal.swap_row-requires-clause-ways
+swap_row-requires-clause-ways g c =
+    let fit = c.requires.place.1 in
+    let counted = edges_inside (searched c.args.search.now) c.requires.search c.args.gathered.now c.requires.gathered c.requires.inside in
+    let before = c.row.ensures.sized in
+    let here = c.row-2.ensures.sized in
+    let next = c.row-3.ensures.sized in
+    let back = c.row-4.ensures.sized in
+    record { edges = omega arith; before = omega arith; here = omega arith; next = omega arith; back = omega arith }
+
+pub swap_row-requires-clause-most : goal.swap_row-requires-clause-most
+swap_row-requires-clause-most g c = c.requires.gathered.most
+
+pub swap_row-requires-clause-short : goal.swap_row-requires-clause-short
+swap_row-requires-clause-short g c =
+    let here = c.row-2.ensures.sized in
+    let short = c.requires.gathered.from.short in
+    omega arith
+
+pub swap_row-requires-clause-best : goal.swap_row-requires-clause-best
+swap_row-requires-clause-best g c = c.swap_next-near.ensures
+
+pub returns : goal.returns
+returns g c = c.swap_row.ensures

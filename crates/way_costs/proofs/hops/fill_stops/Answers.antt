@@ -1,10 +1,12 @@
-use Rattle.std.proofs.Common.{arith}
-use Rattle.std.proofs.lemmas.Grind.{common_steps}
+use Rattle.std.proofs.Common.{◌∙◌, ◌++◌, List, ℕ, ap}
 use Rattle.dimension_core.specs.Setup.{setting}
-use Rattle.way_costs.proofs.Stops.{made_stops}
+use Rattle.way_costs.proofs.Stops.{made_stops, pushed_stops}
 use Rattle.way_costs.proofs.hops.fill_stops.Goals as goal
 
 pub returns : goal.returns
 returns g c =
-    made_stops c.routes_are_known.ensures (setting c.args.setup.now) c.args.view.now.routes c.args.v _ c.requires.plan c.requires.vehicles c.customers-customers.ensures.sound.few_customers c.requires.low c.requires.high
-    (grind (arith, common_steps))
+    let s = setting c.args.setup.now in
+    let routes = c.args.view.now.routes in
+    made_stops c.routes_are_known.ensures s routes c.args.v c.push-2.new.self.items c.requires.plan c.requires.vehicles c.customers-customers.ensures.sound.few_customers c.requires.low c.requires.high
+    (pushed_stops _ _ _ _ _ _ c.clear.ensures.items c.reserve.ensures.items c.in_ok-push.ensures.items
+    (c.in_ok-extend_from_slice.ensures.items ∙ ap (λ (r : List ℕ). c.push.new.self.items ++ r) c.customers-customers-2.ensures) c.in_ok-push-2.ensures.items)

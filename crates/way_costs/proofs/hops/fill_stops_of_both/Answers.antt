@@ -1,6 +1,20 @@
-use Rattle.std.proofs.Common.{arith}
-use Rattle.std.proofs.lemmas.Grind.{common_steps}
+use Rattle.std.proofs.Common.{◌≡◌, ◌∙◌, ◌++◌, List, ℕ, ap}
+use Rattle.dimension_core.specs.Setup.{setting}
+use Rattle.plan_core.specs.Plan.{route_at}
+use Rattle.way_costs.specs.Sides.{stops_of_both}
+use Rattle.way_costs.proofs.Stops.{pushed_stops, pushed_both, known_both}
 use Rattle.way_costs.proofs.hops.fill_stops_of_both.Goals as goal
 
+are_both : (g : _) (c : goal.In_ok-push-3 g) → c.push-3.new.self.items ≡ stops_of_both (route_at c.args.view.now.routes c.args.v) (route_at c.args.view.now.routes c.args.w)
+are_both g c =
+    pushed_both _ _ _ _ _
+    (pushed_stops _ _ _ _ _ _ c.clear.ensures.items c.reserve.ensures.items c.in_ok-push.ensures.items
+    (c.in_ok-extend_from_slice.ensures.items ∙ ap (λ (r : List ℕ). c.push.new.self.items ++ r) c.customers-first.ensures) c.in_ok-push-2.ensures.items)
+    (c.in_ok-extend_from_slice-2.ensures.items ∙ ap (λ (q : List ℕ). c.push-2.new.self.items ++ q) c.customers-second.ensures) c.in_ok-push-3.ensures.items
+
 pub returns-clause-stops : goal.returns-clause-stops
-returns-clause-stops g c = grind (arith, common_steps)
+returns-clause-stops g c = are_both g c
+
+pub returns-clause-known : goal.returns-clause-known
+returns-clause-known g c =
+    known_both c.routes_are_known.ensures (setting c.args.setup.now).customers c.args.view.now.routes c.args.v c.args.w _ c.requires.plan (are_both g c)

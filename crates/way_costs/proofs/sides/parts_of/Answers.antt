@@ -10,29 +10,28 @@ use Rattle.way_costs.proofs.sides.parts_of.Goals as goal
 pub returns-clause-from : goal.returns-clause-from
 returns-clause-from g c =
     let r = route_at c.args.view.now.routes c.args.v in
-    let q = route_at c.args.view.now.routes c.args.w in
+    let q = c.requires.stops.0 in
     let here = c.customers.ensures in
     let long : length c.customers.result.now ≡ length r = ap length here in
     made_stops c.routes_are_known.ensures (setting c.args.setup.now) c.args.view.now.routes c.args.v _ c.requires.plan c.requires.vehicles c.customers-customers.ensures.sound.few_customers c.requires.v.0 c.requires.v.1
-    (both_front r q c.args.stops.now (length c.customers.result.now + 1 + 1) c.requires.stops (omega arith))
+    (both_front r q c.args.stops.now (length c.customers.result.now + 1 + 1) c.requires.stops.1 (omega arith))
 
 pub returns-clause-to : goal.returns-clause-to
-returns-clause-to g c =
+returns-clause-to g c = λ w low high all.
     let r = route_at c.args.view.now.routes c.args.v in
-    let q = route_at c.args.view.now.routes c.args.w in
-    let here = c.customers.ensures in
-    let long : length c.customers.result.now ≡ length r = ap length here in
-    made_stops c.routes_are_known.ensures (setting c.args.setup.now) c.args.view.now.routes c.args.w _ c.requires.plan c.requires.vehicles c.customers-customers.ensures.sound.few_customers c.requires.w.0 c.requires.w.1
-    (rest_whole (length c.customers.result.now + 1) c.args.stops.now ∙ both_back r q c.args.stops.now (length c.customers.result.now + 1) c.requires.stops (omega arith))
+    let q = route_at c.args.view.now.routes w in
+    let long : length c.customers.result.now ≡ length r = ap length c.customers.ensures in
+    made_stops c.routes_are_known.ensures (setting c.args.setup.now) c.args.view.now.routes w _ c.requires.plan c.requires.vehicles c.customers-customers.ensures.sound.few_customers low high
+    (rest_whole (length c.customers.result.now + 1) c.args.stops.now ∙ both_back r q c.args.stops.now (length c.customers.result.now + 1) all (omega arith))
 
 pub returns-clause-from_edges : goal.returns-clause-from_edges
 returns-clause-from_edges g c =
     let t = table_at (setting c.args.setup.now).tables (setting c.args.setup.now).cost in
     let r = route_at c.args.view.now.routes c.args.v in
-    let q = route_at c.args.view.now.routes c.args.w in
+    let q = c.requires.stops.0 in
     let here = c.customers.ensures in
     let long : length c.customers.result.now ≡ length r = ap length here in
-    let all : length c.args.stops.now ≡ length (stops_of_both r q) = ap length c.requires.stops in
+    let all : length c.args.stops.now ≡ length (stops_of_both r q) = ap length c.requires.stops.1 in
     let both = both_long r q in
     edges_front t c.args.stops.now c.args.edges.now (length c.customers.result.now + 1) c.requires.edges (omega arith)
 
@@ -40,10 +39,10 @@ pub returns-clause-to_edges : goal.returns-clause-to_edges
 returns-clause-to_edges g c =
     let t = table_at (setting c.args.setup.now).tables (setting c.args.setup.now).cost in
     let r = route_at c.args.view.now.routes c.args.v in
-    let q = route_at c.args.view.now.routes c.args.w in
+    let q = c.requires.stops.0 in
     let here = c.customers.ensures in
     let long : length c.customers.result.now ≡ length r = ap length here in
-    let all : length c.args.stops.now ≡ length (stops_of_both r q) = ap length c.requires.stops in
+    let all : length c.args.stops.now ≡ length (stops_of_both r q) = ap length c.requires.stops.1 in
     let both = both_long r q in
     let middle = length c.customers.result.now + 1 in
     rw (rest_whole middle c.args.stops.now, rest_whole middle c.args.edges.now)

@@ -1,12 +1,7 @@
-use Rattle.std.proofs.Common.{◌≡◌, ◌+◌, ◌<◌, ℕ, length, slice_index}
-use Rattle.callback_store.specs.Tables.{table_at}
-use Rattle.dimension_core.specs.Setup.{setting}
-use Rattle.way_costs.specs.Ways.{hop}
+use Rattle.std.proofs.Common.{length}
+use Rattle.way_costs.specs.Ways.{ArePicked}
 use Rattle.way_costs.proofs.table.pick_edges.Given as goal
 
 -- the edges so far
 abbrev pub invariant-loop-k : goal.invariant-loop-k
-invariant-loop-k g l = record {
-  counted : length l.edges.items ≡ l.k;
-  hops : (k : ℕ) → k < length l.edges.items → slice_index l.edges.items k ≡ hop (table_at (setting l.setup).tables (setting l.setup).cost) (slice_index l.stops k) (slice_index l.stops (k + 1));
-}
+invariant-loop-k l = ArePicked (length l.stops) l.k l.cells l.edges.items

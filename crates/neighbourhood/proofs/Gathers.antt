@@ -1,0 +1,58 @@
+-- What a search gathers before it begins, put together.
+use Rattle.std.proofs.Common.{◌≡◌, ℕ, ◌-◌, ◌^◌, ◌≤◌, refl, sym, subst, true, false, List, length, take, drop, All}
+use Rattle.callback_store.specs.Tables.{Table}
+use Rattle.way_costs.specs.Sides.{AlongState, AreFloored, AreWaysBetween, IsAlong, TwoWays}
+use Rattle.way_costs.specs.Ways.{AreBothSums, AreEdges, AreFloors, AreHopsFrom, AreStops, AreSums}
+use Rattle.neighbourhood.specs.declared.searched.Gathered.{Gathered}
+use Rattle.neighbourhood.specs.Searched.{Searched, AreSummed, IsGathered, costs_of}
+
+pub edges_of : (t : Table) (S E R F : List ℕ) → R ≡ S → F ≡ E → AreEdges t S E → AreEdges t R F
+edges_of t S E R F e f edges = subst (λ (xs : List ℕ). AreEdges t xs F) (sym e) (subst (λ (xs : List ℕ). AreEdges t S xs) (sym f) edges)
+
+-- of two vehicles
+pub gathered_between : (q : Searched) (g : Gathered) (ways : TwoWays) → AreStops q.setting.customers q.view.routes q.v g.from.now → AreStops q.setting.customers q.view.routes q.w g.to.now
+    → AreEdges (costs_of q) g.from.now g.from_edges.now → AreEdges (costs_of q) g.to.now g.to_edges.now → All (λ x. x ≤ g.most) g.to_edges.now
+    → AreWaysBetween (costs_of q) g.from.now g.to.now ways → AreFloored g.from.now g.to.now ways → g.out.now ≡ ways.out → g.into.now ≡ ways.into → IsGathered q g
+gathered_between q g ways from to from_edges to_edges most between floored e f = record {
+  from = from;
+  to = to;
+  from_edges = from_edges;
+  to_edges = to_edges;
+  most = most;
+  out = subst (λ (xs : List ℕ). AreHopsFrom false (costs_of q) g.from.now g.to.now 0 1 xs) (sym e) between.out;
+  into = subst (λ (xs : List ℕ). AreHopsFrom true (costs_of q) g.from.now g.to.now 1 0 xs) (sym f) between.into;
+  out_floors = λ apart. subst (λ (xs : List ℕ). AreFloors g.from.now g.to.now 0 1 xs) (sym e) floored.out;
+  into_floors = λ apart. subst (λ (xs : List ℕ). AreFloors g.from.now g.to.now 1 0 xs) (sym f) floored.into;
+}
+
+-- of one vehicle
+pub gathered_inside : (q : Searched) (g : Gathered) (ways : TwoWays) (way : AlongState) → q.v ≡ q.w → g.to.now ≡ g.from.now → AreStops q.setting.customers q.view.routes q.v g.from.now
+    → AreWaysBetween (costs_of q) g.from.now g.from.now ways → IsAlong (costs_of q) g.from.now way
+    → g.from_edges.now ≡ way.edges → g.to_edges.now ≡ way.edges → g.most ≡ way.most → g.out.now ≡ ways.out → g.into.now ≡ ways.into → IsGathered q g
+gathered_inside q g ways way inside same are between goes e f m o i =
+    let t = costs_of q in
+    let S = g.from.now in
+    record {
+      from = are;
+      to = subst (λ (xs : List ℕ). AreStops q.setting.customers q.view.routes q.w xs) (sym same) (subst (λ (w : ℕ). AreStops q.setting.customers q.view.routes w S) inside are);
+      from_edges = edges_of t S way.edges S g.from_edges.now refl e goes.edges;
+      to_edges = edges_of t S way.edges g.to.now g.to_edges.now same f goes.edges;
+      most = subst (λ (xs : List ℕ). All (λ x. x ≤ g.most) xs) (sym f) (subst (λ (n : ℕ). All (λ x. x ≤ n) way.edges) (sym m) goes.most);
+      out = subst (λ (xs : List ℕ). AreHopsFrom false t S xs 0 1 g.out.now) (sym same) (subst (λ (xs : List ℕ). AreHopsFrom false t S S 0 1 xs) (sym o) between.out);
+      into = subst (λ (xs : List ℕ). AreHopsFrom true t S xs 1 0 g.into.now) (sym same) (subst (λ (xs : List ℕ). AreHopsFrom true t S S 1 0 xs) (sym i) between.into);
+      out_floors = λ apart. absurd (apart inside);
+      into_floors = λ apart. absurd (apart inside);
+    }
+
+-- the two halves of its sums
+pub summed_inside : (q : Searched) (g : Gathered) (way : AlongState) (cells on back : List ℕ) → IsAlong (costs_of q) g.from.now way → cells ≡ way.sums
+    → on ≡ take (length g.from.now - 1) cells → back ≡ drop (length g.from.now - 1) cells → AreSummed q g on back
+summed_inside q g way cells on back goes e f b =
+    let t = costs_of q in
+    let n = length g.from.now - 1 in
+    let both = subst (λ (xs : List ℕ). AreBothSums t g.from.now xs) (sym e) goes.sums in
+    record {
+      sums = subst (λ (xs : List ℕ). AreSums false t g.from.now n xs) (sym f) both.sums;
+      back_sums = subst (λ (xs : List ℕ). AreSums true t g.from.now n xs) (sym b) both.back_sums;
+      small = (subst (λ (xs : List ℕ). All (λ x. x ≤ 2 ^ 42) xs) (sym f) both.small.0, subst (λ (xs : List ℕ). All (λ x. x ≤ 2 ^ 42) xs) (sym b) both.small.1);
+    }

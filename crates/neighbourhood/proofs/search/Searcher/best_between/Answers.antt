@@ -1,0 +1,73 @@
+use Rattle.std.proofs.Common.{◌≡◌, ◌∙◌, ◌≤◌, ◌-◌, ◌*◌, List, ℕ, ap, arith, length, refl, subst, sym, false}
+use Rattle.callback_store.specs.Tables.{table_at}
+use Rattle.dimension_core.specs.Setup.{setting}
+use Rattle.plan_core.specs.Plan.{route_at}
+use Rattle.way_costs.specs.Sides.{SidesState, TwoWays}
+use Rattle.neighbourhood.proofs.Gathers.{edges_of, gathered_between}
+use Rattle.neighbourhood.proofs.search.Searcher.best_between.Goals as goal
+
+pub are_empty-requires-clause-v : goal.are_empty-requires-clause-v
+are_empty-requires-clause-v g c = (c.requires.v.0, subst (λ (n : ℕ). c.args.v ≤ n) (sym c.requires.view.vehicles) c.requires.v.1)
+
+pub are_empty-requires-clause-w : goal.are_empty-requires-clause-w
+are_empty-requires-clause-w g c = (c.requires.w.0, subst (λ (n : ℕ). c.args.w ≤ n) (sym c.requires.view.vehicles) c.requires.w.1)
+
+pub returns-then-are_empty : goal.returns-then-are_empty
+returns-then-are_empty g c = c.are_empty.ensures c.if-are_empty.true _ _
+
+pub parts_of-requires-clause-stops : goal.parts_of-requires-clause-stops
+parts_of-requires-clause-stops g c =
+    (route_at c.args.view.now.routes c.args.w, c.as_slice-stops.ensures.value ∙ ap (λ (x : SidesState). x.stops) c.sides.view_is ∙ c.in_ok-gather.ensures.stops)
+
+pub parts_of-requires-clause-edges : goal.parts_of-requires-clause-edges
+parts_of-requires-clause-edges g c =
+    edges_of _ _ _ _ _ (c.as_slice-stops.ensures.value ∙ ap (λ (x : SidesState). x.stops) c.sides.view_is) (c.as_slice-edges.ensures.value ∙ ap (λ (x : SidesState). x.edges) c.sides.view_is) c.in_ok-gather.ensures.edges
+
+pub gather_between-requires-clause-from : goal.gather_between-requires-clause-from
+gather_between-requires-clause-from g c = c.parts_of.ensures.from.known
+
+pub gather_between-requires-clause-to : goal.gather_between-requires-clause-to
+gather_between-requires-clause-to g c =
+    let to = (c.parts_of.ensures.to c.args.w c.requires.w.0 c.requires.w.1 (c.as_slice-stops.ensures.value ∙ ap (λ (x : SidesState). x.stops) c.sides.view_is ∙ c.in_ok-gather.ensures.stops)) in
+    to.known
+
+pub gather_between-requires-clause-some : goal.gather_between-requires-clause-some
+gather_between-requires-clause-some g c =
+    let to = (c.parts_of.ensures.to c.args.w c.requires.w.0 c.requires.w.1 (c.as_slice-stops.ensures.value ∙ ap (λ (x : SidesState). x.stops) c.sides.view_is ∙ c.in_ok-gather.ensures.stops)) in
+    let here = c.parts_of.ensures.from.sized in
+    let there = to.sized in
+    (omega arith, omega arith)
+
+pub gather_between-requires-clause-short : goal.gather_between-requires-clause-short
+gather_between-requires-clause-short g c =
+    let to = (c.parts_of.ensures.to c.args.w c.requires.w.0 c.requires.w.1 (c.as_slice-stops.ensures.value ∙ ap (λ (x : SidesState). x.stops) c.sides.view_is ∙ c.in_ok-gather.ensures.stops)) in
+    (c.parts_of.ensures.from.short, to.short)
+
+pub best_of_two-found-requires-clause-search : goal.best_of_two-found-requires-clause-search
+best_of_two-found-requires-clause-search g c = record { laws = c.requires.laws; view = c.requires.view; v_kept = c.forget.ensures _ _ _ _; w_kept = c.forget.ensures _ _ _ _ }
+
+pub best_of_two-found-requires-clause-gathered : goal.best_of_two-found-requires-clause-gathered
+best_of_two-found-requires-clause-gathered g c =
+    gathered_between _ _ c.gather_between.new.self c.parts_of.ensures.from
+    (c.parts_of.ensures.to c.args.w c.requires.w.0 c.requires.w.1 (c.as_slice-stops.ensures.value ∙ ap (λ (x : SidesState). x.stops) c.sides.view_is ∙ c.in_ok-gather.ensures.stops))
+    c.parts_of.ensures.from_edges c.parts_of.ensures.to_edges c.most_of.ensures.above c.in_ok-gather_between.ensures.ways c.in_ok-gather_between.ensures.floors
+    (c.deref.ensures.value ∙ ap (λ (x : TwoWays). x.out) c.ways.view_is) (c.deref-2.ensures.value ∙ ap (λ (x : TwoWays). x.into) c.ways.view_is)
+
+pub best_of_two-requires-clause-search : goal.best_of_two-requires-clause-search
+best_of_two-requires-clause-search g c = record { laws = c.requires.laws; view = c.requires.view; v_kept = c.in_ok-keep_between.ensures.kept; w_kept = c.in_ok-keep_between-2.ensures.kept }
+
+pub best_of_two-requires-clause-gathered : goal.best_of_two-requires-clause-gathered
+best_of_two-requires-clause-gathered g c =
+    gathered_between _ _ c.gather_between.new.self c.parts_of.ensures.from
+    (c.parts_of.ensures.to c.args.w c.requires.w.0 c.requires.w.1 (c.as_slice-stops.ensures.value ∙ ap (λ (x : SidesState). x.stops) c.sides.view_is ∙ c.in_ok-gather.ensures.stops))
+    c.parts_of.ensures.from_edges c.parts_of.ensures.to_edges c.most_of.ensures.above c.in_ok-gather_between.ensures.ways c.in_ok-gather_between.ensures.floors
+    (c.deref.ensures.value ∙ ap (λ (x : TwoWays). x.out) c.ways.view_is) (c.deref-2.ensures.value ∙ ap (λ (x : TwoWays). x.into) c.ways.view_is)
+
+pub holds_up-requires-clause-found : goal.holds_up-requires-clause-found
+holds_up-requires-clause-found g c = c.best_of_two-found.ensures
+
+pub returns-then-holds_up : goal.returns-then-holds_up
+returns-then-holds_up g c = c.holds_up.ensures c.if-holds_up.true
+
+pub returns : goal.returns
+returns g c = c.best_of_two.ensures
