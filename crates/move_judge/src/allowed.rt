@@ -1,6 +1,7 @@
 //! What a view allows: a move by the parts of its new routes, and where a move may begin at all.
 ghost use Rattle.std.specs.Prelude.{ℕ, ◌⊎◌, ◌≡◌, ◌≢◌, ◌≤◌, ◌<◌, ◌+◌, ◌-◌, ◌++◌, ◌↔◌, [], true, false, length, take, drop, IsTrue, All, Contains};
 ghost use Rattle.dimension_core.specs.NewRoutes.{AllFit};
+ghost use Rattle.dimension_core.specs.Setting.{Setting};
 ghost use Rattle.dimension_core.specs.Setup.{setting};
 ghost use Rattle.move_core.specs.declared.moves.Move.TheVariants.{Shift, Swap, Reverse, Cross};
 ghost use Rattle.move_core.specs.Moves.{is_possible, changes_by, stretch};
@@ -407,11 +408,12 @@ fn may_shift(view: &View, setup: &Setup, v: u32, place: u32, length: u32, w: u32
 
 /// Whether a shift inside a vehicle keeps its frozen front.
 #[inline(always)]
-fn may_shift_inside(view: &View, setup: &Setup, v: u32, place: u32, length: u32, at: u32) -> bool
+fn may_shift_inside(view: &View, setup: &Setup, v: u32, place: u32, at: u32) -> bool
     requires laws { Laws }
     requires view { IsViewOf (setting setup.now) view.now }
-    requires possible { is_possible (setting setup.now).customers view.now.routes (Shift v place length v at) ≡ true }
-    ensures { IsTrue result ↔ IsAllowed (scope false (setting setup.now)) view.now [] (Shift v place length v at) }
+    requires v { (1 ≤ v) × (v ≤ length view.now.routes) }
+    ensures { (n : ℕ) → is_possible (setting setup.now).customers view.now.routes (Shift v place n v at) ≡ true
+        → IsTrue result ↔ IsAllowed (scope false (setting setup.now)) view.now [] (Shift v place n v at) }
 {
     let begin = first_free(view, setup, v);
     if place < begin {
@@ -440,12 +442,12 @@ fn may_swap(view: &View, setup: &Setup, v: u32, place: u32, w: u32, at: u32) -> 
 
 /// Whether a swap inside a vehicle, named from its first place, keeps its frozen front.
 #[inline(always)]
-fn may_swap_inside(view: &View, setup: &Setup, v: u32, place: u32, at: u32) -> bool
+fn may_swap_inside(view: &View, setup: &Setup, v: u32, place: u32) -> bool
     requires laws { Laws }
     requires view { IsViewOf (setting setup.now) view.now }
-    requires possible { is_possible (setting setup.now).customers view.now.routes (Swap v place v at) ≡ true }
-    requires order { place < at }
-    ensures { IsTrue result ↔ IsAllowed (scope false (setting setup.now)) view.now [] (Swap v place v at) }
+    requires v { (1 ≤ v) × (v ≤ length view.now.routes) }
+    ensures { (at : ℕ) → place < at → is_possible (setting setup.now).customers view.now.routes (Swap v place v at) ≡ true
+        → IsTrue result ↔ IsAllowed (scope false (setting setup.now)) view.now [] (Swap v place v at) }
 {
     if place < first_free(view, setup, v) {
         return false;
@@ -455,11 +457,12 @@ fn may_swap_inside(view: &View, setup: &Setup, v: u32, place: u32, at: u32) -> b
 
 /// Whether a reverse keeps the frozen front.
 #[inline(always)]
-fn may_reverse(view: &View, setup: &Setup, v: u32, first: u32, last: u32) -> bool
+fn may_reverse(view: &View, setup: &Setup, v: u32, first: u32) -> bool
     requires laws { Laws }
     requires view { IsViewOf (setting setup.now) view.now }
-    requires possible { is_possible (setting setup.now).customers view.now.routes (Reverse v first last) ≡ true }
-    ensures { IsTrue result ↔ IsAllowed (scope false (setting setup.now)) view.now [] (Reverse v first last) }
+    requires v { (1 ≤ v) × (v ≤ length view.now.routes) }
+    ensures { (last : ℕ) → is_possible (setting setup.now).customers view.now.routes (Reverse v first last) ≡ true
+        → IsTrue result ↔ IsAllowed (scope false (setting setup.now)) view.now [] (Reverse v first last) }
 {
     if first < first_free(view, setup, v) {
         return false;
@@ -470,9 +473,9 @@ fn may_reverse(view: &View, setup: &Setup, v: u32, first: u32, last: u32) -> boo
 /// Whether all customers of a vehicle but the first ones may leave it: these are its frozen front at least, and none of the others is
 /// pinned.
 #[inline(always)]
-fn may_part(view: &View, setup: &Setup, v: u32, keep: u32) -> bool
+fn may_part(view: &View, v: u32, keep: u32) -> bool
     requires laws { Laws }
-    requires view { IsViewOf (setting setup.now) view.now }
+    requires view { (s : Setting) × IsViewOf s view.now }
     requires v { (1 ≤ v) × (v ≤ length view.now.routes) }
     requires keep { keep ≤ length (route_at view.now.routes v) }
     ensures { IsTrue result ↔ (front_of (pins_of view.now) v < keep + 1) × AreLoose (pins_of view.now) (drop keep (route_at view.now.routes v)) }
@@ -491,19 +494,19 @@ fn may_cross(view: &View, setup: &Setup, v: u32, keep: u32, w: u32, keep_other: 
     requires possible { is_possible (setting setup.now).customers view.now.routes (Cross v keep w keep_other) ≡ true }
     ensures { IsTrue result ↔ IsAllowed (scope false (setting setup.now)) view.now [] (Cross v keep w keep_other) }
 {
-    if !may_part(view, setup, v, keep) {
+    if !may_part(view, v, keep) {
         return false;
     }
-    may_part(view, setup, w, keep_other)
+    may_part(view, w, keep_other)
 }
 
 /// Whether a move near two vehicles, or near one, that has an effect keeps the frozen fronts and the pins.
 #[inline(always)]
-fn may_go(view: &View, setup: &Setup, v: u32, w: u32, mv: Move) -> bool
+fn may_go(view: &View, setup: &Setup, mv: Move) -> bool
     requires laws { Laws }
     requires view { IsViewOf (setting setup.now) view.now }
     requires possible { is_possible (setting setup.now).customers view.now.routes mv ≡ true }
-    requires near { IsNear v w mv }
+    requires near { (v : ℕ) × ((w : ℕ) × IsNear v w mv) }
     ensures { IsTrue result ↔ IsAllowed (scope false (setting setup.now)) view.now [] mv }
 {
     match mv {
@@ -515,7 +518,7 @@ fn may_go(view: &View, setup: &Setup, v: u32, w: u32, mv: Move) -> bool
             at,
         } => {
             if vehicle == to {
-                may_shift_inside(view, setup, vehicle, place, length, at)
+                may_shift_inside(view, setup, vehicle, place, at)
             } else {
                 may_shift(view, setup, vehicle, place, length, to, at)
             }
@@ -527,16 +530,14 @@ fn may_go(view: &View, setup: &Setup, v: u32, w: u32, mv: Move) -> bool
             at,
         } => {
             if vehicle == other {
-                may_swap_inside(view, setup, vehicle, place, at)
+                may_swap_inside(view, setup, vehicle, place)
             } else {
                 may_swap(view, setup, vehicle, place, other, at)
             }
         }
         Move::Reverse {
-            vehicle,
-            first,
-            last,
-        } => may_reverse(view, setup, vehicle, first, last),
+            vehicle, first, ..
+        } => may_reverse(view, setup, vehicle, first),
         Move::Cross {
             vehicle,
             keep,
@@ -560,7 +561,7 @@ pub fn is_free(view: &View, setup: &Setup, skip: &[Move], v: u32, w: u32, mv: Mo
     if is_skipped(skip, &mv) {
         return false;
     }
-    may_go(view, setup, v, w, mv)
+    may_go(view, setup, mv)
 }
 
 /// Whether the new routes of a move near two vehicles, or near one, that has an effect are in bounds. What is kept for each vehicle is what

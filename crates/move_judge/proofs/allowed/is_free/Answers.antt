@@ -11,3 +11,6 @@ pub returns : goal.returns
 returns g c =
     unskipped (scope false (setting c.args.setup.now)) c.args.view.now c.args.skip.now c.args.mv _ (λ inside. let was = c.is_skipped.ensures.1 inside in absurd cc)
     c.may_go.ensures
+
+pub may_go-requires-clause-near : goal.may_go-requires-clause-near
+may_go-requires-clause-near g c = (c.args.v, (c.args.w, c.requires.near))

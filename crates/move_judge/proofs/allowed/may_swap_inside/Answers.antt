@@ -4,21 +4,16 @@ use Rattle.move_judge.proofs.Inside.{swap_inside}
 use Rattle.move_judge.proofs.Free.{inside_free}
 use Rattle.move_judge.proofs.allowed.may_swap_inside.Goals as goal
 
-pub first_free-requires-clause-v : goal.first_free-requires-clause-v
-first_free-requires-clause-v g c =
-    let f = (c.requires.laws.possible.swap (setting c.args.setup.now).customers c.args.view.now.routes c.args.v c.args.place c.args.v c.args.at).0 c.requires.possible in
-    (f.vehicle.low, f.vehicle.high)
-
 pub returns-then-place-first_free : goal.returns-then-place-first_free
-returns-then-place-first_free g c =
+returns-then-place-first_free g c = λ at order can.
     let law = c.requires.laws in
-    let free = inside_free law (setting c.args.setup.now) c.args.view.now _ _ _ _ c.requires.view c.requires.possible
-    (swap_inside law (setting c.args.setup.now).customers c.args.view.now.routes c.args.v c.args.place c.args.at c.requires.possible c.requires.order) in
+    let free = inside_free law (setting c.args.setup.now) c.args.view.now _ _ _ _ c.requires.view can
+    (swap_inside law (setting c.args.setup.now).customers c.args.view.now.routes c.args.v c.args.place at can order) in
     (λ never. absurd cc, λ a. let h = free.0 a in let e = c.first_free.ensures.value in let t = c.if-place-first_free.true in absurd (omega arith))
 
 pub returns : goal.returns
-returns g c =
+returns g c = λ at order can.
     let law = c.requires.laws in
-    let free = inside_free law (setting c.args.setup.now) c.args.view.now _ _ _ _ c.requires.view c.requires.possible
-    (swap_inside law (setting c.args.setup.now).customers c.args.view.now.routes c.args.v c.args.place c.args.at c.requires.possible c.requires.order) in
+    let free = inside_free law (setting c.args.setup.now) c.args.view.now _ _ _ _ c.requires.view can
+    (swap_inside law (setting c.args.setup.now).customers c.args.view.now.routes c.args.v c.args.place at can order) in
     (λ is. free.1 (let e = c.first_free.ensures.value in let t = c.if-place-first_free.false in omega arith), λ a. refl)

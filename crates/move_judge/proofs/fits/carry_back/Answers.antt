@@ -1,5 +1,4 @@
-use Rattle.std.proofs.Common.{arith, ◌<◌, ◌∙◌, sym, length, reverse}
-use Rattle.std.proofs.lemmas.Grind.{common_steps}
+use Rattle.std.proofs.Common.{arith, ◌-◌, ◌<◌, ◌∙◌, sym, length, reverse}
 use Rattle.std.proofs.lemmas.List.{get_or-reverse, length-reverse}
 use Rattle.move_judge.proofs.Carried.{after_at, carry_more, carry_last, carry_none, carry_end}
 use Rattle.move_judge.proofs.fits.carry_back.Goals as goal
@@ -23,7 +22,7 @@ loop-k-preserved g c = record {
         carry_more c.requires.laws _ _ _ done (reverse c.args.nodes.now) c.loop-k.k _ _ _ b i.0 i.1 (rw (get_or-reverse c.args.nodes.now c.loop-k.k 0 h) n),
         sym (get_or-reverse c.args.nodes.now c.loop-k.k 0 h) ∙ carry_last c.requires.laws done (reverse c.args.nodes.now) c.loop-k.k b,
       );
-  known = grind (arith, common_steps);
+  known = let h = c.loop-k-test.true in c.requires.known (length c.args.nodes.now - 1 - c.loop-k.k) 0 (omega arith);
   filled = (after_at _ _ _ _ _ _ _ _ _ c.in_ok-range.ensures.span c.id.ensures c.ask-way.ensures.answer).filled;
   small = c.in_ok-range.ensures.small;
 }

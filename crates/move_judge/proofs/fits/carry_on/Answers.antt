@@ -1,5 +1,4 @@
 use Rattle.std.proofs.Common.{arith}
-use Rattle.std.proofs.lemmas.Grind.{common_steps}
 use Rattle.move_judge.proofs.Carried.{after_at, carry_more, carry_last, carry_none, carry_end}
 use Rattle.move_judge.proofs.fits.carry_on.Goals as goal
 
@@ -18,7 +17,7 @@ loop-node-preserved g c = record {
         carry_more c.requires.laws _ _ _ done c.args.nodes.now c.loop-node.node-index _ _ _ c.loop-node-test.true i.0 i.1 n,
         carry_last c.requires.laws done c.args.nodes.now c.loop-node.node-index c.loop-node-test.true,
       );
-  known = grind (arith, common_steps);
+  known = c.requires.known c.loop-node.node-index 0 c.loop-node-test.true;
   filled = (after_at _ _ _ _ _ _ _ _ _ c.in_ok-range.ensures.span c.id.ensures c.ask-way.ensures.answer).filled;
   small = c.in_ok-range.ensures.small;
 }

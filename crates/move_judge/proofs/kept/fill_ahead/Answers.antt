@@ -1,5 +1,4 @@
 use Rattle.std.proofs.Common.{◌≡◌, ℕ, ◌+◌, ◌*◌, ◌++◌, [], ◌∷◌, refl, sym, subst, arith, length, List, Option, ap, take}
-use Rattle.std.proofs.lemmas.Grind.{common_steps}
 use Rattle.dimension_core.specs.declared.range.Range.{Range}
 use Rattle.dimension_core.specs.Cumuls.{table_of}
 use Rattle.dimension_core.specs.Setup.{setting}
@@ -14,7 +13,7 @@ loop-customer-init g c =
     let same = at_place s c.loop-dimension.dimension-index _ _ dims.value c.loop-dimension-test.true c.dimension-item.is in
     let few = ap length dims.value in
     let test = c.loop-dimension-test.true in
-    let pushed : c.push.new.self.items ≡ c.loop-dimension.cells.items ++ c.start-span.result ∷ [] = grind (arith, common_steps) in
+    let pushed : c.push.new.self.items ≡ c.loop-dimension.cells.items ++ c.start-span.result ∷ [] = c.in_ok-push.ensures.items in
     let begun = c.requires.laws.spans.start (table_of s.tables c.dimension-item.result) c.dimension-item.result c.args.vehicle c.start-span.result c.start-span.ensures.span in
     record {
       cells = subst (λ (xs : List (Option Range)). AheadCells s c.args.vehicle c.args.route.now (c.loop-dimension.dimension-index * (length c.args.route.now + 1) + (0 + 1)) xs) (sym pushed)
@@ -59,7 +58,7 @@ loop-customer-preserved g c =
     let few = ap length dims.value in
     let test = c.loop-dimension-test.true in
     let h = c.loop-customer-test.true in
-    let pushed : c.push-in-loop-customer.new.self.items ≡ c.loop-customer.cells.items ++ c.span_after-span.result ∷ [] = grind (arith, common_steps) in
+    let pushed : c.push-in-loop-customer.new.self.items ≡ c.loop-customer.cells.items ++ c.span_after-span.result ∷ [] = c.in_ok-push-2.ensures.items in
     let next = span_on _ _ c.dimension-item.result c.args.vehicle c.args.route.now c.loop-customer.customer-index c.loop-customer.from c.loop-customer.span c.span_after-span.result
     c.registry.ensures.value h c.loop-customer.invariant.span c.loop-customer.invariant.from c.span_after-span.ensures in
     record {

@@ -1,5 +1,4 @@
 use Rattle.std.proofs.Common.{◌≡◌, ℕ, ◌+◌, ◌-◌, ◌*◌, ◌++◌, [], ◌∷◌, refl, sym, subst, arith, length, List, Option, ap, drop}
-use Rattle.std.proofs.lemmas.Grind.{common_steps}
 use Rattle.dimension_core.specs.declared.range.Range.{Range}
 use Rattle.dimension_core.specs.Cumuls.{table_of}
 use Rattle.dimension_core.specs.Setup.{setting}
@@ -14,7 +13,7 @@ loop-k-init g c =
     let same = at_place s c.loop-dimension.dimension-index _ _ dims.value c.loop-dimension-test.true c.dimension-item.is in
     let few = ap length dims.value in
     let test = c.loop-dimension-test.true in
-    let pushed : c.push.new.self.items ≡ c.loop-dimension.cells.items ++ c.span_home-span.result ∷ [] = grind (arith, common_steps) in
+    let pushed : c.push.new.self.items ≡ c.loop-dimension.cells.items ++ c.span_home-span.result ∷ [] = c.in_ok-push.ensures.items in
     let tail = tail_none (table_of s.tables c.dimension-item.result) c.dimension-item.result c.args.vehicle c.args.route.now c.span_home-span.result
     (c.requires.laws.meet.end (table_of s.tables c.dimension-item.result) c.dimension-item.result c.args.vehicle 0 c.span_home-span.result c.span_home-span.ensures) in
     record {
@@ -60,7 +59,7 @@ loop-k-preserved g c =
     let few = ap length dims.value in
     let test = c.loop-dimension-test.true in
     let h = c.loop-k-test.true in
-    let pushed : c.push-in-loop-k.new.self.items ≡ c.loop-k.cells.items ++ c.span_before-span.result ∷ [] = grind (arith, common_steps) in
+    let pushed : c.push-in-loop-k.new.self.items ≡ c.loop-k.cells.items ++ c.span_before-span.result ∷ [] = c.in_ok-push-2.ensures.items in
     let next = tail_on _ _ c.dimension-item.result c.args.vehicle c.args.route.now c.loop-k.k c.loop-k.next c.loop-k.span c.span_before-span.result
     c.registry.ensures.value h c.loop-k.invariant.tail c.span_before-span.ensures in
     record {

@@ -1,4 +1,4 @@
-use Rattle.std.proofs.Common.{◌≡◌, ℕ, ◌+◌, arith, subst, [], ◌∷◌}
+use Rattle.std.proofs.Common.{◌≡◌, ℕ, ◌+◌, arith, subst, [], ◌∷◌, refl}
 use Rattle.neighbourhood.specs.Search.{IsBestSoFar}
 use Rattle.neighbourhood.specs.Searched.{searched}
 use Rattle.neighbourhood.proofs.Rows.{cross_next, crosses_past}
@@ -56,3 +56,37 @@ returns-then-not-may_gain g c =
     let most = c.wanted-least.ensures.value in
     omega arith)
     c.requires.best
+
+pub may_gain-requires-clause-row : goal.may_gain-requires-clause-row
+may_gain-requires-clause-row g c = c.requires.ways
+
+pub first_gain-found-requires-clause-row : goal.first_gain-found-requires-clause-row
+first_gain-found-requires-clause-row g c = c.requires.ways
+
+pub or_better-best-requires-clause-search : goal.or_better-best-requires-clause-search
+or_better-best-requires-clause-search g c = c.requires.search
+
+pub or_better-best-requires-clause-near : goal.or_better-best-requires-clause-near
+or_better-best-requires-clause-near g c = (refl, refl, c.requires.apart)
+
+pub row-init : goal.row-init
+row-init g c = record { low = omega arith; high = c.requires.order; best = c.requires.best }
+
+pub may_gain-requires-clause-most : goal.may_gain-requires-clause-most
+may_gain-requires-clause-most g c = c.requires.most
+
+pub or_better-best-requires-clause-possible : goal.or_better-best-requires-clause-possible
+or_better-best-requires-clause-possible g c =
+    let to = c.first_gain-found.ensures.high in
+    let other = c.if-there-end.false in
+    c.requires.possible c.first_gain-found.result (omega arith)
+
+pub or_better-best-requires-clause-saving : goal.or_better-best-requires-clause-saving
+or_better-best-requires-clause-saving g c =
+    let to = c.first_gain-found.ensures.high in
+    let other = c.if-there-end.false in
+    let saving = c.requires.saving c.first_gain-found.result (omega arith) in
+    let f0 = c.from.ensures in
+    let f1 = c.from-in-row.ensures in
+    let f2 = c.from-in-row-2.ensures in
+    omega arith

@@ -1,4 +1,4 @@
-use Rattle.std.proofs.Common.{◌≡◌, ℕ, ◌+◌, arith, subst, [], ◌∷◌}
+use Rattle.std.proofs.Common.{◌≡◌, ℕ, ◌+◌, arith, subst, [], ◌∷◌, refl}
 use Rattle.neighbourhood.specs.Search.{IsBestSoFar}
 use Rattle.neighbourhood.specs.Searched.{searched}
 use Rattle.neighbourhood.proofs.Rows.{reverse_next, reverses_past}
@@ -56,3 +56,43 @@ returns-then-not-may_reverse_gain g c =
     let most = c.wanted-least.ensures.value in
     omega arith)
     c.requires.best
+
+pub may_reverse_gain-requires-clause-row : goal.may_reverse_gain-requires-clause-row
+may_reverse_gain-requires-clause-row g c = c.requires.ways
+
+pub first_reverse_gain-found-requires-clause-row : goal.first_reverse_gain-found-requires-clause-row
+first_reverse_gain-found-requires-clause-row g c = c.requires.ways
+
+pub or_better-best-requires-clause-search : goal.or_better-best-requires-clause-search
+or_better-best-requires-clause-search g c = c.requires.search
+
+pub or_better-best-requires-clause-near : goal.or_better-best-requires-clause-near
+or_better-best-requires-clause-near g c = (refl, c.requires.inside)
+
+pub row-init : goal.row-init
+row-init g c = record { low = omega arith; high = (let order = c.requires.order in omega arith); best = c.requires.best }
+
+pub returns-then-first-end : goal.returns-then-first-end
+returns-then-first-end g c =
+    let q = searched c.args.search.now in
+    subst (λ (k : ℕ). IsBestSoFar q (3 ∷ q.v ∷ c.args.reverses.now.first ∷ k ∷ []) c.args.best.found) c.if-first-end.true c.requires.best
+
+pub or_better-best-requires-clause-possible : goal.or_better-best-requires-clause-possible
+or_better-best-requires-clause-possible g c =
+    let low = c.row.invariant.low in
+    let from = c.first_reverse_gain-found.ensures.low in
+    let to = c.first_reverse_gain-found.ensures.high in
+    let other = c.if-there-end.false in
+    c.requires.possible c.first_reverse_gain-found.result (omega arith) (omega arith)
+
+pub or_better-best-requires-clause-saving : goal.or_better-best-requires-clause-saving
+or_better-best-requires-clause-saving g c =
+    let low = c.row.invariant.low in
+    let from = c.first_reverse_gain-found.ensures.low in
+    let to = c.first_reverse_gain-found.ensures.high in
+    let other = c.if-there-end.false in
+    let saving = c.requires.saving c.first_reverse_gain-found.result (omega arith) (omega arith) in
+    let f0 = c.from.ensures in
+    let f1 = c.from-in-row.ensures in
+    let f2 = c.from-in-row-2.ensures in
+    omega arith

@@ -1,4 +1,4 @@
-use Rattle.std.proofs.Common.{◌≡◌, ℕ, ◌+◌, ◌-◌, arith, ap, subst, [], ◌∷◌}
+use Rattle.std.proofs.Common.{◌≡◌, ℕ, ◌+◌, ◌-◌, arith, ap, subst, [], ◌∷◌, refl}
 use Rattle.way_costs.specs.Rows.{lost_by_cut, gained_by_cut}
 use Rattle.neighbourhood.specs.Search.{IsBestSoFar}
 use Rattle.neighbourhood.specs.Searched.{searched}
@@ -84,3 +84,26 @@ returns g c =
     let e : c.row.at ≡ c.args.end = let test = c.row-test.false in let high = c.row.invariant.high in omega arith in
     let q = searched c.args.search.now in
     subst (λ (k : ℕ). IsBestSoFar q (1 ∷ q.v ∷ c.args.shifts.now.place ∷ c.args.shifts.now.count ∷ q.w ∷ k ∷ []) c.row.best.found) e c.row.invariant.best
+
+pub may_gain-requires-clause-row : goal.may_gain-requires-clause-row
+may_gain-requires-clause-row g c = c.requires.ways
+
+pub first_gain-found-requires-clause-row : goal.first_gain-found-requires-clause-row
+first_gain-found-requires-clause-row g c = c.requires.ways
+
+pub or_better-best-requires-clause-search : goal.or_better-best-requires-clause-search
+or_better-best-requires-clause-search g c = c.requires.search
+
+pub or_better-best-requires-clause-near : goal.or_better-best-requires-clause-near
+or_better-best-requires-clause-near g c = (refl, refl, c.requires.few)
+
+pub row-init : goal.row-init
+row-init g c = record { low = omega arith; high = c.requires.order; best = c.requires.best }
+
+pub may_gain-requires-clause-most : goal.may_gain-requires-clause-most
+may_gain-requires-clause-most g c = c.requires.most
+
+pub returns-then-first-end : goal.returns-then-first-end
+returns-then-first-end g c =
+    let q = searched c.args.search.now in
+    subst (λ (k : ℕ). IsBestSoFar q (1 ∷ q.v ∷ c.args.shifts.now.place ∷ c.args.shifts.now.count ∷ q.w ∷ k ∷ []) c.args.best.found) c.if-first-end.true c.requires.best

@@ -70,3 +70,33 @@ or_better-best-requires-clause-near g c =
     let low = c.row.invariant.low in
     let from = c.first_swap_gain-found.ensures.low in
     (refl, refl, λ e. let near = c.requires.near e in omega arith)
+
+pub may_swap_gain-requires-clause-row : goal.may_swap_gain-requires-clause-row
+may_swap_gain-requires-clause-row g c = c.requires.ways
+
+pub first_swap_gain-found-requires-clause-row : goal.first_swap_gain-found-requires-clause-row
+first_swap_gain-found-requires-clause-row g c = c.requires.ways
+
+pub or_better-best-requires-clause-search : goal.or_better-best-requires-clause-search
+or_better-best-requires-clause-search g c = c.requires.search
+
+pub row-init : goal.row-init
+row-init g c = record { low = omega arith; high = c.requires.order; best = c.requires.best }
+
+pub may_swap_gain-requires-clause-most : goal.may_swap_gain-requires-clause-most
+may_swap_gain-requires-clause-most g c = c.requires.most
+
+pub or_better-best-requires-clause-saving : goal.or_better-best-requires-clause-saving
+or_better-best-requires-clause-saving g c =
+    let low = c.row.invariant.low in
+    let from = c.first_swap_gain-found.ensures.low in
+    let to = c.first_swap_gain-found.ensures.high in
+    let other = c.if-there-end.false in
+    let saving = c.requires.saving c.first_swap_gain-found.result (omega arith) (omega arith) in
+    let f0 = c.from.ensures in
+    let f1 = c.from-in-row.ensures in
+    let f2 = c.from-in-row-2.ensures in
+    let f3 = c.from-in-row-3.ensures in
+    let f4 = c.from-in-row-4.ensures in
+    let f5 = c.from-in-row-5.ensures in
+    omega arith
