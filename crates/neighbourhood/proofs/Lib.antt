@@ -1,3 +1,4 @@
+pub mod KindNumbers
 pub mod Firsts
 pub mod Betters
 pub mod Scoping

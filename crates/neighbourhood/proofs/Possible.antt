@@ -12,55 +12,65 @@ use Rattle.way_costs.specs.Ways.{AreStops}
 use Rattle.neighbourhood.specs.Best.{IsIdle}
 use Rattle.neighbourhood.specs.Laws.{Laws}
 
+last_in : (k m n : ℕ) → n ≡ m + 2 → k < n → k ≤ m + 1
+last_in k m n e h = omega arith
+
+before_last : (k m n : ℕ) → n ≡ m + 2 → k + 1 < n → k ≤ m
+before_last k m n e h = omega arith
+
+none_in : (k m : ℕ) → m ≡ 0 → 1 ≤ k → k ≤ m → ⊥
+none_in k m e l h = absurd (omega arith)
+
+none_shifted : (p m n : ℕ) → n ≡ 0 → 1 ≤ p → 1 ≤ m → p + m ≤ n + 1 → ⊥
+none_shifted p m n e l k h = absurd (omega arith)
+
+none_reversed : (i j n : ℕ) → n ≡ 0 → i < j → j ≤ n → ⊥
+none_reversed i j n e l h = absurd (omega arith)
+
+none_kept : (k n : ℕ) → n ≡ 0 → k < n → ⊥
+none_kept k n e h = absurd (omega arith)
+
 module _ (law : Laws) (n : ℕ) (routes : List (List ℕ)) where
   pub shift_can : (v p m w at : ℕ) (from to : List ℕ) → AreStops n routes v from → AreStops n routes w to → v ≢ w
       → 1 ≤ p → 1 ≤ m → p + m < length from → 1 ≤ at → at < length to → is_possible n routes (Shift v p m w at) ≡ true
   shift_can v p m w at from to a b apart low some fit l h =
-      let sized = a.sized in
-      let wide = b.sized in
       (law.possible.shift n routes v p m w at).1 (record {
-        from = record { vehicle = record { low = a.low; high = a.high }; some = some; low = low; high = omega arith };
-        onto = record { vehicle = record { low = b.low; high = b.high }; low = l; inside = λ e. absurd (apart e); outside = λ e. omega arith };
+        from = record { vehicle = record { low = a.low; high = a.high }; some = some; low = low; high = last_in (p + m) _ _ a.sized fit };
+        onto = record { vehicle = record { low = b.low; high = b.high }; low = l; inside = λ e. absurd (apart e); outside = λ e. last_in at _ _ b.sized h };
       })
 
   pub shift_inside_can : (v p m at : ℕ) (from : List ℕ) → AreStops n routes v from
       → 1 ≤ p → 1 ≤ m → p + m < length from → 1 ≤ at → at + m < length from → at ≢ p → is_possible n routes (Shift v p m v at) ≡ true
   shift_inside_can v p m at from a low some fit l h moves =
-      let sized = a.sized in
       (law.possible.shift n routes v p m v at).1 (record {
-        from = record { vehicle = record { low = a.low; high = a.high }; some = some; low = low; high = omega arith };
-        onto = record { vehicle = record { low = a.low; high = a.high }; low = l; inside = λ e. (omega arith, moves); outside = λ o. absurd (o refl) };
+        from = record { vehicle = record { low = a.low; high = a.high }; some = some; low = low; high = last_in (p + m) _ _ a.sized fit };
+        onto = record { vehicle = record { low = a.low; high = a.high }; low = l; inside = λ e. (last_in (at + m) _ _ a.sized h, moves); outside = λ o. absurd (o refl) };
       })
 
   pub swap_can : (v p w q : ℕ) (from to : List ℕ) → AreStops n routes v from → AreStops n routes w to → (v ≡ w → p ≢ q)
       → 1 ≤ p → p + 1 < length from → 1 ≤ q → q + 1 < length to → is_possible n routes (Swap v p w q) ≡ true
   swap_can v p w q from to a b apart lp hp lq hq =
-      let sized = a.sized in
-      let wide = b.sized in
       (law.possible.swap n routes v p w q).1 (record {
         vehicle = record { low = a.low; high = a.high };
         other = record { low = b.low; high = b.high };
-        place = record { low = lp; high = omega arith };
-        at = record { low = lq; high = omega arith };
+        place = record { low = lp; high = before_last p _ _ a.sized hp };
+        at = record { low = lq; high = before_last q _ _ b.sized hq };
         apart = apart;
       })
 
   pub reverse_can : (v i j : ℕ) (from : List ℕ) → AreStops n routes v from → 1 ≤ i → i < j → j + 1 < length from → is_possible n routes (Reverse v i j) ≡ true
   reverse_can v i j from a low order h =
-      let sized = a.sized in
-      (law.possible.reverse n routes v i j).1 (record { vehicle = record { low = a.low; high = a.high }; low = low; order = order; high = omega arith })
+      (law.possible.reverse n routes v i j).1 (record { vehicle = record { low = a.low; high = a.high }; low = low; order = order; high = before_last j _ _ a.sized h })
 
   pub cross_can : (v k w l : ℕ) (from to : List ℕ) → AreStops n routes v from → AreStops n routes w to → v ≢ w
       → k + 1 < length from → l + 1 < length to → (k < length (route_at routes v)) ⊎ (l < length (route_at routes w)) → is_possible n routes (Cross v k w l) ≡ true
   cross_can v k w l from to a b apart hk hl some =
-      let sized = a.sized in
-      let wide = b.sized in
       (law.possible.cross n routes v k w l).1 (record {
         vehicle = record { low = a.low; high = a.high };
         other = record { low = b.low; high = b.high };
         apart = apart;
-        kept = omega arith;
-        kept_other = omega arith;
+        kept = before_last k _ _ a.sized hk;
+        kept_other = before_last l _ _ b.sized hl;
         some = some;
       })
 
@@ -71,31 +81,17 @@ module _ (law : Laws) (n : ℕ) (routes : List (List ℕ)) where
   none_possible v w e f (Remove u p) near can = near
   none_possible v w e f (Shift u p m x a) near can =
       let from = ((law.possible.shift n routes u p m x a).0 can).from in
-      let some = from.some in
-      let low = from.low in
-      let high = from.high in
-      let here : length (route_at routes u) ≡ length (route_at routes v) = ap (λ (k : ℕ). length (route_at routes k)) near.0 in
-      absurd (omega arith)
+      absurd (none_shifted p m _ (ap (λ (k : ℕ). length (route_at routes k)) near.0 ∙ e) from.low from.some from.high)
   none_possible v w e f (Swap u p x a) near can =
       let place = ((law.possible.swap n routes u p x a).0 can).place in
-      let low = place.low in
-      let high = place.high in
-      let here : length (route_at routes u) ≡ length (route_at routes v) = ap (λ (k : ℕ). length (route_at routes k)) near.0 in
-      absurd (omega arith)
+      absurd (none_in p _ (ap (λ (k : ℕ). length (route_at routes k)) near.0 ∙ e) place.low place.high)
   none_possible v w e f (Reverse u i j) near can =
       let all = (law.possible.reverse n routes u i j).0 can in
-      let low = all.low in
-      let order = all.order in
-      let high = all.high in
-      let here : length (route_at routes u) ≡ length (route_at routes v) = ap (λ (k : ℕ). length (route_at routes k)) near.0 in
-      absurd (omega arith)
-  none_possible v w e f (Cross u k x l) near can =
-      let here : length (route_at routes u) ≡ length (route_at routes v) = ap (λ (k : ℕ). length (route_at routes k)) near.0 in
-      let there : length (route_at routes x) ≡ length (route_at routes w) = ap (λ (k : ℕ). length (route_at routes k)) near.1 in
-      elim ((law.possible.cross n routes u k x l).0 can).some [
-        | inl less ↦ absurd (omega arith)
-        | inr less ↦ absurd (omega arith)
-      ]
+      absurd (none_reversed i j _ (ap (λ (k : ℕ). length (route_at routes k)) near.0 ∙ e) all.order all.high)
+  none_possible v w e f (Cross u k x l) near can = elim ((law.possible.cross n routes u k x l).0 can).some [
+    | inl less ↦ absurd (none_kept k _ (ap (λ (k : ℕ). length (route_at routes k)) near.0 ∙ e) less)
+    | inr less ↦ absurd (none_kept l _ (ap (λ (k : ℕ). length (route_at routes k)) near.1 ∙ f) less)
+  ]
 
 -- so no move near two vehicles counts where a test of each says that it has none
 pub none_idle : (law : Laws) (view : ViewState) (v w : ℕ) (r q : List ℕ) (x y : Bool) → r ≡ route_at view.routes v → q ≡ route_at view.routes w → x ≡ (length r == 0) → y ≡ (length q == 0)

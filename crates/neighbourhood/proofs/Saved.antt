@@ -6,11 +6,7 @@ use Rattle.way_costs.specs.Ways.{hop, stops, AreEdges, AreHopsFrom}
 use Rattle.neighbourhood.specs.declared.searched.Gathered.{Gathered}
 use Rattle.neighbourhood.specs.Searched.{Searched, AreSummed, IsGathered, IsPossible, IsSearch, Saves, costs_of, new_cost, old_cost}
 use Rattle.neighbourhood.proofs.Possible.{cross_can, reverse_can, shift_can, shift_inside_can, swap_can}
-use Rattle.neighbourhood.proofs.Tabled.{cross_tabled, floor_from, next_tabled, reverse_tabled, room_from, row_from, shift_tabled, swap_tabled}
-
--- one row of a table
-abbrev pub IsRowOf : List ℕ → ℕ → ℕ → List ℕ → Type 0
-IsRowOf cells width a one = (k : ℕ) → k < width → slice_index one k ≡ slice_index cells (a * width + k)
+use Rattle.neighbourhood.proofs.Tabled.{cross_tabled, floor_into, floor_out, next_tabled, reverse_tabled, room_from, shift_tabled, swap_tabled, way_out, IsRowOf}
 
 module _ (q : Searched) (is : IsSearch q) (g : Gathered) (are : IsGathered q g) where
   -- rows lie inside their tables
@@ -31,11 +27,9 @@ module _ (q : Searched) (is : IsSearch q) (g : Gathered) (are : IsGathered q g) 
       → Saves q (Shift q.v p m q.w at) (slice_index g.from_edges.now (p - 1) + slice_index g.from_edges.now (p + m - 1) + slice_index g.to_edges.now (at + 0 - 1))
       (gained + slice_index comes (at + 0 - 1) + slice_index goes (at + 0))
   shift_saved p m at gained comes goes apart low some fit l h c o e =
-      shift_tabled q.setting q.view (Shift q.v p m q.w at) (costs_of q) g.from.now g.to.now g.from_edges.now g.to_edges.now comes goes p m 0 at gained
+      shift_tabled q.setting q.view (Shift q.v p m q.w at) (costs_of q) g.from.now g.to.now g.from_edges.now g.to_edges.now g.into.now g.out.now comes goes p m 0 at gained
       (is.laws.saves.shift q.setting q.view q.v p m q.w at g.from.now g.to.now is.view.plan apart are.from are.to (shift_possible p m at apart low some fit l h))
-      low some fit l (omega arith) are.from_edges are.to_edges
-      (row_from true (costs_of q) g.from.now g.to.now g.into.now comes 1 0 p (omega arith) are.into (omega arith) (omega arith) c)
-      (row_from false (costs_of q) g.from.now g.to.now g.out.now goes 0 1 (p + m - 1) (omega arith) are.out (omega arith) (omega arith) o) e
+      low some fit l (omega arith) are.from_edges are.to_edges are.into are.out c o e
 
   -- the most that such a shift gains
   pub shift_most : (p m at gained : ℕ) (comes goes : List ℕ) → q.v ≢ q.w → 1 ≤ p → 1 ≤ m → p + m < length g.from.now → 1 ≤ at → at < length g.to.now
@@ -47,9 +41,9 @@ module _ (q : Searched) (is : IsSearch q) (g : Gathered) (are : IsGathered q g) 
       let saved = shift_saved p m at gained comes goes apart low some fit l h c o e in
       let counted = are.to_edges.counted in
       let arrives : slice_index comes (length g.to.now - 1) ≤ slice_index comes (at + 0 - 1) =
-      floor_from g.from.now g.to.now g.into.now comes 1 0 p (omega arith) (omega arith) (are.into_floors apart) (omega arith) (omega arith) c (at + 0 - 1) (omega arith) (omega arith) in
+      floor_into g.from.now g.to.now g.into.now comes p (at + 0 - 1) (are.into_floors apart) (omega arith) (omega arith) (omega arith) c in
       let leaves : slice_index goes 0 ≤ slice_index goes (at + 0) =
-      floor_from g.from.now g.to.now g.out.now goes 0 1 (p + m - 1) (omega arith) (omega arith) (are.out_floors apart) (omega arith) (omega arith) o (at + 0) (omega arith) (omega arith) in
+      floor_out g.from.now g.to.now g.out.now goes (p + m - 1) (at + 0) (are.out_floors apart) (omega arith) (omega arith) (omega arith) o in
       let dearest = are.most (at + 0 - 1) 0 (omega arith) in
       omega arith
 
@@ -64,13 +58,9 @@ module _ (q : Searched) (is : IsSearch q) (g : Gathered) (are : IsGathered q g) 
       → Saves q (Swap q.v p q.w at) (slice_index g.from_edges.now (p - 1) + slice_index g.from_edges.now p + slice_index g.to_edges.now (at - 1) + slice_index g.to_edges.now at)
       (slice_index before at + slice_index next at + slice_index back (at - 1) + slice_index here (at + 1))
   swap_saved p at before here next back apart low fit l h b o n k =
-      swap_tabled q.setting q.view (Swap q.v p q.w at) (costs_of q) g.from.now g.to.now g.from_edges.now g.to_edges.now before here next back p at
+      swap_tabled q.setting q.view (Swap q.v p q.w at) (costs_of q) g.from.now g.to.now g.from_edges.now g.to_edges.now g.out.now g.into.now before here next back p at
       (is.laws.saves.swap q.setting q.view q.v p q.w at g.from.now g.to.now is.view.plan apart are.from are.to (swap_possible p at (λ e. absurd (apart e)) low fit l h))
-      low fit l h are.from_edges are.to_edges
-      (row_from false (costs_of q) g.from.now g.to.now g.out.now before 0 1 (p - 1) (omega arith) are.out (omega arith) (omega arith) b)
-      (row_from false (costs_of q) g.from.now g.to.now g.out.now here 0 1 p (omega arith) are.out (omega arith) (omega arith) o)
-      (row_from true (costs_of q) g.from.now g.to.now g.into.now next 1 0 (p + 1) (omega arith) are.into (omega arith) (omega arith) n)
-      (row_from true (costs_of q) g.from.now g.to.now g.into.now back 1 0 p (omega arith) are.into (omega arith) (omega arith) k)
+      low fit l h are.from_edges are.to_edges are.out are.into b o n k
 
   -- the most that such a swap gains
   pub swap_most : (p at : ℕ) (before here next back : List ℕ) → q.v ≢ q.w → 1 ≤ p → p + 1 < length g.from.now → 1 ≤ at → at + 1 < length g.to.now
@@ -82,13 +72,13 @@ module _ (q : Searched) (is : IsSearch q) (g : Gathered) (are : IsGathered q g) 
       let saved = swap_saved p at before here next back apart low fit l h b o n k in
       let counted = are.to_edges.counted in
       let x1 : slice_index before 0 ≤ slice_index before at =
-      floor_from g.from.now g.to.now g.out.now before 0 1 (p - 1) (omega arith) (omega arith) (are.out_floors apart) (omega arith) (omega arith) b at (omega arith) (omega arith) in
+      floor_out g.from.now g.to.now g.out.now before (p - 1) at (are.out_floors apart) (omega arith) (omega arith) (omega arith) b in
       let x2 : slice_index here 0 ≤ slice_index here (at + 1) =
-      floor_from g.from.now g.to.now g.out.now here 0 1 p (omega arith) (omega arith) (are.out_floors apart) (omega arith) (omega arith) o (at + 1) (omega arith) (omega arith) in
+      floor_out g.from.now g.to.now g.out.now here p (at + 1) (are.out_floors apart) (omega arith) (omega arith) (omega arith) o in
       let x3 : slice_index next (length g.to.now - 1) ≤ slice_index next at =
-      floor_from g.from.now g.to.now g.into.now next 1 0 (p + 1) (omega arith) (omega arith) (are.into_floors apart) (omega arith) (omega arith) n at (omega arith) (omega arith) in
+      floor_into g.from.now g.to.now g.into.now next (p + 1) at (are.into_floors apart) (omega arith) (omega arith) (omega arith) n in
       let x4 : slice_index back (length g.to.now - 1) ≤ slice_index back (at - 1) =
-      floor_from g.from.now g.to.now g.into.now back 1 0 p (omega arith) (omega arith) (are.into_floors apart) (omega arith) (omega arith) k (at - 1) (omega arith) (omega arith) in
+      floor_into g.from.now g.to.now g.into.now back p (at - 1) (are.into_floors apart) (omega arith) (omega arith) (omega arith) k in
       let dearest = are.most (at - 1) 0 (omega arith) in
       let dearest2 = are.most at 0 (omega arith) in
       omega arith
@@ -102,10 +92,8 @@ module _ (q : Searched) (is : IsSearch q) (g : Gathered) (are : IsGathered q g) 
       → IsRowOf g.out.now (length g.to.now) k here → IsRowOf g.into.now (length g.to.now) (k + 1) next
       → Saves q (Cross q.v k q.w l) (slice_index g.from_edges.now k + slice_index g.to_edges.now l) (slice_index here (l + 1) + slice_index next l)
   cross_saved k l here next fit few can o n =
-      cross_tabled q.setting q.view (Cross q.v k q.w l) (costs_of q) g.from.now g.to.now g.from_edges.now g.to_edges.now here next k l
-      (is.laws.saves.cross q.setting q.view q.v k q.w l g.from.now g.to.now is.view.plan are.from are.to can) fit few are.from_edges are.to_edges
-      (row_from false (costs_of q) g.from.now g.to.now g.out.now here 0 1 k (omega arith) are.out (omega arith) (omega arith) o)
-      (row_from true (costs_of q) g.from.now g.to.now g.into.now next 1 0 (k + 1) (omega arith) are.into (omega arith) (omega arith) n)
+      cross_tabled q.setting q.view (Cross q.v k q.w l) (costs_of q) g.from.now g.to.now g.from_edges.now g.to_edges.now g.out.now g.into.now here next k l
+      (is.laws.saves.cross q.setting q.view q.v k q.w l g.from.now g.to.now is.view.plan are.from are.to can) fit few are.from_edges are.to_edges are.out are.into o n
 
   -- the most that a cross gains
   pub cross_most : (k l : ℕ) (here next : List ℕ) → q.v ≢ q.w → k + 1 < length g.from.now → l + 1 < length g.to.now → IsPossible q (Cross q.v k q.w l)
@@ -115,9 +103,9 @@ module _ (q : Searched) (is : IsSearch q) (g : Gathered) (are : IsGathered q g) 
       let saved = cross_saved k l here next fit few can o n in
       let counted = are.to_edges.counted in
       let x1 : slice_index here 0 ≤ slice_index here (l + 1) =
-      floor_from g.from.now g.to.now g.out.now here 0 1 k (omega arith) (omega arith) (are.out_floors apart) (omega arith) (omega arith) o (l + 1) (omega arith) (omega arith) in
+      floor_out g.from.now g.to.now g.out.now here k (l + 1) (are.out_floors apart) (omega arith) (omega arith) (omega arith) o in
       let x2 : slice_index next (length g.to.now - 1) ≤ slice_index next l =
-      floor_from g.from.now g.to.now g.into.now next 1 0 (k + 1) (omega arith) (omega arith) (are.into_floors apart) (omega arith) (omega arith) n l (omega arith) (omega arith) in
+      floor_into g.from.now g.to.now g.into.now next (k + 1) l (are.into_floors apart) (omega arith) (omega arith) (omega arith) n in
       let dearest = are.most l 0 (omega arith) in
       omega arith
 
@@ -157,12 +145,10 @@ module _ (q : Searched) (is : IsSearch q) (g : Gathered) (are : IsGathered q g) 
       (slice_index closes (p + m) + slice_index comes (at + 0 - 1) + slice_index goes (at + 0))
   forwards_saved p m at comes goes closes low some fit l h c o b =
       subst (λ (z : ℕ). Saves q (Shift q.v p m z at) (slice_index g.to_edges.now (p - 1) + slice_index g.to_edges.now (p + m - 1) + slice_index g.to_edges.now (at + 0 - 1)) (slice_index closes (p + m) + slice_index comes (at + 0 - 1) + slice_index goes (at + 0))) same
-      (shift_tabled q.setting q.view (Shift q.v p m q.v at) (costs_of q) g.from.now g.from.now g.to_edges.now g.to_edges.now comes goes p m 0 at (slice_index closes (p + m))
+      (shift_tabled q.setting q.view (Shift q.v p m q.v at) (costs_of q) g.from.now g.from.now g.to_edges.now g.to_edges.now g.into.now g.out.now comes goes p m 0 at (slice_index closes (p + m))
       (is.laws.saves.forwards q.setting q.view q.v p m at g.from.now is.view.plan are.from (inside_can p m at low some fit l (omega arith) (λ e. omega arith)) h)
-      low some fit l (omega arith) edges edges
-      (row_from true (costs_of q) g.from.now g.from.now g.into.now comes 1 0 p (omega arith) into (omega arith) (omega arith) c)
-      (row_from false (costs_of q) g.from.now g.from.now g.out.now goes 0 1 (p + m - 1) (omega arith) out (omega arith) (omega arith) o)
-      (row_from false (costs_of q) g.from.now g.from.now g.out.now closes 0 1 (p - 1) (omega arith) out (omega arith) (omega arith) b (p + m) (omega arith) (omega arith)))
+      low some fit l (omega arith) edges edges into out c o
+      (way_out (costs_of q) g.from.now g.out.now closes p m out low fit b))
 
   pub backwards_saved : (p m at : ℕ) (comes goes closes : List ℕ) → 1 ≤ p → 1 ≤ m → p + m < length g.from.now → p < at → at + m < length g.from.now
       → IsRowOf g.into.now (length g.from.now) p comes → IsRowOf g.out.now (length g.from.now) (p + m - 1) goes → IsRowOf g.out.now (length g.from.now) (p - 1) closes
@@ -170,12 +156,10 @@ module _ (q : Searched) (is : IsSearch q) (g : Gathered) (are : IsGathered q g) 
       (slice_index closes (p + m) + slice_index comes (at + m - 1) + slice_index goes (at + m))
   backwards_saved p m at comes goes closes low some fit l h c o b =
       subst (λ (z : ℕ). Saves q (Shift q.v p m z at) (slice_index g.to_edges.now (p - 1) + slice_index g.to_edges.now (p + m - 1) + slice_index g.to_edges.now (at + m - 1)) (slice_index closes (p + m) + slice_index comes (at + m - 1) + slice_index goes (at + m))) same
-      (shift_tabled q.setting q.view (Shift q.v p m q.v at) (costs_of q) g.from.now g.from.now g.to_edges.now g.to_edges.now comes goes p m m at (slice_index closes (p + m))
+      (shift_tabled q.setting q.view (Shift q.v p m q.v at) (costs_of q) g.from.now g.from.now g.to_edges.now g.to_edges.now g.into.now g.out.now comes goes p m m at (slice_index closes (p + m))
       (is.laws.saves.backwards q.setting q.view q.v p m at g.from.now is.view.plan are.from (inside_can p m at low some fit (omega arith) h (λ e. omega arith)) l)
-      low some fit (omega arith) h edges edges
-      (row_from true (costs_of q) g.from.now g.from.now g.into.now comes 1 0 p (omega arith) into (omega arith) (omega arith) c)
-      (row_from false (costs_of q) g.from.now g.from.now g.out.now goes 0 1 (p + m - 1) (omega arith) out (omega arith) (omega arith) o)
-      (row_from false (costs_of q) g.from.now g.from.now g.out.now closes 0 1 (p - 1) (omega arith) out (omega arith) (omega arith) b (p + m) (omega arith) (omega arith)))
+      low some fit (omega arith) h edges edges into out c o
+      (way_out (costs_of q) g.from.now g.out.now closes p m out low fit b))
 
   -- swaps with a customer that is no neighbour, and with the next one
   swap_inside_can : (p at : ℕ) → p < at → 1 ≤ p → at + 1 < length g.from.now → IsPossible q (Swap q.v p q.v at)
@@ -192,13 +176,9 @@ module _ (q : Searched) (is : IsSearch q) (g : Gathered) (are : IsGathered q g) 
       (slice_index before at + slice_index next at + slice_index back (at - 1) + slice_index here (at + 1))
   swap_inside_saved p at before here next back low l h b o n k =
       subst (λ (z : ℕ). Saves q (Swap q.v p z at) (slice_index g.to_edges.now (p - 1) + slice_index g.to_edges.now p + slice_index g.to_edges.now (at - 1) + slice_index g.to_edges.now at) (slice_index before at + slice_index next at + slice_index back (at - 1) + slice_index here (at + 1))) same
-      (swap_tabled q.setting q.view (Swap q.v p q.v at) (costs_of q) g.from.now g.from.now g.to_edges.now g.to_edges.now before here next back p at
+      (swap_tabled q.setting q.view (Swap q.v p q.v at) (costs_of q) g.from.now g.from.now g.to_edges.now g.to_edges.now g.out.now g.into.now before here next back p at
       (is.laws.saves.swap_inside q.setting q.view q.v p at g.from.now is.view.plan are.from (swap_inside_can p at (omega arith) low h) l)
-      low (omega arith) (omega arith) h edges edges
-      (row_from false (costs_of q) g.from.now g.from.now g.out.now before 0 1 (p - 1) (omega arith) out (omega arith) (omega arith) b)
-      (row_from false (costs_of q) g.from.now g.from.now g.out.now here 0 1 p (omega arith) out (omega arith) (omega arith) o)
-      (row_from true (costs_of q) g.from.now g.from.now g.into.now next 1 0 (p + 1) (omega arith) into (omega arith) (omega arith) n)
-      (row_from true (costs_of q) g.from.now g.from.now g.into.now back 1 0 p (omega arith) into (omega arith) (omega arith) k))
+      low (omega arith) (omega arith) h edges edges out into b o n k)
 
   pub next_saved : (p : ℕ) (before here back : List ℕ) → 1 ≤ p → p + 2 < length g.from.now
       → IsRowOf g.out.now (length g.from.now) (p - 1) before → IsRowOf g.out.now (length g.from.now) p here → IsRowOf g.into.now (length g.from.now) p back
@@ -206,12 +186,9 @@ module _ (q : Searched) (is : IsSearch q) (g : Gathered) (are : IsGathered q g) 
       (slice_index before (p + 1) + slice_index back (p + 1) + slice_index here (p + 2))
   next_saved p before here back low h b o k =
       subst (λ (z : ℕ). Saves q (Swap q.v p z (p + 1)) (slice_index g.to_edges.now (p - 1) + slice_index g.to_edges.now p + slice_index g.to_edges.now (p + 1)) (slice_index before (p + 1) + slice_index back (p + 1) + slice_index here (p + 2))) same
-      (next_tabled q.setting q.view (Swap q.v p q.v (p + 1)) (costs_of q) g.from.now g.to_edges.now before here back p
+      (next_tabled q.setting q.view (Swap q.v p q.v (p + 1)) (costs_of q) g.from.now g.to_edges.now g.out.now g.into.now before here back p
       (is.laws.saves.swap_next q.setting q.view q.v p g.from.now is.view.plan are.from (swap_inside_can p (p + 1) (omega arith) low (omega arith)))
-      low h edges
-      (row_from false (costs_of q) g.from.now g.from.now g.out.now before 0 1 (p - 1) (omega arith) out (omega arith) (omega arith) b)
-      (row_from false (costs_of q) g.from.now g.from.now g.out.now here 0 1 p (omega arith) out (omega arith) (omega arith) o)
-      (row_from true (costs_of q) g.from.now g.from.now g.into.now back 1 0 p (omega arith) into (omega arith) (omega arith) k))
+      low h edges out into b o k)
 
   -- reverses
   pub reverse_possible : (i j : ℕ) → 1 ≤ i → i < j → j + 1 < length g.from.now → IsPossible q (Reverse q.v i j)
@@ -222,7 +199,5 @@ module _ (q : Searched) (is : IsSearch q) (g : Gathered) (are : IsGathered q g) 
       → Saves q (Reverse q.v i j) (slice_index g.to_edges.now (i - 1) + slice_index back_sums i + slice_index sums j + slice_index g.to_edges.now j)
       (slice_index sums i + slice_index before j + slice_index back_sums j + slice_index here (j + 1))
   reverse_saved i j sums back_sums before here low order h summed b o =
-      reverse_tabled q.setting q.view (Reverse q.v i j) (costs_of q) g.from.now g.to_edges.now sums back_sums before here i j
-      (is.laws.saves.reverse q.setting q.view q.v i j g.from.now is.view.plan are.from (reverse_possible i j low order h)) low order h edges summed.sums summed.back_sums
-      (row_from false (costs_of q) g.from.now g.from.now g.out.now before 0 1 (i - 1) (omega arith) out (omega arith) (omega arith) b)
-      (row_from false (costs_of q) g.from.now g.from.now g.out.now here 0 1 i (omega arith) out (omega arith) (omega arith) o)
+      reverse_tabled q.setting q.view (Reverse q.v i j) (costs_of q) g.from.now g.to_edges.now sums back_sums g.out.now before here i j
+      (is.laws.saves.reverse q.setting q.view q.v i j g.from.now is.view.plan are.from (reverse_possible i j low order h)) low order h edges summed.sums summed.back_sums out b o

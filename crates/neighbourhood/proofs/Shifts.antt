@@ -7,6 +7,7 @@ use Rattle.move_core.specs.Moves.{is_possible}
 use Rattle.neighbourhood.specs.Best.{numbers_of, IsLower}
 use Rattle.neighbourhood.specs.Search.{gain_of, IsBestSoFar, IsNext}
 use Rattle.neighbourhood.specs.Searched.{Searched, CountsIn, IsSearch, new_cost, old_cost}
+use Rattle.neighbourhood.proofs.KindNumbers.{one_two, one_three, one_four, two_three, two_four, next, not_between, later}
 use Rattle.neighbourhood.proofs.Firsts.{best_kept, best_on, best_up_to}
 
 -- the numbers of a shift from v to w, by the lengths of their routes
@@ -27,10 +28,6 @@ pub record IsShift (v w lv lw : ℕ) (rest : List ℕ) (mv : Move) : Type 0 wher
   pub is : mv ≡ Shift v p n w a
   pub are : AreShift v w lv lw p n a
   pub below : IsLower (p ∷ n ∷ w ∷ a ∷ []) rest
-
-later : {A : Type 0} (x y : ℕ) → y < x → (x < y) ⊎ ((x ≡ y) × A) → ⊥
-later x y h (inl k) = absurd (omega arith)
-later x y h (inr (e, a)) = absurd (omega arith)
 
 same_head : (x : ℕ) (xs ys : List ℕ) → (x < x) ⊎ ((x ≡ x) × IsLower xs ys) → IsLower xs ys
 same_head x xs ys (inl h) = absurd (omega arith)
@@ -85,9 +82,9 @@ module _ (q : Searched) (is : IsSearch q) where
       → IsLower (numbers_of mv) (1 ∷ q.v ∷ rest) → IsShift q.v q.w (length (route_at q.view.routes q.v)) (length (route_at q.view.routes q.w)) rest mv
   shift_below (Insert c u p) rest counts h = absurd counts.near
   shift_below (Remove u p) rest counts h = absurd counts.near
-  shift_below (Swap u p x a) rest counts h = absurd (later 2 1 (omega arith) h)
-  shift_below (Reverse u i j) rest counts h = absurd (later 3 1 (omega arith) h)
-  shift_below (Cross u k x l) rest counts h = absurd (later 4 1 (omega arith) h)
+  shift_below (Swap u p x a) rest counts h = absurd (later 2 1 one_two h)
+  shift_below (Reverse u i j) rest counts h = absurd (later 3 1 one_three h)
+  shift_below (Cross u k x l) rest counts h = absurd (later 4 1 one_four h)
   shift_below (Shift u p n x a) rest counts h =
       let eu : u ≡ q.v = counts.near.0 in
       let ex : x ≡ q.w = counts.near.1 in
@@ -119,7 +116,7 @@ module _ (q : Searched) (is : IsSearch q) where
   pub shift_next : (p n a : ℕ)
       → IsNext (CountsIn q) (Shift q.v p n q.w a) (1 ∷ q.v ∷ p ∷ n ∷ q.w ∷ (a + 1) ∷ [])
   shift_next p n a = record {
-    up = inr (refl, inr (refl, inr (refl, inr (refl, inr (refl, inl (omega arith))))));
+    up = inr (refl, inr (refl, inr (refl, inr (refl, inr (refl, inl (next a))))));
     all = λ m counts h.
         let k = shift_below m (p ∷ n ∷ q.w ∷ (a + 1) ∷ []) counts h in
         split m k.p k.n k.a k.is k.below;
@@ -129,7 +126,7 @@ module _ (q : Searched) (is : IsSearch q) where
           → IsLower (numbers_of m) (numbers_of (Shift q.v p n q.w a)) ⊎ (m ≡ Shift q.v p n q.w a)
       here m p' n' a' e ep en (inl ea) h = inr (rw (ep, en, ea) at e)
       here m p' n' a' e ep en (inr (inl k)) h = inl (back p' n' a' (p ∷ n ∷ q.w ∷ a ∷ []) m e (inr (ep, inr (en, inr (refl, inl k)))))
-      here m p' n' a' e ep en (inr (inr k)) h = absurd (omega arith)
+      here m p' n' a' e ep en (inr (inr k)) h = absurd (not_between a a' k h)
 
       split : (m : Move) (p' n' a' : ℕ) → m ≡ Shift q.v p' n' q.w a' → IsLower (p' ∷ n' ∷ q.w ∷ a' ∷ []) (p ∷ n ∷ q.w ∷ (a + 1) ∷ [])
           → IsLower (numbers_of m) (numbers_of (Shift q.v p n q.w a)) ⊎ (m ≡ Shift q.v p n q.w a)
@@ -159,15 +156,15 @@ module _ (q : Searched) (is : IsSearch q) where
       → (q.v ≡ q.w → length (route_at q.view.routes q.w) + 1 < end + n) → (q.v ≢ q.w → length (route_at q.view.routes q.w) + 1 < end)
       → IsBestSoFar q (1 ∷ q.v ∷ p ∷ n ∷ q.w ∷ end ∷ []) best → IsBestSoFar q (1 ∷ q.v ∷ p ∷ (n + 1) ∷ []) best
   shifts_row_done p n end best within beyond g =
-      shift_on (p ∷ n ∷ q.w ∷ end ∷ []) (p ∷ (n + 1) ∷ []) best (inr (refl, inl (omega arith))) (λ p' n' a. row_done q.v _ _ p n q.w end p' n' a within beyond) g
+      shift_on (p ∷ n ∷ q.w ∷ end ∷ []) (p ∷ (n + 1) ∷ []) best (inr (refl, inl (next n))) (λ p' n' a. row_done q.v _ _ p n q.w end p' n' a within beyond) g
 
   pub shifts_row_skipped : (p n : ℕ) (best : Option (Move × ℕ)) → length (route_at q.view.routes q.v) + 1 < p + n
       → IsBestSoFar q (1 ∷ q.v ∷ p ∷ n ∷ []) best → IsBestSoFar q (1 ∷ q.v ∷ p ∷ (n + 1) ∷ []) best
   shifts_row_skipped p n best out g =
-      shift_on (p ∷ n ∷ []) (p ∷ (n + 1) ∷ []) best (inr (refl, inl (omega arith))) (λ p' n' a. row_skipped q.v _ _ p n q.w p' n' a out) g
+      shift_on (p ∷ n ∷ []) (p ∷ (n + 1) ∷ []) best (inr (refl, inl (next n))) (λ p' n' a. row_skipped q.v _ _ p n q.w p' n' a out) g
 
   pub shifts_place_done : (p : ℕ) (best : Option (Move × ℕ)) → IsBestSoFar q (1 ∷ q.v ∷ p ∷ 4 ∷ []) best → IsBestSoFar q (1 ∷ q.v ∷ (p + 1) ∷ []) best
-  shifts_place_done p best g = shift_on (p ∷ 4 ∷ []) ((p + 1) ∷ []) best (inl (omega arith)) (λ p' n a. place_done q.v _ _ p q.w p' n a) g
+  shifts_place_done p best g = shift_on (p ∷ 4 ∷ []) ((p + 1) ∷ []) best (inl (next p)) (λ p' n a. place_done q.v _ _ p q.w p' n a) g
 
   -- a stretch that is put where it stands moves nobody
   pub shift_still : (p n : ℕ) (best : Option (Move × ℕ)) → q.v ≡ q.w
@@ -200,8 +197,8 @@ module _ (q : Searched) (is : IsSearch q) where
       split (Remove u p) counts h = absurd counts.near
       split (Swap u p x a) counts (inl h) = absurd (omega arith)
       split (Swap u p x a) counts (inr (e, h)) = absurd h
-      split (Reverse u i j) counts h = absurd (later 3 2 (omega arith) h)
-      split (Cross u k x l) counts h = absurd (later 4 2 (omega arith) h)
+      split (Reverse u i j) counts h = absurd (later 3 2 two_three h)
+      split (Cross u k x l) counts h = absurd (later 4 2 two_four h)
       split (Shift u p n x a) counts h =
           let eu : u ≡ q.v = counts.near.0 in
           let ex : x ≡ q.w = counts.near.1 in

@@ -55,6 +55,21 @@ pub row_from : (turned : Bool) (t : Table) (from to cells one : List ℕ) (row c
     → ((k : ℕ) → k < length to → slice_index one k ≡ slice_index cells (a * length to + k)) → IsRowFrom turned t from to column a one
 row_from turned t from to cells one row column a few all low high is k l h = is k (omega arith) ∙ all.hops a k low high l h
 
+-- one row of a table
+abbrev pub IsRowOf : List ℕ → ℕ → ℕ → List ℕ → Type 0
+IsRowOf cells width a one = (k : ℕ) → k < width → slice_index one k ≡ slice_index cells (a * width + k)
+
+row_out : (t : Table) (from to out one : List ℕ) (a : ℕ) → AreHopsFrom false t from to 0 1 out → a + 1 < length from → IsRowOf out (length to) a one → IsRowFrom false t from to 1 a one
+row_out t from to out one a all high is k l h = is k (omega arith) ∙ all.hops a k (omega arith) (omega arith) l h
+
+row_into : (t : Table) (from to into one : List ℕ) (a : ℕ) → AreHopsFrom true t from to 1 0 into → 1 ≤ a → a < length from → IsRowOf into (length to) a one → IsRowFrom true t from to 0 a one
+row_into t from to into one a all low high is k l h = is k (omega arith) ∙ all.hops a k low (omega arith) l h
+
+-- a way in it
+pub way_out : (t : Table) (from out one : List ℕ) (p m : ℕ) → AreHopsFrom false t from from 0 1 out → 1 ≤ p → p + m < length from → IsRowOf out (length from) (p - 1) one
+    → slice_index one (p + m) ≡ hop t (slice_index from (p - 1)) (slice_index from (p + m))
+way_out t from out one p m all low fit is = row_out t from from out one (p - 1) all (omega arith) is (p + m) (omega arith) (omega arith)
+
 -- the way from the depot to a stop of the first vehicle is among those back from there, and the way from a stop to the depot among those out
 pub closed_first : (t : Table) (n : ℕ) (routes : List (List ℕ)) (v w : ℕ) (from to into comes : List ℕ) (before after : ℕ) → AreStops n routes v from → AreStops n routes w to
     → AreHopsFrom true t from to 1 0 into → before ≡ 0 → before < after → after < length from
@@ -77,24 +92,33 @@ closed_last t n routes v w from to out goes before after f g all e order is =
     way ∙ ap (λ (k : ℕ). hop t (slice_index from before) k) depot
 
 -- none of its ways is below the number that it has where it lacks a way
-pub floor_from : (from to cells one : List ℕ) (row column a : ℕ) → column ≤ 1 → spare_of column to < length to → AreFloors from to row column cells
-    → row ≤ a → a + 1 < length from + row → ((k : ℕ) → k < length to → slice_index one k ≡ slice_index cells (a * length to + k))
-    → (k : ℕ) → column ≤ k → k + 1 < length to + column → slice_index one (spare_of column to) ≤ slice_index one k
-floor_from from to cells one row column a few wide f low high is k l h =
-    let bound = f a k low high l h in
-    let x = is (spare_of column to) wide in
+pub floor_out : (from to out one : List ℕ) (a k : ℕ) → AreFloors from to 0 1 out → a + 1 < length from → 1 ≤ k → k < length to → IsRowOf out (length to) a one → slice_index one 0 ≤ slice_index one k
+floor_out from to out one a k f high low wide is =
+    let bound = f a k (omega arith) (omega arith) low (omega arith) in
+    let x = is 0 (omega arith) in
+    let y = is k wide in
+    omega arith
+
+pub floor_into : (from to into one : List ℕ) (a k : ℕ) → AreFloors from to 1 0 into → 1 ≤ a → a < length from → k + 1 < length to → IsRowOf into (length to) a one
+    → slice_index one (length to - 1) ≤ slice_index one k
+floor_into from to into one a k f low high wide is =
+    let bound = f a k low (omega arith) (omega arith) (omega arith) in
+    let x = is (length to - 1) (omega arith) in
     let y = is k (omega arith) in
     omega arith
 
 -- what a row knows of its costs, by numbers
-pub shift_tabled : (s : Setting) (view : ViewState) (mv : Move) (t : Table) (from to from_edges to_edges into out : List ℕ) (p m o at gained : ℕ)
+pub shift_tabled : (s : Setting) (view : ViewState) (mv : Move) (t : Table) (from to from_edges to_edges into out comes goes : List ℕ) (p m o at gained : ℕ)
     → IsSaving s view mv (shift_lost t from to p m o at) (shift_gained t from to p m o at)
     → 1 ≤ p → 1 ≤ m → p + m < length from → 1 ≤ at → at + o < length to
-    → AreEdges t from from_edges → AreEdges t to to_edges → IsRowFrom true t from to 0 p into → IsRowFrom false t from to 1 (p + m - 1) out
+    → AreEdges t from from_edges → AreEdges t to to_edges → AreHopsFrom true t from to 1 0 into → AreHopsFrom false t from to 0 1 out
+    → IsRowOf into (length to) p comes → IsRowOf out (length to) (p + m - 1) goes
     → gained ≡ hop t (slice_index from (p - 1)) (slice_index from (p + m))
     → IsSaving s view mv (slice_index from_edges (p - 1) + slice_index from_edges (p + m - 1) + slice_index to_edges (at + o - 1))
-    (gained + slice_index into (at + o - 1) + slice_index out (at + o))
-shift_tabled s view mv t from to from_edges to_edges into out p m o at gained saving lp lm hp la ha fe te i u e =
+    (gained + slice_index comes (at + o - 1) + slice_index goes (at + o))
+shift_tabled s view mv t from to from_edges to_edges into out comes goes p m o at gained saving lp lm hp la ha fe te back on r1 r2 e =
+    let i = row_into t from to into comes p back lp (omega arith) r1 in
+    let u = row_out t from to out goes (p + m - 1) on (omega arith) r2 in
     let z : at - 1 + o ≡ at + o - 1 = omega arith in
     let x1 = edge_at t from from_edges p fe lp (omega arith) in
     let x2 = edge_at t from from_edges (p + m) fe (omega arith) hp in
@@ -105,14 +129,18 @@ shift_tabled s view mv t from to from_edges to_edges into out p m o at gained sa
     let y4 : hop t (slice_index to (at - 1 + o)) (slice_index from p) ≡ hop t (slice_index to (at + o - 1)) (slice_index from p) = ap (λ (n : ℕ). hop t (slice_index to n) (slice_index from p)) z in
     omega arith
 
-pub swap_tabled : (s : Setting) (view : ViewState) (mv : Move) (t : Table) (from to from_edges to_edges before here next back : List ℕ) (p q : ℕ)
+pub swap_tabled : (s : Setting) (view : ViewState) (mv : Move) (t : Table) (from to from_edges to_edges out into before here next back : List ℕ) (p q : ℕ)
     → IsSaving s view mv (swap_lost t from to p q) (swap_gained t from to p q)
     → 1 ≤ p → p + 1 < length from → 1 ≤ q → q + 1 < length to
-    → AreEdges t from from_edges → AreEdges t to to_edges → IsRowFrom false t from to 1 (p - 1) before → IsRowFrom false t from to 1 p here
-    → IsRowFrom true t from to 0 (p + 1) next → IsRowFrom true t from to 0 p back
+    → AreEdges t from from_edges → AreEdges t to to_edges → AreHopsFrom false t from to 0 1 out → AreHopsFrom true t from to 1 0 into
+    → IsRowOf out (length to) (p - 1) before → IsRowOf out (length to) p here → IsRowOf into (length to) (p + 1) next → IsRowOf into (length to) p back
     → IsSaving s view mv (slice_index from_edges (p - 1) + slice_index from_edges p + slice_index to_edges (q - 1) + slice_index to_edges q)
     (slice_index before q + slice_index next q + slice_index back (q - 1) + slice_index here (q + 1))
-swap_tabled s view mv t from to from_edges to_edges before here next back p q saving lp hp lq hq fe te b h n k =
+swap_tabled s view mv t from to from_edges to_edges out into before here next back p q saving lp hp lq hq fe te on turned r1 r2 r3 r4 =
+    let b = row_out t from to out before (p - 1) on (omega arith) r1 in
+    let h = row_out t from to out here p on hp r2 in
+    let n = row_into t from to into next (p + 1) turned (omega arith) hp r3 in
+    let k = row_into t from to into back p turned lp (omega arith) r4 in
     let fc = fe.counted in
     let tc = te.counted in
     let x1 = edge_at t from from_edges p fe lp (omega arith) in
@@ -125,12 +153,16 @@ swap_tabled s view mv t from to from_edges to_edges before here next back p q sa
     let x8 = h (q + 1) (omega arith) (omega arith) in
     omega arith
 
-pub next_tabled : (s : Setting) (view : ViewState) (mv : Move) (t : Table) (from edges before here back : List ℕ) (p : ℕ)
+pub next_tabled : (s : Setting) (view : ViewState) (mv : Move) (t : Table) (from edges out into before here back : List ℕ) (p : ℕ)
     → IsSaving s view mv (next_lost t from p) (next_gained t from p) → 1 ≤ p → p + 2 < length from
-    → AreEdges t from edges → IsRowFrom false t from from 1 (p - 1) before → IsRowFrom false t from from 1 p here → IsRowFrom true t from from 0 p back
+    → AreEdges t from edges → AreHopsFrom false t from from 0 1 out → AreHopsFrom true t from from 1 0 into
+    → IsRowOf out (length from) (p - 1) before → IsRowOf out (length from) p here → IsRowOf into (length from) p back
     → IsSaving s view mv (slice_index edges (p - 1) + slice_index edges p + slice_index edges (p + 1))
     (slice_index before (p + 1) + slice_index back (p + 1) + slice_index here (p + 2))
-next_tabled s view mv t from edges before here back p saving lp hp fe b h k =
+next_tabled s view mv t from edges out into before here back p saving lp hp fe on turned r1 r2 r3 =
+    let b = row_out t from from out before (p - 1) on (omega arith) r1 in
+    let h = row_out t from from out here p on (omega arith) r2 in
+    let k = row_into t from from into back p turned lp (omega arith) r3 in
     let fc = fe.counted in
     let z : p + 1 + 1 ≡ p + 2 = omega arith in
     let x1 = edge_at t from edges p fe lp (omega arith) in
@@ -142,11 +174,14 @@ next_tabled s view mv t from edges before here back p saving lp hp fe b h k =
     let x6 = h (p + 2) (omega arith) (omega arith) in
     omega arith
 
-pub cross_tabled : (s : Setting) (view : ViewState) (mv : Move) (t : Table) (from to from_edges to_edges here next : List ℕ) (k l : ℕ)
+pub cross_tabled : (s : Setting) (view : ViewState) (mv : Move) (t : Table) (from to from_edges to_edges out into here next : List ℕ) (k l : ℕ)
     → IsSaving s view mv (cross_lost t from to k l) (cross_gained t from to k l) → k + 1 < length from → l + 1 < length to
-    → AreEdges t from from_edges → AreEdges t to to_edges → IsRowFrom false t from to 1 k here → IsRowFrom true t from to 0 (k + 1) next
+    → AreEdges t from from_edges → AreEdges t to to_edges → AreHopsFrom false t from to 0 1 out → AreHopsFrom true t from to 1 0 into
+    → IsRowOf out (length to) k here → IsRowOf into (length to) (k + 1) next
     → IsSaving s view mv (slice_index from_edges k + slice_index to_edges l) (slice_index here (l + 1) + slice_index next l)
-cross_tabled s view mv t from to from_edges to_edges here next k l saving hk hl fe te h n =
+cross_tabled s view mv t from to from_edges to_edges out into here next k l saving hk hl fe te on turned r1 r2 =
+    let h = row_out t from to out here k on hk r1 in
+    let n = row_into t from to into next (k + 1) turned (omega arith) hk r2 in
     let fc = fe.counted in
     let tc = te.counted in
     let x1 = fe.hops k (omega arith) in
@@ -155,13 +190,15 @@ cross_tabled s view mv t from to from_edges to_edges here next k l saving hk hl 
     let x4 = n l (omega arith) (omega arith) in
     omega arith
 
-pub reverse_tabled : (s : Setting) (view : ViewState) (mv : Move) (t : Table) (from edges sums back_sums before here : List ℕ) (i j : ℕ)
+pub reverse_tabled : (s : Setting) (view : ViewState) (mv : Move) (t : Table) (from edges sums back_sums out before here : List ℕ) (i j : ℕ)
     → IsSaving s view mv (reverse_lost t from i j) (reverse_gained t from i j) → 1 ≤ i → i < j → j + 1 < length from
     → AreEdges t from edges → AreSums false t from (length from - 1) sums → AreSums true t from (length from - 1) back_sums
-    → IsRowFrom false t from from 1 (i - 1) before → IsRowFrom false t from from 1 i here
+    → AreHopsFrom false t from from 0 1 out → IsRowOf out (length from) (i - 1) before → IsRowOf out (length from) i here
     → IsSaving s view mv (slice_index edges (i - 1) + slice_index back_sums i + slice_index sums j + slice_index edges j)
     (slice_index sums i + slice_index before j + slice_index back_sums j + slice_index here (j + 1))
-reverse_tabled s view mv t from edges sums back_sums before here i j saving li order hj fe f g b h =
+reverse_tabled s view mv t from edges sums back_sums out before here i j saving li order hj fe f g on r1 r2 =
+    let b = row_out t from from out before (i - 1) on (omega arith) r1 in
+    let h = row_out t from from out here i on (omega arith) r2 in
     let fc = fe.counted in
     let x1 = edge_at t from edges i fe li (omega arith) in
     let x2 = fe.hops j (omega arith) in
