@@ -145,6 +145,15 @@ last_known P n [] p all = p
 last_known P n (x ∷ xs) p all = last_known P x xs (all 0 0 (omega arith)) (λ k d h. all (suc k) d (omega arith))
 
 -- a dimension of a setting, and what it knows
+pub in_place : (k : ℕ) (xs ys : List Bounds) → xs ≡ ys → k < length xs → k < length ys
+in_place k xs ys e h = subst (λ (zs : List Bounds). k < length zs) e h
+
+pub none_below : (n : ℕ) → 0 ≤ n
+none_below n = omega arith
+
+pub from_end : (k n : ℕ) → k < n → n - 1 - k < n
+from_end k n h = omega arith
+
 pub at_place : (s : Setting) (k : ℕ) (ds : List Bounds) (d : Bounds) → ds ≡ s.dimensions → k < length ds → d ≡ slice_index_or ds k d → d ≡ dimension_at s k
 at_place s k ds d ed h e = e ∙ get_or_default ds k d no_bounds h ∙ ap (λ (xs : List Bounds). slice_index_or xs k no_bounds) ed
 

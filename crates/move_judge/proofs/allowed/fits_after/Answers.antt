@@ -1,4 +1,89 @@
+use Rattle.std.proofs.Common.{◌∙◌, ℕ, subst, sym}
+use Rattle.dimension_core.specs.Setup.{setting}
+use Rattle.move_judge.specs.Kept.{AreKept}
 use Rattle.move_judge.proofs.allowed.fits_after.Goals as goal
+
+pub shift_inside_fits-requires-clause-kept : goal.shift_inside_fits-requires-clause-kept
+shift_inside_fits-requires-clause-kept g c =
+    let near = rw c.in-Shift.is at c.requires.near in
+    let s = setting c.args.setup.now in
+    let routes = c.args.view.now.routes in
+    subst (λ (x : ℕ). AreKept s routes c.in-Shift.vehicle x c.args.v_kept.now) (sym near.1 ∙ sym c.if-vehicle-to.true)
+    (subst (λ (x : ℕ). AreKept s routes x c.args.w c.args.v_kept.now) (sym near.0) c.requires.v_kept)
+
+pub shift_inside_fits-requires-clause-possible : goal.shift_inside_fits-requires-clause-possible
+shift_inside_fits-requires-clause-possible g c = rw (sym c.if-vehicle-to.true) at (rw c.in-Shift.is at c.requires.possible)
+
+pub shift_fits-requires-clause-possible : goal.shift_fits-requires-clause-possible
+shift_fits-requires-clause-possible g c =
+    let near = rw c.in-Shift.is at c.requires.near in
+    rw (near.0, near.1) at (rw c.in-Shift.is at c.requires.possible)
+
+pub shift_fits-requires-clause-apart : goal.shift_fits-requires-clause-apart
+shift_fits-requires-clause-apart g c =
+    let near = rw c.in-Shift.is at c.requires.near in
+    λ e. c.if-vehicle-to.false (near.0 ∙ e ∙ sym near.1)
+
+pub swap_inside_fits-requires-clause-kept : goal.swap_inside_fits-requires-clause-kept
+swap_inside_fits-requires-clause-kept g c =
+    let near = rw c.in-Swap.is at c.requires.near in
+    let s = setting c.args.setup.now in
+    let routes = c.args.view.now.routes in
+    subst (λ (x : ℕ). AreKept s routes c.in-Swap.vehicle x c.args.v_kept.now) (sym near.1 ∙ sym c.if-vehicle-other.true)
+    (subst (λ (x : ℕ). AreKept s routes x c.args.w c.args.v_kept.now) (sym near.0) c.requires.v_kept)
+
+pub swap_inside_fits-requires-clause-possible : goal.swap_inside_fits-requires-clause-possible
+swap_inside_fits-requires-clause-possible g c = rw (sym c.if-vehicle-other.true) at (rw c.in-Swap.is at c.requires.possible)
+
+pub swap_inside_fits-requires-clause-order : goal.swap_inside_fits-requires-clause-order
+swap_inside_fits-requires-clause-order g c =
+    let near = rw c.in-Swap.is at c.requires.near in
+    near.2 (sym near.0 ∙ c.if-vehicle-other.true ∙ near.1)
+
+pub swap_fits-requires-clause-possible : goal.swap_fits-requires-clause-possible
+swap_fits-requires-clause-possible g c =
+    let near = rw c.in-Swap.is at c.requires.near in
+    rw (near.0, near.1) at (rw c.in-Swap.is at c.requires.possible)
+
+pub swap_fits-requires-clause-apart : goal.swap_fits-requires-clause-apart
+swap_fits-requires-clause-apart g c =
+    let near = rw c.in-Swap.is at c.requires.near in
+    λ e. c.if-vehicle-other.false (near.0 ∙ e ∙ sym near.1)
+
+pub reverse_fits-requires-clause-kept : goal.reverse_fits-requires-clause-kept
+reverse_fits-requires-clause-kept g c =
+    let near = rw c.in-Reverse.is at c.requires.near in
+    let s = setting c.args.setup.now in
+    let routes = c.args.view.now.routes in
+    subst (λ (x : ℕ). AreKept s routes c.in-Reverse.vehicle x c.args.v_kept.now) (sym near.1 ∙ sym near.0)
+    (subst (λ (x : ℕ). AreKept s routes x c.args.w c.args.v_kept.now) (sym near.0) c.requires.v_kept)
+
+pub reverse_fits-requires-clause-possible : goal.reverse_fits-requires-clause-possible
+reverse_fits-requires-clause-possible g c = rw c.in-Reverse.is at c.requires.possible
+
+pub cross_fits-requires-clause-possible : goal.cross_fits-requires-clause-possible
+cross_fits-requires-clause-possible g c =
+    let near = rw c.in-Cross.is at c.requires.near in
+    rw (near.0, near.1) at (rw c.in-Cross.is at c.requires.possible)
+
+pub returns-then-vehicle-to : goal.returns-then-vehicle-to
+returns-then-vehicle-to g c = rw (c.in-Shift.is, sym c.if-vehicle-to.true) c.shift_inside_fits.ensures
+
+pub returns-else-vehicle-to : goal.returns-else-vehicle-to
+returns-else-vehicle-to g c =
+    let near = rw c.in-Shift.is at c.requires.near in
+    rw (c.in-Shift.is, near.0, near.1) c.shift_fits.ensures
+
+pub returns-then-vehicle-other : goal.returns-then-vehicle-other
+returns-then-vehicle-other g c = rw (c.in-Swap.is, sym c.if-vehicle-other.true) c.swap_inside_fits.ensures
+
+pub returns-else-vehicle-other : goal.returns-else-vehicle-other
+returns-else-vehicle-other g c =
+    let near = rw c.in-Swap.is at c.requires.near in
+    rw (c.in-Swap.is, near.0, near.1) c.swap_fits.ensures
+
+pub returns-in-Reverse : goal.returns-in-Reverse
+returns-in-Reverse g c = rw c.in-Reverse.is c.reverse_fits.ensures
 
 pub returns-in-Cross : goal.returns-in-Cross
 returns-in-Cross g c =

@@ -3,7 +3,7 @@ use Rattle.dimension_core.specs.declared.range.Range.{Range}
 use Rattle.dimension_core.specs.Cumuls.{table_of}
 use Rattle.dimension_core.specs.Setup.{setting}
 use Rattle.move_judge.specs.Kept.{IsAhead}
-use Rattle.move_judge.proofs.Keeping.{cells_at, cells_row, at_place, node_known, vehicle_known, served_here, AheadCells, ahead_first, ahead_more, span_on}
+use Rattle.move_judge.proofs.Keeping.{cells_at, cells_row, at_place, node_known, vehicle_known, served_here, AheadCells, ahead_first, ahead_more, span_on, in_place, none_below}
 use Rattle.move_judge.proofs.kept.fill_ahead.Goals as goal
 
 pub loop-customer-init : goal.loop-customer-init
@@ -11,8 +11,7 @@ loop-customer-init g c =
     let s = setting c.args.setup.now in
     let dims = c.dimensions-dimension-items.ensures in
     let same = at_place s c.loop-dimension.dimension-index _ _ dims.value c.loop-dimension-test.true c.dimension-item.is in
-    let few = ap length dims.value in
-    let test = c.loop-dimension-test.true in
+    let here = in_place c.loop-dimension.dimension-index _ _ dims.value c.loop-dimension-test.true in
     let pushed : c.push.new.self.items ≡ c.loop-dimension.cells.items ++ c.start-span.result ∷ [] = c.in_ok-push.ensures.items in
     let begun = c.requires.laws.spans.start (table_of s.tables c.dimension-item.result) c.dimension-item.result c.args.vehicle c.start-span.result c.start-span.ensures.span in
     record {
@@ -20,7 +19,7 @@ loop-customer-init g c =
           (ahead_first s c.args.vehicle c.args.route.now c.loop-dimension.dimension-index c.loop-dimension.cells.items c.dimension-item.result c.start-span.result c.loop-dimension.invariant same begun);
       span = begun;
       from = refl;
-      known = node_known s c.loop-dimension.dimension-index 0 c.dimension-item.result dims.sound (omega arith) same (omega arith);
+      known = node_known s c.loop-dimension.dimension-index 0 c.dimension-item.result dims.sound here same (none_below _);
     }
 
 pub span_after-span-requires-clause-served : goal.span_after-span-requires-clause-served
@@ -28,35 +27,31 @@ span_after-span-requires-clause-served g c =
     let s = setting c.args.setup.now in
     let dims = c.dimensions-dimension-items.ensures in
     let same = at_place s c.loop-dimension.dimension-index _ _ dims.value c.loop-dimension-test.true c.dimension-item.is in
-    let few = ap length dims.value in
-    let test = c.loop-dimension-test.true in
-    served_here s c.loop-dimension.dimension-index _ _ (dims.served c.loop-dimension.dimension-index (omega arith)) c.registry.ensures.value same
+    let here = in_place c.loop-dimension.dimension-index _ _ dims.value c.loop-dimension-test.true in
+    served_here s c.loop-dimension.dimension-index _ _ (dims.served c.loop-dimension.dimension-index here) c.registry.ensures.value same
 
 pub span_after-span-requires-clause-node : goal.span_after-span-requires-clause-node
 span_after-span-requires-clause-node g c =
     let s = setting c.args.setup.now in
     let dims = c.dimensions-dimension-items.ensures in
     let same = at_place s c.loop-dimension.dimension-index _ _ dims.value c.loop-dimension-test.true c.dimension-item.is in
-    let few = ap length dims.value in
-    let test = c.loop-dimension-test.true in
-    node_known s c.loop-dimension.dimension-index _ c.dimension-item.result dims.sound (omega arith) same (c.requires.known c.loop-customer.customer-index 0 c.loop-customer-test.true)
+    let here = in_place c.loop-dimension.dimension-index _ _ dims.value c.loop-dimension-test.true in
+    node_known s c.loop-dimension.dimension-index _ c.dimension-item.result dims.sound here same (c.requires.known c.loop-customer.customer-index 0 c.loop-customer-test.true)
 
 pub span_after-span-requires-clause-high : goal.span_after-span-requires-clause-high
 span_after-span-requires-clause-high g c =
     let s = setting c.args.setup.now in
     let dims = c.dimensions-dimension-items.ensures in
     let same = at_place s c.loop-dimension.dimension-index _ _ dims.value c.loop-dimension-test.true c.dimension-item.is in
-    let few = ap length dims.value in
-    let test = c.loop-dimension-test.true in
-    vehicle_known s c.loop-dimension.dimension-index _ c.dimension-item.result dims.sound (omega arith) same c.requires.high
+    let here = in_place c.loop-dimension.dimension-index _ _ dims.value c.loop-dimension-test.true in
+    vehicle_known s c.loop-dimension.dimension-index _ c.dimension-item.result dims.sound here same c.requires.high
 
 pub loop-customer-preserved : goal.loop-customer-preserved
 loop-customer-preserved g c =
     let s = setting c.args.setup.now in
     let dims = c.dimensions-dimension-items.ensures in
     let same = at_place s c.loop-dimension.dimension-index _ _ dims.value c.loop-dimension-test.true c.dimension-item.is in
-    let few = ap length dims.value in
-    let test = c.loop-dimension-test.true in
+    let here = in_place c.loop-dimension.dimension-index _ _ dims.value c.loop-dimension-test.true in
     let h = c.loop-customer-test.true in
     let pushed : c.push-in-loop-customer.new.self.items ≡ c.loop-customer.cells.items ++ c.span_after-span.result ∷ [] = c.in_ok-push-2.ensures.items in
     let next = span_on _ _ c.dimension-item.result c.args.vehicle c.args.route.now c.loop-customer.customer-index c.loop-customer.from c.loop-customer.span c.span_after-span.result
@@ -66,7 +61,7 @@ loop-customer-preserved g c =
           (ahead_more s c.args.vehicle c.args.route.now c.loop-dimension.dimension-index c.loop-customer.customer-index c.loop-customer.cells.items c.dimension-item.result c.span_after-span.result h c.loop-customer.invariant.cells same next);
       span = next;
       from = c.requires.laws.spans.last c.args.route.now c.loop-customer.customer-index h;
-      known = node_known s c.loop-dimension.dimension-index _ c.dimension-item.result dims.sound (omega arith) same (c.requires.known c.loop-customer.customer-index 0 h);
+      known = node_known s c.loop-dimension.dimension-index _ c.dimension-item.result dims.sound here same (c.requires.known c.loop-customer.customer-index 0 h);
     }
 
 pub loop-dimension-preserved : goal.loop-dimension-preserved
@@ -88,3 +83,11 @@ returns g c =
           (c.loop-dimension.dimension-index * (length c.args.route.now + 1)) (length (setting c.args.setup.now).dimensions * (length c.args.route.now + 1)) c.loop-dimension.cells.items
           (ap (λ (n : ℕ). n * (length c.args.route.now + 1)) all) c.loop-dimension.invariant;
     }
+
+pub start-span-requires-clause-high : goal.start-span-requires-clause-high
+start-span-requires-clause-high g c =
+    let s = setting c.args.setup.now in
+    let dims = c.dimensions-dimension-items.ensures in
+    let same = at_place s c.loop-dimension.dimension-index _ _ dims.value c.loop-dimension-test.true c.dimension-item.is in
+    let here = in_place c.loop-dimension.dimension-index _ _ dims.value c.loop-dimension-test.true in
+    vehicle_known s c.loop-dimension.dimension-index _ c.dimension-item.result dims.sound here same c.requires.high
