@@ -1,5 +1,5 @@
 -- Spans kept along a route, from both ends.
-use Rattle.std.proofs.Common.{◌≡◌, ◌∙◌, ℕ, ◌+◌, ◌-◌, ◌*◌, ◌<◌, ◌≤◌, suc, inl, inr, refl, sym, ap, subst, arith, List, [], ◌∷◌, ◌++◌, length, take, drop, slice_index, slice_index_or, Option, None, All}
+use Rattle.std.proofs.Common.{◌≡◌, ◌∙◌, ℕ, ◌+◌, ◌-◌, ◌*◌, ◌<◌, Fits, w32, ◌≤◌, suc, inl, inr, refl, sym, ap, subst, arith, List, [], ◌∷◌, ◌++◌, length, take, drop, slice_index, slice_index_or, Option, None, All}
 use Rattle.std.proofs.lemmas.Bool.{cases_lt}
 use Rattle.std.proofs.lemmas.List.{get_or_push, get_or_append_left, length-append, length-take-le, length-drop, take_more, drop_more, get_or_default}
 use Rattle.std.proofs.lemmas.Nat.{same_from_place, mul-add-lt}
@@ -8,6 +8,10 @@ use Rattle.dimension_core.specs.declared.range.Range.{Range}
 use Rattle.dimension_core.specs.Cumuls.{Bounds, IsServed, IsSpan, Reaches, table_of, last_of}
 use Rattle.dimension_core.specs.Onward.{IsOnward}
 use Rattle.dimension_core.specs.Setting.{Setting, IsSetting, dimension_at, no_bounds}
+use Rattle.plan_core.specs.Plan.{route_at}
+use Rattle.pin_core.specs.View.{ViewState}
+use Rattle.move_judge.specs.Given.{Laws}
+use Rattle.move_judge.specs.View.{IsViewOf}
 use Rattle.move_judge.specs.Kept.{SpanTable, span_at, GoesOn, IsAhead, IsBehind, AreCells, AreAhead, AreBehind, HasAhead, HasBehind, KeptSpans, AreKept}
 
 -- one number more of a table
@@ -145,11 +149,28 @@ last_known P n [] p all = p
 last_known P n (x ∷ xs) p all = last_known P x xs (all 0 0 (omega arith)) (λ k d h. all (suc k) d (omega arith))
 
 -- a dimension of a setting, and what it knows
+-- the customers of a vehicle of a view
+pub known_of : (law : Laws) (s : Setting) (view : ViewState) (v : ℕ) (xs : List ℕ) → IsViewOf s view → xs ≡ route_at view.routes v → All (λ c. c ≤ s.customers) xs
+known_of law s view v xs is e =
+    subst (λ (ys : List ℕ). All (λ c. c ≤ s.customers) ys) (sym e) (λ k d h. (law.known.known s.customers view.routes v is.plan k d h).1)
+
+pub short_of : (law : Laws) (s : Setting) (view : ViewState) (v : ℕ) (xs : List ℕ) → IsViewOf s view → s.customers ≤ 1000 → xs ≡ route_at view.routes v → length xs ≤ 1000
+short_of law s view v xs is few e = subst (λ (ys : List ℕ). length ys ≤ 1000) (sym e) (most (length (route_at view.routes v)) s.customers (law.known.short s.customers view.routes v is.plan) few)
+  where
+    most : (a b : ℕ) → a ≤ b → b ≤ 1000 → a ≤ 1000
+    most a b h few = omega arith
+
 pub in_place : (k : ℕ) (xs ys : List Bounds) → xs ≡ ys → k < length xs → k < length ys
 in_place k xs ys e h = subst (λ (zs : List Bounds). k < length zs) e h
 
 pub none_below : (n : ℕ) → 0 ≤ n
 none_below n = omega arith
+
+pub place_fits : (k m n : ℕ) → k ≤ m → m ≤ n → n ≤ 1000 → Fits w32 (k + 1)
+place_fits k m n h l few = omega arith
+
+pub stretch_fits : (k m n : ℕ) → k ≤ m + 1 → m ≤ n → n ≤ 1000 → Fits w32 k
+stretch_fits k m n h l few = omega arith
 
 pub from_end : (k n : ℕ) → k < n → n - 1 - k < n
 from_end k n h = omega arith

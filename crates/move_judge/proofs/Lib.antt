@@ -8,3 +8,4 @@ pub mod Between
 pub mod Inside
 pub mod Still
 pub mod Free
+pub mod Nothing

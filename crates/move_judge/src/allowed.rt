@@ -535,9 +535,7 @@ fn may_go(view: &View, setup: &Setup, mv: Move) -> bool
                 may_swap(view, setup, vehicle, place, other, at)
             }
         }
-        Move::Reverse {
-            vehicle, first, ..
-        } => may_reverse(view, setup, vehicle, first),
+        Move::Reverse { vehicle, first, .. } => may_reverse(view, setup, vehicle, first),
         Move::Cross {
             vehicle,
             keep,

@@ -5,7 +5,7 @@ use Rattle.plan_core.specs.Plan.{route_at}
 use Rattle.dimension_core.specs.Setting.{Setting}
 use Rattle.pin_core.specs.View.{ViewState}
 use Rattle.move_core.specs.declared.moves.Move.{Move}
-use Rattle.way_costs.specs.Ways.{hop, hop_by, turned, stops, spare_of, AreStops, AreHopsFrom, AreFloors, AreEdges, AreSums}
+use Rattle.way_costs.specs.Ways.{hop, hop_by, turned, stops, AreStops, AreHopsFrom, AreFloors, AreEdges, AreSums}
 use Rattle.way_costs.specs.Savings.{shift_lost, shift_gained, swap_lost, swap_gained, next_lost, next_gained, cross_lost, cross_gained, reverse_lost, reverse_gained}
 use Rattle.way_costs.specs.Costs.{IsSaving}
 

@@ -362,11 +362,7 @@ fn add_sums(
 }
 
 /// Puts these sums as the ways are driven, and behind them as they are driven back, in place of what `sums` held.
-pub(crate) fn fill_sums(
-    stops: &[u32],
-    cells: &[u32],
-    sums: &mut Vec<u64>,
-) -> Result<(), AllocError>
+pub(crate) fn fill_sums(stops: &[u32], cells: &[u32], sums: &mut Vec<u64>) -> Result<(), AllocError>
     requires sized { length cells.now ≡ length stops.now * length stops.now }
     requires depot { (rest : List ℕ) × (stops.now ≡ 0 ∷ rest) }
     requires long { 2 ≤ length stops.now }

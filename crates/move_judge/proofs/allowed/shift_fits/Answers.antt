@@ -1,7 +1,7 @@
 use Rattle.std.proofs.Common.{◌≡◌, ◌+◌, ◌-◌, arith, refl, ◌∙◌, ap, List, ℕ, take, drop, length}
 use Rattle.dimension_core.specs.Setup.{setting}
 use Rattle.move_judge.proofs.Between.{first_known, first_misfits, fits_changed, second_known, shift_between}
-use Rattle.move_judge.proofs.Keeping.{kept_as, kept_front, kept_back}
+use Rattle.move_judge.proofs.Keeping.{kept_as, kept_front, kept_back, stretch_fits}
 use Rattle.move_judge.proofs.allowed.shift_fits.Goals as goal
 
 pub fits-requires-clause-known : goal.fits-requires-clause-known
@@ -214,3 +214,9 @@ back_of-after-requires g c =
     let end = f.onto.outside c.requires.apart in
     let wide = ap length c.customers-other.ensures in
     omega arith
+
+pub overflow_add-place-2 : goal.overflow_add-place-2
+overflow_add-place-2 g c =
+    let p = c.args.pair.now in
+    let f = (c.requires.laws.possible.shift (setting c.args.setup.now).customers c.args.view.now.routes p.v c.args.place c.args.length p.w c.args.at).0 c.requires.possible in
+    stretch_fits (c.args.place + c.args.length) _ _ f.from.high (c.requires.laws.known.short _ _ p.v c.requires.view.plan) c.args.setup.now.sound.few_customers

@@ -1,7 +1,7 @@
 use Rattle.std.proofs.Common.{◌≡◌, ◌+◌, ◌-◌, arith, refl, ◌∙◌, ap, List, ℕ, take, drop, length}
 use Rattle.dimension_core.specs.Setup.{setting}
 use Rattle.move_judge.proofs.Between.{first_known, first_misfits, fits_changed, second_known, swap_between}
-use Rattle.move_judge.proofs.Keeping.{kept_as, kept_front, kept_back}
+use Rattle.move_judge.proofs.Keeping.{kept_as, kept_front, kept_back, place_fits}
 use Rattle.move_judge.proofs.allowed.swap_fits.Goals as goal
 
 pub fits-requires-clause-known : goal.fits-requires-clause-known
@@ -235,3 +235,15 @@ back_of-after-requires g c =
     let end = f.at.high in
     let wide = ap length c.customers-other.ensures in
     omega arith
+
+pub overflow_add-at : goal.overflow_add-at
+overflow_add-at g c =
+    let p = c.args.pair.now in
+    let f = (c.requires.laws.possible.swap (setting c.args.setup.now).customers c.args.view.now.routes p.v c.args.place p.w c.args.at).0 c.requires.possible in
+    place_fits c.args.at _ _ f.at.high (c.requires.laws.known.short _ _ p.w c.requires.view.plan) c.args.setup.now.sound.few_customers
+
+pub overflow_add-place : goal.overflow_add-place
+overflow_add-place g c =
+    let p = c.args.pair.now in
+    let f = (c.requires.laws.possible.swap (setting c.args.setup.now).customers c.args.view.now.routes p.v c.args.place p.w c.args.at).0 c.requires.possible in
+    place_fits c.args.place _ _ f.place.high (c.requires.laws.known.short _ _ p.v c.requires.view.plan) c.args.setup.now.sound.few_customers

@@ -1,4 +1,4 @@
-use Rattle.std.proofs.Common.{◌+◌, ◌-◌, arith, length}
+use Rattle.std.proofs.Common.{◌-◌, arith, length}
 use Rattle.neighbourhood.specs.Searched.{searched}
 use Rattle.neighbourhood.proofs.Rows.{swap_apart, swap_row, swap_row_done, swaps_begin, swaps_end}
 use Rattle.neighbourhood.proofs.swap.best_swap.Goals as goal

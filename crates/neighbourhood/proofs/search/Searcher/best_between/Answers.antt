@@ -1,6 +1,4 @@
-use Rattle.std.proofs.Common.{◌≡◌, ◌∙◌, ◌≤◌, ◌-◌, ◌*◌, List, ℕ, ap, arith, length, refl, subst, sym, false}
-use Rattle.callback_store.specs.Tables.{table_at}
-use Rattle.dimension_core.specs.Setup.{setting}
+use Rattle.std.proofs.Common.{◌∙◌, ◌≤◌, ℕ, ap, arith, subst, sym}
 use Rattle.plan_core.specs.Plan.{route_at}
 use Rattle.way_costs.specs.Sides.{SidesState, TwoWays}
 use Rattle.neighbourhood.proofs.Gathers.{edges_of, gathered_between}

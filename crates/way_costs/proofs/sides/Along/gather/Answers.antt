@@ -1,4 +1,4 @@
-use Rattle.std.proofs.Common.{◌≡◌, ◌≤◌, ◌<◌, ℕ, false, List, All, arith, subst}
+use Rattle.std.proofs.Common.{◌≤◌, ℕ, false, List, All, arith, subst}
 use Rattle.std.proofs.lemmas.Result.{IfOk-weaker}
 use Rattle.callback_store.specs.Tables.{Table}
 use Rattle.way_costs.specs.Sides.{IsAlong}
