@@ -1,5 +1,5 @@
 //! Runs with a worker and a live script, where memory runs out.
-use crate::scarce::{Attempt, Hoard, Outcome, insist};
+use crate::scarce::{Hoard, Outcome};
 use std::io::Eprint;
 use std::process::Abort;
 use std::str;
@@ -110,8 +110,14 @@ fn is_documented(text: &str, faults: &str, status: u8) -> bool {
 }
 
 /// Whether a run ended as it may; none where it was not answered so far.
-fn judged(text: &str, faults: &str, status: u8, wanted: &str) -> Option<bool> {
-    if !is_documented(text, faults, status) {
+fn judged(written: &[u8], faults: &[u8], status: u8, wanted: &str) -> Option<bool> {
+    let Ok(text) = str::from_utf8(written) else {
+        return Some(false);
+    };
+    let Ok(reason) = str::from_utf8(faults) else {
+        return Some(false);
+    };
+    if !is_documented(text, reason, status) {
         return Some(false);
     }
     if text.starts_with(wanted) {
@@ -121,34 +127,60 @@ fn judged(text: &str, faults: &str, status: u8, wanted: &str) -> Option<bool> {
     }
 }
 
-/// Runs with a worker, and room for what they write.
-#[derive(Drop)]
-struct Beside<H> {
+/// Runs the scripts, and gives the status.
+fn run<H: Threads + Wait + Clock + Eprint + AllocGlobal + Copy + Drop + Send + Sync + 'static>(
     rt: H,
-    written: Vec<u8>,
-    faults: Vec<u8>,
+    written: &mut Vec<u8>,
+    faults: &mut Vec<u8>,
+) -> u8 {
+    written.clear();
+    faults.clear();
+    scripted(
+        rt,
+        rt.alloc(),
+        B.as_bytes(),
+        &mut SCRIPT.as_bytes(),
+        &mut LIVE.as_bytes(),
+        ONE_WORKER,
+        written,
+        faults,
+    )
 }
 
-impl<H: Threads + Wait + Clock + Eprint + AllocGlobal + Copy + Drop + Send + Sync + 'static> Attempt
-    for Beside<H> {
-    ghost may = { λ beside. Unit {0} };
-
-    fn attempt(&mut self, text: &str, wanted: &str) -> Option<bool> {
-        self.written.clear();
-        self.faults.clear();
-        let status = scripted(
-            self.rt,
-            self.rt.alloc(),
-            text.as_bytes(),
-            &mut SCRIPT.as_bytes(),
-            &mut LIVE.as_bytes(),
-            ONE_WORKER,
-            &mut self.written,
-            &mut self.faults,
-        );
-        let written = str::from_utf8(&self.written).unwrap_or("no text");
-        let faults = str::from_utf8(&self.faults).unwrap_or("no text");
-        judged(written, faults, status, wanted)
+/// Leaves a run so many bytes, and then more and more, as `insist` does, until what is wanted is written.
+fn runs_until<
+    H: Threads + Wait + Clock + Eprint + AllocGlobal + Copy + Drop + Send + Sync + 'static,
+>(
+    rt: H,
+    hoard: &mut Hoard,
+    written: &mut Vec<u8>,
+    faults: &mut Vec<u8>,
+    wanted: &str,
+    from: usize,
+) -> Outcome {
+    let mut lacked = from;
+    let mut more = 0usize;
+    for refused in 0..4_000u32 {
+        let bytes = from.saturating_add(more);
+        hoard.leave(bytes);
+        let status = run(rt, written, faults);
+        hoard.give_back();
+        if let Some(is_wanted) = judged(written, faults, status, wanted) {
+            return Outcome {
+                refused,
+                lacked,
+                bytes,
+                is_wanted,
+            };
+        }
+        lacked = bytes;
+        more = more.saturating_add(16).saturating_add(more / 64);
+    }
+    Outcome {
+        refused: 4_000,
+        lacked,
+        bytes: lacked,
+        is_wanted: false,
     }
 }
 
@@ -162,21 +194,16 @@ fn compare(rt: &impl Abort, outcome: Outcome, hoard: &Hoard, least: u32) {
 pub(crate) fn runs_beside<
     H: Threads + Wait + Clock + Eprint + AllocGlobal + Abort + Copy + Drop + Send + Sync + 'static,
 >(rt: H, hoard: &mut Hoard) {
-    let Ok(written) = Vec::with_capacity(rt.alloc(), 4096) else {
+    let Ok(mut written) = Vec::with_capacity(rt.alloc(), 4096) else {
         return;
     };
-    let Ok(faults) = Vec::with_capacity(rt.alloc(), 4096) else {
+    let Ok(mut faults) = Vec::with_capacity(rt.alloc(), 4096) else {
         return;
     };
-    let mut beside = Beside {
-        rt,
-        written,
-        faults,
-    };
-    let rough = insist(hoard, &mut beside, B, "done\n", 0, 64);
+    let rough = runs_until(rt, hoard, &mut written, &mut faults, "done\n", 0);
     compare(&rt, rough, hoard, 100);
-    let first = insist(hoard, &mut beside, B, WHOLE, rough.lacked, 64);
+    let first = runs_until(rt, hoard, &mut written, &mut faults, WHOLE, rough.lacked);
     compare(&rt, first, hoard, 100);
-    let again = insist(hoard, &mut beside, B, WHOLE, rough.lacked, 64);
+    let again = runs_until(rt, hoard, &mut written, &mut faults, WHOLE, rough.lacked);
     compare(&rt, again, hoard, 100);
 }
