@@ -206,7 +206,7 @@ fn compare(rt: &impl Abort, outcome: Outcome, line: &str) {
 }
 
 /// The text of a reply: each line ends, where a row has a stroke and at its end.
-fn reply_of(alloc: Global, told: &str) -> Option<String> {
+pub(crate) fn reply_of(alloc: Global, told: &str) -> Option<String> {
     let mut text = told.replace(alloc, "/", "\n").ok()?;
     text.push('\n').ok()?;
     Some(text)

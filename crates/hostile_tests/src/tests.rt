@@ -102,6 +102,20 @@ fn rights_change<W: Threads + Wait + Abort + Sync>(
     Ok(())
 }
 
+/// Three customers on a line, 30 from each other.
+#[test]
+fn workers_whose_rights_change(rt: HostRuntime) -> Result<(), Fail> {
+    let drive = Box::new(
+        rt.alloc(),
+        move |i: u32, j: u32| -> u64
+            ensures { result ≡ 30 * way i j }
+        { u64::from(i.abs_diff(j)) * 30 },
+    )?;
+    let drives = Transit::new(4, drive);
+    let setup = free(rt.alloc(), drives).ok_or("a setup")?;
+    rights_change(&rt, rt.alloc(), setup)
+}
+
 /// Rounds of a worker, openings of halls, and then starts of workers, that lack memory.
 fn memory_lacks<W: Threads + Wait + Abort + Sync>(
     rt: &W,
@@ -115,11 +129,22 @@ fn memory_lacks<W: Threads + Wait + Abort + Sync>(
     compare_rounds(rt, &hoard, &ended);
     let opened = opens_until(rt, alloc, &mut hoard, &setup);
     compare_opened(rt, &hoard, opened);
-    let started = starts_until(rt, alloc, &mut hoard, &setup, 5, 36 << 20);
-    compare_started(rt, &hoard, started, (2, 0), 5);
-    let started = starts_until(rt, alloc, &mut hoard, &setup, 3, 16);
-    compare_started(rt, &hoard, started, (1, 1), 3);
+    let started = starts_until(rt, alloc, &mut hoard, &setup);
+    compare_started(rt, &hoard, started);
     Ok(())
+}
+
+#[test]
+fn rounds_and_halls_that_lack_memory(rt: HostRuntime) -> Result<(), Fail> {
+    let drive = Box::new(
+        rt.alloc(),
+        move |i: u32, j: u32| -> u64
+            ensures { result ≡ 30 * way i j }
+        { u64::from(i.abs_diff(j)) * 30 },
+    )?;
+    let drives = Transit::new(4, drive);
+    let setup = free(rt.alloc(), drives).ok_or("a setup")?;
+    memory_lacks(&rt, rt.alloc(), setup)
 }
 
 /// A thousand customers on a line, each as far from the depot as its number.
@@ -142,54 +167,18 @@ fn a_board_as_large_as_may_be(rt: HostRuntime) -> Result<(), Fail> {
     Ok(())
 }
 
-/// Commands that are given up.
-fn commands_given_up(rt: &impl Abort, alloc: Global, setup: Arc<Setup>) -> Result<(), Fail> {
-    let again = Arc::try_clone(&setup)?;
-    let mut hoard = Hoard::new(alloc).ok_or("memory")?;
-    go_on(rt, alloc, &mut hoard, setup, again);
-    Ok(())
-}
-
-/// What is tried with three customers on a line.
-#[derive(Clone, Copy, Drop)]
-enum Kind {
-    RightsChange,
-    MemoryLacks,
-    GivenUp,
-}
-
-/// Three customers on a line, 30 from each other.
-fn on_a_line<W: Threads + Wait + Abort + Sync>(
-    rt: &W,
-    alloc: Global,
-    kind: Kind,
-) -> Result<(), Fail> {
+#[test]
+fn given_up_commands_cost_no_copy(rt: HostRuntime) -> Result<(), Fail> {
     let drive = Box::new(
-        alloc,
+        rt.alloc(),
         move |i: u32, j: u32| -> u64
             ensures { result ≡ 30 * way i j }
         { u64::from(i.abs_diff(j)) * 30 },
     )?;
     let drives = Transit::new(4, drive);
-    let setup = free(alloc, drives).ok_or("a setup")?;
-    match kind {
-        Kind::RightsChange => rights_change(rt, alloc, setup),
-        Kind::MemoryLacks => memory_lacks(rt, alloc, setup),
-        Kind::GivenUp => commands_given_up(rt, alloc, setup),
-    }
-}
-
-#[test]
-fn workers_whose_rights_change(rt: HostRuntime) -> Result<(), Fail> {
-    on_a_line(&rt, rt.alloc(), Kind::RightsChange)
-}
-
-#[test]
-fn rounds_and_halls_that_lack_memory(rt: HostRuntime) -> Result<(), Fail> {
-    on_a_line(&rt, rt.alloc(), Kind::MemoryLacks)
-}
-
-#[test]
-fn given_up_commands_cost_no_copy(rt: HostRuntime) -> Result<(), Fail> {
-    on_a_line(&rt, rt.alloc(), Kind::GivenUp)
+    let setup = free(rt.alloc(), drives).ok_or("a setup")?;
+    let again = Arc::try_clone(&setup)?;
+    let mut hoard = Hoard::new(rt.alloc()).ok_or("memory")?;
+    go_on(&rt, rt.alloc(), &mut hoard, setup, again);
+    Ok(())
 }

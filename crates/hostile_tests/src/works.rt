@@ -1,5 +1,5 @@
 //! Workers that are started while memory runs out.
-ghost use Rattle.std.specs.Prelude.{◌≡◌, ◌≤◌};
+ghost use Rattle.std.specs.Prelude.{◌≡◌};
 
 use crate::scarce::Hoard;
 use crate::setups::foyer_of;
@@ -12,8 +12,8 @@ use std::process::Abort;
 use std::sync::{Arc, Wait};
 use std::thread::Threads;
 
-/// How many shares come of the workers of a hall, each without rounds, that are started with so many bytes, or why none do; nothing where
-/// the hall was not opened.
+/// How many shares come of five workers without rounds that are started with so many bytes, or why none do; nothing where their hall was not
+/// opened.
 fn shares_of<N: Naming + Send + Sync, R: Wait + Drop + Send + Sync, W: Threads + Wait + Sync>(
     rt: &W,
     alloc: Global,
@@ -27,11 +27,11 @@ fn shares_of<N: Naming + Send + Sync, R: Wait + Drop + Send + Sync, W: Threads +
     let Ok(desks) = open_hall::<N, R>(alloc, foyer) else {
         return None;
     };
-    if desks.len() > 63 {
+    if desks.len() != 5 {
         return None;
     }
-    let sessions = Vec::from_elem(alloc, 1u32, desks.len()).ok()?;
-    let seeds = Vec::from_elem(alloc, 1u64, desks.len()).ok()?;
+    let sessions = Vec::from_slice(alloc, &[1u32, 1, 1, 1, 1]).ok()?;
+    let seeds = Vec::from_slice(alloc, &[1u64, 2, 3, 4, 5]).ok()?;
     hoard.leave(bytes);
     let worked = work_all(rt, alloc, desks, sessions, seeds, 0, &OpenGate);
     hoard.give_back();
@@ -41,73 +41,42 @@ fn shares_of<N: Naming + Send + Sync, R: Wait + Drop + Send + Sync, W: Threads +
     }
 }
 
-/// The same by a new board of so many desks.
+/// The same by a new board.
 fn started_with<W: Threads + Wait + Sync>(
     rt: &W,
     alloc: Global,
     hoard: &mut Hoard,
     setup: &Arc<Setup>,
-    workers: u32,
     bytes: usize,
-) -> Option<Result<usize, WorkFault>>
-    requires low { 1 ≤ workers }
-    requires high { workers ≤ 64 }
-{
-    let foyer = foyer_of(rt, alloc, Arc::try_clone(setup).ok()?, workers)?;
+) -> Option<Result<usize, WorkFault>> {
+    let foyer = foyer_of(rt, alloc, Arc::try_clone(setup).ok()?, 5)?;
     shares_of::<Brand, _, _>(rt, alloc, hoard, foyer, bytes)
 }
 
-/// How often a thread was not started, how often memory ran out behind the threads, and how many shares there were in the end.
-#[derive(Clone, Copy, Debug, Drop)]
-pub(crate) struct Started {
-    unstarted: u32,
-    unpushed: u32,
-    shares: Option<usize>,
-}
+/// No memory for a thread, memory for some of five, whose stacks take eight megabytes each as a rule, and for all.
+const LEFT: [usize; 3] = [0, 36 << 20, 1 << 28];
 
-/// Starts workers time and again, first with no memory and then each time with so many bytes more, until all give their shares.
+/// Starts five workers time and again, each time with more memory, until all are started: how often one was not, and how many shares there
+/// are then.
 pub(crate) fn starts_until<W: Threads + Wait + Sync>(
     rt: &W,
     alloc: Global,
     hoard: &mut Hoard,
     setup: &Arc<Setup>,
-    workers: u32,
-    more: usize,
-) -> Started
-    requires low { 1 ≤ workers }
-    requires high { workers ≤ 64 }
-{
-    let mut started = Started {
-        unstarted: 0,
-        unpushed: 0,
-        shares: None,
-    };
-    let mut bytes = 0usize;
-    for _ in 0..4_000u32 {
-        match started_with(rt, alloc, hoard, setup, workers, bytes) {
-            Some(Err(WorkFault::Spawn)) => started.unstarted = started.unstarted.wrapping_add(1),
-            Some(Err(WorkFault::NoMemory)) => started.unpushed = started.unpushed.wrapping_add(1),
-            Some(Ok(shares)) => {
-                started.shares = Some(shares);
-                return started;
-            }
-            None => return started,
+) -> (u32, Option<usize>) {
+    let mut refused = 0u32;
+    for bytes in LEFT {
+        match started_with(rt, alloc, hoard, setup, bytes) {
+            Some(Err(WorkFault::Spawn)) => refused = refused.wrapping_add(1),
+            Some(Ok(shares)) => return (refused, Some(shares)),
+            _ => return (refused, None),
         }
-        bytes = bytes.saturating_add(more);
     }
-    started
+    (refused, None)
 }
 
-/// Where memory lacked for a thread, for the first one or for a later one, the fault was `Spawn`; where it lacked for the shares alone, it
-/// was `NoMemory`; and the next start gave all shares.
-pub(crate) fn compare_started(
-    rt: &impl Abort,
-    hoard: &Hoard,
-    started: Started,
-    least: (u32, u32),
-    workers: usize,
-) {
-    assert!(rt; hoard.is_enough(started.unstarted, least.0), "{started:?}");
-    assert!(rt; hoard.is_enough(started.unpushed, least.1), "{started:?}");
-    assert_eq!(rt; started.shares, Some(workers));
+/// Where memory lacked for a thread, for the first one or for a later one, the fault was `Spawn`, and the next start gave all shares.
+pub(crate) fn compare_started(rt: &impl Abort, hoard: &Hoard, started: (u32, Option<usize>)) {
+    assert!(rt; hoard.is_enough(started.0, 1), "{started:?}");
+    assert_eq!(rt; started.1, Some(5usize));
 }
