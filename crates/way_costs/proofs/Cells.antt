@@ -1,13 +1,16 @@
-use Rattle.std.proofs.Common.{add-zero, append_assoc, All, ◌^◌, ◌≡◌, ◌≢◌, ℕ, ◌+◌, ◌-◌, ◌*◌, ◌<◌, ◌≤◌, ◌∙◌, refl, sym, ap, subst, arith, inl, inr, List, [], ◌∷◌, ◌++◌, length, map, set, slice_index, length-append, Bool, true, false, ◌==◌, if◌then◌else◌, take, drop, suc}
+use Rattle.std.proofs.Common.{add-zero, append_assoc, All, Fits, w32, w64, ◌^◌, ◌≡◌, ◌≢◌, ℕ, ◌+◌, ◌-◌, ◌*◌, ◌<◌, ◌≤◌, ◌∙◌, refl, sym, ap, subst, arith, inl, inr, List, [], ◌∷◌, ◌++◌, length, map, set, slice_index, slice_index_or, length-append, min, Bool, true, false, ◌==◌, if◌then◌else◌, take, drop, suc}
 use Rattle.std.proofs.lemmas.Bool.{cases_lt, ne_eqb}
-use Rattle.std.proofs.lemmas.List.{get_or_push, get_or_append_left, get_or-append-add, get_or-take, get_or-drop, get_or-set_same, get_or-set_other, get_or-map, length-set, length-take-le, length-drop, take_more}
-use Rattle.std.proofs.lemmas.List.Elements.{All-append, All-cons, All-nil}
+use Rattle.std.proofs.lemmas.List.{get_or_default, get_or_push, get_or_append_left, get_or-append-add, get_or-take, get_or-drop, get_or-set_same, get_or-set_other, get_or-map, length-map, length-set, length-take-le, length-drop, take_more}
+use Rattle.std.proofs.lemmas.List.Elements.{All-append, All-cons, All-drop, All-nil, All-take}
 use Rattle.std.proofs.Math.Seq.{take-append_seam, drop-append_seam}
-use borrow.Rule.Slice.PartMut.{put_mid, post_of}
-use Rattle.callback_store.specs.Tables.{Table, entry}
+use Rattle.std.proofs.lemmas.Nat.{mul-le}
+use Rattle.std.proofs.Math.Nat.{min-le_left, min-le_right}
+use borrow.Rule.Slice.PartMut.{put_mid, post_of, same_len_mid}
+use Rattle.callback_store.specs.Tables.{Table, entry, nodes_of, table_at}
+use Rattle.dimension_core.specs.Setting.{Setting, IsSetting}
 use Rattle.plan_core.specs.Cost.{way}
 use Rattle.way_costs.proofs.WayParts.{way_append, last_take}
-use Rattle.way_costs.specs.Ways.{hop, hop_by, entry_by, along, AreHopsFrom, AreEdges, ArePicked, IsTurned, AreSums, AddsSums, AreBothSums}
+use Rattle.way_costs.specs.Ways.{hop, hop_by, entry_by, along, spare_of, AreHopsFrom, AreFloors, AreEdges, ArePicked, IsTurned, AreSums, AddsSums, AreBothSums}
 
 -- a row lies inside its table
 pub row_fits : (a n w : ℕ) → a < n → a * w + w ≤ n * w
@@ -23,18 +26,63 @@ pushed_last : (cells : List ℕ) (x k : ℕ) → length cells ≡ k → slice_in
 pushed_last cells x k h = get_or_push cells x 0 k h
 
 -- a part of a list is put anew
-pub put_at : (a k : ℕ) (xs ys : List ℕ) (n : ℕ) → a ≤ length xs → n < length ys → slice_index (put_mid a k xs ys) (a + n) ≡ slice_index ys n
+put_at : (a k : ℕ) (xs ys : List ℕ) (n : ℕ) → a ≤ length xs → n < length ys → slice_index (put_mid a k xs ys) (a + n) ≡ slice_index ys n
 put_at a k xs ys n fits h =
     subst (λ (m : ℕ). slice_index (put_mid a k xs ys) (m + n) ≡ slice_index ys n) (length-take-le a xs fits)
     (get_or-append-add (take a xs) (ys ++ post_of a k xs) n 0 ∙ get_or_append_left ys (post_of a k xs) 0 n h)
 
-pub put_before : (a k : ℕ) (xs ys : List ℕ) (n : ℕ) → a ≤ length xs → n < a → slice_index (put_mid a k xs ys) n ≡ slice_index xs n
+put_before : (a k : ℕ) (xs ys : List ℕ) (n : ℕ) → a ≤ length xs → n < a → slice_index (put_mid a k xs ys) n ≡ slice_index xs n
 put_before a k xs ys n fits h =
     get_or_append_left (take a xs) (ys ++ post_of a k xs) 0 n (subst (λ (m : ℕ). n < m) (sym (length-take-le a xs fits)) h) ∙ get_or-take a xs n 0 h
+
+-- a row is a part of a table, which is put anew
+pub row_long : (a n : ℕ) (cells : List ℕ) → a + n ≤ length cells → length (take (a + n - a) (drop a cells)) ≡ n
+row_long a n cells fits =
+    let d = length-drop a cells in
+    let same : a + n - a ≡ n = omega arith in
+    rw same (length-take-le n (drop a cells) (omega arith))
+
+pub row_sized : (a n : ℕ) (cells row : List ℕ) → a + n ≤ length cells → length row ≡ n → length (put_mid a (a + n - a) cells row) ≡ length cells
+row_sized a n cells row fits e = same_len_mid a (a + n - a) cells row (e ∙ sym (row_long a n cells fits))
+
+pub row_at : (a n m : ℕ) (cells row : List ℕ) → a + n ≤ length cells → length row ≡ n → (k : ℕ) → k < n → slice_index (put_mid a m cells row) (a + k) ≡ slice_index row k
+row_at a n m cells row fits e k h = put_at a m cells row k (omega arith) (omega arith)
+
+pub row_kept : (a n m : ℕ) (cells row : List ℕ) → a + n ≤ length cells → (k : ℕ) → k < a → slice_index (put_mid a m cells row) k ≡ slice_index cells k
+row_kept a n m cells row fits k h = put_before a m cells row k (omega arith) h
+
+pub row_least : (a n m x : ℕ) (cells row : List ℕ) → a + n ≤ length cells → length row ≡ n → All (λ y. x ≤ y) row → (k : ℕ) → k < n → x ≤ slice_index (put_mid a m cells row) (a + k)
+row_least a n m x cells row fits e all k h = subst (λ (y : ℕ). x ≤ y) (sym (row_at a n m cells row fits e k h)) (all k 0 (omega arith))
 
 -- what a list holds after it was lent whole
 pub written_back : (n : ℕ) (xs ys : List ℕ) → length xs ≡ n → xs ≡ take n (xs ++ ys)
 written_back n xs ys e = subst (λ (m : ℕ). xs ≡ take m (xs ++ ys)) e (sym (take-append_seam xs ys))
+
+-- numbers that fit
+pub way_fits : (x : ℕ) → x ≤ 1000000000 → Fits w32 x
+way_fits x h = omega arith
+
+pub table_fits : (a b : ℕ) → a ≤ 1002 → b ≤ 1002 → Fits w64 (a * b)
+table_fits a b h k = let most = mul-le a b 1002 1002 h k in omega arith
+
+-- a row that is filled lies in its table
+pub row_in : (first n i : ℕ) → first ≤ 1 → 1 ≤ n → i < first + n - 1 → i < n
+row_in first n i few some h = omega arith
+
+pub begin_fits : (first n w i : ℕ) → first ≤ 1 → n ≤ 1002 → w ≤ 1002 → i < first + n - 1 → Fits w64 (i * w)
+begin_fits first n w i few short narrow h = table_fits i w (omega arith) narrow
+
+pub begun_fits : (first n w i x : ℕ) → first ≤ 1 → n ≤ 1002 → w ≤ 1002 → i < first + n - 1 → x ≤ 1 → Fits w64 (i * w + x)
+begun_fits first n w i x few short narrow h inside =
+    let low : i ≤ 1002 = omega arith in
+    let most = mul-le i w 1002 1002 low narrow in
+    omega arith
+
+pub place_fits : (first n w i x : ℕ) → first ≤ 1 → n ≤ 1002 → w ≤ 1002 → i < first + n - 1 → x < w → Fits w64 (i * w + x)
+place_fits first n w i x few short narrow h inside =
+    let low : i ≤ 1002 = omega arith in
+    let most = mul-le i w 1002 1002 low narrow in
+    omega arith
 
 -- the rows up to one of a table that lacks a column
 pub record AreFilledFrom (turned : Bool) (t : Table) (from to : List ℕ) (row column n : ℕ) (cells : List ℕ) : Type 0 where
@@ -142,13 +190,43 @@ rows_more turned t from to asked old cells filled new row column i spare x low f
           (floored to cells filled row column i spare x few within apart (omega arith) lower kept (λ k h. least k (omega arith))),
     )
 
+-- a row has room, and the place of its number
+pub rows_room : (first column i : ℕ) (from to asked cells old : List ℕ) → first ≤ 1 → column ≤ 1 → 1 ≤ length from → 1 ≤ length to → i < first + length from - 1
+    → asked ≡ take (length to - 1) (drop column to) → cells ≡ old → length old ≡ length from * length to → i * length to + column + length asked ≤ length cells
+rows_room first column i from to asked cells old few thin some wide h is same sized =
+    let fits = row_fits i (length from) (length to) (row_in first (length from) i few some h) in
+    let long : length asked ≡ length to - 1 = ap length is ∙ length-take-le (length to - 1) (drop column to) (let d = length-drop column to in omega arith) in
+    let all : length cells ≡ length old = ap length same in
+    omega arith
+
+pub cell_room : (first i spare room : ℕ) (from to : List ℕ) → first ≤ 1 → 1 ≤ length from → i < first + length from - 1 → spare < length to
+    → room ≡ length from * length to → i * length to + spare < room
+cell_room first i spare room from to few some h within all =
+    let fits = row_fits i (length from) (length to) (row_in first (length from) i few some h) in
+    omega arith
+
+-- what is asked is known
+pub part_known : (n m k : ℕ) (to asked : List ℕ) → asked ≡ take m (drop k to) → All (λ c. c ≤ n) to → All (λ c. c ≤ n) asked
+part_known n m k to asked is all = subst (λ (xs : List ℕ). All (λ c. c ≤ n) xs) (sym is) (All-take (λ c. c ≤ n) m (drop k to) (All-drop (λ c. c ≤ n) k to all))
+
+-- all rows
+pub rows_hops : (turned : Bool) (t : Table) (from to cells : List ℕ) (row column first begin n : ℕ) → first ≡ row → begin ≡ column → first + length from - 1 ≤ n
+    → AreFilledFrom turned t from to first begin n cells → AreHopsFrom turned t from to row column cells
+rows_hops turned t from to cells row column first begin n e f end g = record {
+  counted = g.whole;
+  hops = λ a b la ha lb hb. g.hops a b (omega arith) (omega arith) (omega arith) (omega arith);
+}
+
+pub rows_floors : (from to cells : List ℕ) (row column first begin spare n : ℕ) → first ≡ row → begin ≡ column → spare ≡ spare_of begin to → first + length from - 1 ≤ n
+    → AreFlooredTo to first begin spare n cells → AreFloors from to row column cells
+rows_floors from to cells row column first begin spare n e f s end g = λ a b la ha lb hb.
+    let place : spare ≡ spare_of column to = s ∙ ap (λ (k : ℕ). spare_of k to) f in
+    subst (λ (k : ℕ). slice_index cells (a * length to + k) ≤ slice_index cells (a * length to + b)) place (g.floors a b (omega arith) (omega arith) (omega arith) (omega arith))
+
 -- a table that is turned: the rows before one, and the first numbers of this one
 pub record IsTurnedTo (w i j : ℕ) (cells back : List ℕ) : Type 0 where
   pub rows : IsTurned w i cells back
   pub row : (b : ℕ) → b < j → slice_index back (i * w + b) ≡ slice_index cells (b * w + i)
-
-pub turned_none : (w : ℕ) (cells back : List ℕ) → length back ≡ w * w → IsTurned w 1 cells back
-turned_none w cells back e = record { whole = e; turned = λ a b la ha lb. absurd (omega arith) }
 
 pub turned_begin : (w i : ℕ) (cells back : List ℕ) → IsTurned w i cells back → IsTurnedTo w i 0 cells back
 turned_begin w i cells back f = record { rows = f; row = λ b h. absurd (omega arith) }
@@ -204,11 +282,16 @@ pub record AreAsked (turned : Bool) (t : Table) (stop : ℕ) (to : List ℕ) (n 
   pub ways : (k : ℕ) → k < n → slice_index row k ≡ hop_by turned t stop (slice_index to k)
   pub floor : (k : ℕ) → k < n → least ≤ slice_index row k
 
+pub asked_none : (turned : Bool) (t : Table) (stop : ℕ) (to row : List ℕ) (least : ℕ) → length row ≡ length to → AreAsked turned t stop to 0 least row
+asked_none turned t stop to row least e = record { sized = e; ways = λ k h. absurd (omega arith); floor = λ k h. absurd (omega arith) }
+
 pub asked_more : (turned : Bool) (t : Table) (stop : ℕ) (to row : List ℕ) (n least less way : ℕ) → n < length to → AreAsked turned t stop to n least row
-    → way ≡ hop_by turned t stop (slice_index to n) → less ≤ least → less ≤ way → AreAsked turned t stop to (n + 1) less (set row n way)
-asked_more turned t stop to row n least less way more f e l m =
+    → way ≡ hop_by turned t stop (slice_index to n) → less ≡ min least way → AreAsked turned t stop to (n + 1) less (set row n way)
+asked_more turned t stop to row n least less way more f e m =
     let sized = f.sized in
     let here = get_or-set_same row n way 0 (omega arith) in
+    let left : less ≤ least = subst (λ (x : ℕ). x ≤ least) (sym m) (min-le_left least way) in
+    let right : less ≤ way = subst (λ (x : ℕ). x ≤ way) (sym m) (min-le_right least way) in
     record {
       sized = length-set row n way ∙ f.sized;
       ways = λ k h. elim (cases_lt k n) [
@@ -228,6 +311,20 @@ asked_more turned t stop to row n least less way more f e l m =
       ];
     }
 
+pub asked_ways : (turned : Bool) (t : Table) (stop : ℕ) (to row : List ℕ) (n least : ℕ) → length to ≤ n → AreAsked turned t stop to n least row
+    → (k : ℕ) → k < length to → slice_index row k ≡ hop_by turned t stop (slice_index to k)
+asked_ways turned t stop to row n least all f k h = f.ways k (omega arith)
+
+pub asked_floor : (turned : Bool) (t : Table) (stop : ℕ) (to row : List ℕ) (n least : ℕ) → length to ≤ n → AreAsked turned t stop to n least row → All (λ x. least ≤ x) row
+asked_floor turned t stop to row n least all f k d h =
+    let sized = f.sized in
+    subst (λ (x : ℕ). least ≤ x) (get_or_default row k 0 d h) (f.floor k (omega arith))
+
+-- the ways of a row, whichever way they are driven
+pub ways_by : (turned b : Bool) (t : Table) (stop : ℕ) (to row : List ℕ) → turned ≡ b → ((k : ℕ) → k < length to → slice_index row k ≡ hop_by b t stop (slice_index to k))
+    → (k : ℕ) → k < length to → slice_index row k ≡ hop_by turned t stop (slice_index to k)
+ways_by turned b t stop to row e all = subst (λ (x : Bool). (k : ℕ) → k < length to → slice_index row k ≡ hop_by x t stop (slice_index to k)) (sym e) all
+
 -- a callback answers on each way that is driven
 hop_away : (t : Table) (i j : ℕ) → (i ≡ 0 → j ≢ 0) → hop t i j ≡ entry t i j
 hop_away t i j h = elim (cases_lt 0 j) [
@@ -244,9 +341,8 @@ pub way_away : (turned : Bool) (t : Table) (i j : ℕ) → (i ≡ 0 → j ≢ 0)
 way_away true t i j h = hop_away t j i (λ e f. h f e)
 way_away false t i j h = hop_away t i j h
 
-pub way_home : (turned : Bool) (t : Table) (i j : ℕ) → i ≡ 0 → j ≡ 0 → hop_by turned t i j ≡ 0
-way_home true t i j e f = rw (e, f) refl
-way_home false t i j e f = rw (e, f) refl
+pub way_from : (turned : Bool) (t : Table) (i j way : ℕ) → 1 ≤ i → way ≡ entry_by turned t i j → way ≡ hop_by turned t i j
+way_from turned t i j way low e = e ∙ sym (way_away turned t i j (λ none. absurd (omega arith)))
 
 -- the first numbers of a row from the depot, 0 at each depot, and the others as they were
 pub record AreCleared (to old : List ℕ) (n : ℕ) (row : List ℕ) : Type 0 where
@@ -254,63 +350,32 @@ pub record AreCleared (to old : List ℕ) (n : ℕ) (row : List ℕ) : Type 0 wh
   pub ways : (k : ℕ) → k < n → slice_index row k ≡ (if slice_index to k == 0 then 0 else slice_index old k)
   pub rest : (k : ℕ) → n ≤ k → slice_index row k ≡ slice_index old k
 
-clear_if : (x y : ℕ) → x ≡ 0 → (if x == 0 then 0 else y) ≡ 0
-clear_if x y e = rw e refl
+-- what is asked of a setup's callbacks, by the registry that it lends
+below_nodes : (i n m : ℕ) → m ≡ n + 1 → i ≤ n → i < m
+below_nodes i n m e h = omega arith
 
-keep_if : (x y : ℕ) → x ≢ 0 → (if x == 0 then 0 else y) ≡ y
-keep_if x y o = rw (ne_eqb x 0 o) refl
+pub id_known : (s : Setting) (ts : List Table) (id : ℕ) → ts ≡ s.tables → id < length s.tables → id < length ts
+id_known s ts id e h = subst (λ (xs : List Table). id < length xs) (sym e) h
 
-pub cleared_here : (to old row : List ℕ) (n : ℕ) → n < length to → slice_index to n ≡ 0 → AreCleared to old n row → AreCleared to old (n + 1) (set row n 0)
-cleared_here to old row n h e f =
-    let room : n < length row = subst (λ (m : ℕ). n < m) (sym f.sized) h in
-    record {
-      sized = length-set row n 0 ∙ f.sized;
-      ways = λ k below. elim (cases_lt k n) [
-        | inl less ↦ get_or-set_other row n k 0 0 (λ same. absurd (omega (arith, same))) ∙ f.ways k less
-        | inr more ↦
-            let same : n ≡ k = omega arith in
-            subst (λ (m : ℕ). slice_index (set row n 0) m ≡ (if slice_index to m == 0 then 0 else slice_index old m)) same
-            (get_or-set_same row n 0 0 room ∙ sym (clear_if (slice_index to n) (slice_index old n) e))
-      ];
-      rest = λ k from. get_or-set_other row n k 0 0 (λ same. absurd (omega (arith, same))) ∙ f.rest k (omega arith);
-    }
+pub node_known : (s : Setting) (ts : List Table) (i : ℕ) → ts ≡ s.tables → IsSetting s → i ≤ s.customers → i < nodes_of ts
+node_known s ts i e is h = subst (λ (xs : List Table). i < nodes_of xs) (sym e) (below_nodes i s.customers (nodes_of s.tables) is.tables h)
 
-pub cleared_past : (to old row : List ℕ) (n : ℕ) → slice_index to n ≢ 0 → AreCleared to old n row → AreCleared to old (n + 1) row
-cleared_past to old row n o f = record {
-  sized = f.sized;
-  ways = λ k below. elim (cases_lt k n) [
-    | inl less ↦ f.ways k less
-    | inr more ↦
-        let same : n ≡ k = omega arith in
-        subst (λ (m : ℕ). slice_index row m ≡ (if slice_index to m == 0 then 0 else slice_index old m)) same
-        (f.rest n (omega arith) ∙ sym (keep_if (slice_index to n) (slice_index old n) o))
-  ];
-  rest = λ k from. f.rest k (omega arith);
-}
+pub nodes_known : (s : Setting) (ts : List Table) (xs : List ℕ) → ts ≡ s.tables → IsSetting s → All (λ c. c ≤ s.customers) xs → All (λ i. i < nodes_of ts) xs
+nodes_known s ts xs e is all k d h = node_known s ts (slice_index_or xs k d) e is (all k d h)
 
--- a row from the depot
-pub row_home : (turned : Bool) (t : Table) (to old row : List ℕ) (i : ℕ) → i ≡ 0 → ((k : ℕ) → k < length to → slice_index old k ≡ entry_by turned t i (slice_index to k))
-    → ((k : ℕ) → k < length to → slice_index row k ≡ (if slice_index to k == 0 then 0 else slice_index old k))
-    → (k : ℕ) → k < length to → slice_index row k ≡ hop_by turned t i (slice_index to k)
-row_home turned t to old row i e asked cleared k h = elim (cases_lt 0 (slice_index to k)) [
-  | inl more ↦
-      let apart : slice_index to k ≢ 0 = λ same. absurd (omega (arith, same)) in
-      cleared k h ∙ keep_if (slice_index to k) (slice_index old k) apart ∙ asked k h ∙ sym (way_away turned t i (slice_index to k) (λ q. apart))
-  | inr none ↦
-      let here : slice_index to k ≡ 0 = omega arith in
-      cleared k h ∙ clear_if (slice_index to k) (slice_index old k) here ∙ sym (way_home turned t i (slice_index to k) e here)
-]
+pub answer_of : (s : Setting) (ts : List Table) (id i j way : ℕ) → ts ≡ s.tables → id ≡ s.cost → way ≡ entry (table_at ts id) i j → way ≡ entry (table_at s.tables s.cost) i j
+answer_of s ts id i j way e f g =
+    subst (λ (n : ℕ). way ≡ entry (table_at s.tables n) i j) f (subst (λ (xs : List Table). way ≡ entry (table_at xs id) i j) e g)
 
-pub row_away : (turned : Bool) (t : Table) (to row : List ℕ) (i : ℕ) → i ≢ 0 → ((k : ℕ) → k < length to → slice_index row k ≡ entry_by turned t i (slice_index to k))
-    → (k : ℕ) → k < length to → slice_index row k ≡ hop_by turned t i (slice_index to k)
-row_away turned t to row i o asked k h = asked k h ∙ sym (way_away turned t i (slice_index to k) (λ e. absurd (o e)))
+-- the answers, as it is asked for a row or for a column
+pub answers_long : (f : ℕ → ℕ) (to row : List ℕ) → row ≡ map f to → length row ≡ length to
+answers_long f to row e = ap length e ∙ length-map to f
 
--- the answers of a callback, as it is asked for a row or for a column
-pub asked_row : (t : Table) (i : ℕ) (to row : List ℕ) → row ≡ map (λ j. entry t i j) to → (k : ℕ) → k < length to → slice_index row k ≡ entry_by false t i (slice_index to k)
-asked_row t i to row e k h = ap (λ (xs : List ℕ). slice_index xs k) e ∙ get_or-map (λ j. entry t i j) to k 0 0 h
-
-pub asked_column : (t : Table) (j : ℕ) (from row : List ℕ) → row ≡ map (λ i. entry t i j) from → (k : ℕ) → k < length from → slice_index row k ≡ entry_by true t j (slice_index from k)
-asked_column t j from row e k h = ap (λ (xs : List ℕ). slice_index xs k) e ∙ get_or-map (λ i. entry t i j) from k 0 0 h
+pub row_answers : (turned : Bool) (s : Setting) (ts : List Table) (id i : ℕ) (to row : List ℕ) → turned ≡ false → ts ≡ s.tables → id ≡ s.cost
+    → row ≡ map (λ j. entry (table_at ts id) i j) to → (k : ℕ) → k < length to → slice_index row k ≡ entry_by turned (table_at s.tables s.cost) i (slice_index to k)
+row_answers turned s ts id i to row out e f g k h =
+    let here = ap (λ (xs : List ℕ). slice_index xs k) g ∙ get_or-map (λ j. entry (table_at ts id) i j) to k 0 0 h in
+    rw out (answer_of s ts id i (slice_index to k) (slice_index row k) e f here)
 
 -- a way between two stops that follow one another, as it is driven or driven back
 pub steps_by : (turned : Bool) (t : Table) (S cells : List ℕ) (i : ℕ) → AreHopsFrom false t S S 0 1 cells → 1 ≤ i → i + 2 < length S

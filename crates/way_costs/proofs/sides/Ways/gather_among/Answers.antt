@@ -1,0 +1,22 @@
+use Rattle.std.proofs.Common.{ℕ, List, length, subst}
+use Rattle.std.proofs.lemmas.Result.{IfOk-weaker}
+use Rattle.callback_store.specs.Tables.{table_at}
+use Rattle.dimension_core.specs.Setup.{setting}
+use Rattle.way_costs.specs.Sides.{AreWaysBetween}
+use Rattle.way_costs.specs.Ways.{IsTurned}
+use Rattle.way_costs.proofs.Cells.{turned_ways}
+use Rattle.way_costs.proofs.sides.Ways.gather_among.Goals as goal
+
+pub returns : goal.returns
+returns g c =
+    let s = setting c.args.setup.now in
+    let S = c.args.stops.now in
+    let out = c.fill_ways.new.cells.items in
+    let into = c.fill_turned.new.back.items in
+    IfOk-weaker c.fill_turned.result (λ _. IsTurned (length S) (length S) c.deref.result.now into)
+    (λ _. AreWaysBetween (table_at s.tables s.cost) S S (record { out = out; into = into }))
+    (λ x turned. record {
+      out = c.in_ok-fill_ways.ensures.hops;
+      into = turned_ways (table_at s.tables s.cost) S out into c.in_ok-fill_ways.ensures.hops (subst (λ (xs : List ℕ). IsTurned (length S) (length S) xs into) c.deref.ensures.value turned);
+    })
+    c.fill_turned.ensures

@@ -1,0 +1,20 @@
+use Rattle.std.proofs.Common.{true}
+use Rattle.std.proofs.lemmas.Result.{IfOk-weaker}
+use Rattle.callback_store.specs.Tables.{table_at}
+use Rattle.dimension_core.specs.Setup.{setting}
+use Rattle.way_costs.specs.Sides.{AreFloored, AreWaysBetween}
+use Rattle.way_costs.specs.Ways.{AreFloors, AreHopsFrom}
+use Rattle.way_costs.proofs.sides.Ways.gather_between.Goals as goal
+
+pub returns-clause-ways : goal.returns-clause-ways
+returns-clause-ways g c =
+    let s = setting c.args.setup.now in
+    IfOk-weaker c.fill_ways-2.result (λ _. AreHopsFrom true (table_at s.tables s.cost) c.args.from.now c.args.to.now 1 0 c.fill_ways-2.new.cells.items)
+    (λ _. AreWaysBetween (table_at s.tables s.cost) c.args.from.now c.args.to.now (record { out = c.fill_ways.new.cells.items; into = c.fill_ways-2.new.cells.items }))
+    (λ x into. record { out = c.in_ok-fill_ways.ensures.hops; into = into }) c.fill_ways-2.ensures.hops
+
+pub returns-clause-floors : goal.returns-clause-floors
+returns-clause-floors g c =
+    IfOk-weaker c.fill_ways-2.result (λ _. AreFloors c.args.from.now c.args.to.now 1 0 c.fill_ways-2.new.cells.items)
+    (λ _. AreFloored c.args.from.now c.args.to.now (record { out = c.fill_ways.new.cells.items; into = c.fill_ways-2.new.cells.items }))
+    (λ x into. record { out = c.in_ok-fill_ways.ensures.floors; into = into }) c.fill_ways-2.ensures.floors

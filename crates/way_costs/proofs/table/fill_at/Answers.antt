@@ -1,0 +1,18 @@
+use Rattle.std.proofs.Common.{◌∙◌, length}
+use Rattle.way_costs.proofs.Cells.{row_at, row_kept, row_least, row_long, row_sized}
+use Rattle.way_costs.proofs.table.fill_at.Goals as goal
+
+pub fill_row-requires-clause-room : goal.fill_row-requires-clause-room
+fill_row-requires-clause-room g c = row_long c.args.at (length c.args.to.now) _ c.requires.room
+
+pub returns-clause-sized : goal.returns-clause-sized
+returns-clause-sized g c = row_sized c.args.at (length c.args.to.now) _ _ c.requires.room c.fill_row.ensures.sized
+
+pub returns-clause-ways : goal.returns-clause-ways
+returns-clause-ways g c = λ k h. row_at c.args.at (length c.args.to.now) _ _ _ c.requires.room c.fill_row.ensures.sized k h ∙ c.fill_row.ensures.ways k h
+
+pub returns-clause-kept : goal.returns-clause-kept
+returns-clause-kept g c = λ k h. row_kept c.args.at (length c.args.to.now) _ _ _ c.requires.room k h
+
+pub returns-clause-least : goal.returns-clause-least
+returns-clause-least g c = λ k h. row_least c.args.at (length c.args.to.now) _ _ _ _ c.requires.room c.fill_row.ensures.sized c.fill_row.ensures.least k h
