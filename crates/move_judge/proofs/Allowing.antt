@@ -1,6 +1,7 @@
 use Rattle.std.proofs.Common.{◌-◌, length-drop, get_or-drop, ◌≡◌, ◌≢◌, ◌∙◌, ℕ, zero, suc, ◌+◌, ◌<◌, ◌≤◌, ◌⊎◌, ◌↔◌, inl, inr, refl, sym, ap, subst, arith, List, [], ◌∷◌, ◌++◌, length, take, drop, slice_get, Option, Some, None, true, false, Contains, Bool, IsTrue, is_some, slice_index, slice_index_or, All}
 use Rattle.std.proofs.lemmas.List.{get_or_default, get_or-take, length-take-le}
 use Rattle.std.proofs.lemmas.List.Elements.{Contains-append_right, Contains-get_or, All-take, All-drop}
+use Rattle.std.proofs.lemmas.Bool.{false≢true}
 use Rattle.plan_core.specs.declared.touch.Touch.{Touch}
 use Rattle.plan_core.specs.Plan.{Changes, StandsAt, IsPlan, IsNamed, route_at, with_routes}
 use Rattle.plan_core.specs.Commits.{named_vehicles}
@@ -141,7 +142,7 @@ module _ (law : Laws) where
 
   -- a customer of a list that is pinned, and a list of which none is
   pub not_loose : (s : PinState) (cs : List ℕ) (k c : ℕ) (b : Bool) → k < length cs → c ≡ slice_index cs k → b ≡ is_some (pin_of s c) → b ≡ true → IsTrue false ↔ AreLoose s cs
-  not_loose s cs k c b h e t is = (λ never. absurd cc, λ loose. split (pin_of s (slice_index cs k)) (loose (slice_index cs k) (Contains-get_or cs k 0 h)) (sym (ap (λ (d : ℕ). is_some (pin_of s d)) e) ∙ sym t ∙ is))
+  not_loose s cs k c b h e t is = (λ never. absurd (false≢true never), λ loose. split (pin_of s (slice_index cs k)) (loose (slice_index cs k) (Contains-get_or cs k 0 h)) (sym (ap (λ (d : ℕ). is_some (pin_of s d)) e) ∙ sym t ∙ is))
     where
       split : (o : Option ℕ) → o ≡ None → is_some o ≡ true → IsTrue false
       split None n y = cc

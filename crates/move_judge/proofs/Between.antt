@@ -1,5 +1,5 @@
 use Rattle.std.proofs.Common.{◌≡◌, ◌≢◌, ◌∙◌, ℕ, zero, ◌+◌, ◌-◌, ◌<◌, ◌≤◌, ◌⊎◌, ◌↔◌, inl, inr, refl, sym, ap, subst, arith, List, [], ◌∷◌, ◌++◌, length, take, drop, slice_get, Some, None, true, false, Bool, IsTrue, Contains, All}
-use Rattle.std.proofs.lemmas.Bool.{ne_eqb, eq-eqb}
+use Rattle.std.proofs.lemmas.Bool.{ne_eqb, eq-eqb, false≢true}
 use Rattle.plan_core.specs.declared.touch.Touch.{Touch}
 use Rattle.plan_core.specs.Plan.{Changes, IsPlan, AreApart, route_at, with_routes}
 use Rattle.pin_core.specs.Pins.{PinState, StandsOn, DoPinsHold, pin_of, front_of}
@@ -211,7 +211,7 @@ module _ (law : Laws) where
   pub first_misfits : (s : Setting) (routes : List (List ℕ)) (mv : Move) (v w x y : ℕ) (over back r q r' : List ℕ)
       → IsBetween routes mv v w x y over back r q → r' ≡ r → (FitsAll s v r' → ⊥) → IsTrue false ↔ AllFit s (changes_by routes mv)
   first_misfits s routes mv v w x y over back r q r' b er out = (
-    λ never. absurd cc,
+    λ never. absurd (false≢true never),
     λ all.
         let fit = subst (λ (cs : Changes). AllFit s cs) b.changes all in
         absurd (out (subst (λ (a : List ℕ). FitsAll s v a) (sym er) fit.0)),

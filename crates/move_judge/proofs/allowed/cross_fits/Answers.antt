@@ -1,4 +1,5 @@
 use Rattle.std.proofs.Common.{refl, ◌∙◌, ap, List, ℕ, take, drop, arith, sym}
+use Rattle.std.proofs.lemmas.Bool.{false≢true}
 use Rattle.dimension_core.specs.Setup.{setting}
 use Rattle.move_judge.proofs.Between.{first_known, first_misfits, fits_changed, second_known, cross_between}
 use Rattle.move_judge.proofs.Keeping.{kept_as, kept_front, kept_back}
@@ -27,7 +28,7 @@ returns-then-not-fits g c =
     first_misfits law (setting c.args.setup.now) c.args.view.now.routes _ _ _ _ _ _ _ _ _ _
     (cross_between law (setting c.args.setup.now).customers c.args.view.now.routes p.v c.args.keep p.w c.args.keep_other c.requires.possible)
     (rw (c.split_at.ensures.front, c.split_at-2.ensures.back, c.customers.ensures, c.customers-2.ensures) refl)
-    (λ all. let is = c.fits.ensures.1 all in cc)
+    (λ all. false≢true (sym c.if-not-fits.true ∙ c.fits.ensures.1 all))
 
 pub returns : goal.returns
 returns g c =

@@ -1,3 +1,5 @@
+use Rattle.std.proofs.lemmas.Bool.{false≢true}
+use Rattle.std.proofs.Common.{sym, ◌∙◌}
 use Rattle.dimension_core.specs.Setup.{setting}
 use Rattle.move_judge.proofs.Between.{cross_between}
 use Rattle.move_judge.proofs.Free.{between_free}
@@ -28,7 +30,7 @@ returns-then-not-may_part g c =
     let law = c.requires.laws in
     let free = between_free law (setting c.args.setup.now) c.args.view.now _ _ _ _ _ _ _ _ _ c.requires.view c.requires.possible
     (cross_between law (setting c.args.setup.now).customers c.args.view.now.routes c.args.v c.args.keep c.args.w c.args.keep_other c.requires.possible) in
-    (λ never. absurd cc, λ a. let h = free.0 a in let is = c.may_part.ensures.1 (h.0, h.2) in absurd cc)
+    (λ never. absurd (false≢true never), λ a. let h = free.0 a in absurd (false≢true (sym c.if-not-may_part.true ∙ c.may_part.ensures.1 (h.0, h.2))))
 
 pub returns : goal.returns
 returns g c =

@@ -1,4 +1,5 @@
 use Rattle.std.proofs.Common.{◌≡◌, ◌∙◌, ℕ, ◌+◌, ◌-◌, arith, ap, sym, subst, List, take, drop}
+use Rattle.std.proofs.lemmas.Bool.{false≢true}
 use Rattle.dimension_core.specs.Setup.{setting}
 use Rattle.plan_core.specs.Plan.{route_at}
 use Rattle.pin_core.specs.View.{pins_of}
@@ -8,7 +9,7 @@ use Rattle.move_judge.proofs.allowed.may_leave.Goals as goal
 
 pub returns-then-place-first_free : goal.returns-then-place-first_free
 returns-then-place-first_free g c =
-    (λ never. absurd cc, λ a. let front = a.0 in let begin = c.first_free.ensures.value in let test = c.if-place-first_free.true in absurd (omega arith))
+    (λ never. absurd (false≢true never), λ a. let front = a.0 in let begin = c.first_free.ensures.value in let test = c.if-place-first_free.true in absurd (omega arith))
 
 pub are_loose-requires-clause-known : goal.are_loose-requires-clause-known
 are_loose-requires-clause-known g c =

@@ -1,4 +1,5 @@
 use Rattle.std.proofs.Common.{◌∙◌, ap, sym, arith, subst, List, ℕ, ◌≤◌, drop, All}
+use Rattle.std.proofs.lemmas.Bool.{false≢true}
 use Rattle.pin_core.specs.View.{pins_of}
 use Rattle.move_judge.specs.Allowed.{AreLoose}
 use Rattle.move_judge.proofs.Allowing.{known_within, back_known, view_known}
@@ -6,7 +7,7 @@ use Rattle.move_judge.proofs.allowed.may_part.Goals as goal
 
 pub returns-then-keep-front : goal.returns-then-keep-front
 returns-then-keep-front c =
-    (λ never. absurd cc, λ a. let front = a.0 in let e = c.front.ensures in let test = c.if-keep-front.true in absurd (omega arith))
+    (λ never. absurd (false≢true never), λ a. let front = a.0 in let e = c.front.ensures in let test = c.if-keep-front.true in absurd (omega arith))
 
 pub are_loose-requires-clause-known : goal.are_loose-requires-clause-known
 are_loose-requires-clause-known c =

@@ -1,4 +1,5 @@
 use Rattle.std.proofs.Common.{arith}
+use Rattle.std.proofs.lemmas.Bool.{false≢true}
 use Rattle.dimension_core.specs.Setup.{setting}
 use Rattle.pin_core.specs.View.{pins_of}
 use Rattle.move_judge.proofs.Between.{shift_between}
@@ -30,7 +31,7 @@ returns-then-at-first_free g c =
     let law = c.requires.laws in
     let free = between_free law (setting c.args.setup.now) c.args.view.now _ _ _ _ _ _ _ _ _ c.requires.view c.requires.possible
     (shift_between law (setting c.args.setup.now).customers c.args.view.now.routes c.args.v c.args.place c.args.length c.args.w c.args.at c.requires.possible c.requires.apart) in
-    (λ never. absurd cc, λ a. let h = (free.0 a).1 in let e = c.first_free.ensures.value in let t = c.if-at-first_free.true in absurd (omega arith))
+    (λ never. absurd (false≢true never), λ a. let h = (free.0 a).1 in let e = c.first_free.ensures.value in let t = c.if-at-first_free.true in absurd (omega arith))
 
 pub returns : goal.returns
 returns g c =

@@ -1,4 +1,5 @@
-use Rattle.std.proofs.Common.{◌≡◌, ◌+◌, ◌-◌, arith, refl, ◌∙◌, ap, List, ℕ, take, drop, length}
+use Rattle.std.proofs.Common.{◌≡◌, ◌+◌, ◌-◌, arith, refl, ◌∙◌, ap, List, ℕ, take, drop, length, sym}
+use Rattle.std.proofs.lemmas.Bool.{false≢true}
 use Rattle.dimension_core.specs.Setup.{setting}
 use Rattle.move_judge.proofs.Between.{first_known, first_misfits, fits_changed, second_known, shift_between}
 use Rattle.move_judge.proofs.Keeping.{kept_as, kept_front, kept_back, stretch_fits}
@@ -28,7 +29,7 @@ returns-then-not-fits g c =
     first_misfits law (setting c.args.setup.now) c.args.view.now.routes _ _ _ _ _ _ _ _ _ _
     (shift_between law (setting c.args.setup.now).customers c.args.view.now.routes p.v c.args.place c.args.length p.w c.args.at c.requires.possible c.requires.apart)
     (rw (c.front_of-front.ensures, c.back_of-rest.ensures, c.customers-route.ensures) refl)
-    (λ all. let is = c.fits.ensures.1 all in cc)
+    (λ all. false≢true (sym c.if-not-fits.true ∙ c.fits.ensures.1 all))
 
 pub returns : goal.returns
 returns g c =

@@ -1,4 +1,5 @@
-use Rattle.std.proofs.Common.{◌≡◌, ◌+◌, ◌-◌, arith, refl, ◌∙◌, ap, List, ℕ, take, drop, length}
+use Rattle.std.proofs.Common.{◌≡◌, ◌+◌, ◌-◌, arith, refl, ◌∙◌, ap, List, ℕ, take, drop, length, sym}
+use Rattle.std.proofs.lemmas.Bool.{false≢true}
 use Rattle.dimension_core.specs.Setup.{setting}
 use Rattle.move_judge.proofs.Between.{first_known, first_misfits, fits_changed, second_known, swap_between}
 use Rattle.move_judge.proofs.Keeping.{kept_as, kept_front, kept_back, place_fits}
@@ -39,7 +40,7 @@ returns-then-not-fits g c =
     first_misfits law (setting c.args.setup.now) c.args.view.now.routes _ _ _ _ _ _ _ _ _ _
     (swap_between law (setting c.args.setup.now).customers c.args.view.now.routes p.v c.args.place p.w c.args.at c.requires.possible c.requires.apart)
     (rw (c.front_of-front.ensures, c.part-there.ensures, c.back_of-rest.ensures, c.customers-route.ensures, c.customers-other.ensures, e2, e3) refl)
-    (λ all. let is = c.fits.ensures.1 all in cc)
+    (λ all. false≢true (sym c.if-not-fits.true ∙ c.fits.ensures.1 all))
 
 pub returns : goal.returns
 returns g c =

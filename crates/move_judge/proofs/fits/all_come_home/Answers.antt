@@ -1,5 +1,6 @@
-use Rattle.std.proofs.Common.{arith, ap, below_more, length, refl}
+use Rattle.std.proofs.Common.{arith, ap, below_more, length, refl, sym, ◌∙◌}
 use Rattle.std.proofs.lemmas.Grind.{common_steps}
+use Rattle.std.proofs.lemmas.Bool.{false≢true}
 use Rattle.dimension_core.specs.Setup.{setting}
 use Rattle.move_judge.proofs.Keeping.{at_place, served_here, node_known, vehicle_known}
 use Rattle.move_judge.proofs.Meeting.{fits_by_meeting}
@@ -35,12 +36,12 @@ comes_home-requires-clause-high g c =
 pub returns-then-not-comes_home : goal.returns-then-not-comes_home
 returns-then-not-comes_home g c =
     let fits = fits_by_meeting (setting c.args.setup.now) _ _ _ _ _ _ c.registry.ensures.value c.dimensions-dimension-items.ensures.value c.loop-dimension-test.true c.dimension-item.is in
-    (λ no. absurd cc, λ all. let is = c.comes_home.ensures.1 (fits.1 (all c.loop-dimension.dimension-index (grind (arith, common_steps)))) in cc)
+    (λ no. absurd (false≢true no), λ all. sym c.if-not-comes_home.true ∙ c.comes_home.ensures.1 (fits.1 (all c.loop-dimension.dimension-index (grind (arith, common_steps)))))
 
 pub loop-dimension-preserved : goal.loop-dimension-preserved
 loop-dimension-preserved g c =
     let fits = fits_by_meeting (setting c.args.setup.now) _ _ _ _ _ _ c.registry.ensures.value c.dimensions-dimension-items.ensures.value c.loop-dimension-test.true c.dimension-item.is in
-    below_more _ _ c.loop-dimension.invariant (fits.0 (c.comes_home.ensures.0 cc))
+    below_more _ _ c.loop-dimension.invariant (fits.0 (c.comes_home.ensures.0 c.if-not-comes_home.false))
 
 pub returns : goal.returns
 returns g c = (λ is k h. c.loop-dimension.invariant k (grind (arith, common_steps)), λ all. refl)

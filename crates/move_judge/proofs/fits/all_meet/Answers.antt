@@ -1,5 +1,6 @@
-use Rattle.std.proofs.Common.{arith, ap, below_more, length, refl}
+use Rattle.std.proofs.Common.{arith, ap, below_more, length, refl, sym, ◌∙◌}
 use Rattle.std.proofs.lemmas.Grind.{common_steps}
+use Rattle.std.proofs.lemmas.Bool.{false≢true}
 use Rattle.dimension_core.specs.Setup.{setting}
 use Rattle.move_judge.proofs.Keeping.{ahead_here, behind_here, at_place, served_here, node_known, vehicle_known}
 use Rattle.move_judge.proofs.Meeting.{fits_by_meeting}
@@ -45,12 +46,12 @@ meets-fits-requires-clause-high g c =
 pub returns-then-not-fits : goal.returns-then-not-fits
 returns-then-not-fits g c =
     let fits = fits_by_meeting (setting c.args.setup.now) _ _ _ _ _ _ c.registry.ensures.value c.dimensions-dimension-items.ensures.value c.loop-k-test.true c.dimension-item.is in
-    (λ no. absurd cc, λ all. let is = c.meets-fits.ensures.1 (fits.1 (all c.loop-k.k (grind (arith, common_steps)))) in cc)
+    (λ no. absurd (false≢true no), λ all. sym c.if-not-fits.true ∙ c.meets-fits.ensures.1 (fits.1 (all c.loop-k.k (grind (arith, common_steps)))))
 
 pub loop-k-preserved : goal.loop-k-preserved
 loop-k-preserved g c =
     let fits = fits_by_meeting (setting c.args.setup.now) _ _ _ _ _ _ c.registry.ensures.value c.dimensions-dimension-items.ensures.value c.loop-k-test.true c.dimension-item.is in
-    below_more _ _ c.loop-k.invariant (fits.0 (c.meets-fits.ensures.0 cc))
+    below_more _ _ c.loop-k.invariant (fits.0 (c.meets-fits.ensures.0 c.if-not-fits.false))
 
 pub returns : goal.returns
 returns g c = (λ is k h. c.loop-k.invariant k (grind (arith, common_steps)), λ all. refl)

@@ -1,4 +1,5 @@
-use Rattle.std.proofs.Common.{[]}
+use Rattle.std.proofs.Common.{[], sym, ◌∙◌}
+use Rattle.std.proofs.lemmas.Bool.{false≢true}
 use Rattle.callback_store.specs.Registry.{tables}
 use Rattle.dimension_core.specs.Cumuls.{table_of}
 use Rattle.move_judge.specs.Parts.{route_of}
@@ -7,7 +8,7 @@ use Rattle.move_judge.proofs.fits.comes_home.Goals as goal
 
 pub returns-in-None : goal.returns-in-None
 returns-in-None g c = let p = c.args.parts.now in (
-  λ never. absurd cc,
+  λ never. absurd (false≢true never),
   λ inside. absurd (no_ahead c.requires.laws (table_of (tables c.args.registry.now) c.args.dimension.now) c.args.dimension.now c.args.vehicle [] (route_of p) c.requires.some (c.requires.laws.spans.start (table_of (tables c.args.registry.now) c.args.dimension.now) c.args.dimension.now c.args.vehicle _ c.in-None.ensures.span) inside),
 )
 
@@ -18,4 +19,4 @@ pub returns-in-Some : goal.returns-in-Some
 returns-in-Some g c =
     let p = c.args.parts.now in
     let decided = c.requires.laws.spans.bounds (table_of (tables c.args.registry.now) c.args.dimension.now) c.args.dimension.now c.args.vehicle (route_of p) _ c.requires.some c.homecoming-home.ensures in
-    (λ is. decided.0 cc, λ inside. let is = decided.1 inside in cc)
+    (λ is. decided.0 (sym c.is_some.ensures ∙ is), λ inside. c.is_some.ensures ∙ decided.1 inside)

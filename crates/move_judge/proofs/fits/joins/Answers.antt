@@ -1,4 +1,5 @@
 use Rattle.std.proofs.Common.{◌<◌, length, sym, subst, List, ℕ, All, arith}
+use Rattle.std.proofs.lemmas.Bool.{false≢true}
 use Rattle.move_judge.specs.Parts.{begun_of, way_of}
 use Rattle.move_judge.proofs.Carried.{all_left, all_right}
 use Rattle.move_judge.proofs.Meeting.{five_parts, next_known, no_arrival, meeting}
@@ -25,7 +26,7 @@ pub returns-in-None : goal.returns-in-None
 returns-in-None g c =
     let p = c.args.parts.now in
     let whole = five_parts p.front.now (way_of p.turned p.first.now) p.second.now p.third.now p.back.now in (
-      λ never. absurd cc,
+      λ never. absurd (false≢true never),
       λ inside. absurd (no_arrival c.requires.laws _ _ _ _ p.back.now _ c.next_stop-next.result c.next_stop-next.ensures.0 whole c.next_stop-next.ensures.1 c.requires.some c.in-None.ensures inside),
     )
 
