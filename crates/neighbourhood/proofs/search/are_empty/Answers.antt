@@ -1,3 +1,4 @@
+use Rattle.std.proofs.lemmas.Bool.{false≢true}
 use Rattle.neighbourhood.proofs.Possible.{none_idle}
 use Rattle.neighbourhood.proofs.search.are_empty.Goals as goal
 
@@ -7,4 +8,4 @@ returns c =
     c.customers.ensures c.customers-2.ensures c.is_empty.ensures c.is_empty-2.ensures c.if-not-is_empty.false
 
 pub returns-then-not-is_empty : goal.returns-then-not-is_empty
-returns-then-not-is_empty c = λ yes. absurd cc
+returns-then-not-is_empty c = λ yes. absurd (false≢true yes)

@@ -1,4 +1,5 @@
-use Rattle.std.proofs.Common.{◌+◌, ◌-◌, arith, length}
+use Rattle.std.proofs.Common.{◌+◌, ◌-◌, arith, length, sym, ◌∙◌}
+use Rattle.std.proofs.lemmas.Bool.{false≢true}
 use Rattle.neighbourhood.specs.Searched.{searched}
 use Rattle.neighbourhood.proofs.Rows.{swaps_past}
 use Rattle.neighbourhood.proofs.Saved.{into_room, out_room, swap_most, swap_possible, swap_saved}
@@ -31,8 +32,7 @@ returns-then-not-may_leave g c =
     swaps_past q c.requires.search c.args.place 1 (length c.args.gathered.now.to.now - 1) c.args.best.found (omega arith)
     (λ k l h counts.
     let free = swap_free q c.requires.search c.args.place k c.requires.apart counts in
-    let is = c.may_leave.ensures.1 (free.0, free.2) in
-    absurd cc)
+    absurd (false≢true (sym c.if-not-may_leave.true ∙ c.may_leave.ensures.1 (free.0, free.2))))
     c.requires.best
 
 pub swap_row-requires-clause-best : goal.swap_row-requires-clause-best

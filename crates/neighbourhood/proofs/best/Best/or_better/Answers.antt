@@ -1,4 +1,5 @@
-use Rattle.std.proofs.Common.{◌≡◌, ◌-◌, ◌≤◌, ◌<◌, arith}
+use Rattle.std.proofs.Common.{◌≡◌, ◌-◌, ◌≤◌, ◌<◌, arith, sym, ◌∙◌}
+use Rattle.std.proofs.lemmas.Bool.{false≢true}
 use Rattle.neighbourhood.specs.Search.{gain_of}
 use Rattle.neighbourhood.specs.Searched.{searched, new_cost, old_cost}
 use Rattle.neighbourhood.proofs.Betters.{kept_by_gain, kept_by_rule, taken_by_gain}
@@ -14,7 +15,7 @@ returns-then-gain g c = λ bound next so_far.
 
 pub returns-then-not-is_allowed : goal.returns-then-not-is_allowed
 returns-then-not-is_allowed g c = λ bound next so_far.
-    kept_by_rule (searched c.args.search.now) c.args.mv c.args.self.found bound (λ a. let is = c.is_allowed.ensures.1 a in cc) next so_far
+    kept_by_rule (searched c.args.search.now) c.args.mv c.args.self.found bound (λ a. false≢true (sym c.if-not-is_allowed.true ∙ c.is_allowed.ensures.1 a)) next so_far
 
 pub returns : goal.returns
 returns g c = λ bound next so_far.
