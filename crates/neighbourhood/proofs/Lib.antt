@@ -11,3 +11,4 @@ pub mod Rows
 pub mod Saved
 pub mod Still
 pub mod Gathers
+pub mod Found

@@ -1,6 +1,7 @@
 use Rattle.std.proofs.Common.{◌≡◌, ℕ, ◌+◌, arith, subst, [], ◌∷◌, refl}
 use Rattle.neighbourhood.specs.Search.{IsBestSoFar}
 use Rattle.neighbourhood.specs.Searched.{searched}
+use Rattle.neighbourhood.proofs.Found.{begun, fixed_small, found_adds, found_after, found_before, found_casts, found_in, found_next}
 use Rattle.neighbourhood.proofs.Rows.{swap_next, swaps_past}
 use Rattle.neighbourhood.proofs.swap.swap_row.Goals as goal
 
@@ -100,3 +101,60 @@ or_better-best-requires-clause-saving g c =
     let f4 = c.from-in-row-4.ensures in
     let f5 = c.from-in-row-5.ensures in
     omega arith
+
+pub may_swap_gain-requires-clause-lost : goal.may_swap_gain-requires-clause-lost
+may_swap_gain-requires-clause-lost g c = fixed_small c.args.swaps.now.lost c.requires.fixed
+
+pub may_swap_gain-requires-clause-wanted : goal.may_swap_gain-requires-clause-wanted
+may_swap_gain-requires-clause-wanted g c = c.wanted-least.ensures.small
+
+pub may_swap_gain-requires-clause-begin : goal.may_swap_gain-requires-clause-begin
+may_swap_gain-requires-clause-begin g c = c.requires.low
+
+pub may_swap_gain-requires-clause-order : goal.may_swap_gain-requires-clause-order
+may_swap_gain-requires-clause-order g c = c.requires.order
+
+pub first_swap_gain-found-requires-clause-lost : goal.first_swap_gain-found-requires-clause-lost
+first_swap_gain-found-requires-clause-lost g c = fixed_small c.args.swaps.now.lost c.requires.fixed
+
+pub first_swap_gain-found-requires-clause-wanted : goal.first_swap_gain-found-requires-clause-wanted
+first_swap_gain-found-requires-clause-wanted g c = c.wanted-least-in-row.ensures.small
+
+pub first_swap_gain-found-requires-clause-begin : goal.first_swap_gain-found-requires-clause-begin
+first_swap_gain-found-requires-clause-begin g c = begun c.args.first c.row.at c.requires.low c.row.invariant.low
+
+pub first_swap_gain-found-requires-clause-order : goal.first_swap_gain-found-requires-clause-order
+first_swap_gain-found-requires-clause-order g c = c.row.invariant.high
+
+pub overflow_cast-there : goal.overflow_cast-there
+overflow_cast-there g c = found_casts c.first_swap_gain-found.result c.args.end _ c.first_swap_gain-found.ensures.high c.requires.ways.here c.requires.short
+
+pub overflow_sub-found : goal.overflow_sub-found
+overflow_sub-found g c = begun c.row.at c.first_swap_gain-found.result (begun c.args.first c.row.at c.requires.low c.row.invariant.low) c.first_swap_gain-found.ensures.low
+
+pub overflow_sub-found-in-row : goal.overflow_sub-found-in-row
+overflow_sub-found-in-row g c = begun c.row.at c.first_swap_gain-found.result (begun c.args.first c.row.at c.requires.low c.row.invariant.low) c.first_swap_gain-found.ensures.low
+
+pub bounds-ways-found : goal.bounds-ways-found
+bounds-ways-found g c = found_before c.first_swap_gain-found.result c.args.end _ c.first_swap_gain-found.ensures.high c.if-there-end.false c.requires.ways.edges
+
+pub bounds-ways-found-in-row : goal.bounds-ways-found-in-row
+bounds-ways-found-in-row g c = found_in c.first_swap_gain-found.result c.args.end _ c.first_swap_gain-found.ensures.high c.if-there-end.false c.requires.ways.edges
+
+pub bounds-ways-found-in-row-2 : goal.bounds-ways-found-in-row-2
+bounds-ways-found-in-row-2 g c = found_in c.first_swap_gain-found.result c.args.end _ c.first_swap_gain-found.ensures.high c.if-there-end.false c.requires.ways.before
+
+pub bounds-ways-found-in-row-3 : goal.bounds-ways-found-in-row-3
+bounds-ways-found-in-row-3 g c = found_in c.first_swap_gain-found.result c.args.end _ c.first_swap_gain-found.ensures.high c.if-there-end.false c.requires.ways.next
+
+pub bounds-ways-found-in-row-4 : goal.bounds-ways-found-in-row-4
+bounds-ways-found-in-row-4 g c = found_before c.first_swap_gain-found.result c.args.end _ c.first_swap_gain-found.ensures.high c.if-there-end.false c.requires.ways.back
+
+pub bounds-ways-found-in-row-5 : goal.bounds-ways-found-in-row-5
+bounds-ways-found-in-row-5 g c = found_after c.first_swap_gain-found.result c.args.end _ c.first_swap_gain-found.ensures.high c.if-there-end.false c.requires.ways.here
+
+pub overflow_add-found : goal.overflow_add-found
+overflow_add-found g c = found_adds c.first_swap_gain-found.result c.args.end _ c.first_swap_gain-found.ensures.high c.requires.ways.here c.requires.short
+
+pub overflow_add-at : goal.overflow_add-at
+overflow_add-at g c = found_next c.first_swap_gain-found.result c.args.end _ c.first_swap_gain-found.ensures.high c.requires.ways.here c.requires.short
