@@ -24,3 +24,6 @@ begun a b h k = omega arith
 
 pub fixed_small : (x : ℕ) → x < 2 ^ 34 → x < 2 ^ 50
 fixed_small x h = omega arith
+
+pub fixed_wide : (x : ℕ) → x < 2 ^ 50 → x < 2 ^ 51
+fixed_wide x h = omega arith

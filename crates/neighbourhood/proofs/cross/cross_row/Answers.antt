@@ -1,6 +1,7 @@
 use Rattle.std.proofs.Common.{◌≡◌, ℕ, ◌+◌, arith, subst, [], ◌∷◌, refl}
 use Rattle.neighbourhood.specs.Search.{IsBestSoFar}
 use Rattle.neighbourhood.specs.Searched.{searched}
+use Rattle.neighbourhood.proofs.Found.{fixed_small, found_adds, found_after, found_casts, found_in, found_next}
 use Rattle.neighbourhood.proofs.Rows.{cross_next, crosses_past}
 use Rattle.neighbourhood.proofs.cross.cross_row.Goals as goal
 
@@ -90,3 +91,39 @@ or_better-best-requires-clause-saving g c =
     let f1 = c.from-in-row.ensures in
     let f2 = c.from-in-row-2.ensures in
     omega arith
+
+pub may_gain-requires-clause-lost : goal.may_gain-requires-clause-lost
+may_gain-requires-clause-lost g c = fixed_small c.args.crosses.now.lost c.requires.fixed
+
+pub may_gain-requires-clause-wanted : goal.may_gain-requires-clause-wanted
+may_gain-requires-clause-wanted g c = c.wanted-least.ensures.small
+
+pub may_gain-requires-clause-order : goal.may_gain-requires-clause-order
+may_gain-requires-clause-order g c = c.requires.order
+
+pub first_gain-found-requires-clause-lost : goal.first_gain-found-requires-clause-lost
+first_gain-found-requires-clause-lost g c = fixed_small c.args.crosses.now.lost c.requires.fixed
+
+pub first_gain-found-requires-clause-wanted : goal.first_gain-found-requires-clause-wanted
+first_gain-found-requires-clause-wanted g c = c.wanted.ensures.small
+
+pub first_gain-found-requires-clause-order : goal.first_gain-found-requires-clause-order
+first_gain-found-requires-clause-order g c = c.row.invariant.high
+
+pub overflow_cast-there : goal.overflow_cast-there
+overflow_cast-there g c = found_casts c.first_gain-found.result c.args.end _ c.first_gain-found.ensures.high c.requires.ways.on c.requires.short
+
+pub bounds-ways-found : goal.bounds-ways-found
+bounds-ways-found g c = found_in c.first_gain-found.result c.args.end _ c.first_gain-found.ensures.high c.if-there-end.false c.requires.ways.edges
+
+pub bounds-ways-found-in-row : goal.bounds-ways-found-in-row
+bounds-ways-found-in-row g c = found_in c.first_gain-found.result c.args.end _ c.first_gain-found.ensures.high c.if-there-end.false c.requires.ways.to
+
+pub bounds-ways-found-in-row-2 : goal.bounds-ways-found-in-row-2
+bounds-ways-found-in-row-2 g c = found_after c.first_gain-found.result c.args.end _ c.first_gain-found.ensures.high c.if-there-end.false c.requires.ways.on
+
+pub overflow_add-found : goal.overflow_add-found
+overflow_add-found g c = found_adds c.first_gain-found.result c.args.end _ c.first_gain-found.ensures.high c.requires.ways.on c.requires.short
+
+pub overflow_add-keep_other : goal.overflow_add-keep_other
+overflow_add-keep_other g c = found_next c.first_gain-found.result c.args.end _ c.first_gain-found.ensures.high c.requires.ways.on c.requires.short
