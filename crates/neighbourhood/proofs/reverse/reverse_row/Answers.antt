@@ -1,6 +1,7 @@
 use Rattle.std.proofs.Common.{◌≡◌, ℕ, ◌+◌, arith, subst, [], ◌∷◌, refl}
 use Rattle.neighbourhood.specs.Search.{IsBestSoFar}
 use Rattle.neighbourhood.specs.Searched.{searched}
+use Rattle.neighbourhood.proofs.Found.{fixed_wide, found_adds, found_after, found_casts, found_in}
 use Rattle.neighbourhood.proofs.Rows.{reverse_next, reverses_past}
 use Rattle.neighbourhood.proofs.reverse.reverse_row.Goals as goal
 
@@ -96,3 +97,39 @@ or_better-best-requires-clause-saving g c =
     let f1 = c.from-in-row.ensures in
     let f2 = c.from-in-row-2.ensures in
     omega arith
+
+pub may_reverse_gain-requires-clause-lost : goal.may_reverse_gain-requires-clause-lost
+may_reverse_gain-requires-clause-lost g c = fixed_wide c.args.reverses.now.lost c.requires.fixed.0
+
+pub may_reverse_gain-requires-clause-wanted : goal.may_reverse_gain-requires-clause-wanted
+may_reverse_gain-requires-clause-wanted g c = c.wanted-least.ensures.small
+
+pub first_reverse_gain-found-requires-clause-lost : goal.first_reverse_gain-found-requires-clause-lost
+first_reverse_gain-found-requires-clause-lost g c = fixed_wide c.args.reverses.now.lost c.requires.fixed.0
+
+pub first_reverse_gain-found-requires-clause-wanted : goal.first_reverse_gain-found-requires-clause-wanted
+first_reverse_gain-found-requires-clause-wanted g c = c.wanted-least-in-row.ensures.small
+
+pub first_reverse_gain-found-requires-clause-order : goal.first_reverse_gain-found-requires-clause-order
+first_reverse_gain-found-requires-clause-order g c = c.row.invariant.high
+
+pub overflow_cast-there : goal.overflow_cast-there
+overflow_cast-there g c = found_casts c.first_reverse_gain-found.result c.args.end _ c.first_reverse_gain-found.ensures.high c.requires.ways.here c.requires.short
+
+pub bounds-ways-found : goal.bounds-ways-found
+bounds-ways-found g c = found_in c.first_reverse_gain-found.result c.args.end _ c.first_reverse_gain-found.ensures.high c.if-there-end.false c.requires.ways.sums
+
+pub bounds-ways-found-in-row : goal.bounds-ways-found-in-row
+bounds-ways-found-in-row g c = found_in c.first_reverse_gain-found.result c.args.end _ c.first_reverse_gain-found.ensures.high c.if-there-end.false c.requires.ways.edges
+
+pub bounds-ways-found-in-row-2 : goal.bounds-ways-found-in-row-2
+bounds-ways-found-in-row-2 g c = found_in c.first_reverse_gain-found.result c.args.end _ c.first_reverse_gain-found.ensures.high c.if-there-end.false c.requires.ways.before
+
+pub bounds-ways-found-in-row-3 : goal.bounds-ways-found-in-row-3
+bounds-ways-found-in-row-3 g c = found_in c.first_reverse_gain-found.result c.args.end _ c.first_reverse_gain-found.ensures.high c.if-there-end.false c.requires.ways.back_sums
+
+pub bounds-ways-found-in-row-4 : goal.bounds-ways-found-in-row-4
+bounds-ways-found-in-row-4 g c = found_after c.first_reverse_gain-found.result c.args.end _ c.first_reverse_gain-found.ensures.high c.if-there-end.false c.requires.ways.here
+
+pub overflow_add-found : goal.overflow_add-found
+overflow_add-found g c = found_adds c.first_reverse_gain-found.result c.args.end _ c.first_reverse_gain-found.ensures.high c.requires.ways.here c.requires.short
