@@ -9,7 +9,7 @@ use crate::doing::perform;
 use program_parts::{Stop, stopped};
 use std::alloc::Global;
 use std::env;
-use std::io::{self, Eprint, ErrorKind, Read, Write};
+use std::io::{self, Eprint, ErrorKind, Read, Stderr, Stdin, Stdout, Write};
 use std::rt::{Env, Files};
 use std::sync::Wait;
 use std::thread::Threads;
@@ -54,7 +54,7 @@ pub fn run_words<
 }
 
 /// The program: reads its words, does what they ask for, and gives the status that it ends with. `faults` and `notes` are both standard
-/// error.
+/// error. The streams are of the standard library's own types, so that none can stand in another's place.
 pub fn run<
     W: Threads
         + Wait
@@ -68,14 +68,18 @@ pub fn run<
         + Send
         + Sync
         + 'static,
-    I: Read,
-    O: Write,
-    F: Write,
-    E: Write,
->(rt: W, alloc: Global, input: &mut I, output: &mut O, faults: &mut F, notes: &mut E) -> u8
-    ensures { IsProgram (I.remaining input.old)
-        (streams_of (O.contents output.old) (O.contents output.new) (F.contents faults.old) (F.contents faults.new)) result }
+>(
+    rt: W,
+    alloc: Global,
+    input: &mut Stdin,
+    output: &mut Stdout,
+    faults: &mut Stderr,
+    notes: &mut Stderr,
+) -> u8
+    ensures { IsProgram (⟦<Stdin as Read>⟧.remaining input.old)
+        (streams_of (⟦<Stdout as Write>⟧.contents output.old) (⟦<Stdout as Write>⟧.contents output.new)
+        (⟦<Stderr as Write>⟧.contents faults.old) (⟦<Stderr as Write>⟧.contents faults.new)) result }
 {
     let words = words(&rt, alloc);
-    run_words(rt, alloc, words, input, output, faults, notes)
+    run_words::<W, Stdin, Stdout, Stderr, Stderr>(rt, alloc, words, input, output, faults, notes)
 }
