@@ -1,7 +1,7 @@
 //! What words ask for, and which of them names which file.
 
 use crate::cases::A;
-use program_words::{perform, run_words};
+use program_words::{perform, run, run_words};
 use std::io::{self, Eprint, ErrorKind};
 use std::process::Abort;
 use std::rt::Files;
@@ -164,6 +164,21 @@ fn words_that_cannot_be_read(rt: HostRuntime) {
     }
 }
 
+/// A test is run in a process of its own, whose words are a name and the test's path, and whose standard input is empty. The path is no
+/// subcommand, so the status is 2; without it the words would ask for the joined form, which ends with 3 on no input.
+#[test]
+fn the_words_of_the_process(rt: HostRuntime) {
+    let status = run(
+        rt,
+        rt.alloc(),
+        &mut rt.stdin(),
+        &mut rt.stdout(),
+        &mut rt.stderr(),
+        &mut rt.stderr(),
+    );
+    assert_eq!(&rt; status, 2);
+}
+
 const INSTANCE_FILE: &str = "worker_run_tests_words_instance";
 
 const SCRIPT_FILE: &str = "worker_run_tests_words_script";
@@ -171,7 +186,7 @@ const SCRIPT_FILE: &str = "worker_run_tests_words_script";
 const LIVE_FILE: &str = "worker_run_tests_words_live";
 
 /// Runs a script, alone or with workers who do no round, and with notes or without. What is written on both streams.
-const NOTED: [(&[&str], &str, &str); 5] = [
+const NOTED: [(&[&str], &str, &str); 6] = [
     (&[], "bad word\n", ""),
     (
         &["--explain"],
@@ -199,6 +214,7 @@ const NOTED: [(&[&str], &str, &str); 5] = [
         "bad word\nend\nworker 1 tried 0 committed 0 denied 0 refused 0\nversion 0\n",
         "line 1: 'fly' is not a command\n",
     ),
+    (&["--live", LIVE_FILE], "bad word\nend\n", ""),
 ];
 
 /// Compares what was written on three streams.
