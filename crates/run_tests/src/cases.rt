@@ -47,6 +47,18 @@ pub(crate) const GRANTED: &str = "\
 1 insert 1 1 2 1\n\
 1 insert 3 1 3 2\n";
 
+/// The same, and then no session is left.
+const ALL_CLOSED: &str = "\
+1 grant root move vehicle 1 1\n\
+1 grant root move customer 1 3\n\
+1 grant worker move vehicle 1 1\n\
+1 grant worker move customer 1 3\n\
+1 insert 2 1 1 0\n\
+1 insert 1 1 2 1\n\
+1 insert 3 1 3 2\n\
+1 close 2\n\
+1 close 1\n";
+
 /// Five customers in a line, and one vehicle.
 const F: &str =
     "F\nVEHICLE\nNUMBER CAPACITY\n1 10\nCUSTOMER\nCUST NO.\n0 0 0 0 0 1000 0\n1 3 0 1 0 1000 0\n2 6 0 1 0 1000 0\n3 9 0 1 0 1000 0\n4 12 0 1 0 1000 0\n5 15 0 1 0 1000 0\n";
@@ -101,7 +113,7 @@ const LONG_LINE: &str = "dispatch: run fault long-line\n";
 /// A line of 4,097 bytes is made of this at the end of a script, since no word of a table is so long.
 pub(crate) const LONG: &str = "LONG";
 
-pub(crate) const CASES: [Case; 14] = [
+pub(crate) const CASES: [Case; 15] = [
     Case {
         instance: A,
         script: "",
@@ -187,6 +199,18 @@ pub(crate) const CASES: [Case; 14] = [
         orders: (1, 2, 1),
         wanted: (
             "done\nrefused no-session\nworker 1 tried 0 committed 0 denied 0 refused 0\nversion 0\n",
+            "",
+            1,
+        ),
+    },
+    // The worker's session is closed too, so that both of its moves are denied.
+    Case {
+        instance: B,
+        script: ALL_CLOSED,
+        live: "1 list\n2 list\n",
+        orders: (1, 2, 1),
+        wanted: (
+            "done\ndone\ndone\ndone\ncommitted 1\ncommitted 2\ncommitted 3\ndone\ndone\nrefused no-session\nrefused no-session\nworker 1 tried 2 committed 0 denied 2 refused 0\nversion 3\n",
             "",
             1,
         ),

@@ -248,6 +248,7 @@ fn files_are_opened_in_order(rt: HostRuntime) {
     fs::write(&rt, SCRIPT_FILE, "1 fly\n").expect(&rt, "a file");
     fs::write(&rt, LIVE_FILE, "1 list\n").expect(&rt, "a file");
     let lines = "bad word\nend\nworker 1 tried 0 committed 0 denied 0 refused 0\nversion 0\n";
+    let alone = "bad word\nworker 1 tried 0 committed 0 denied 0 refused 0\nversion 0\n";
     for (paths, wanted) in [
         (
             ("no file", "no script", "no live"),
@@ -266,6 +267,19 @@ fn files_are_opened_in_order(rt: HostRuntime) {
             ("", "dispatch: cannot read no live\n", 3),
         ),
         ((INSTANCE_FILE, SCRIPT_FILE, LIVE_FILE), (lines, "", 1)),
+        // What opens, and then has no end or cannot be read.
+        (
+            ("/dev/zero", "no script", "no live"),
+            ("", "dispatch: cannot read /dev/zero\n", 3),
+        ),
+        (
+            (INSTANCE_FILE, "/", LIVE_FILE),
+            ("", "dispatch: run fault read\n", 3),
+        ),
+        (
+            (INSTANCE_FILE, SCRIPT_FILE, "/"),
+            (alone, "dispatch: run fault read\n", 3),
+        ),
     ] {
         paths_give(rt, paths, wanted);
     }
