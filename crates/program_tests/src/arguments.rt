@@ -306,6 +306,27 @@ fn help_has_the_lines(rt: HostRuntime) {
     }
 }
 
+/// Of the help of a run: a grant for workers, the lines at the end, and the ranges and defaults.
+const OF_A_RUN: &[&str] = &[
+    "\n  1 grant worker move vehicle 1 2\n",
+    "\n  worker I tried T committed C denied D refused R\n  version V\n",
+    "0 to 63 [default: 0]",
+    "0 to 1000000 [default: 100]",
+    "[default: 1]",
+];
+
+fn has(rt: &impl Abort, text: &str, part: &str) {
+    assert!(rt; text.contains(part), "{part}");
+}
+
+#[test]
+fn help_of_a_run_has_the_texts(rt: HostRuntime) {
+    let text = refused(&rt, rt.alloc(), &["dispatch", "run", "--help"], 0);
+    for part in OF_A_RUN {
+        has(&rt, &text, part);
+    }
+}
+
 /// Keeps what it takes, and fails at a write or a flush once there were so many of it.
 #[derive(Drop)]
 struct Narrow {
