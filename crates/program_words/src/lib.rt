@@ -6,4 +6,4 @@ mod doing;
 mod words;
 
 pub use doing::perform;
-pub use words::{run, run_words};
+pub use words::{run, run_over, run_words};

@@ -53,8 +53,34 @@ pub fn run_words<
     }
 }
 
-/// The program: reads its words, does what they ask for, and gives the status that it ends with. `faults` and `notes` are both standard
-/// error. The streams are of the standard library's own types, so that none can stand in another's place.
+/// The program over any streams: reads its words, does what they ask for, and gives the status that it ends with.
+pub fn run_over<
+    W: Threads
+        + Wait
+        + Files
+        + Env
+        + Clock
+        + Eprint
+        + AllocGlobal
+        + Copy
+        + Drop
+        + Send
+        + Sync
+        + 'static,
+    I: Read,
+    O: Write,
+    F: Write,
+    E: Write,
+>(rt: W, alloc: Global, input: &mut I, output: &mut O, faults: &mut F, notes: &mut E) -> u8
+    ensures { IsProgram (I.remaining input.old)
+        (streams_of (O.contents output.old) (O.contents output.new) (F.contents faults.old) (F.contents faults.new)) result }
+{
+    let words = words(&rt, alloc);
+    run_words(rt, alloc, words, input, output, faults, notes)
+}
+
+/// The program over the streams of its process. `faults` and `notes` are both standard error. The streams are of the standard library's own
+/// types, so that none can stand in another's place.
 pub fn run<
     W: Threads
         + Wait
@@ -80,6 +106,5 @@ pub fn run<
         (streams_of (⟦<Stdout as Write>⟧.contents output.old) (⟦<Stdout as Write>⟧.contents output.new)
         (⟦<Stderr as Write>⟧.contents faults.old) (⟦<Stderr as Write>⟧.contents faults.new)) result }
 {
-    let words = words(&rt, alloc);
-    run_words::<W, Stdin, Stdout, Stderr, Stderr>(rt, alloc, words, input, output, faults, notes)
+    run_over::<W, Stdin, Stdout, Stderr, Stderr>(rt, alloc, input, output, faults, notes)
 }
