@@ -67,7 +67,7 @@ abbrev pub IsCause : RunFault → List ℕ → Type 0
 IsCause runs.LongLine more = IsTooLong more
 IsCause _ more = Unit {0}
 
--- a front of the script, of whole lines, was answered, and its replies were written, or a front of them where the writer failed
+-- a prefix of the script, of whole lines, was answered, and its replies were written, or a prefix of them where the writer failed
 abbrev pub IsBrokenOff : RunFault → Plain → List ℕ → Option (List ℕ) → Option (List ℕ) → Type 0
 IsBrokenOff fault i script was now = (used : List ℕ) × (more : List ℕ) × (script ≡ used ++ more)
     × (((lines : List (List ℕ)) × (used ≡ flat_map ended lines)) ⊎ (more ≡ []))
@@ -82,8 +82,8 @@ IsShort read script was now (stops.Instance kind line) = (read ≡ fault kind li
 IsShort read script was now stops.Open = Keeps was now
 IsShort read script was now (stops.Run f) = (i : Plain) × (read ≡ Ok i) × IsBrokenOff f i script was now
 
--- By what the instance's bytes say: the replies to the script are written, nothing is told, and the status is 0 or 1; or no more came, which
--- is told, and it is 3.
+-- By what the instance's bytes say: the replies to the script are written, nothing is reported, and the status is 0 or 1; or no more came, which
+-- is reported, and it is 3.
 abbrev pub Says : Result Plain Fault → List ℕ → Streams → ℕ → Type 0
 Says read script streams status = ((i : Plain) × (read ≡ Ok i) × IsDone i script streams.was streams.now status × Keeps streams.told_was streams.told_now)
     ⊎ ((stop : Stop) × IsShort read script streams.was streams.now stop × IsTold stop streams.told_was streams.told_now status)
@@ -93,7 +93,7 @@ abbrev pub IsScripted : List ℕ → List ℕ → Streams → ℕ → Type 0
 IsScripted instance script streams status = Says (read_of instance) script streams status
 
 -- The instance before the mark, which is not too long, and the script behind it. Or a read failed before the mark, or memory ran out, or more
--- bytes than the limit came: nothing is written, and that is told.
+-- bytes than the limit came: nothing is written, and that is reported.
 abbrev pub IsOfHalves : Halves → Streams → ℕ → Type 0
 IsOfHalves h streams status = ((length h.instance ≤ 16777216) × IsScripted h.instance h.script streams status)
     ⊎ ((stop : Stop) × IsUnread stop × Keeps streams.was streams.now × IsTold stop streams.told_was streams.told_now status)
@@ -102,13 +102,13 @@ IsOfHalves h streams status = ((length h.instance ≤ 16777216) × IsScripted h.
 abbrev pub IsJoined : List ℕ → Streams → ℕ → Type 0
 IsJoined bytes streams status = IsOfHalves (halves bytes) streams status
 
--- A file could not be read, which is told, and nothing is written; or an instance and a script were, whatever their bytes are.
+-- A file could not be read, which is reported, and nothing is written; or an instance and a script were, whatever their bytes are.
 abbrev pub IsOfFiles : List ℕ → List ℕ → Streams → ℕ → Type 0
 IsOfFiles instance_path script_path streams status =
     ((streams.now ≡ streams.was) × (IsUnreadable instance_path streams.told_was streams.told_now status ⊎ IsUnreadable script_path streams.told_was streams.told_now status))
     ⊎ ((instance : List ℕ) × (script : List ℕ) × IsScripted instance script streams status)
 
--- ---- a joined input, before what came of it is told
+-- ---- a joined input, before what came of it is reported
 
 -- it ended early: before the script, or at it
 abbrev pub Ended : Halves → Option (List ℕ) → Option (List ℕ) → Stop → Type 0

@@ -11,7 +11,7 @@ use program_parts::{Stop, stopped};
 use std::io::Write;
 
 /// Says how a run ended, and gives the status of the program: 0 where no line counted as refused, 1 where one did, and 3
-/// where the run ended early, which is told as `stopped` has it.
+/// where the run ended early, which is reported as `stopped` has it.
 pub(crate) fn ended<F: Write>(faults: &mut F, end: Result<Counts, Stop>) -> u8
     ensures status { result ≡ end_status end }
     ensures told { MatchResult end (λ _. Keeps (F.contents faults.old) (F.contents faults.new))

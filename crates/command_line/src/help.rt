@@ -13,7 +13,7 @@ Status:
   2  the words of the command line are wrong
   3  a file or an instance is at fault, or a board could not be opened or run on
 
-What ends a run early is told on standard error:
+What ends a run early is reported on standard error:
   dispatch: cannot read PATH             the file is not there or may not be read; of INSTANCE and ROWS
                                          also a folder, one that fails while it is read, or is too long
   dispatch: instance fault KIND line N   `dispatch check --help` has the format
@@ -49,8 +49,8 @@ SCRIPT grants it, as here two vehicles and four customers:
   1 grant worker move customer 1 4
 
 SCRIPT runs alone. Then each worker does its rounds, while the lines of --live FILE are answered. In a
-round a worker draws two vehicles, looks for the allowed move near them that saves most way, and
-proposes it, if one saves any. At the end there is a line for each worker, and one for the plan:
+round a worker draws two vehicles, looks for the allowed move near them that saves the most
+travel, and proposes it, if one saves any. At the end there is a line for each worker, and one for the plan:
   worker I tried T committed C denied D refused R
   version V
 T of worker I's rounds were not idle: C proposed a move that was committed, D one that was denied, and
@@ -97,7 +97,7 @@ ROWS is the output of a run, in a file or on /dev/stdin. Its last listing with a
   dispatch run INSTANCE SCRIPT | dispatch draw INSTANCE /dev/stdin > plan.svg
 
 `dispatch: rows fault line N`, with status 3, says that line N is a row that the instance cannot have:
-a vehicle, customer or place that is not there, a customer twice, or rows out of order. Where no
+a vehicle, customer or place that is not there, a customer twice, or planned rows out of order. Where no
 listing has a row, N is the number of lines plus 1.";
 
 pub(crate) const SUMS_SHORT: &str = "Sums up the plan that a run listed last";
@@ -111,7 +111,7 @@ ROWS is the output of a run, in a file or on /dev/stdin. Its last listing with a
   dispatch run INSTANCE SCRIPT | dispatch sums INSTANCE /dev/stdin
 
 `dispatch: rows fault line N`, with status 3, says that line N is a row that the instance cannot have:
-a vehicle, customer or place that is not there, a customer twice, or rows out of order. Where no
+a vehicle, customer or place that is not there, a customer twice, or planned rows out of order. Where no
 listing has a row, N is the number of lines plus 1.";
 
 /// The format of an instance.
@@ -126,12 +126,12 @@ An instance, in Solomon's format:
   number x y demand ready due service     0, the depot, whose demand is 0; then 1 to 1,000 customers
 
   A number is 1 to 7 digits; a dot and zeros may follow. Blank lines are skipped. Keywords match in
-  capitals and small letters. No vehicle may carry more than the capacity, and a customer's service
+  upper and lower case. No vehicle may carry more than the capacity, and a customer's service
   begins between its ready time and its due date.
 
 Times:
-  The board counts in tenths of the file's unit: ready times, due dates and service times are taken
-  ten times, and so is the distance, cut down to a whole number. The horizon is the depot's due date.
+  The board counts in tenths of the file's unit: ready times, due dates and service times are
+  multiplied by 10, and so is the distance, rounded down to a whole number. The horizon is the depot's due date.
 
 Faults, as `dispatch: instance fault KIND line N`:
   name, vehicle, fleet, customer, heading, fields, number, order, window, depot, count, end
@@ -145,8 +145,8 @@ Lines of a script, SESSION COMMAND ARGUMENTS:
              remove V P BASE                        take away the customer at P
              shift V P LENGTH TO AT BASE            move LENGTH customers to place AT of TO
              swap V P OTHER AT BASE                 exchange two customers
-             reverse V FIRST LAST BASE              turn a stretch round
-             cross V KEEP OTHER KEEP_OTHER BASE     exchange what stands behind two places
+             reverse V FIRST LAST BASE              reverse the order of a stretch
+             cross V KEEP OTHER KEEP_OTHER BASE     exchange the tails of two routes
   pins       pin C, unpin C, freeze V LENGTH, thaw V LENGTH
   users      add-user U, delete-user U, assign U R, deassign U R
   roles      add-role R, delete-role R, inherit SENIOR JUNIOR, uninherit SENIOR JUNIOR
@@ -162,8 +162,8 @@ Lines of a script, SESSION COMMAND ARGUMENTS:
   OBJECT     board, vehicle V, customer C
   RANGE      board, vehicle FIRST LAST, customer FIRST LAST, both ends included
 
-  Words are parted by spaces and tabs; commands, operations and the kinds of objects are in small
-  letters, and names keep theirs. Blank lines, and lines that begin with #, are skipped. A name is 1
+  Words are separated by spaces and tabs; commands, operations and the kinds of objects are in lower
+  case, and names keep theirs. Blank lines, and lines that begin with #, are skipped. A name is 1
   to 32 letters, digits, _, - and dots; a number 1 to 10 digits, at most 4294967295. Session 1 is
   there at first: its user and role are root, which may administer the policy and nothing else until
   it grants itself more.

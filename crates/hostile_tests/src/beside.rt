@@ -73,7 +73,7 @@ fn is_shaped(written: &[u8]) -> bool {
     is_front(written)
 }
 
-/// What a run came to: what is wanted, or an end or refused rounds for want of memory.
+/// What a run came to: what is wanted, or an end or refused rounds for lack of memory.
 fn judged(written: &[u8], faults: &[u8], status: u8) -> Option<bool> {
     if faults.is_empty() && written == WANTED.as_bytes() {
         return Some(status == 0);

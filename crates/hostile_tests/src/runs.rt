@@ -14,7 +14,7 @@ fn is_front(written: &[u8], wanted: &str) -> bool {
     ends && wanted.as_bytes().starts_with(written)
 }
 
-/// What a run came to: the wanted text and no fault, or an end for want of memory.
+/// What a run came to: the wanted text and no fault, or an end for lack of memory.
 fn judged(written: &[u8], faults: &[u8], status: u8, wanted: &str) -> Option<bool> {
     if faults.is_empty() {
         return Some(status < 2 && written == wanted.as_bytes());

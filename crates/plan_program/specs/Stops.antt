@@ -27,7 +27,7 @@ abbrev pub view_line : ViewStop → List ℕ
 view_line (views.Parts stop) = stop_line stop
 view_line (views.Rows line) = codes "dispatch: rows fault line " ++ (decimal line ++ codes "\n")
 
--- The status is 3, and the line of the stop is told, or a front of it where that stream fails.
+-- The status is 3, and the line of the stop is reported, or a prefix of it where that stream fails.
 abbrev pub IsViewTold : ViewStop → Option (List ℕ) → Option (List ℕ) → ℕ → Type 0
 IsViewTold stop was now status = (status ≡ 3) × AppendsFront was now (view_line stop)
 

@@ -54,7 +54,7 @@ IsUnshown text_of instance output was now (views.Parts (stops.Run runs.Write)) =
 IsUnshown text_of instance output was now (views.Parts (stops.Run _)) = ⊥
 IsUnshown text_of instance output was now (views.Rows line) = (p : Places) × IsInstanceOf instance p × IsFault p output (faults.Line line) × Keeps was now
 
--- By both inputs: all is written, nothing is told, and the status is 0; or not, which is told, and it is 3.
+-- By both inputs: all is written, nothing is reported, and the status is 0; or not, which is reported, and it is 3.
 abbrev pub IsView : (Places → List Row → List ℕ) → List ℕ → List ℕ → Streams → ℕ → Type 0
 IsView text_of instance output streams status = ((status ≡ 0) × IsShown text_of instance output streams.was streams.now × Keeps streams.told_was streams.told_now)
     ⊎ ((stop : ViewStop) × IsUnshown text_of instance output streams.was streams.now stop × IsViewTold stop streams.told_was streams.told_now status)
@@ -79,7 +79,7 @@ IsUnopened instance output (views.Rows line) = (p : Places) × IsInstanceOf inst
 
 -- ---- files
 
--- a file that cannot be read is told, and nothing is written
+-- a file that cannot be read is reported, and nothing is written
 abbrev pub IsUnreadFile : List ℕ → Streams → ℕ → Type 0
 IsUnreadFile path streams status = (streams.now ≡ streams.was) × IsUnreadable path streams.told_was streams.told_now status
 

@@ -11,7 +11,7 @@ use line_engine::write_whole;
 use program_parts::stopped;
 use std::io::Write;
 
-/// Writes two texts and a line end, or a front of them where the stream fails.
+/// Writes two texts and a line end, or a prefix of them where the stream fails.
 fn tell_line<F: Write>(faults: &mut F, head: &str, rest: &str)
     ensures { AppendsFront (F.contents faults.old) (F.contents faults.new) (head.now ++ (rest.now ++ codes "\n")) }
 {
@@ -24,7 +24,7 @@ fn tell_line<F: Write>(faults: &mut F, head: &str, rest: &str)
     tell_text(faults, "\n");
 }
 
-/// Writes a text, or a front of it where the stream fails.
+/// Writes a text, or a prefix of it where the stream fails.
 fn tell_text<F: Write>(faults: &mut F, text: &str)
     ensures { AppendsFront (F.contents faults.old) (F.contents faults.new) text.now }
 {
@@ -39,7 +39,7 @@ fn tell_rows<F: Write>(faults: &mut F, line: usize)
     tell_line(faults, "dispatch: rows fault line ", digits.format(line));
 }
 
-/// Says why a view was not made, as one line that begins with `dispatch: `, or a front of it where the stream fails, and gives the status.
+/// Says why a view was not made, as one line that begins with `dispatch: `, or a prefix of it where the stream fails, and gives the status.
 pub(crate) fn view_stopped<F: Write>(faults: &mut F, stop: ViewStop) -> u8
     ensures { IsViewTold stop (F.contents faults.old) (F.contents faults.new) result }
 {

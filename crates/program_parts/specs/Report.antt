@@ -26,12 +26,13 @@ IsCheckShort read was now stops.Open = Keeps was now
 IsCheckShort read was now (stops.Run runs.Write) = (i : Plain) × (read ≡ Ok i) × AppendsFront was now (report_text i)
 IsCheckShort read was now (stops.Run _) = ⊥
 
--- what a check comes to, before it is told
+-- what a check comes to, before it is reported
 abbrev pub ChecksTo : Result Plain Fault → Option (List ℕ) → Option (List ℕ) → Result (Unit {0}) Stop → Type 0
 ChecksTo read was now (Ok done) = (i : Plain) × (read ≡ Ok i) × Appends was now (report_text i)
 ChecksTo read was now (Err stop) = IsCheckShort read was now stop
 
--- By what the text says: its report is written, nothing is told, and the status is 0; or there is no whole report, which is told, and it is 3.
+-- By what the text says: its report is written, nothing is reported, and the status is 0; or there is no whole report, which is reported, and
+-- it is 3.
 abbrev pub IsChecked : Result Plain Fault → Streams → ℕ → Type 0
 IsChecked read streams status = ((i : Plain) × (read ≡ Ok i) × (status ≡ 0) × Appends streams.was streams.now (report_text i) × Keeps streams.told_was streams.told_now)
     ⊎ ((stop : Stop) × IsCheckShort read streams.was streams.now stop × IsTold stop streams.told_was streams.told_now status)

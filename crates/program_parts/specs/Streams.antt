@@ -1,4 +1,4 @@
--- What is written to the two streams: the replies, and one line, with its line end, where a fault is told.
+-- What is written to the two streams: the replies, and one line, with its line end, where a fault is reported.
 use Rattle.std.specs.Prelude.{◌≡◌, ◌≤◌, ℕ, ◌⊎◌, List, ◌++◌, codes, Option}
 use Rattle.std.specs.Fmt.{decimal}
 use Rattle.std.specs.Io.KnownBytes.{Keeps}
@@ -51,14 +51,14 @@ stop_line (stops.Run runs.NoMemory) = codes "dispatch: run fault no-memory\n"
 abbrev pub path_line : List ℕ → List ℕ
 path_line path = codes "dispatch: cannot read " ++ (path ++ codes "\n")
 
--- The status is 3, and the line of the stop is told, or a front of it where that stream fails.
+-- The status is 3, and the line of the stop is reported, or a prefix of it where that stream fails.
 abbrev pub IsTold : Stop → Option (List ℕ) → Option (List ℕ) → ℕ → Type 0
 IsTold stop was now status = (status ≡ 3) × AppendsFront was now (stop_line stop)
 
--- Nothing is told where the status is 0 or 1, and else the line of some stop is.
+-- Nothing is reported where the status is 0 or 1, and else the line of some stop is.
 abbrev pub AgreesWithStatus : Option (List ℕ) → Option (List ℕ) → ℕ → Type 0
 AgreesWithStatus was now status = ((status ≤ 1) × Keeps was now) ⊎ ((stop : Stop) × IsTold stop was now status)
 
--- The status is 3, and the line of a path that cannot be read is told, or that of memory which ran out.
+-- The status is 3, and the line of a path that cannot be read is reported, or that of memory which ran out.
 abbrev pub IsUnreadable : List ℕ → Option (List ℕ) → Option (List ℕ) → ℕ → Type 0
 IsUnreadable path was now status = (status ≡ 3) × (AppendsFront was now (path_line path) ⊎ AppendsFront was now (stop_line stops.Open))

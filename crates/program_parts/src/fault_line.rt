@@ -31,7 +31,7 @@ fn instance_head(kind: Kind) -> &'static str
     }
 }
 
-/// Writes a text, or a front of it where the stream fails.
+/// Writes a text, or a prefix of it where the stream fails.
 fn tell_text<F: Write>(faults: &mut F, text: &str)
     ensures { AppendsFront (F.contents faults.old) (F.contents faults.new) text.now }
 {

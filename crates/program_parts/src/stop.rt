@@ -89,7 +89,7 @@ impl From<RunFault> for Stop {
     }
 }
 
-/// Says why a run ended, as one line that begins with `dispatch: `, or a front of it where the stream fails, and gives the status that it
+/// Says why a run ended, as one line that begins with `dispatch: `, or a prefix of it where the stream fails, and gives the status that it
 /// ends with.
 pub fn stopped<F: Write>(faults: &mut F, stop: Stop) -> u8
     ensures status { result ≡ 3 }

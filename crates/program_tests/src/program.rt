@@ -38,7 +38,7 @@ fn compare(rt: &impl Abort, output: &[u8], faults: &[u8], status: u8, wanted: Wa
     compare_end(rt, faults, status, wanted);
 }
 
-/// A run wrote a front of these replies, of a length that fits.
+/// A run wrote a prefix of these replies, of a length that fits.
 fn compare_front(rt: &impl Abort, output: &[u8], replies: &str, fits: bool) {
     assert!(rt; replies.as_bytes().starts_with(output));
     assert!(rt; fits);

@@ -8,7 +8,7 @@ use Rattle.board_program.specs.Joined.{IsOfFiles}
 use Rattle.worker_runs.specs.declared.orders.Orders.{Orders}
 use Rattle.worker_runs.specs.Scripted.{IsRunOfBytes, flow_of}
 
--- a file that cannot be read is told, and nothing is written
+-- a file that cannot be read is reported, and nothing is written
 abbrev pub IsUnreadFile : List ℕ → Streams → ℕ → Type 0
 IsUnreadFile path s status = (s.now ≡ s.was) × IsUnreadable path s.told_was s.told_now status
 

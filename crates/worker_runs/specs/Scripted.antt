@@ -113,8 +113,8 @@ IsNoInstance read f (stops.Instance kind line) = (read ≡ fault kind line) × I
 IsNoInstance read f stops.Open = IsUntouched f
 IsNoInstance read f (stops.Run fault) = ⊥
 
--- By what the instance's bytes say: the run on its board came to its end, nothing is told, and the status is 0 or 1; or it did not, which is
--- told, and the status is 3.
+-- By what the instance's bytes say: the run on its board came to its end, nothing is reported, and the status is 0 or 1; or it did not, which
+-- is reported, and the status is 3.
 abbrev pub IsRunOfBytes : Result Plain Fault → Orders → Flow → Option (List ℕ) → Option (List ℕ) → ℕ → Type 0
 IsRunOfBytes read orders f told_was told_now status =
     ((i : Plain) × (read ≡ Ok i) × (refused : Bool) × IsRunOf i orders f refused × (status ≡ status_of refused) × Keeps told_was told_now)

@@ -206,7 +206,7 @@ fn writes_that_fail(rt: HostRuntime) {
     }
 }
 
-/// Whether the run wrote a front of the replies and told of a write that failed.
+/// Whether the run wrote a prefix of the replies and reported a write that failed.
 fn is_front(written: &[u8], faults: &[u8], status: u8, replies: &str) -> bool {
     replies.as_bytes().starts_with(written) && faults == WRITE.as_bytes() && status == 3
 }
@@ -228,7 +228,7 @@ fn fails_at<
         return 0;
     };
     let well = is_front(&written, &faults, status, &replies);
-    holds(&rt, well, "a front of the replies");
+    holds(&rt, well, "a prefix of the replies");
     written.len()
 }
 
