@@ -1,3 +1,1 @@
-pub mod Dims
-pub mod Rest
 pub mod Verdict

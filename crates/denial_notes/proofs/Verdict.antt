@@ -4,11 +4,15 @@ use Rattle.std.specs.Prelude.{Bool, true, false, Option, Some, None, if◌then�
 use Rattle.dimension_core.specs.Feasible.{FitsAll}
 use Rattle.dimension_core.specs.NewRoutes.{Changes, IsOut}
 use Rattle.dimension_core.specs.Setting.{Setting}
+use Rattle.denial_facts.specs.declared.excess.Excess.{Excess}
+use Rattle.denial_facts.specs.Excesses.{IsOutBy}
 use Rattle.plan_core.specs.Plan.{PlanState}
 use Rattle.move_core.specs.declared.moves.Move.{Move}
 use Rattle.move_core.specs.Moves.{changes_by, is_possible}
 use Rattle.board_rules.specs.declared.reply.Denial.TheVariants as denials
 use Rattle.board_rules.specs.Rules.{Basis, IsVerdictBy}
+use Rattle.denial_notes.specs.declared.note.Note.{Note}
+use Rattle.denial_notes.specs.Notes.{IsBoundNote, excess_note}
 
 by_test : (X : Type 0) (x : X) (p : Bool) → (if p then Some x else None) ≡ Some x → p ≡ true
 by_test X x true e = refl
@@ -31,6 +35,16 @@ bound_says s plan b base mv v d sized same verdict stuck =
     out_range s (changes_by b.routes mv) v d verdict.1 (λ low high. stuck possible low high)
 
 -- a new route is out of bounds
-pub bound_out : (s : Setting) (plan : PlanState) (b : Basis) (base : ℕ) (mv : Move) (v d : ℕ) → b.routes ≡ plan.routes
+bound_out : (s : Setting) (plan : PlanState) (b : Basis) (base : ℕ) (mv : Move) (v d : ℕ) → b.routes ≡ plan.routes
     → IsVerdictBy s b base mv (Some (denials.Bound v d)) → IsOut s (changes_by plan.routes mv) v d
 bound_out s plan b base mv v d same verdict = subst (λ (routes : List (List ℕ)). IsOut s (changes_by routes mv) v d) same verdict.1
+
+-- by how much one of the changes that were found is out of bounds, said of those of the move
+pub noted : (s : Setting) (plan : PlanState) (found : Changes) (mv : Move) (v d : ℕ) (excess : Excess) (note : Note) → found ≡ changes_by plan.routes mv
+    → note ≡ excess_note v excess → IsOutBy s found v d excess → IsBoundNote s plan mv v d note
+noted s plan found mv v d excess note same e out = (excess, e, subst (λ (changes : Changes). IsOutBy s changes v d excess) same out)
+
+-- none of the changes that were found is out of bounds, but one of those of the move is
+pub none_out : (s : Setting) (plan : PlanState) (found : Changes) (b : Basis) (base : ℕ) (mv : Move) (v d : ℕ) → found ≡ changes_by plan.routes mv → (IsOut s found v d → ⊥)
+    → b.routes ≡ plan.routes → IsVerdictBy s b base mv (Some (denials.Bound v d)) → ⊥
+none_out s plan found b base mv v d e none same verdict = none (subst (λ (changes : Changes). IsOut s changes v d) (sym e) (bound_out s plan b base mv v d same verdict))

@@ -1,12 +1,9 @@
 -- What a denial means.
-use Rattle.std.specs.Prelude.{◌≡◌, ℕ, ◌-◌, ◌<◌, ◌≤◌, ◌==◌, ◌&&◌, ◌||◌, nat_lt, ◌⊎◌, List, [], ◌∷◌, length, find, slice_index, Option, Some, None, if◌then◌else◌}
-use Rattle.callback_store.specs.Tables.{Table}
-use Rattle.dimension_core.specs.Cumuls.{IsStart, cap_of, table_of}
-use Rattle.dimension_core.specs.Feasible.{FitsIn}
-use Rattle.dimension_core.specs.NewRoutes.{Changes, IsOut}
-use Rattle.dimension_core.specs.Setting.{Setting, dimension_at}
-use Rattle.bound_misses.specs.Misses.{IsFirstMiss, stops_of}
-use Rattle.bound_misses.specs.Totals.{total_of}
+use Rattle.std.specs.Prelude.{◌≡◌, ℕ, ◌==◌, ◌&&◌, ◌||◌, nat_lt, length, find, Option, Some, None, if◌then◌else◌}
+use Rattle.dimension_core.specs.Setting.{Setting}
+use Rattle.denial_facts.specs.declared.excess.Excess.{Excess}
+use Rattle.denial_facts.specs.declared.excess.Excess.TheVariants as excesses
+use Rattle.denial_facts.specs.Excesses.{IsOutBy}
 use Rattle.plan_core.specs.declared.touch.Touch.{Touch}
 use Rattle.plan_core.specs.Plan.{PlanState, stamp_of}
 use Rattle.move_core.specs.declared.moves.Move.{Move}
@@ -20,29 +17,15 @@ use Rattle.denial_notes.specs.Causes.{cause_of}
 
 -- ---- bounds
 
--- a vehicle has this new route
-abbrev pub HasRoute : Changes → ℕ → List ℕ → Type 0
-HasRoute [] v route = ⊥
-HasRoute (c ∷ cs) v route = ((c.0 ≡ v) × (c.1 ≡ route)) ⊎ HasRoute cs v route
+-- what is said of a vehicle's route that is out of bounds
+abbrev pub excess_note : ℕ → Excess → Note
+excess_note v (excesses.Load total most) = notes.Load v total most
+excess_note v (excesses.Late place node least most) = notes.Late v place node least most
+excess_note v excesses.Start = notes.Start v
 
--- By how much a vehicle's route is out of bounds in dimension d, from 1 on: what it takes in all of the first, which is more than the vehicle's
--- capacity; or the first stop without a value in bounds, with the least value there and the greatest that is allowed.
-abbrev pub IsRouteNote : Setting → ℕ → List ℕ → ℕ → Note → Type 0
-IsRouteNote s v route d (notes.Load vehicle total most) =
-    (vehicle ≡ v) × (d ≡ 1) × (total ≡ total_of (table_of s.tables (dimension_at s 0)) route) × (most ≡ cap_of (dimension_at s 0) v) × (most < total)
-IsRouteNote s v route d (notes.Late vehicle place node least most) =
-    (vehicle ≡ v) × (1 ≤ place) × (node ≡ slice_index (stops_of route) (place - 1))
-    × IsFirstMiss (table_of s.tables (dimension_at s (d - 1))) (dimension_at s (d - 1)) v (stops_of route) (place - 1) least most
-IsRouteNote s v route d (notes.Start vehicle) = (vehicle ≡ v) × ((x : ℕ) → IsStart (dimension_at s (d - 1)) v x → ⊥)
-IsRouteNote s v route d _ = ⊥
-
--- that is said of a new route of the vehicle
-abbrev pub IsOutNote : Setting → Changes → ℕ → ℕ → Note → Type 0
-IsOutNote s changes v d note = (route : List ℕ) × HasRoute changes v route × IsRouteNote s v route d note
-
--- and of a new route that the move would give it
+-- By how much a new route that the move would give the vehicle is out of bounds in dimension d, from 1 on.
 abbrev pub IsBoundNote : Setting → PlanState → Move → ℕ → ℕ → Note → Type 0
-IsBoundNote s plan mv v d note = IsOutNote s (changes_by plan.routes mv) v d note
+IsBoundNote s plan mv v d note = (excess : Excess) × (note ≡ excess_note v excess) × IsOutBy s (changes_by plan.routes mv) v d excess
 
 -- ---- the others
 

@@ -9,7 +9,7 @@ use move_core::Move;
 use plan_core::Plan;
 
 /// What keeps a move from having an effect; what a move must have is written at `Move`.
-#[derive(Clone, Copy, Debug)]
+#[derive(Clone, Copy)]
 pub enum Cause {
     /// There is no such vehicle.
     NoVehicle {

@@ -1,7 +1,6 @@
 //! What a denial means: by how much a bound is missed, who stands where, which commit came between, and which number of a move is wrong.
 #![tactic(auto)]
 
-mod bounds;
 mod cause;
 mod note;
 mod text;

@@ -1,22 +1,22 @@
 //! The note on a denial.
 
-ghost use Rattle.std.specs.Prelude.{◌≡◌, ◌<◌, ◌≤◌, ◌==◌, ◌&&◌, ℕ, find, length, IfOk, Some};
+ghost use Rattle.std.specs.Prelude.{◌≡◌, ◌<◌, ◌≤◌, ℕ, length, IfOk, Some};
 ghost use Rattle.dimension_core.specs.Setup.{setting};
 ghost use Rattle.plan_core.specs.Plan.{stamp_of};
 ghost use Rattle.move_core.specs.Touched.{touched_by};
 ghost use Rattle.board_rules.specs.Rules.{Basis, IsVerdictBy};
-ghost use Rattle.denial_notes.specs.Notes.{IsNoteOf, IsBoundNote, customer_note, stale_note};
+ghost use Rattle.denial_notes.specs.Notes.{IsNoteOf, IsBoundNote, customer_note, excess_note, stale_note};
 
-use crate::bounds::first_out;
 use crate::cause::{Cause, cause_of};
 use board_rules::{Denial, plans_are_judged_by_new_routes};
+use denial_facts::{Excess, first_out, touch_at};
 use dimension_core::Setup;
 use move_core::Move;
-use plan_core::{Plan, Touch};
+use plan_core::Plan;
 use std::alloc::{AllocError, Global};
 
 /// What a denial means, beside its reply. Vehicles, places, customers and dimensions count from 1.
-#[derive(Clone, Copy, Debug)]
+#[derive(Clone, Copy)]
 pub enum Note {
     /// The new route of the vehicle takes this much of dimension 1 in all, which is more than the vehicle's capacity.
     Load {
@@ -92,16 +92,6 @@ fn stale_note(plan: &Plan, vehicle: u32) -> Note
     }
 }
 
-/// The first of some touches that is at a place of a vehicle.
-fn touch_at(touched: &[Touch], vehicle: u32, place: u32) -> Option<Touch>
-    ensures { result ≡ find (λ t. (t.vehicle == vehicle) && (t.place == place)) touched.now }
-{
-    touched
-        .iter()
-        .copied()
-        .find(|t| t.vehicle == vehicle && t.place == place)
-}
-
 /// The note where the session may not move a customer.
 fn customer_note(
     alloc: Global,
@@ -123,6 +113,32 @@ fn customer_note(
             place,
             customer: t.customer,
         }),
+    }
+}
+
+/// The note on a vehicle's route that is out of bounds.
+fn excess_note(vehicle: u32, excess: Excess) -> Note
+    ensures { result ≡ excess_note vehicle excess }
+{
+    match excess {
+        Excess::Load { total, most } => Note::Load {
+            vehicle,
+            total,
+            most,
+        },
+        Excess::Late {
+            place,
+            node,
+            least,
+            most,
+        } => Note::Late {
+            vehicle,
+            place,
+            node,
+            least,
+            most,
+        },
+        Excess::Start => Note::Start { vehicle },
     }
 }
 
@@ -155,7 +171,7 @@ fn bound_note(
     }
     let changes = mv.routes(alloc, plan)?;
     match first_out(setup, changes.as_slice(), vehicle, dimension) {
-        Some(note) => Ok(note),
+        Some(excess) => Ok(excess_note(vehicle, excess)),
         None => Ok(unexplained),
     }
 }

@@ -1,7 +1,7 @@
 //! The note on a line that was answered with no.
 
-ghost use Rattle.std.specs.Prelude.{◌≡◌, IfOk, string_bytes};
-ghost use Rattle.explained_lines.specs.Numbered.{IsNumbered, numbered_text};
+ghost use Rattle.std.specs.Prelude.{IfOk, string_bytes};
+ghost use Rattle.explained_lines.specs.Numbered.{IsNumbered};
 
 use crate::meaning::{end_meaning, question_meaning, refusal_meaning, word_meaning};
 use crate::word::bad_word;
@@ -9,6 +9,7 @@ use board_core::Board;
 use board_journal::Kept;
 use board_lines::{Command, LineFault, ReadFault, read_words};
 use board_rules::{AskFault, Call, Denial, Reply, Review, legal_histories_leave_good_states};
+use denial_facts::numbered;
 use denial_notes::{explained, push_note};
 use line_engine::RunFault;
 use move_core::Move;
@@ -137,15 +138,6 @@ fn push_unjournaled(
         Err(ReadFault::Line(fault)) => push_bad(out, words.as_slice(), fault),
         Err(ReadFault::NoMemory) => Err(AllocError),
     }
-}
-
-/// A note behind the number of its line.
-fn numbered(alloc: Global, number: u64, note: &str) -> Result<String, AllocError>
-    ensures { IfOk result (λ text. string_bytes text ≡ numbered_text number note.now) }
-{
-    let mut text = String::new(alloc);
-    write!(text, "line {number}: {note}\n")?;
-    Ok(text)
 }
 
 /// The note on a line, by its number, that a board answered with no as its last one. Before the line it had so many entries.

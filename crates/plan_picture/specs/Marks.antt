@@ -1,5 +1,5 @@
 -- The marks of a picture.
-use Rattle.std.specs.Prelude.{ℕ, ◌+◌, ◌-◌, ◌*◌, ◌/◌, max, nat_le, List, [], ◌∷◌, ◌++◌, length, map, slice_index_or, Option, Some, None, if◌then◌else◌}
+use Rattle.std.specs.Prelude.{ℕ, ◌+◌, ◌-◌, ◌*◌, ◌/◌, max, nat_le, List, [], ◌∷◌, ◌++◌, length, map, Option, Some, None, if◌then◌else◌}
 use Rattle.std.specs.List.{flat_map, range_with_len}
 use Rattle.solomon_reader.specs.declared.instance.Node.{Node}
 use Rattle.travel_table.specs.Travel.{node_at}
@@ -11,16 +11,14 @@ use Rattle.plan_sums.specs.Rows.{row_at, is_planned}
 use Rattle.plan_sums.specs.Visits.{visit_at}
 use Rattle.plan_sums.specs.Tours.{tours_of}
 use Rattle.plan_sums.specs.Texts.{open_count}
-use Rattle.plan_picture.specs.declared.scale.Point.{Point}
-use Rattle.plan_picture.specs.declared.scale.Frame.{Frame}
-use Rattle.plan_picture.specs.declared.scale.Clock.{Clock}
 use Rattle.plan_picture.specs.declared.layout.Layout.{Layout}
-use Rattle.plan_picture.specs.declared.mark.Leg.{Leg}
-use Rattle.plan_picture.specs.declared.mark.Spot.{Spot}
-use Rattle.plan_picture.specs.declared.mark.Lane.{Lane}
-use Rattle.plan_picture.specs.declared.mark.Mark.{Mark}
-use Rattle.plan_picture.specs.declared.mark.Mark.TheVariants as marks
-use Rattle.plan_picture.specs.Scales.{clock_of, frame_of, most_demand, point_of, radius_of, x_of}
+use Rattle.plan_marks.specs.declared.mark.Leg.{Leg}
+use Rattle.plan_marks.specs.declared.mark.Lane.{Lane}
+use Rattle.plan_marks.specs.declared.mark.Mark.{Mark}
+use Rattle.plan_marks.specs.declared.mark.Mark.TheVariants as marks
+use Rattle.plan_marks.specs.Customers.{place_of, customers_before}
+use Rattle.plan_marks.specs.Entries.{entries_before}
+use Rattle.plan_picture.specs.Scales.{clock_of, frame_of, most_demand, x_of}
 
 -- where the parts stand: beside the map the table, and below them the timelines, by how many lines and stops there are
 abbrev pub layout_of : Places → List Row → List Tour → Layout
@@ -32,14 +30,10 @@ layout_of p rows tours = record {
   bottom = max (1300 + 190 * length tours) 7600 + 700 + 160 * (length rows - open_count rows);
 }
 
--- where a node stands on the map
-abbrev pub place_of : Places → Layout → ℕ → Point
-place_of p l i = point_of l.frame (node_at p.nodes i)
-
 -- ---- the ways
 
 abbrev pub leg_of : Places → Layout → ℕ → ℕ → ℕ → Mark
-leg_of p l vehicle i j = marks.Leg (record { vehicle = vehicle; from = i; to = j; start = place_of p l i; end = place_of p l j; way = travel_of p i j })
+leg_of p l vehicle i j = marks.Leg (record { vehicle = vehicle; from = i; to = j; start = place_of p l.frame i; end = place_of p l.frame j; way = travel_of p i j })
 
 -- the way to a stop, where the node before is known
 abbrev pub leg_from : Places → Layout → Row → Option ℕ → List Mark
@@ -56,32 +50,17 @@ leg_home p l v = if v.is_last then leg_of p l v.row.vehicle v.row.customer 0 ∷
 abbrev pub legs_of : Places → Layout → Visit → List Mark
 legs_of p l v = if is_planned v.row then leg_in p l v ++ leg_home p l v else []
 
--- ---- the customers
-
-abbrev pub spot_of : Places → Layout → Visit → Spot
-spot_of p l v = record { at = place_of p l v.row.customer; radius = radius_of l.most (node_at p.nodes v.row.customer); visit = v }
-
--- one mark for each row: filled where its customer is planned, and else hollow
-abbrev pub customer_mark : Places → Layout → Visit → Mark
-customer_mark p l v = if is_planned v.row then marks.Stop (spot_of p l v) else marks.Open (spot_of p l v)
+-- ---- the numbers and the depot
 
 -- a number for each, where there are not more than 100 customers
 abbrev pub label_of : Places → Layout → Visit → Mark
-label_of p l v = marks.Label (record { at = place_of p l v.row.customer; customer = v.row.customer })
+label_of p l v = marks.Label (record { at = place_of p l.frame v.row.customer; customer = v.row.customer })
 
 abbrev pub labels_of : Places → Layout → Visit → List Mark
 labels_of p l v = if nat_le (length p.nodes) 101 then label_of p l v ∷ [] else []
 
 abbrev pub depot_mark : Places → Layout → Mark
-depot_mark p l = marks.Depot (record { at = place_of p l 0; ready = (node_at p.nodes 0).ready; due = (node_at p.nodes 0).due })
-
--- ---- the table
-
-abbrev pub no_tour : Tour
-no_tour = record { vehicle = 0; stops = 0; hidden = 0; load = 0; start = None; back = 0; distance = 0 }
-
-abbrev pub entry_at : Places → List Tour → ℕ → Mark
-entry_at p tours k = marks.Entry (record { y = 1300 + 190 * k; tour = slice_index_or tours k no_tour; capacity = p.capacity })
+depot_mark p l = marks.Depot (record { at = place_of p l.frame 0; ready = (node_at p.nodes 0).ready; due = (node_at p.nodes 0).due })
 
 -- ---- the timelines
 
@@ -111,14 +90,8 @@ lanes_of l k v = if is_planned v.row then marks.Lane (lane_of l k v) ∷ [] else
 abbrev pub legs_before : Places → Layout → List Row → ℕ → List Mark
 legs_before p l rows n = flat_map (λ k. legs_of p l (visit_at p rows k)) (range_with_len 0 n)
 
-abbrev pub customers_before : Places → Layout → List Row → ℕ → List Mark
-customers_before p l rows n = map (λ k. customer_mark p l (visit_at p rows k)) (range_with_len 0 n)
-
 abbrev pub labels_before : Places → Layout → List Row → ℕ → List Mark
 labels_before p l rows n = flat_map (λ k. labels_of p l (visit_at p rows k)) (range_with_len 0 n)
-
-abbrev pub entries_before : Places → List Tour → ℕ → List Mark
-entries_before p tours n = map (entry_at p tours) (range_with_len 0 n)
 
 abbrev pub ticks_before : Layout → ℕ → List Mark
 ticks_before l n = map (tick_at l) (range_with_len 0 n)
@@ -130,7 +103,7 @@ lanes_before p l rows n = flat_map (λ k. lanes_of l k (visit_at p rows k)) (ran
 -- timelines.
 abbrev pub marks_of : Places → Layout → List Row → List Tour → List Mark
 marks_of p l rows tours = legs_before p l rows (length rows)
-    ++ customers_before p l rows (length rows)
+    ++ customers_before p l.frame l.most rows (length rows)
     ++ (depot_mark p l ∷ [])
     ++ labels_before p l rows (length rows)
     ++ entries_before p tours (length tours)

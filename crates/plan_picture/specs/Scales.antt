@@ -2,8 +2,7 @@
 use Rattle.std.specs.Prelude.{ℕ, ◌+◌, ◌-◌, ◌*◌, ◌/◌, max, min, List, length, fold}
 use Rattle.solomon_reader.specs.declared.instance.Node.{Node}
 use Rattle.travel_table.specs.Travel.{node_at}
-use Rattle.plan_picture.specs.declared.scale.Point.{Point}
-use Rattle.plan_picture.specs.declared.scale.Frame.{Frame}
+use Rattle.plan_marks.specs.declared.ground.Frame.{Frame}
 use Rattle.plan_picture.specs.declared.scale.Clock.{Clock}
 
 -- ---- the map
@@ -31,14 +30,6 @@ frame_of nodes = record {
   top = most_y nodes;
   span = max (max (most_x nodes - least_x nodes) (most_y nodes - least_y nodes)) 1;
 }
-
--- where a node stands: the square is 6,000 wide, from (400, 1100) on, and greater second coordinates stand higher
-abbrev pub point_of : Frame → Node → Point
-point_of f n = record { x = 400 + (n.x - f.left) * 6000 / f.span; y = 1100 + (f.top - n.y) * 6000 / f.span }
-
--- how large a node is drawn: 30, and up to 40 more by its demand
-abbrev pub radius_of : ℕ → Node → ℕ
-radius_of most n = 30 + n.demand * 40 / most
 
 -- ---- the timelines
 

@@ -1,5 +1,5 @@
 -- The text of a picture: SVG.
-use Rattle.std.specs.Prelude.{ℕ, ◌+◌, ◌-◌, ◌*◌, ◌/◌, ◌%◌, ◌==◌, if◌then◌else◌, List, [], ◌∷◌, ◌++◌, length, codes, Option, Some, None, encode_utf8, chars}
+use Rattle.std.specs.Prelude.{ℕ, ◌+◌, ◌-◌, ◌*◌, ◌/◌, ◌%◌, ◌==◌, if◌then◌else◌, List, ◌++◌, length, codes, Option, Some, None}
 use Rattle.std.specs.List.{flat_map}
 use Rattle.std.specs.Fmt.{decimal}
 use Rattle.plan_sums.specs.declared.row.Row.{Row}
@@ -10,31 +10,17 @@ use Rattle.plan_sums.specs.Tours.{cost_of, tours_of}
 use Rattle.plan_sums.specs.Texts.{open_count}
 use Rattle.plan_picture.specs.declared.style.TheConstants.{STYLE, HEADINGS}
 use Rattle.plan_picture.specs.declared.layout.Layout.{Layout}
-use Rattle.plan_picture.specs.declared.mark.Leg.{Leg}
-use Rattle.plan_picture.specs.declared.mark.Spot.{Spot}
-use Rattle.plan_picture.specs.declared.mark.Depot.{Depot}
-use Rattle.plan_picture.specs.declared.mark.Label.{Label}
-use Rattle.plan_picture.specs.declared.mark.Entry.{Entry}
-use Rattle.plan_picture.specs.declared.mark.Tick.{Tick}
-use Rattle.plan_picture.specs.declared.mark.Lane.{Lane}
-use Rattle.plan_picture.specs.declared.mark.Mark.{Mark}
-use Rattle.plan_picture.specs.declared.mark.Mark.TheVariants as marks
+use Rattle.plan_marks.specs.declared.mark.Leg.{Leg}
+use Rattle.plan_marks.specs.declared.mark.Spot.{Spot}
+use Rattle.plan_marks.specs.declared.mark.Depot.{Depot}
+use Rattle.plan_marks.specs.declared.mark.Label.{Label}
+use Rattle.plan_marks.specs.declared.mark.Entry.{Entry}
+use Rattle.plan_marks.specs.declared.mark.Tick.{Tick}
+use Rattle.plan_marks.specs.declared.mark.Lane.{Lane}
+use Rattle.plan_marks.specs.declared.mark.Mark.{Mark}
+use Rattle.plan_marks.specs.declared.mark.Mark.TheVariants as marks
+use Rattle.plan_marks.specs.Names.{escaped}
 use Rattle.plan_picture.specs.Marks.{layout_of, picture_of}
-
--- ---- names
-
--- a character as it stands in the text of an element, or in an attribute: the five that XML keeps for itself by their entities
-abbrev pub escaped_char : ℕ → List ℕ
-escaped_char c =
-    if c == 38 then codes "&amp;"
-    else (if c == 60 then codes "&lt;"
-    else (if c == 62 then codes "&gt;"
-    else (if c == 34 then codes "&quot;"
-    else (if c == 39 then codes "&#39;"
-    else encode_utf8 c))))
-
-unfoldable pub escaped : List ℕ → List ℕ
-escaped name = flat_map escaped_char (chars name)
 
 -- ---- numbers
 

@@ -4,25 +4,18 @@ ghost use Rattle.std.specs.Prelude.{◌≡◌, ◌<◌, ◌≤◌, ◌++◌, IfO
 ghost use Rattle.plan_sums.specs.Rows.{AreRows};
 ghost use Rattle.plan_sums.specs.Visits.{IsVisit, visit_at};
 ghost use Rattle.plan_picture.specs.Drawn.{IsLayout};
-ghost use Rattle.plan_picture.specs.Marks.{place_of, leg_of, leg_in, leg_home, legs_of, spot_of, customer_mark, label_of, labels_of, depot_mark, entry_at, tick_at, lane_of, lanes_of, legs_before, customers_before, labels_before, entries_before, ticks_before, lanes_before, marks_of};
+ghost use Rattle.plan_picture.specs.Marks.{leg_of, leg_in, leg_home, legs_of, label_of, labels_of, depot_mark, tick_at, lane_of, lanes_of, legs_before, labels_before, ticks_before, lanes_before, marks_of};
 
 use crate::layout::Layout;
-use crate::mark::{Depot, Entry, Label, Lane, Leg, Mark, Spot, Tick};
-use crate::scale::{Point, point_of, radius_of, x_of};
+use crate::scale::x_of;
+use plan_marks::{
+    Depot, Label, Lane, Leg, Mark, Tick, place_of, point_of, push_customers, push_entries,
+};
 use plan_sums::{Roads, Row, Tour, Visit, visit_at};
 use std::alloc::{AllocError, Global};
 
 /// The most nodes whose customers have their numbers on the map.
 const MOST_LABELLED: u32 = 101;
-
-/// Where a node stands on the map.
-fn place_of(roads: &Roads, layout: &Layout, node: u32) -> Point
-    requires node { node < length roads.now.nodes }
-    requires layout { IsLayout layout.now }
-    ensures { result ≡ place_of roads.now layout.now node }
-{
-    point_of(&layout.frame, &roads.node(node))
-}
 
 // ---- the ways
 
@@ -37,8 +30,8 @@ fn leg_of(roads: &Roads, layout: &Layout, vehicle: u32, from: u32, to: u32) -> M
         vehicle,
         from,
         to,
-        start: place_of(roads, layout, from),
-        end: place_of(roads, layout, to),
+        start: place_of(roads, &layout.frame, from),
+        end: place_of(roads, &layout.frame, to),
         way: roads.travel(from, to),
     })
 }
@@ -118,42 +111,7 @@ fn push_all_legs(
     Ok(())
 }
 
-// ---- the customers
-
-/// The mark of a row's customer: filled where it is planned, and else hollow.
-fn customer_mark(roads: &Roads, layout: &Layout, visit: &Visit) -> Mark
-    requires visit { IsVisit roads.now visit.now }
-    requires layout { IsLayout layout.now }
-    ensures { result ≡ customer_mark roads.now layout.now visit.now }
-{
-    let spot = Spot {
-        at: place_of(roads, layout, visit.row.customer),
-        radius: radius_of(layout.most, &roads.node(visit.row.customer)),
-        visit: *visit,
-    };
-    if visit.row.is_planned() {
-        Mark::Stop(spot)
-    } else {
-        Mark::Open(spot)
-    }
-}
-
-/// Appends a mark for each row.
-fn push_customers(
-    marks: &mut Vec<Mark>,
-    roads: &Roads,
-    layout: &Layout,
-    rows: &[Row],
-) -> Result<(), AllocError>
-    requires rows { AreRows roads.now rows.now }
-    requires layout { IsLayout layout.now }
-    ensures { OnOk result (marks.new.items ≡ marks.old.items ++ customers_before roads.now layout.now rows.now (length rows.now)) }
-{
-    for k in 0..rows.len() {
-        marks.push(customer_mark(roads, layout, &visit_at(roads, rows, k)))?;
-    }
-    Ok(())
-}
+// ---- the numbers and the depot
 
 /// The number of a row's customer.
 fn label_of(roads: &Roads, layout: &Layout, visit: &Visit) -> Mark
@@ -163,7 +121,7 @@ fn label_of(roads: &Roads, layout: &Layout, visit: &Visit) -> Mark
 {
     let customer = visit.row.customer;
     Mark::Label(Label {
-        at: place_of(roads, layout, customer),
+        at: place_of(roads, &layout.frame, customer),
         customer,
     })
 }
@@ -214,32 +172,6 @@ fn depot_mark(roads: &Roads, layout: &Layout) -> Mark
         ready: depot.ready,
         due: depot.due,
     })
-}
-
-// ---- the table
-
-/// The line of a vehicle.
-fn entry_at(roads: &Roads, tours: &[Tour], k: usize) -> Mark
-    requires within { k < length tours.now }
-    requires few { length tours.now ≤ 1000 }
-    ensures { result ≡ entry_at roads.now tours.now k }
-{
-    Mark::Entry(Entry {
-        y: 1300 + 190 * k as u64,
-        tour: tours[k],
-        capacity: roads.capacity(),
-    })
-}
-
-/// Appends a line for each vehicle.
-fn push_entries(marks: &mut Vec<Mark>, roads: &Roads, tours: &[Tour]) -> Result<(), AllocError>
-    requires { length tours.now ≤ 1000 }
-    ensures { OnOk result (marks.new.items ≡ marks.old.items ++ entries_before roads.now tours.now (length tours.now)) }
-{
-    for k in 0..tours.len() {
-        marks.push(entry_at(roads, tours, k))?;
-    }
-    Ok(())
 }
 
 // ---- the timelines
@@ -351,7 +283,7 @@ pub fn picture(
 {
     let mut marks = Vec::new(alloc);
     push_all_legs(&mut marks, roads, layout, rows)?;
-    push_customers(&mut marks, roads, layout, rows)?;
+    push_customers(&mut marks, roads, &layout.frame, layout.most, rows)?;
     marks.push(depot_mark(roads, layout))?;
     push_labels(&mut marks, roads, layout, rows)?;
     push_entries(&mut marks, roads, tours)?;

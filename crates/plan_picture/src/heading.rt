@@ -4,10 +4,10 @@ ghost use Rattle.std.specs.Prelude.{◌≡◌, ◌++◌, ◌-◌, ◌≤◌, All
 ghost use Rattle.plan_picture.specs.Drawn.{IsLayout};
 ghost use Rattle.plan_picture.specs.Texts.{size_text, opening_text, style_text, headings_text, counts_text, heading_text, lanes_heading, head_text, end_text};
 
-use crate::escape::push_escaped;
 use crate::layout::Layout;
 use crate::style::{HEADINGS, STYLE};
-use crate::text::{push_text, push_units};
+use crate::text::push_units;
+use plan_marks::{push_escaped, push_text};
 use plan_sums::{Row, Tour, cost, open_count};
 use std::alloc::AllocError;
 

@@ -5,7 +5,8 @@ ghost use Rattle.plan_sums.specs.Rows.{AreRows};
 ghost use Rattle.plan_picture.specs.Drawn.{IsLayout};
 ghost use Rattle.plan_picture.specs.Marks.{layout_of};
 
-use crate::scale::{Clock, Frame, clock_of, frame_of, most_demand};
+use crate::scale::{Clock, clock_of, frame_of, most_demand};
+use plan_marks::Frame;
 use plan_sums::{Roads, Row, Tour, open_count};
 
 /// The scales of the map and of the timelines, and where the timelines are. The map is beside the table, and above the timelines.

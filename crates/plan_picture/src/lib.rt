@@ -2,10 +2,8 @@
 #![tactic(auto)]
 
 mod drawing;
-mod escape;
 mod heading;
 mod layout;
-mod mark;
 mod scale;
 mod style;
 mod text;
@@ -13,6 +11,5 @@ mod text;
 pub use drawing::picture;
 pub use heading::{push_end, push_head};
 pub use layout::Layout;
-pub use mark::{Depot, Entry, Label, Lane, Leg, Mark, Spot, Tick};
-pub use scale::{Clock, Frame, Point};
+pub use scale::Clock;
 pub use text::push_mark;

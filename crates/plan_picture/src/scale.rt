@@ -3,30 +3,11 @@
 ghost use Rattle.std.specs.Prelude.{◌≡◌, ◌<◌, ◌≤◌, length};
 ghost use Rattle.solomon_reader.specs.Instances.{IsNode};
 ghost use Rattle.plan_sums.specs.Places.{ArePlaces};
-ghost use Rattle.plan_picture.specs.Scales.{least_x, most_x, least_y, most_y, most_demand, frame_of, point_of, radius_of, clock_of, x_of};
+ghost use Rattle.plan_picture.specs.Scales.{least_x, most_x, least_y, most_y, most_demand, frame_of, clock_of, x_of};
 
+use plan_marks::Frame;
 use plan_sums::Roads;
 use solomon_reader::Node;
-
-/// A place in the picture.
-#[derive(Clone, Copy)]
-pub struct Point {
-    /// From the left.
-    pub x: u64,
-    /// From above.
-    pub y: u64,
-}
-
-/// The square on the ground that all nodes are in.
-#[derive(Clone, Copy)]
-pub struct Frame {
-    /// The least first coordinate.
-    pub left: u32,
-    /// The greatest second coordinate.
-    pub top: u32,
-    /// How wide and high it is, at least 1.
-    pub span: u32,
-}
 
 /// The time that the timelines show, in tenths.
 #[derive(Clone, Copy)]
@@ -91,28 +72,6 @@ pub(crate) fn frame_of(nodes: &[Node]) -> Frame
         top: most_y(nodes),
         span: wide.max(high).max(1),
     }
-}
-
-/// Where a node stands on the map.
-pub(crate) fn point_of(frame: &Frame, node: &Node) -> Point
-    requires { 1 ≤ frame.now.span }
-    ensures { result ≡ point_of frame.now node.now }
-{
-    let right = u64::from(node.x.saturating_sub(frame.left));
-    let down = u64::from(frame.top.saturating_sub(node.y));
-    let span = u64::from(frame.span);
-    Point {
-        x: 400 + right * 6000 / span,
-        y: 1100 + down * 6000 / span,
-    }
-}
-
-/// How large a node is drawn.
-pub(crate) fn radius_of(most: u32, node: &Node) -> u64
-    requires { 1 ≤ most }
-    ensures { result ≡ radius_of most node.now }
-{
-    30 + u64::from(node.demand) * 40 / u64::from(most)
 }
 
 /// The time that the timelines show.

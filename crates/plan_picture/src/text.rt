@@ -3,16 +3,9 @@
 ghost use Rattle.std.specs.Prelude.{◌≡◌, ◌+◌, ◌/◌, ◌++◌, OnOk, string_bytes};
 ghost use Rattle.plan_picture.specs.Texts.{unit_text, start_text, note_head, stop_note, open_note, leg_path, leg_names, leg_text, depot_text, circle_text, stop_open, stop_text, open_text, label_text, entry_open, stops_text, entry_load, entry_times, entry_text, tick_line, tick_text, lane_open, lane_names, lane_window, lane_travel, lane_wait, lane_block, lane_text, mark_text};
 
-use crate::mark::{Depot, Entry, Label, Lane, Leg, Mark, Spot, Tick};
+use plan_marks::{Depot, Entry, Label, Lane, Leg, Mark, Spot, Tick, push_text};
 use plan_sums::{Tour, Visit};
 use std::alloc::AllocError;
-
-/// Appends a text.
-pub(crate) fn push_text(out: &mut String, text: &str) -> Result<(), AllocError>
-    ensures { OnOk result (string_bytes out.new ≡ string_bytes out.old ++ text.now) }
-{
-    out.push_str(text)
-}
 
 /// Appends tenths, in the file's unit.
 #[tactic(auto, unfolding(crate::specs::Texts::unit_text))]
@@ -23,13 +16,12 @@ pub(crate) fn push_units(out: &mut String, tenths: u64) -> Result<(), AllocError
 }
 
 /// The same of a start, or a question mark where it is not known.
-#[tactic(auto, unfolding(crate::specs::Texts::start_text))]
 fn push_start(out: &mut String, start: Option<u64>) -> Result<(), AllocError>
     ensures { OnOk result (string_bytes out.new ≡ string_bytes out.old ++ start_text start) }
 {
     match start {
         Some(start) => push_units(out, start),
-        None => out.push_str("?"),
+        None => push_text(out, "?"),
     }
 }
 

@@ -11,7 +11,7 @@ use Rattle.plan_sums.specs.declared.tour.Tour.{Tour}
 use Rattle.plan_sums.specs.Places.{Places}
 use Rattle.plan_sums.specs.Tours.{tours_of}
 use Rattle.plan_picture.specs.declared.layout.Layout.{Layout}
-use Rattle.plan_picture.specs.declared.mark.Mark.{Mark}
+use Rattle.plan_marks.specs.declared.mark.Mark.{Mark}
 use Rattle.plan_picture.specs.Marks.{layout_of, marks_of}
 use Rattle.plan_picture.specs.Texts.{end_text, head_text, mark_text, svg_text}
 use Rattle.plan_program.specs.Holding.{IsHeld}

@@ -12,7 +12,8 @@ ghost use Rattle.plan_program.specs.Stops.{IsWriting};
 
 use crate::stop::ViewStop;
 use line_engine::{RunFault, write_whole};
-use plan_picture::{Layout, Mark, picture, push_end, push_head, push_mark};
+use plan_marks::Mark;
+use plan_picture::{Layout, picture, push_end, push_head, push_mark};
 use plan_sums::{Roads, Row, Tour};
 use std::alloc::Global;
 use std::io::Write;

@@ -5,7 +5,7 @@ ghost use Rattle.plan_sums.specs.Rows.{is_planned};
 
 /// A row of a listing: where a customer is planned, and the earliest load and time there. A customer who is not planned has
 /// vehicle and place 0, and load and time 0.
-#[derive(Clone, Copy, Debug, PartialEq, Eq)]
+#[derive(Clone, Copy)]
 pub struct Row {
     /// The vehicle, from 1; 0 where the customer is not planned.
     pub vehicle: u32,

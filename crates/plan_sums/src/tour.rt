@@ -14,7 +14,7 @@ use crate::visit::{is_first, is_last, visit_at};
 use std::alloc::{AllocError, Global};
 
 /// The sums of a vehicle, by its rows in a listing. Times and ways are in tenths.
-#[derive(Clone, Copy, Debug, PartialEq, Eq)]
+#[derive(Clone, Copy)]
 pub struct Tour {
     /// The vehicle.
     pub vehicle: u32,

@@ -1,7 +1,7 @@
 use Rattle.std.proofs.Common.{ap, ◌∙◌}
 use Rattle.plan_sums.specs.Visits.{visit_at}
 use Rattle.plan_picture.specs.Marks.{labels_of}
-use Rattle.plan_picture.proofs.Joining.{flat_joined}
+use Rattle.plan_marks.specs.Joining.{flat_joined}
 use Rattle.plan_picture.proofs.drawing.push_labels.Goals as goal
 
 pub loop-k-preserved : goal.loop-k-preserved

@@ -1,5 +1,5 @@
 use Rattle.plan_picture.specs.Marks.{tick_at}
-use Rattle.plan_picture.proofs.Joining.{map_joined}
+use Rattle.plan_marks.specs.Joining.{map_joined}
 use Rattle.plan_picture.proofs.drawing.push_ticks.Goals as goal
 
 pub loop-i-preserved : goal.loop-i-preserved

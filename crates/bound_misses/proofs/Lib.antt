@@ -1,2 +1,0 @@
-pub mod Missing
-pub mod Totals

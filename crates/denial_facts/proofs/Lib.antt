@@ -1,0 +1,4 @@
+pub mod Dims
+pub mod Missing
+pub mod Rest
+pub mod Totals

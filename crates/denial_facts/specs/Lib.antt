@@ -1,0 +1,4 @@
+pub mod Excesses
+pub mod Misses
+pub mod Numbered
+pub mod Totals

@@ -1,0 +1,5 @@
+pub mod Customers
+pub mod Entries
+pub mod Ground
+pub mod Joining
+pub mod Names

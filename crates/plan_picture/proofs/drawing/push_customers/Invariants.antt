@@ -1,6 +1,0 @@
-use Rattle.std.proofs.Common.{◌≡◌, ◌++◌}
-use Rattle.plan_picture.specs.Marks.{customers_before}
-use Rattle.plan_picture.proofs.drawing.push_customers.Given as goal
-
-abbrev pub invariant-loop-k : goal.invariant-loop-k
-invariant-loop-k l = l.marks.items ≡ l.fn.marks.items ++ customers_before l.roads l.layout l.rows l.k
