@@ -1,11 +1,12 @@
 -- What a caller says of the closures that it passes: the table of a closure that answers by a function, and the entries of one that is
 -- written out. No clause can carry these, since they speak of what a closure may answer.
-use Rattle.std.proofs.Common.{◌≡◌, ℕ, zero, suc, ◌+◌, ◌*◌, ◌/◌, ◌%◌, ◌<◌, ◌≤◌, ◌∙◌, sym, ap, subst, arith, Bool, true, ◌&&◌, nat_le, List, [], ◌∷◌, slice_index}
+use Rattle.std.proofs.Common.{◌≡◌, ℕ, zero, suc, ◌+◌, ◌*◌, ◌/◌, ◌%◌, ◌<◌, ◌≤◌, ◌∙◌, sym, ap, subst, arith, Bool, true, ◌&&◌, nat_le, List, [], ◌∷◌, length, slice_index}
 use Rattle.std.specs.List.{list_all}
 use Rattle.std.proofs.lemmas.Bool.{leb-true}
 use Rattle.std.proofs.lemmas.List.FromFn.{length-map-range_with_len, get_or-map-range_with_len}
 use Rattle.std.proofs.lemmas.Nat.{mul-add-lt, div-mul-add, mod-mul-add}
-use Rattle.callback_store.specs.Callback.{IsTableOf, IsPairsOf}
+use Rattle.std.proofs.lemmas.Grind.{same_number_lists}
+use Rattle.callback_store.specs.Callback.{IsTableOf, IsPairsOf, pair_at}
 use Rattle.callback_store.specs.Tables.{node_values, pair_values}
 
 -- the entry for a node is the function's value
@@ -44,6 +45,18 @@ pairs_of_function size Post f answered alone small = record {
   alone = λ i j r h k p. alone i j r h k p ∙ sym (pair_values-at size f i j h k);
   small = λ i j h k. subst (λ (n : ℕ). n ≤ 1000000000) (sym (pair_values-at size f i j h k)) (small i j h k);
 }
+
+-- answers that are a function's, row by row, are its table
+pub pairs_listed : (size : ℕ) (f : ℕ → ℕ → ℕ) (answers : List ℕ) → length answers ≡ size * size
+    → ((i j : ℕ) → i < size → j < size → slice_index answers (i * size + j) ≡ f i j)
+    → answers ≡ pair_values size f
+pairs_listed size f answers sized at =
+    same_number_lists answers (pair_values size f) (sized ∙ sym (length-map-range_with_len (λ n. f (n / size) (n % size)) 0 (size * size)))
+    (λ k h. let below : k < size * size = omega (arith, sized) in
+    let p = pair_at size k below in
+    let here : slice_index answers ((k / size) * size + k % size) ≡ f (k / size) (k % size) = at (k / size) (k % size) p.0 p.1 in
+    let there : slice_index (pair_values size f) k ≡ f (k / size) (k % size) = get_or-map-range_with_len (λ n. f (n / size) (n % size)) 0 (size * size) k k 0 below (omega arith) in
+    subst (λ (n : ℕ). slice_index answers n ≡ f (k / size) (k % size)) p.2 here ∙ sym there)
 
 first_holds : (a b : Bool) → (a && b) ≡ true → a ≡ true
 first_holds a b h = grind arith

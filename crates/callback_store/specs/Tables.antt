@@ -2,8 +2,9 @@ use Rattle.std.specs.Prelude.{◌≡◌, ℕ, ◌+◌, ◌*◌, ◌/◌, ◌%◌
 use Rattle.std.specs.List.{range_with_len}
 use Rattle.callback_store.specs.declared.transit.Transit.{Transit}
 use Rattle.callback_store.specs.declared.unary.Unary.{Unary}
+use Rattle.callback_store.specs.declared.matrix.Matrix.{Matrix}
 use Rattle.callback_store.specs.declared.slot.Slot.{Slot}
-use Rattle.callback_store.specs.declared.slot.Slot.TheVariants.{Pair, Node}
+use Rattle.callback_store.specs.declared.slot.Slot.TheVariants.{Pair, Node, Listed}
 
 -- The table of a callback: how many nodes it knows, whether it answers for pairs, and its answers.
 pub record Table : Type 0 where
@@ -31,10 +32,15 @@ pair_table transit = record { size = transit.size; paired = true; entries = tran
 abbrev pub node_table : {i : Type 0} {held : i → Type 0} {calls : _} → Unary i held calls → Table
 node_table unary = record { size = unary.size; paired = false; entries = unary.table.0 }
 
--- the table of either
+-- the table of a two-node callback that is given as its answers
+abbrev pub matrix_table : Matrix → Table
+matrix_table matrix = record { size = matrix.size; paired = true; entries = matrix.answers.items }
+
+-- the table of any
 abbrev pub slot_table : {i j : Type 0} {held : i → Type 0} {holds : j → Type 0} {calls : _} {asks : _} → Slot i j held holds calls asks → Table
 slot_table (Pair transit) = pair_table transit
 slot_table (Node unary) = node_table unary
+slot_table (Listed matrix) = matrix_table matrix
 
 -- how many nodes the first of some tables knows, and 0 where there is none
 abbrev pub nodes_of : List Table → ℕ

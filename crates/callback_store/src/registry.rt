@@ -1,7 +1,8 @@
-ghost use Rattle.std.specs.Prelude.{◌≡◌, ℕ, ◌+◌, ◌*◌, ◌<◌, ◌≤◌, ◌↔◌, true, false, List, [], ◌∷◌, ◌++◌, length, map, IfOk, OnErr, IsErrOf, nat_lt, All};
+ghost use Rattle.std.specs.Prelude.{◌≡◌, ℕ, ◌+◌, ◌*◌, ◌<◌, ◌≤◌, ◌↔◌, true, false, List, [], ◌∷◌, ◌++◌, length, slice_index, map, IfOk, OnErr, IsErrOf, nat_lt, All, IfSome};
 ghost use Rattle.callback_store.specs.Meter.{after_ask, after_asks, AsksJust};
-ghost use Rattle.callback_store.specs.Tables.{AreTables, slot_table, pair_table, node_table, table_at, nodes_of, is_fitting, entry};
+ghost use Rattle.callback_store.specs.Tables.{AreTables, slot_table, pair_table, node_table, matrix_table, table_at, nodes_of, is_fitting, entry};
 
+use crate::matrix::Matrix;
 use crate::meter::Meter;
 use crate::slot::Slot;
 use crate::transit::Transit;
@@ -151,6 +152,38 @@ impl Registry {
         }
     }
 
+    /// Takes a two-node callback that is given as its answers, and answers its name. The others keep their names and tables.
+    ///
+    /// On a refusal nothing changes, and the answers are dropped.
+    pub fn register_matrix(&mut self, matrix: Matrix) -> Result<TransitId, RegisterFault>
+        ensures id { IfOk result (λ id. id ≡ length (tables self.old)) }
+        ensures ok { IfOk result (λ id. tables self.new ≡ tables self.old ++ matrix_table matrix ∷ []) }
+        ensures size { IsErrOf result RegisterFault.Size ↔ (is_fitting (tables self.old) (matrix_table matrix).size ≡ false) }
+        ensures many { IsErrOf result RegisterFault.Many ↔ ((is_fitting (tables self.old) (matrix_table matrix).size ≡ true) × (16 ≤ length (tables self.old))) }
+        ensures err { OnErr result (tables self.new ≡ tables self.old) }
+    {
+        if !self.is_fitting(matrix.size()) {
+            return Err(RegisterFault::Size);
+        }
+        let index = self.count();
+        if index >= 16 {
+            return Err(RegisterFault::Many);
+        }
+        match self.slots.push(Slot::Listed(matrix)) {
+            Ok(()) => Ok(TransitId { index }),
+            Err(_) => Err(RegisterFault::NoMemory),
+        }
+    }
+
+    /// All answers of a two-node callback, row by row, where it was given as these.
+    pub fn answers(&self, id: TransitId) -> Option<&[u32]>
+        requires registered { id < length (tables self.now) }
+        ensures sized { IfSome result (λ a. length a.now ≡ nodes_of (tables self.now) * nodes_of (tables self.now)) }
+        ensures answers { IfSome result (λ a. (i j : ℕ) → slice_index a.now (i * nodes_of (tables self.now) + j) ≡ entry (table_at (tables self.now) id) i j) }
+    {
+        self.slots[id.index as usize].answers()
+    }
+
     /// The answer of a callback on the way from node `i` to node `j`: that for the ordered pair, or that for `i` where it is a one-node
     /// callback. The callback must be registered here and know both nodes. It counts one ask.
     pub fn ask(&self, id: TransitId, meter: &mut Meter, i: u32, j: u32) -> u64
@@ -166,6 +199,7 @@ impl Registry {
         match &self.slots[id.index as usize] {
             Slot::Pair(transit) => transit.ask(meter, i, j),
             Slot::Node(unary) => unary.ask(meter, i),
+            Slot::Listed(matrix) => matrix.ask(meter, i, j),
         }
     }
 

@@ -92,7 +92,6 @@ pub struct Searcher {
     sides: Sides,
     ways: Ways,
     along: Along,
-    none: Kept,
     v_kept: Kept,
     w_kept: Kept,
 }
@@ -105,7 +104,6 @@ impl Searcher {
             sides: Sides::new(alloc),
             ways: Ways::new(alloc),
             along: Along::new(alloc),
-            none: Kept::none(alloc),
             v_kept: Kept::none(alloc),
             w_kept: Kept::none(alloc),
         }
@@ -145,7 +143,7 @@ impl Searcher {
             out: &ways.out,
             into: &ways.into,
         };
-        self.none.forget();
+        self.v_kept.forget();
         let search = Search {
             view,
             setup,
@@ -153,8 +151,8 @@ impl Searcher {
             bounded: false,
             v,
             w: v,
-            v_kept: &self.none,
-            w_kept: &self.none,
+            v_kept: &self.v_kept,
+            w_kept: &self.v_kept,
         };
         let found = best_of_one(&search, &gathered, sums, back_sums);
         if holds_up(&search, found) {
@@ -162,10 +160,14 @@ impl Searcher {
         }
         self.v_kept.keep_alone(view, setup, v)?;
         let search = Search {
+            view,
+            setup,
+            skip,
             bounded: true,
+            v,
+            w: v,
             v_kept: &self.v_kept,
             w_kept: &self.v_kept,
-            ..search
         };
         Ok(best_of_one(&search, &gathered, sums, back_sums))
     }
@@ -204,7 +206,8 @@ impl Searcher {
             out: &ways.out,
             into: &ways.into,
         };
-        self.none.forget();
+        self.v_kept.forget();
+        self.w_kept.forget();
         let search = Search {
             view,
             setup,
@@ -212,8 +215,8 @@ impl Searcher {
             bounded: false,
             v,
             w,
-            v_kept: &self.none,
-            w_kept: &self.none,
+            v_kept: &self.v_kept,
+            w_kept: &self.w_kept,
         };
         let found = best_of_two(&search, &gathered);
         if holds_up(&search, found) {
@@ -222,10 +225,14 @@ impl Searcher {
         self.v_kept.keep_between(view, setup, v, w)?;
         self.w_kept.keep_between(view, setup, w, v)?;
         let search = Search {
+            view,
+            setup,
+            skip,
             bounded: true,
+            v,
+            w,
             v_kept: &self.v_kept,
             w_kept: &self.w_kept,
-            ..search
         };
         Ok(best_of_two(&search, &gathered))
     }

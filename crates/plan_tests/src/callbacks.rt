@@ -1,6 +1,6 @@
 ghost use Rattle.std.specs.Prelude.{◌≡◌, ◌<◌, ◌+◌, ◌-◌, ◌*◌, slice_index, length};
 
-use callback_store::{Meter, RegisterFault, Registry, Transit, Unary};
+use callback_store::{Matrix, Meter, RegisterFault, Registry, Transit, Unary};
 use std::process::Abort;
 use std::sync::Arc;
 use std::sync::atomic::{AtomicU64, Ordering};
@@ -14,6 +14,14 @@ fn compare(rt: &impl Abort, found: u64, wanted: u64, what: &str) {
 fn compare_answers(rt: &impl Abort, found: &[u32; 4], wanted: &[u32; 4], meter: &Meter, asks: u64) {
     assert_eq!(rt; found, wanted);
     assert_eq!(rt; meter.asks, asks);
+}
+
+/// Compares all answers of a callback, as they are lent.
+fn compare_lent(rt: &impl Abort, found: Option<&[u32]>, wanted: &[u32]) {
+    match found {
+        Some(lent) => assert_eq!(rt; lent, wanted),
+        None => panic!(rt; "nothing is lent"),
+    }
 }
 
 /// Compares the name that a callback got, or why it got none.
@@ -65,6 +73,27 @@ fn registers_both_kinds(rt: HostRuntime) -> Result<(), Fail> {
     compare(&rt, registry.ask(time, &mut meter, 0, 1), 10, "out");
     compare(&rt, registry.ask(time, &mut meter, 1, 0), 20, "back");
     compare(&rt, meter.asks, 3, "asks");
+    Ok(())
+}
+
+/// A callback that is given as its answers is asked as any other, and lends them.
+#[test]
+fn answers_from_a_matrix(rt: HostRuntime) -> Result<(), Fail> {
+    let mut registry = Registry::new(rt.alloc());
+    let costs = Matrix::new(2, vec![in rt.alloc(); 0u32, 10, 20, 0]?);
+    let costs = registry.register_matrix(costs).expect(&rt, "room");
+    let mut meter = Meter::new();
+    compare(&rt, registry.ask(costs, &mut meter, 0, 1), 10, "out");
+    compare(&rt, registry.ask(costs, &mut meter, 1, 0), 20, "back");
+    let mut answers = [1u32; 4];
+    registry.ask_row(costs, &mut meter, 1, &[1, 0, 0, 1], &mut answers);
+    compare_answers(&rt, &answers, &[0, 20, 20, 0], &meter, 6);
+    registry.ask_column(costs, &mut meter, 1, &[1, 0, 0, 1], &mut answers);
+    compare_answers(&rt, &answers, &[0, 10, 10, 0], &meter, 10);
+    compare_lent(&rt, registry.answers(costs), &[0, 10, 20, 0]);
+    let wide = Matrix::new(3, vec![in rt.alloc(); 0u32; 9]?);
+    let refused = registry.register_matrix(wide).map(|id| id.index());
+    compare_name(&rt, refused, Err(RegisterFault::Size), 0);
     Ok(())
 }
 

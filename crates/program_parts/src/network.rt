@@ -1,10 +1,12 @@
 //! What a board's callbacks answer from.
 
-ghost use Rattle.std.specs.Prelude.{◌≡◌, ◌*◌, ◌<◌, ◌≤◌, All, IfOk, length};
+ghost use Rattle.std.specs.Prelude.{◌≡◌, ◌*◌, ◌<◌, ◌≤◌, All, IfOk, length, true};
+ghost use Rattle.callback_store.specs.Tables.{matrix_table, pair_values};
 ghost use Rattle.solomon_reader.specs.Instances.{view, IsSound};
 ghost use Rattle.travel_table.specs.Travel.{node_at, travel_at};
 ghost use Rattle.program_parts.specs.Network.{IsNetwork, demand_at, time_between};
 
+use callback_store::Matrix;
 use solomon_reader::{Instance, Node};
 use std::alloc::{AllocError, Global};
 use std::marker::Model;
@@ -96,6 +98,15 @@ impl Network {
     {
         let service = u64::from(self.instance.nodes[from as usize].service);
         service * 10 + u64::from(self.travel.get(from, to))
+    }
+
+    /// All travel, as the answers of a callback.
+    pub fn travel_matrix(&self, alloc: Global) -> Result<Matrix, AllocError>
+        ensures { IfOk result (λ m. matrix_table m ≡ record { size = length self.now.nodes; paired = true; entries = pair_values (length self.now.nodes) (travel_at self.now.travel) }) }
+    {
+        let mut answers = Vec::new(alloc);
+        answers.extend_from_slice(self.travel.entries())?;
+        Ok(Matrix::new(self.size(), answers))
     }
 
     /// The travel from a node to another, in tenths.

@@ -114,6 +114,15 @@ impl Travel {
         self.size
     }
 
+    /// All travel, row by row.
+    pub fn entries(&self) -> &[u32]
+        ensures value { result.now ≡ self.now.entries }
+        ensures square { length result.now ≡ self.now.size * self.now.size }
+        ensures small { All (λ x. x ≤ 141421342) result.now }
+    {
+        self.entries.as_slice()
+    }
+
     /// The travel from node `i` to node `j`, both below `nodes()`, in tenths of a distance unit. It takes no memory.
     pub fn get(&self, i: u32, j: u32) -> u32
         requires from { i < self.now.size }

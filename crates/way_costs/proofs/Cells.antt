@@ -1,4 +1,4 @@
-use Rattle.std.proofs.Common.{add-zero, append_assoc, All, Fits, w32, w64, ◌^◌, ◌≡◌, ◌≢◌, ℕ, ◌+◌, ◌-◌, ◌*◌, ◌<◌, ◌≤◌, ◌∙◌, refl, sym, ap, subst, arith, inl, inr, List, [], ◌∷◌, ◌++◌, length, map, set, slice_index, slice_index_or, length-append, min, Bool, true, false, ◌==◌, if◌then◌else◌, take, drop, suc}
+use Rattle.std.proofs.Common.{add-zero, append_assoc, All, Fits, w32, w64, ◌^◌, ◌≡◌, ◌≢◌, ℕ, ◌+◌, ◌-◌, ◌*◌, ◌<◌, ◌≤◌, ◌∙◌, refl, sym, ap, subst, arith, inl, inr, List, [], ◌∷◌, ◌++◌, length, map, set, slice_index, slice_index_or, length-append, min, Bool, true, false, ◌==◌, if◌then◌else◌, take, drop, suc, Option, Some, None, IfSome}
 use Rattle.std.proofs.lemmas.Bool.{cases_lt, ne_eqb}
 use Rattle.std.proofs.lemmas.List.{get_or_default, get_or_push, get_or_append_left, get_or-append-add, get_or-take, get_or-drop, get_or-set_same, get_or-set_other, get_or-map, length-map, length-set, length-take-le, length-drop, take_more}
 use Rattle.std.proofs.lemmas.List.Elements.{All-append, All-cons, All-drop, All-nil, All-take}
@@ -10,6 +10,7 @@ use Rattle.callback_store.specs.Tables.{Table, entry, nodes_of, table_at}
 use Rattle.dimension_core.specs.Setting.{Setting, IsSetting}
 use Rattle.plan_core.specs.Cost.{way}
 use Rattle.way_costs.proofs.WayParts.{way_append, last_take}
+use Rattle.way_costs.specs.Known.{AreAnswers}
 use Rattle.way_costs.specs.Ways.{hop, hop_by, entry_by, along, spare_of, AreHopsFrom, AreFloors, AreEdges, ArePicked, IsTurned, AreSums, AddsSums, AreBothSums}
 
 -- a row lies inside its table
@@ -470,3 +471,18 @@ pub next_way : (turned : Bool) (t : Table) (S R : List ℕ) (k sum x : ℕ) → 
 next_way turned t S R k sum x e h so_far new =
     let more : along (hop_by turned t) S (k + 1) ≡ along (hop_by turned t) S k + hop_by turned t (slice_index S k) (slice_index S (k + 1)) = rw e (along_more (hop_by turned t) R k h) in
     omega arith
+
+-- what a registry has of a callback that is given as its answers is known of the cost
+pub answers_at : (s : Setting) (ts : List Table) (id : ℕ) (answers : List ℕ) → ts ≡ s.tables → id ≡ s.cost → IsSetting s
+    → length answers ≡ nodes_of ts * nodes_of ts → ((i j : ℕ) → slice_index answers (i * nodes_of ts + j) ≡ entry (table_at ts id) i j) → AreAnswers s answers
+answers_at s ts id answers e f is sized at =
+    let nodes : nodes_of ts ≡ s.customers + 1 = ap (λ (xs : List Table). nodes_of xs) e ∙ is.tables in
+    record {
+      sized = subst (λ (n : ℕ). length answers ≡ n * n) nodes sized;
+      at = λ i j. subst (λ (n : ℕ). slice_index answers (i * n + j) ≡ entry (table_at s.tables s.cost) i j) nodes (answer_of s ts id i j (slice_index answers (i * nodes_of ts + j)) e f (at i j));
+    }
+
+-- two facts of what there may be give a third
+pub some_both : {T : Type 0} (o : Option T) (P Q R : T → Type 0) → ((x : T) → P x → Q x → R x) → IfSome o P → IfSome o Q → IfSome o R
+some_both None P Q R f p q = tt
+some_both (Some x) P Q R f p q = f x p q

@@ -3,6 +3,7 @@
 
 mod gains;
 mod hops;
+mod known;
 mod laws;
 mod sides;
 mod table;

@@ -138,8 +138,8 @@ impl Ways {
         ensures ways { IfOk result (λ _. AreWaysBetween (table_at (setting setup.now).tables (setting setup.now).cost) from.now to.now self.new) }
         ensures floors { IfOk result (λ _. AreFloored from.now to.now self.new) }
     {
-        fill_ways(setup, false, from, to, &mut self.out)?;
-        fill_ways(setup, true, from, to, &mut self.into)
+        fill_ways(setup, true, false, from, to, &mut self.out)?;
+        fill_ways(setup, true, true, from, to, &mut self.into)
     }
 
     /// Gathers the ways between some stops that a move inside their vehicle goes, each asked once, in place of what was gathered.
@@ -149,7 +149,7 @@ impl Ways {
         requires short { length stops.now ≤ 1002 }
         ensures { IfOk result (λ _. AreWaysBetween (table_at (setting setup.now).tables (setting setup.now).cost) stops.now stops.now self.new) }
     {
-        fill_ways(setup, false, stops, stops, &mut self.out)?;
+        fill_ways(setup, false, false, stops, stops, &mut self.out)?;
         fill_turned(stops, &self.out, &mut self.into)
     }
 }

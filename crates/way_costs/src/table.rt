@@ -1,15 +1,18 @@
 //! What the ways between stops cost, asked once and kept.
-ghost use Rattle.std.specs.Prelude.{◌≡◌, ◌≢◌, ◌≤◌, ◌<◌, ◌+◌, ◌-◌, ◌*◌, ◌^◌, ◌∷◌, ◌==◌, if◌then◌else◌, ℕ, true, false, List, length, slice_index, take, drop, All, IfOk};
+ghost use Rattle.std.specs.Prelude.{◌≡◌, ◌≢◌, ◌≤◌, ◌<◌, ◌+◌, ◌-◌, ◌*◌, ◌^◌, ◌∷◌, ◌==◌, if◌then◌else◌, ℕ, true, false, List, length, slice_index, take, drop, All, IfOk, IfSome};
 ghost use Rattle.callback_store.specs.Tables.{Table, table_at};
 ghost use Rattle.dimension_core.specs.Setup.{setting};
+ghost use Rattle.way_costs.specs.Known.{AreAnswers};
 ghost use Rattle.way_costs.specs.Ways.{entry_by, hop_by, AreHopsFrom, AreFloors, AreEdges, ArePicked, AddsSums, AreBothSums, IsTurned};
 
 use crate::hops::hop;
+use crate::known::{known_by, known_ways};
 use callback_store::Meter;
 use dimension_core::Setup;
 use std::alloc::AllocError;
 
 /// The answers for the ways from a stop to each of some others, as they are driven or driven back.
+#[inline(always)]
 fn ask_ways(setup: &Setup, turned: bool, stop: u32, to: &[u32], row: &mut [u32])
     requires stop { stop ≤ (setting setup.now).customers }
     requires to { All (λ c. c ≤ (setting setup.now).customers) to.now }
@@ -42,6 +45,7 @@ fn clear_stays(to: &[u32], row: &mut [u32])
 }
 
 /// What the ways from a stop to each of some others cost, as they are driven or driven back, asked together.
+#[inline(always)]
 fn ask_together(setup: &Setup, turned: bool, stop: u32, to: &[u32], row: &mut [u32])
     requires stop { stop ≤ (setting setup.now).customers }
     requires to { All (λ c. c ≤ (setting setup.now).customers) to.now }
@@ -58,19 +62,17 @@ fn ask_together(setup: &Setup, turned: bool, stop: u32, to: &[u32], row: &mut [u
 /// The greatest number, which is what the least of no numbers is.
 const NONE: u32 = 4_294_967_295;
 
-/// The least of some numbers.
-fn least_of(row: &[u32]) -> u32
-    ensures { All (λ x. result ≤ x) row.now }
-{
-    let mut least = NONE;
-    for k in 0..row.len() {
-        least = least.min(row[k]);
-    }
-    least
-}
-
-/// Up to so many ways are asked one by one: asking for them together takes longer.
+/// Up to so many ways are asked one by one: with the least of them, asking for them together takes longer.
 const FEW: usize = 9;
+
+/// How the ways of a table are had: as they are driven or driven back, from all answers of the cost callback where it was given as these, and
+/// whether a floor is wanted of short rows.
+#[derive(Clone, Copy)]
+struct Asking<'a> {
+    known: Option<&'a [u32]>,
+    floored: bool,
+    turned: bool,
+}
 
 // The registry is asked right in the two loops: each function in between would cost one more test after every answer.
 
@@ -118,9 +120,18 @@ fn ask_back(setup: &Setup, stop: u32, to: &[u32], row: &mut [u32]) -> u32
     least
 }
 
-/// What the ways from a stop to each of some others cost, as they are driven or driven back, and a number that none of them is below.
+/// What the ways from a stop to each of some others cost, as they are driven or driven back, read from all answers of the cost callback, and a
+/// number that none of them is below.
 #[inline(always)]
-fn fill_row(setup: &Setup, turned: bool, stop: u32, to: &[u32], row: &mut [u32]) -> u32
+fn read_row(
+    setup: &Setup,
+    answers: &[u32],
+    turned: bool,
+    stop: u32,
+    to: &[u32],
+    row: &mut [u32],
+) -> u32
+    requires known { AreAnswers (setting setup.now) answers.now }
     requires stop { stop ≤ (setting setup.now).customers }
     requires to { All (λ c. c ≤ (setting setup.now).customers) to.now }
     requires room { length row.old ≡ length to.now }
@@ -128,9 +139,33 @@ fn fill_row(setup: &Setup, turned: bool, stop: u32, to: &[u32], row: &mut [u32])
     ensures ways { (k : ℕ) → k < length to.now → slice_index row.new k ≡ hop_by turned (table_at (setting setup.now).tables (setting setup.now).cost) stop (slice_index to.now k) }
     ensures least { All (λ x. result ≤ x) row.new }
 {
-    if stop == 0 || to.len() > FEW {
+    let mut least = NONE;
+    for k in 0..to.len() {
+        let way = known_by(setup, answers, turned, stop, to[k]);
+        row[k] = way;
+        least = least.min(way);
+    }
+    least
+}
+
+/// What the ways from a stop to each of some others cost, as they are driven or driven back, and a number that none of them is below.
+#[inline(always)]
+fn fill_row(setup: &Setup, asking: &Asking, stop: u32, to: &[u32], row: &mut [u32]) -> u32
+    requires known { IfSome asking.now.known (λ a. AreAnswers (setting setup.now) a.now) }
+    requires stop { stop ≤ (setting setup.now).customers }
+    requires to { All (λ c. c ≤ (setting setup.now).customers) to.now }
+    requires room { length row.old ≡ length to.now }
+    ensures sized { length row.new ≡ length to.now }
+    ensures ways { (k : ℕ) → k < length to.now → slice_index row.new k ≡ hop_by asking.now.turned (table_at (setting setup.now).tables (setting setup.now).cost) stop (slice_index to.now k) }
+    ensures least { All (λ x. result ≤ x) row.new }
+{
+    let (floored, turned) = (asking.floored, asking.turned);
+    if let Some(answers) = asking.known {
+        return read_row(setup, answers, turned, stop, to, row);
+    }
+    if !floored || stop == 0 || to.len() > FEW {
         ask_together(setup, turned, stop, to, row);
-        return least_of(row);
+        return 0;
     }
     if turned {
         ask_back(setup, stop, to, row)
@@ -141,17 +176,25 @@ fn fill_row(setup: &Setup, turned: bool, stop: u32, to: &[u32], row: &mut [u32])
 
 /// Fills in a row of a table, from a place on. The result is a number that none of the row's is below.
 #[inline(always)]
-fn fill_at(setup: &Setup, turned: bool, stop: u32, to: &[u32], cells: &mut [u32], at: usize) -> u32
+fn fill_at(
+    setup: &Setup,
+    asking: &Asking,
+    stop: u32,
+    to: &[u32],
+    cells: &mut [u32],
+    at: usize,
+) -> u32
+    requires known { IfSome asking.now.known (λ a. AreAnswers (setting setup.now) a.now) }
     requires stop { stop ≤ (setting setup.now).customers }
     requires to { All (λ c. c ≤ (setting setup.now).customers) to.now }
     requires room { at + length to.now ≤ length cells.old }
     ensures sized { length cells.new ≡ length cells.old }
-    ensures ways { (k : ℕ) → k < length to.now → slice_index cells.new (at + k) ≡ hop_by turned (table_at (setting setup.now).tables (setting setup.now).cost) stop (slice_index to.now k) }
+    ensures ways { (k : ℕ) → k < length to.now → slice_index cells.new (at + k) ≡ hop_by asking.now.turned (table_at (setting setup.now).tables (setting setup.now).cost) stop (slice_index to.now k) }
     ensures kept { (k : ℕ) → k < at → slice_index cells.new k ≡ slice_index cells.old k }
     ensures least { (k : ℕ) → k < length to.now → result ≤ slice_index cells.new (at + k) }
 {
     let row = &mut cells[at..at + to.len()];
-    fill_row(setup, turned, stop, to, row)
+    fill_row(setup, asking, stop, to, row)
 }
 
 /// What stands in a table before it is filled. Its bytes differ, so that a table is made by wide stores and not byte by byte.
@@ -200,6 +243,7 @@ fn spare_column(column: usize, width: usize) -> usize
 #[inline(always)]
 pub(crate) fn fill_ways(
     setup: &Setup,
+    floored: bool,
     turned: bool,
     from: &[u32],
     to: &[u32],
@@ -217,11 +261,17 @@ pub(crate) fn fill_ways(
     let column = first_column(turned);
     let spare = spare_column(column, width);
     let asked = all_but_one(to, column);
+    let known = known_ways(setup);
+    let asking = Asking {
+        known,
+        floored,
+        turned,
+    };
     cells.resize(from.len() * width, UNFILLED)?;
     for i in first..first + from.len() - 1 {
         let least = fill_at(
             setup,
-            turned,
+            &asking,
             from[i],
             asked,
             cells.as_mut_slice(),
@@ -282,6 +332,21 @@ fn cell(cells: &[u32], width: usize, from: usize, to: usize) -> u32
     row(cells, width, from)[to]
 }
 
+/// Puts the ways of a table, driven back, into another one.
+#[inline(always)]
+fn turn(width: usize, cells: &[u32], back: &mut [u32])
+    requires sized { length cells.now ≡ width * width }
+    requires room { length back.old ≡ width * width }
+    requires short { width ≤ 1002 }
+    ensures { IsTurned width width cells.now back.new }
+{
+    for i in 1..width {
+        for j in 0..width - 1 {
+            back[i * width + j] = cell(cells, width, j, i);
+        }
+    }
+}
+
 /// Fills a table with what the ways between some stops cost, driven back, by those as they are driven. What it held is given up.
 #[inline(never)]
 pub(crate) fn fill_turned(
@@ -295,11 +360,7 @@ pub(crate) fn fill_turned(
 {
     let width = stops.len();
     back.resize(width * width, UNFILLED)?;
-    for i in 1..width {
-        for j in 0..width - 1 {
-            back[i * width + j] = cell(cells, width, j, i);
-        }
-    }
+    turn(width, cells, back.as_mut_slice());
     Ok(())
 }
 

@@ -13,7 +13,7 @@ use Rattle.line_engine.specs.Outcomes.{Outcome}
 use Rattle.line_engine.specs.Leaving.{Does, Gives}
 use Rattle.line_engine.specs.Running.{Runs, body}
 use Rattle.board_text.specs.BoardSteps.{DeskState, IsBoardStep}
-use Rattle.worker_runs.specs.SetUp.{AreAsked, by_root, sessions_to, set_up_of, user_and_role}
+use Rattle.worker_runs.specs.SetUp.{AreAsked, sessions_to, set_up_of, user_and_role}
 
 -- ---- calls one after another
 

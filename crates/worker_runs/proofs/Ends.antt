@@ -1,5 +1,5 @@
 -- From the live lines and the workers to the end of a run.
-use Rattle.std.proofs.Common.{◌≡◌, ◌∙◌, ◌≤◌, ℕ, zero, suc, ◌+◌, List, ◌∷◌, length, arith, refl, sym, ap, subst, inl, inr, Option, Some, None, Result, Ok, Err}
+use Rattle.std.proofs.Common.{◌≡◌, ◌∙◌, ◌≤◌, ℕ, zero, suc, List, ◌∷◌, length, arith, refl, sym, ap, subst, inl, inr, Option, Some, None, Result, Ok, Err}
 use Rattle.std.specs.Prelude.{◌⊎◌, ◌≢◌, IfOk, IfErr, IfSome, MatchResult, option_map}
 use Rattle.std.specs.Option.{IsSomeAnd}
 use Rattle.std.specs.Io.KnownBytes.{Appends}

@@ -1,6 +1,6 @@
 -- The desks of the workers, and how their run is closed.
-use Rattle.std.proofs.Common.{◌≡◌, ◌∙◌, ◌≤◌, ℕ, zero, suc, ◌+◌, ◌-◌, List, [], ◌∷◌, ◌++◌, length, map, refl, sym, ap, subst, arith, add-one, append-nil, inl, inr, Option, Some, None, Result, Ok, Err, All}
-use Rattle.std.specs.Prelude.{◌⊎◌, ◌≢◌, IfSome, OnOk, IfErr, remove, slice_index_or}
+use Rattle.std.proofs.Common.{◌≡◌, ◌∙◌, ◌≤◌, ℕ, zero, suc, ◌+◌, ◌-◌, List, [], ◌∷◌, ◌++◌, length, map, refl, sym, ap, subst, arith, add-one, append-nil, inl, inr, Option, Some, None, Result, Ok, Err}
+use Rattle.std.specs.Prelude.{◌⊎◌, IfSome, OnOk, IfErr, remove, slice_index_or}
 use Rattle.std.specs.Option.{IsSomeAnd}
 use Rattle.std.proofs.lemmas.List.{length-append, map-append}
 use Rattle.std.specs.Io.KnownBytes.{Appends}

@@ -1,5 +1,5 @@
 -- One more line of a worker.
-use Rattle.std.proofs.Common.{◌≡◌, ◌∙◌, ℕ, ◌+◌, List, [], ◌∷◌, ◌++◌, length, take, get_or, ◌<◌, refl, sym, ap, append_assoc, append-nil, arith}
+use Rattle.std.proofs.Common.{◌≡◌, ◌∙◌, ℕ, ◌+◌, List, [], ◌∷◌, ◌++◌, length, take, get_or, ◌<◌, sym, ap, append_assoc, append-nil, arith}
 use Rattle.std.proofs.lemmas.List.{length-take-le, take_more}
 use Rattle.search_rounds.specs.declared.tally.Tally.{Tally}
 use Rattle.worker_runs.specs.Tallies.{tally_lines, tally_text}

@@ -1,6 +1,5 @@
 -- How a run of files ends.
-use Rattle.std.proofs.Common.{◌≡◌, ℕ, List, [], refl, sym, subst, inl, inr, Bool, true, false, Option, Some, None, Result, Ok}
-use Rattle.std.specs.Prelude.{◌⊎◌}
+use Rattle.std.proofs.Common.{◌≡◌, ℕ, List, [], refl, sym, subst, inl, inr, Option, Some, None, Result, Ok}
 use Rattle.solomon_reader.specs.Checks.{Fault}
 use Rattle.solomon_reader.specs.Instances.{Plain}
 use Rattle.solomon_reader.specs.Reading.{read_of}
@@ -8,7 +7,7 @@ use Rattle.program_parts.specs.Streams.{IsUnreadable, streams_of}
 use Rattle.board_program.specs.Joined.{IsOfFiles}
 use Rattle.worker_runs.specs.declared.orders.Orders.{Orders}
 use Rattle.worker_runs.specs.Files.{IsOfPaths}
-use Rattle.worker_runs.specs.Scripted.{Flow, IsRunOfBytes, flow_of}
+use Rattle.worker_runs.specs.Scripted.{IsRunOfBytes, flow_of}
 
 pub by_live : (instance script : List ℕ) (live : Option (List ℕ)) (orders : Orders) (was told_was told_now : Option (List ℕ)) (status : ℕ) (path bytes : List ℕ) (i : Plain)
     → live ≡ Some path → read_of bytes ≡ Ok i → IsUnreadable path told_was told_now status → IsOfPaths instance script live orders (streams_of was was told_was told_now) status

@@ -25,9 +25,6 @@ demand_values size s t n e = ap (λ (k : ℕ). node_values k (demand_at t)) n �
 pub time_values : (size : ℕ) (s t : Sites) → size ≡ length s.nodes → t ≡ s → pair_values size (time_between t) ≡ pair_values (length s.nodes) (time_between s)
 time_values size s t n e = ap (λ (k : ℕ). pair_values k (time_between t)) n ∙ ap (λ (x : Sites). pair_values (length s.nodes) (time_between x)) e
 
-pub travel_values : (size : ℕ) (s t : Sites) → size ≡ length s.nodes → t ≡ s → pair_values size (travel_at t.travel) ≡ pair_values (length s.nodes) (travel_at s.travel)
-travel_values size s t n e = ap (λ (k : ℕ). pair_values k (travel_at t.travel)) n ∙ ap (λ (x : Sites). pair_values (length s.nodes) (travel_at x.travel)) e
-
 pub standard_by : (s net : Sites) (set : Setting) (size vehicles cost demand way : ℕ) (ts0 ts1 ts2 ts3 : List Table) (a b c : Table) (pair : List Bounds)
     → set ≡ record { customers = size - 1; vehicles = vehicles; tables = ts3; dimensions = pair; cost = cost; max_events = 1000000 }
     → size ≡ length s.nodes → vehicles ≡ net.vehicles → net ≡ s

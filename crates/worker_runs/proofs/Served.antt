@@ -1,6 +1,6 @@
 -- From the run of a board to that of an instance, and to its status.
-use Rattle.std.proofs.Common.{◌≡◌, ◌∙◌, ◌+◌, ℕ, Bool, true, false, List, refl, sym, ap, subst, inl, inr, Option, Some, None, Result, Ok, Err}
-use Rattle.std.specs.Prelude.{◌⊎◌, ◌||◌, nat_lt, MatchResult}
+use Rattle.std.proofs.Common.{◌≡◌, ◌∙◌, ◌+◌, ℕ, Bool, List, refl, sym, ap, subst, inl, inr, Option, Some, None, Result, Ok, Err}
+use Rattle.std.specs.Prelude.{◌||◌, nat_lt, MatchResult}
 use Rattle.std.specs.Io.KnownBytes.{Keeps}
 use Rattle.board_rules.specs.declared.call.Entry.{Entry}
 use Rattle.board_rules.specs.History.{History, Opening}
@@ -11,7 +11,6 @@ use Rattle.solomon_reader.specs.declared.fault.ReadFault.{ReadFault}
 use Rattle.solomon_reader.specs.declared.fault.ReadFault.TheVariants as reads
 use Rattle.program_parts.specs.Stops.{IsStopOf}
 use Rattle.solomon_reader.specs.Instances.{Plain}
-use Rattle.program_parts.specs.Network.{Sites}
 use Rattle.program_parts.specs.Streams.{stop_line}
 use Rattle.line_engine.specs.TextLines.{lines_of}
 use Rattle.line_engine.specs.WholeRuns.{IsAnswered, IsStopped}
@@ -21,10 +20,9 @@ use Rattle.worker_runs.specs.SetUp.{AreAsked, set_up_of}
 use Rattle.worker_runs.proofs.Asked.{asked_keep, runs_keep}
 use Rattle.program_parts.specs.declared.stop.Stop.{Stop}
 use Rattle.program_parts.specs.declared.stop.Stop.TheVariants as stops
-use Rattle.board_program.specs.Standard.{AreSitesOf}
 use Rattle.worker_runs.specs.declared.orders.Orders.{Orders}
 use Rattle.worker_runs.specs.Halls.{IsHallRun, IsHallShort}
-use Rattle.worker_runs.specs.Scripted.{Flow, IsHallStopped, IsNoInstance, IsOpened, IsRunOf, IsRunOfBytes, IsScriptAnswered, IsServed, IsServedShort, IsUnrun, IsUntouched, opened_for, status_of}
+use Rattle.worker_runs.specs.Scripted.{Flow, IsHallStopped, IsNoInstance, IsOpened, IsRunOf, IsRunOfBytes, IsScriptAnswered, IsServed, IsServedShort, IsUnrun, IsUntouched, status_of}
 
 pub run_of : (r : Result Bool Stop) (i : Plain) (orders : Orders) (f : Flow) (h : History) → IsOpened i orders h → MatchResult r (IsServed h orders f) (IsServedShort h orders f) → MatchResult r (IsRunOf i orders f) (IsUnrun i orders f)
 run_of (Ok refused) i orders f h k m = record { sites = k.sites; of = k.of; served = subst (λ (x : History). IsServed x orders f refused) k.opens m }

@@ -1,7 +1,7 @@
 use Rattle.std.proofs.Common.{ℕ, ◌<◌, ◌≤◌, arith, length}
 use Rattle.std.proofs.lemmas.List.Elements.{All-get_or}
 use Rattle.solomon_reader.specs.Instances.{IsNode}
-use Rattle.travel_table.specs.Travel.{node_at, travel_at}
+use Rattle.travel_table.specs.Travel.{node_at}
 use Rattle.program_parts.specs.Network.{Sites, IsNetwork, demand_at, time_between}
 
 -- each node of a network has numbers of seven digits
@@ -11,9 +11,6 @@ node_there s w i h = All-get_or IsNode s.nodes i (record { x = 0; y = 0; demand 
 -- what the callbacks answer is within their limit
 pub demand_small : (s : Sites) → IsNetwork s → (i : ℕ) → i < length s.nodes → demand_at s i ≤ 1000000000
 demand_small s w i h = let small = (node_there s w i h).demand in omega arith
-
-pub travel_small : (s : Sites) → IsNetwork s → (i j : ℕ) → i < length s.nodes → j < length s.nodes → travel_at s.travel i j ≤ 1000000000
-travel_small s w i j h k = let small = w.travel.small i j h k in omega arith
 
 pub time_small : (s : Sites) → IsNetwork s → (i j : ℕ) → i < length s.nodes → j < length s.nodes → time_between s i j ≤ 1000000000
 time_small s w i j h k =

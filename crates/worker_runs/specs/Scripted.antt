@@ -8,7 +8,7 @@ use Rattle.line_engine.specs.declared.run_fault.RunFault.{RunFault}
 use Rattle.solomon_reader.specs.Checks.{Fault, fault}
 use Rattle.solomon_reader.specs.Instances.{Plain}
 use Rattle.program_parts.specs.Network.{Sites}
-use Rattle.program_parts.specs.Streams.{Streams, IsTold}
+use Rattle.program_parts.specs.Streams.{IsTold}
 use Rattle.program_parts.specs.declared.stop.Stop.{Stop}
 use Rattle.program_parts.specs.declared.stop.Stop.TheVariants as stops
 use Rattle.board_program.specs.Standard.{AreSitesOf, standard_setting}

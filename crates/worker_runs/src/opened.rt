@@ -98,19 +98,10 @@ pub(crate) fn run_with<
             ensures { result ≡ time_between ways.value from to }
         { ways.time(from, to) },
     )?;
-    let travels = network.clone()?;
-    let travel = Box::new(
-        alloc,
-        move |from: u32, to: u32| -> u64
-            requires from { from < length travels.value.nodes }
-            requires to { to < length travels.value.nodes }
-            ensures { result ≡ travel_at travels.value.travel from to }
-        { travels.travel(from, to) },
-    )?;
     let mut registry = Registry::new(alloc);
     let demand = registry.register_unary(Unary::new(size, demand))?;
     let way = registry.register(Transit::new(size, way))?;
-    let cost = registry.register(Transit::new(size, travel))?;
+    let cost = registry.register_matrix(network.travel_matrix(alloc)?)?;
     let pair = standard_pair(alloc, &registry, &network, demand, way)?;
     let setup = Setup::new(
         size - 1,

@@ -1,23 +1,23 @@
-use Rattle.std.proofs.Common.{true, false}
+use Rattle.std.proofs.Common.{arith, true, false}
 use Rattle.callback_store.specs.Tables.{table_at}
 use Rattle.dimension_core.specs.Setup.{setting}
 use Rattle.way_costs.proofs.Cells.{ways_by}
 use Rattle.way_costs.proofs.table.fill_row.Goals as goal
 
-pub returns-then-stop-eq0-clause-sized : goal.returns-then-stop-eq0-clause-sized
-returns-then-stop-eq0-clause-sized g c = c.ask_together.ensures.sized
+pub returns-then-not-floored-clause-sized : goal.returns-then-not-floored-clause-sized
+returns-then-not-floored-clause-sized g c = c.ask_together.ensures.sized
 
-pub returns-then-stop-eq0-clause-ways : goal.returns-then-stop-eq0-clause-ways
-returns-then-stop-eq0-clause-ways g c = c.ask_together.ensures.ways
+pub returns-then-not-floored-clause-ways : goal.returns-then-not-floored-clause-ways
+returns-then-not-floored-clause-ways g c = c.ask_together.ensures.ways
 
-pub returns-then-stop-eq0-clause-least : goal.returns-then-stop-eq0-clause-least
-returns-then-stop-eq0-clause-least g c = c.least_of.ensures
+pub returns-then-not-floored-clause-least : goal.returns-then-not-floored-clause-least
+returns-then-not-floored-clause-least g c = λ k d h. omega arith
 
 pub returns-then-turned-clause-sized : goal.returns-then-turned-clause-sized
 returns-then-turned-clause-sized g c = c.ask_back.ensures.sized
 
 pub returns-then-turned-clause-ways : goal.returns-then-turned-clause-ways
-returns-then-turned-clause-ways g c = let s = setting c.args.setup.now in ways_by c.args.turned true (table_at s.tables s.cost) c.args.stop c.args.to.now _ c.if-turned.true c.ask_back.ensures.ways
+returns-then-turned-clause-ways g c = let s = setting c.args.setup.now in ways_by c.args.asking.now.turned true (table_at s.tables s.cost) c.args.stop c.args.to.now _ c.if-turned.true c.ask_back.ensures.ways
 
 pub returns-then-turned-clause-least : goal.returns-then-turned-clause-least
 returns-then-turned-clause-least g c = c.ask_back.ensures.least
@@ -26,7 +26,7 @@ pub returns-else-turned-clause-sized : goal.returns-else-turned-clause-sized
 returns-else-turned-clause-sized g c = c.ask_out.ensures.sized
 
 pub returns-else-turned-clause-ways : goal.returns-else-turned-clause-ways
-returns-else-turned-clause-ways g c = let s = setting c.args.setup.now in ways_by c.args.turned false (table_at s.tables s.cost) c.args.stop c.args.to.now _ c.if-turned.false c.ask_out.ensures.ways
+returns-else-turned-clause-ways g c = let s = setting c.args.setup.now in ways_by c.args.asking.now.turned false (table_at s.tables s.cost) c.args.stop c.args.to.now _ c.if-turned.false c.ask_out.ensures.ways
 
 pub returns-else-turned-clause-least : goal.returns-else-turned-clause-least
 returns-else-turned-clause-least g c = c.ask_out.ensures.least

@@ -1,4 +1,4 @@
-use Rattle.std.proofs.Common.{rules, ◌≡◌, ◌∙◌, ℕ, List, ap, sym}
+use Rattle.std.proofs.Common.{rules, ◌≡◌, ◌∙◌, ℕ, ap, sym}
 use Rattle.board_rules.specs.History.{turns_of}
 use Rattle.worker_runs.proofs.Meetings.{one_met, turns_between}
 use Rattle.worker_runs.proofs.closing.version_at.Goals as goal

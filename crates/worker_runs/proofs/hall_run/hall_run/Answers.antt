@@ -1,4 +1,4 @@
-use Rattle.std.proofs.Common.{◌≡◌, ◌∙◌, ◌-◌, ℕ, List, ap, arith}
+use Rattle.std.proofs.Common.{◌≡◌, ◌∙◌, ◌-◌, ap, arith}
 use Rattle.worker_runs.specs.Halls.{worker_desks}
 use Rattle.worker_runs.proofs.Ends.{alone, few_by, found_by, with_workers}
 use Rattle.worker_runs.proofs.hall_run.hall_run.Goals as goal

@@ -30,3 +30,13 @@ returns-in-Node-clause-answer g c =
     let kept = kept_at slot_table _ _ _ _ c.id.view_is c.requires.registered c.index.ensures in
     let table : node_table c.in-Node.unary ≡ table_at (tables c.args.self.now) c.args.id = rw c.in-Node.is at kept in
     c.ask-in-Node.ensures.answer ∙ ap (λ (t : Table). entry t c.args.i c.args.j) table
+
+pub ask-requires-in-Listed-clause-from : goal.ask-requires-in-Listed-clause-from
+ask-requires-in-Listed-clause-from g c =
+    let low = kept_below slot_table _ _ _ _ c.args.self.now.tables c.id.view_is c.requires.registered c.index.ensures in
+    rw c.in-Listed.is at low c.args.i c.requires.from
+
+pub ask-requires-in-Listed-clause-to : goal.ask-requires-in-Listed-clause-to
+ask-requires-in-Listed-clause-to g c =
+    let low = kept_below slot_table _ _ _ _ c.args.self.now.tables c.id.view_is c.requires.registered c.index.ensures in
+    rw c.in-Listed.is at low c.args.j c.requires.to

@@ -42,7 +42,7 @@ gather_between-requires-clause-short g c =
     (c.parts_of.ensures.from.short, to.short)
 
 pub best_of_two-found-requires-clause-search : goal.best_of_two-found-requires-clause-search
-best_of_two-found-requires-clause-search g c = record { laws = c.requires.laws; view = c.requires.view; v_kept = c.forget.ensures _ _ _ _; w_kept = c.forget.ensures _ _ _ _ }
+best_of_two-found-requires-clause-search g c = record { laws = c.requires.laws; view = c.requires.view; v_kept = c.forget.ensures _ _ _ _; w_kept = c.forget-2.ensures _ _ _ _ }
 
 pub best_of_two-found-requires-clause-gathered : goal.best_of_two-found-requires-clause-gathered
 best_of_two-found-requires-clause-gathered g c =

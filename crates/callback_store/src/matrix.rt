@@ -1,0 +1,100 @@
+ghost use Rattle.std.specs.Prelude.{◌≡◌, ℕ, ◌*◌, ◌<◌, ◌≤◌, length, map, All};
+ghost use Rattle.callback_store.specs.Meter.{after_ask, after_asks, AsksJust};
+
+use crate::meter::Meter;
+
+/// A transit callback that is given as its answers: for each ordered pair of nodes, row by row, so that the answer for the way from node `i`
+/// to node `j` is number `i * size + j` of them.
+///
+/// Nodes count from 0, and node 0 is the depot. An answer is 0 to 1,000,000,000.
+#[derive(Drop)]
+pub struct Matrix {
+    size: u32,
+    answers: Vec<u32>,
+    ghost sized: { length answers.items ≡ size * size },
+    ghost limited: { All (λ x. x ≤ 1000000000) answers.items },
+}
+
+impl Matrix {
+    ghost use Rattle.callback_store.specs.Tables.{matrix_table, entry};
+
+    /// The answers for `size` nodes. Any size is taken here; a registry takes 2 to 1,001 nodes.
+    pub fn new(size: u32, answers: Vec<u32>) -> Matrix
+        requires sized { length answers.items ≡ size * size }
+        requires limited { All (λ x. x ≤ 1000000000) answers.items }
+        ensures sized { (matrix_table result).size ≡ size }
+        ensures answers { (matrix_table result).entries ≡ answers.items }
+    {
+        Matrix { size, answers }
+    }
+
+    /// How many nodes it knows.
+    pub fn size(&self) -> u32
+        ensures { result ≡ (matrix_table self.now).size }
+    {
+        self.size
+    }
+
+    /// All answers, row by row.
+    pub fn answers(&self) -> &[u32]
+        ensures { result.now ≡ (matrix_table self.now).entries }
+    {
+        self.answers.as_slice()
+    }
+
+    /// The answer for the way from node `i` to node `j`.
+    #[inline(always)]
+    fn answer(&self, i: u32, j: u32) -> u32
+        requires from { i < (matrix_table self.now).size }
+        requires to { j < (matrix_table self.now).size }
+        ensures answer { result ≡ entry (matrix_table self.now) i j }
+        ensures small { result ≤ 1000000000 }
+    {
+        self.answers[i as usize * self.size as usize + j as usize]
+    }
+
+    /// The answer for the way from node `i` to node `j`, both below `size()`. It counts one ask.
+    pub fn ask(&self, meter: &mut Meter, i: u32, j: u32) -> u64
+        requires from { i < (matrix_table self.now).size }
+        requires to { j < (matrix_table self.now).size }
+        ensures answer { result ≡ entry (matrix_table self.now) i j }
+        ensures small { result ≤ 1000000000 }
+        ensures counted { meter.new ≡ after_ask meter.old }
+        ensures one { AsksJust meter.old meter.new 1 }
+    {
+        meter.ask();
+        u64::from(self.answer(i, j))
+    }
+
+    /// The answers for the ways from node `i` to each of some nodes, in their order. It counts one ask for each.
+    pub(crate) fn ask_row(&self, meter: &mut Meter, i: u32, to: &[u32], answers: &mut [u32])
+        requires from { i < (matrix_table self.now).size }
+        requires to { All (λ j. j < (matrix_table self.now).size) to.now }
+        requires room { length answers.old ≡ length to.now }
+        ensures answers { answers.new ≡ map (λ j. entry (matrix_table self.now) i j) to.now }
+        ensures small { All (λ x. x ≤ 1000000000) answers.new }
+        ensures counted { meter.new ≡ after_asks meter.old (length to.now) }
+        ensures just { AsksJust meter.old meter.new (length to.now) }
+    {
+        meter.ask_many(to.len() as u64);
+        for k in 0..to.len() {
+            answers[k] = self.answer(i, to[k]);
+        }
+    }
+
+    /// The answers for the ways to node `j` from each of some nodes, in their order. It counts one ask for each.
+    pub(crate) fn ask_column(&self, meter: &mut Meter, j: u32, from: &[u32], answers: &mut [u32])
+        requires to { j < (matrix_table self.now).size }
+        requires from { All (λ i. i < (matrix_table self.now).size) from.now }
+        requires room { length answers.old ≡ length from.now }
+        ensures answers { answers.new ≡ map (λ i. entry (matrix_table self.now) i j) from.now }
+        ensures small { All (λ x. x ≤ 1000000000) answers.new }
+        ensures counted { meter.new ≡ after_asks meter.old (length from.now) }
+        ensures just { AsksJust meter.old meter.new (length from.now) }
+    {
+        meter.ask_many(from.len() as u64);
+        for k in 0..from.len() {
+            answers[k] = self.answer(from[k], j);
+        }
+    }
+}

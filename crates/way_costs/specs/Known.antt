@@ -1,0 +1,9 @@
+-- What is known where the cost callback was given as its answers.
+use Rattle.std.specs.Prelude.{◌≡◌, ℕ, ◌+◌, ◌*◌, List, length, slice_index}
+use Rattle.callback_store.specs.Tables.{entry, table_at}
+use Rattle.dimension_core.specs.Setting.{Setting}
+
+-- all answers of the cost callback, row by row
+pub record AreAnswers (s : Setting) (answers : List ℕ) : Type 0 where
+  pub sized : length answers ≡ (s.customers + 1) * (s.customers + 1)
+  pub at : (i j : ℕ) → slice_index answers (i * (s.customers + 1) + j) ≡ entry (table_at s.tables s.cost) i j
