@@ -8,7 +8,7 @@ use Rattle.solomon_reader.specs.Checks.{Fault, fault}
 use Rattle.solomon_reader.specs.Instances.{Plain}
 use Rattle.solomon_reader.specs.Reading.{read_of}
 use Rattle.line_engine.specs.Outcomes.{is_refusal}
-use Rattle.line_engine.specs.Running.{AppendsFront}
+use Rattle.line_engine.specs.Running.{AppendsPrefix}
 use Rattle.line_engine.specs.TextLines.{lines_of}
 use Rattle.line_engine.specs.WholeRuns.{AreOutcomes, EndsAt}
 use Rattle.board_text.specs.BoardSteps.{DeskState, IsBoardStep, LacksMemory}
@@ -140,63 +140,63 @@ some_status (Err stop) = inr (inr refl)
 pub status_among : (r : Result Counts Stop) (status : ℕ) → status ≡ end_status r → (status ≡ 0) ⊎ ((status ≡ 1) ⊎ (status ≡ 3))
 status_among r status s = subst (λ (n : ℕ). (n ≡ 0) ⊎ ((n ≡ 1) ⊎ (n ≡ 3))) (sym s) (some_status r)
 
--- what a run's end is told by
-abbrev IsToldBy : Result Counts Stop → Option (List ℕ) → Option (List ℕ) → Type 0
-IsToldBy r told_was told_now = MatchResult r (λ _. Keeps told_was told_now) (λ stop. AppendsFront told_was told_now (stop_line stop))
+-- what a run's end is reported by
+abbrev IsReportedBy : Result Counts Stop → Option (List ℕ) → Option (List ℕ) → Type 0
+IsReportedBy r reports_were reports_are = MatchResult r (λ _. Keeps reports_were reports_are) (λ stop. AppendsPrefix reports_were reports_are (stop_line stop))
 
 few_chosen : (b : Bool) → chosen b ≤ 1
 few_chosen true = omega arith
 few_chosen false = omega arith
 
--- nothing is told of a whole run
-pub told_by : (r : Result Counts Stop) (status : ℕ) (told_was told_now : Option (List ℕ)) → status ≡ end_status r → IsToldBy r told_was told_now → AgreesWithStatus told_was told_now status
-told_by (Ok counts) status told_was told_now s t = inl (subst (λ (n : ℕ). n ≤ 1) (sym s) (few_chosen (eqb counts.refused 0)), t)
-told_by (Err stop) status told_was told_now s t = inr (stop, (s, t))
+-- nothing is reported of a whole run
+pub reported_by : (r : Result Counts Stop) (status : ℕ) (reports_were reports_are : Option (List ℕ)) → status ≡ end_status r → IsReportedBy r reports_were reports_are → AgreesWithStatus reports_were reports_are status
+reported_by (Ok counts) status reports_were reports_are s t = inl (subst (λ (n : ℕ). n ≤ 1) (sym s) (few_chosen (eqb counts.refused 0)), t)
+reported_by (Err stop) status reports_were reports_are s t = inr (stop, (s, t))
 
 -- by what came of the two halves of a joined input
-halves_by : (r : Result Counts Stop) (status : ℕ) (h : Halves) (was now told_was told_now : Option (List ℕ)) → status ≡ end_status r → IsToldBy r told_was told_now
-    → IsEnd h was now r → IsOfHalves h (streams_of was now told_was told_now) status
-halves_by (Ok counts) status h was now told_was told_now s t e =
-    subst (λ (n : ℕ). IsOfHalves h (streams_of was now told_was told_now) n) (sym s) (inl (e.2, inl (e.0, e.1, e.3, t)))
-halves_by (Err stop) status h was now told_was told_now s t e = elim e [
+halves_by : (r : Result Counts Stop) (status : ℕ) (h : Halves) (was now reports_were reports_are : Option (List ℕ)) → status ≡ end_status r → IsReportedBy r reports_were reports_are
+    → IsEnd h was now r → IsOfHalves h (streams_of was now reports_were reports_are) status
+halves_by (Ok counts) status h was now reports_were reports_are s t e =
+    subst (λ (n : ℕ). IsOfHalves h (streams_of was now reports_were reports_are) n) (sym s) (inl (e.2, inl (e.0, e.1, e.3, t)))
+halves_by (Err stop) status h was now reports_were reports_are s t e = elim e [
   | inl k ↦ inl (k.0, inr (stop, k.1, (s, t)))
   | inr u ↦ inr (stop, u.0, u.1, (s, t))
 ]
 
 -- by what came of the joined input
-pub joined_by : (r : Result Counts Stop) (status : ℕ) (known was now told_was told_now : Option (List ℕ)) → status ≡ end_status r → IsToldBy r told_was told_now
-    → IfSome known (λ bytes. IsEnd (halves bytes) was now r) → IfSome known (λ bytes. IsJoined bytes (streams_of was now told_was told_now) status)
-joined_by r status None was now told_was told_now s t e = tt
-joined_by r status (Some bytes) was now told_was told_now s t e = halves_by r status (halves bytes) was now told_was told_now s t e
+pub joined_by : (r : Result Counts Stop) (status : ℕ) (known was now reports_were reports_are : Option (List ℕ)) → status ≡ end_status r → IsReportedBy r reports_were reports_are
+    → IfSome known (λ bytes. IsEnd (halves bytes) was now r) → IfSome known (λ bytes. IsJoined bytes (streams_of was now reports_were reports_are) status)
+joined_by r status None was now reports_were reports_are s t e = tt
+joined_by r status (Some bytes) was now reports_were reports_are s t e = halves_by r status (halves bytes) was now reports_were reports_are s t e
 
-pub joined_ran : (r : Result Counts Stop) (status : ℕ) (was now told_was told_now : Option (List ℕ)) → status ≡ end_status r → IsToldBy r told_was told_now
-    → (h : Halves) × IsEnd h was now r → (h : Halves) × IsOfHalves h (streams_of was now told_was told_now) status
-joined_ran r status was now told_was told_now s t e = (e.0, halves_by r status e.0 was now told_was told_now s t e.1)
+pub joined_ran : (r : Result Counts Stop) (status : ℕ) (was now reports_were reports_are : Option (List ℕ)) → status ≡ end_status r → IsReportedBy r reports_were reports_are
+    → (h : Halves) × IsEnd h was now r → (h : Halves) × IsOfHalves h (streams_of was now reports_were reports_are) status
+joined_ran r status was now reports_were reports_are s t e = (e.0, halves_by r status e.0 was now reports_were reports_are s t e.1)
 
 -- by what came of an instance's board
-pub scripted_by : (r : Result Counts Stop) (status : ℕ) (i : Plain) (left now_left was now told_was told_now : Option (List ℕ)) → status ≡ end_status r → IsToldBy r told_was told_now
-    → IfOk r (λ counts. IsRun i left now_left was now counts) → IfErr r (λ stop. IsUnfinished i left now_left was now stop) → IfSome left (λ script. Says (Ok i) script (streams_of was now told_was told_now) status)
-scripted_by r status i None now_left was now told_was told_now s t ok err = tt
-scripted_by (Ok counts) status i (Some script) now_left was now told_was told_now s t ok err =
-    subst (λ (n : ℕ). Says (Ok i) script (streams_of was now told_was told_now) n) (sym s) (inl (i, refl, done i script (Some script) now_left was now counts refl ok, t))
-scripted_by (Err (stops.Instance kind line)) status i (Some script) now_left was now told_was told_now s t ok err = absurd err
-scripted_by (Err stops.Open) status i (Some script) now_left was now told_was told_now s t ok err = inr (stops.Open, err.1, (s, t))
-scripted_by (Err (stops.Run fault)) status i (Some script) now_left was now told_was told_now s t ok err =
+pub scripted_by : (r : Result Counts Stop) (status : ℕ) (i : Plain) (left now_left was now reports_were reports_are : Option (List ℕ)) → status ≡ end_status r → IsReportedBy r reports_were reports_are
+    → IfOk r (λ counts. IsRun i left now_left was now counts) → IfErr r (λ stop. IsUnfinished i left now_left was now stop) → IfSome left (λ script. Says (Ok i) script (streams_of was now reports_were reports_are) status)
+scripted_by r status i None now_left was now reports_were reports_are s t ok err = tt
+scripted_by (Ok counts) status i (Some script) now_left was now reports_were reports_are s t ok err =
+    subst (λ (n : ℕ). Says (Ok i) script (streams_of was now reports_were reports_are) n) (sym s) (inl (i, refl, done i script (Some script) now_left was now counts refl ok, t))
+scripted_by (Err (stops.Instance kind line)) status i (Some script) now_left was now reports_were reports_are s t ok err = absurd err
+scripted_by (Err stops.Open) status i (Some script) now_left was now reports_were reports_are s t ok err = inr (stops.Open, err.1, (s, t))
+scripted_by (Err (stops.Run fault)) status i (Some script) now_left was now reports_were reports_are s t ok err =
     inr (stops.Run fault, (i, refl, cut_off fault i script (Some script) now_left was now refl err), (s, t))
 
 -- nothing came of the instance, whatever the script is
-unread_says : (e : ReadFault) (stop : Stop) (r : Result Plain Fault) (script : List ℕ) (was told_was told_now : Option (List ℕ)) (status : ℕ) → IsStopOf e stop → Fails e r → status ≡ 3 → AppendsFront told_was told_now (stop_line stop)
-    → Says r script (streams_of was was told_was told_now) status
-unread_says e stop r script was told_was told_now status s f three t = inr (stop, unread_short e stop r script was s f, (three, t))
+unread_says : (e : ReadFault) (stop : Stop) (r : Result Plain Fault) (script : List ℕ) (was reports_were reports_are : Option (List ℕ)) (status : ℕ) → IsStopOf e stop → Fails e r → status ≡ 3 → AppendsPrefix reports_were reports_are (stop_line stop)
+    → Says r script (streams_of was was reports_were reports_are) status
+unread_says e stop r script was reports_were reports_are status s f three t = inr (stop, unread_short e stop r script was s f, (three, t))
 
-pub unread_known : (e : ReadFault) (stop : Stop) (r : Result Plain Fault) (known was told_was told_now : Option (List ℕ)) (status : ℕ) → IsStopOf e stop → Fails e r → status ≡ 3 → AppendsFront told_was told_now (stop_line stop)
-    → IfSome known (λ script. Says r script (streams_of was was told_was told_now) status)
-unread_known e stop r None was told_was told_now status s f three t = tt
-unread_known e stop r (Some script) was told_was told_now status s f three t = unread_says e stop r script was told_was told_now status s f three t
+pub unread_known : (e : ReadFault) (stop : Stop) (r : Result Plain Fault) (known was reports_were reports_are : Option (List ℕ)) (status : ℕ) → IsStopOf e stop → Fails e r → status ≡ 3 → AppendsPrefix reports_were reports_are (stop_line stop)
+    → IfSome known (λ script. Says r script (streams_of was was reports_were reports_are) status)
+unread_known e stop r None was reports_were reports_are status s f three t = tt
+unread_known e stop r (Some script) was reports_were reports_are status s f three t = unread_says e stop r script was reports_were reports_are status s f three t
 
-pub unread_ran : (e : ReadFault) (stop : Stop) (r : Result Plain Fault) (was told_was told_now : Option (List ℕ)) (status : ℕ) → IsStopOf e stop → Fails e r → status ≡ 3 → AppendsFront told_was told_now (stop_line stop)
-    → (script : List ℕ) × Says r script (streams_of was was told_was told_now) status
-unread_ran e stop r was told_was told_now status s f three t = ([], unread_says e stop r [] was told_was told_now status s f three t)
+pub unread_ran : (e : ReadFault) (stop : Stop) (r : Result Plain Fault) (was reports_were reports_are : Option (List ℕ)) (status : ℕ) → IsStopOf e stop → Fails e r → status ≡ 3 → AppendsPrefix reports_were reports_are (stop_line stop)
+    → (script : List ℕ) × Says r script (streams_of was was reports_were reports_are) status
+unread_ran e stop r was reports_were reports_are status s f three t = ([], unread_says e stop r [] was reports_were reports_are status s f three t)
 
 -- ---- whatever the bytes of the script are
 
@@ -222,14 +222,14 @@ ran_off f i left now_left was now h =
     )
 
 -- by what came of an instance's board
-pub ran_by : (r : Result Counts Stop) (status : ℕ) (i : Plain) (left now_left was now told_was told_now : Option (List ℕ)) → status ≡ end_status r → IsToldBy r told_was told_now
-    → IfOk r (λ counts. IsRun i left now_left was now counts) → IfErr r (λ stop. IsUnfinished i left now_left was now stop) → (script : List ℕ) × Says (Ok i) script (streams_of was now told_was told_now) status
-ran_by (Ok counts) status i left now_left was now told_was told_now s t ok err =
+pub ran_by : (r : Result Counts Stop) (status : ℕ) (i : Plain) (left now_left was now reports_were reports_are : Option (List ℕ)) → status ≡ end_status r → IsReportedBy r reports_were reports_are
+    → IfOk r (λ counts. IsRun i left now_left was now counts) → IfErr r (λ stop. IsUnfinished i left now_left was now stop) → (script : List ℕ) × Says (Ok i) script (streams_of was now reports_were reports_are) status
+ran_by (Ok counts) status i left now_left was now reports_were reports_are s t ok err =
     let d = ran_to_end i left now_left was now counts ok in
-    (d.0, subst (λ (n : ℕ). Says (Ok i) d.0 (streams_of was now told_was told_now) n) (sym s) (inl (i, refl, d.1, t)))
-ran_by (Err (stops.Instance kind line)) status i left now_left was now told_was told_now s t ok err = absurd err
-ran_by (Err stops.Open) status i left now_left was now told_was told_now s t ok err = ([], inr (stops.Open, err.1, (s, t)))
-ran_by (Err (stops.Run fault)) status i left now_left was now told_was told_now s t ok err =
+    (d.0, subst (λ (n : ℕ). Says (Ok i) d.0 (streams_of was now reports_were reports_are) n) (sym s) (inl (i, refl, d.1, t)))
+ran_by (Err (stops.Instance kind line)) status i left now_left was now reports_were reports_are s t ok err = absurd err
+ran_by (Err stops.Open) status i left now_left was now reports_were reports_are s t ok err = ([], inr (stops.Open, err.1, (s, t)))
+ran_by (Err (stops.Run fault)) status i left now_left was now reports_were reports_are s t ok err =
     let d = ran_off fault i left now_left was now err in
     (d.0, inr (stops.Run fault, (i, refl, d.1), (s, t)))
 

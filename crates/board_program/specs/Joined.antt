@@ -18,7 +18,7 @@ use Rattle.program_parts.specs.Head.{Halves, halves}
 use Rattle.program_parts.specs.Network.{Sites}
 use Rattle.board_program.specs.Standard.{AreSitesOf, opened}
 use Rattle.program_parts.specs.Stops.{IsUnread}
-use Rattle.program_parts.specs.Streams.{Streams, IsTold, IsUnreadable}
+use Rattle.program_parts.specs.Streams.{Streams, IsReported, IsUnreadable}
 use Rattle.program_parts.specs.declared.stop.Stop.{Stop}
 use Rattle.program_parts.specs.declared.stop.Stop.TheVariants as stops
 
@@ -85,8 +85,8 @@ IsShort read script was now (stops.Run f) = (i : Plain) × (read ≡ Ok i) × Is
 -- By what the instance's bytes say: the replies to the script are written, nothing is reported, and the status is 0 or 1; or no more came, which
 -- is reported, and it is 3.
 abbrev pub Says : Result Plain Fault → List ℕ → Streams → ℕ → Type 0
-Says read script streams status = ((i : Plain) × (read ≡ Ok i) × IsDone i script streams.was streams.now status × Keeps streams.told_was streams.told_now)
-    ⊎ ((stop : Stop) × IsShort read script streams.was streams.now stop × IsTold stop streams.told_was streams.told_now status)
+Says read script streams status = ((i : Plain) × (read ≡ Ok i) × IsDone i script streams.was streams.now status × Keeps streams.reports_were streams.reports_are)
+    ⊎ ((stop : Stop) × IsShort read script streams.was streams.now stop × IsReported stop streams.reports_were streams.reports_are status)
 
 -- an instance and a script, each in bytes of its own
 abbrev pub IsScripted : List ℕ → List ℕ → Streams → ℕ → Type 0
@@ -96,7 +96,7 @@ IsScripted instance script streams status = Says (read_of instance) script strea
 -- bytes than the limit came: nothing is written, and that is reported.
 abbrev pub IsOfHalves : Halves → Streams → ℕ → Type 0
 IsOfHalves h streams status = ((length h.instance ≤ 16777216) × IsScripted h.instance h.script streams status)
-    ⊎ ((stop : Stop) × IsUnread stop × Keeps streams.was streams.now × IsTold stop streams.told_was streams.told_now status)
+    ⊎ ((stop : Stop) × IsUnread stop × Keeps streams.was streams.now × IsReported stop streams.reports_were streams.reports_are status)
 
 -- the same of all bytes of the input, cut at the mark
 abbrev pub IsJoined : List ℕ → Streams → ℕ → Type 0
@@ -105,7 +105,7 @@ IsJoined bytes streams status = IsOfHalves (halves bytes) streams status
 -- A file could not be read, which is reported, and nothing is written; or an instance and a script were, whatever their bytes are.
 abbrev pub IsOfFiles : List ℕ → List ℕ → Streams → ℕ → Type 0
 IsOfFiles instance_path script_path streams status =
-    ((streams.now ≡ streams.was) × (IsUnreadable instance_path streams.told_was streams.told_now status ⊎ IsUnreadable script_path streams.told_was streams.told_now status))
+    ((streams.now ≡ streams.was) × (IsUnreadable instance_path streams.reports_were streams.reports_are status ⊎ IsUnreadable script_path streams.reports_were streams.reports_are status))
     ⊎ ((instance : List ℕ) × (script : List ℕ) × IsScripted instance script streams status)
 
 -- ---- a joined input, before what came of it is reported

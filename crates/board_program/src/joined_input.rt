@@ -69,7 +69,7 @@ pub fn joined<R, I: Read, W: Write, F: Write>(
     faults: &mut F,
 ) -> u8
     ensures status { (result ≡ 0) ⊎ (result ≡ 1) ⊎ (result ≡ 3) }
-    ensures told { AgreesWithStatus (F.contents faults.old) (F.contents faults.new) result }
+    ensures reported { AgreesWithStatus (F.contents faults.old) (F.contents faults.new) result }
     ensures joined { IfSome (I.remaining reader.old) (λ bytes. IsJoined bytes
         (streams_of (W.contents writer.old) (W.contents writer.new) (F.contents faults.old) (F.contents faults.new)) result) }
     ensures ran { (h : Halves) × IsOfHalves h

@@ -2,7 +2,7 @@
 
 ghost use Rattle.std.specs.Prelude.{◌≡◌, MatchResult};
 ghost use Rattle.std.specs.Io.KnownBytes.{Keeps};
-ghost use Rattle.line_engine.specs.Running.{AppendsFront};
+ghost use Rattle.line_engine.specs.Running.{AppendsPrefix};
 ghost use Rattle.program_parts.specs.Streams.{stop_line};
 ghost use Rattle.board_program.specs.Status.{end_status};
 
@@ -14,8 +14,8 @@ use std::io::Write;
 /// where the run ended early, which is reported as `stopped` has it.
 pub(crate) fn ended<F: Write>(faults: &mut F, end: Result<Counts, Stop>) -> u8
     ensures status { result ≡ end_status end }
-    ensures told { MatchResult end (λ _. Keeps (F.contents faults.old) (F.contents faults.new))
-        (λ stop. AppendsFront (F.contents faults.old) (F.contents faults.new) (stop_line stop)) }
+    ensures reported { MatchResult end (λ _. Keeps (F.contents faults.old) (F.contents faults.new))
+        (λ stop. AppendsPrefix (F.contents faults.old) (F.contents faults.new) (stop_line stop)) }
 {
     match end {
         Ok(counts) => u8::from(counts.refused > 0),

@@ -25,7 +25,7 @@ module _ {S E : Type 0} (step : S → Command → Answer → S → Type 0) (refu
       → IfOk r (Tells step old given new text) → IfOk r (Obeys step old command new text)
   obeyed given is plain text (Ok mark) t =
       subst (λ (x : Command). Obeys step old x new text mark) (sym is)
-      (record { outcome = Said t.0; holds = plain t.0 t.1; told = t.2; replied = t.3; refused = t.4 })
+      (record { outcome = Said t.0; holds = plain t.0 t.1; reported = t.2; replied = t.3; refused = t.4 })
   obeyed given is plain text (Err e) t = tt
 
   pub failed : (given : Command) → command ≡ given → asked given ≡ given → IsPlain step old given new → (r : Result Mark E)
@@ -40,7 +40,7 @@ module _ {S E : Type 0} (step : S → Command → Answer → S → Type 0) (refu
       → IfOk r (TellsJson step old session new text) → IfOk r (Obeys step old command new text)
   obeyed_json session is text (Ok mark) t =
       subst (λ (x : Command). Obeys step old x new text mark) (sym is)
-      (record { outcome = Said (as_json t.0); holds = (t.0, refl, t.1); told = t.2; replied = t.3; refused = t.4 })
+      (record { outcome = Said (as_json t.0); holds = (t.0, refl, t.1); reported = t.2; replied = t.3; refused = t.4 })
   obeyed_json session is text (Err e) t = tt
 
   pub failed_json : (session : ℕ) → command ≡ commands.Json session → (r : Result Mark E)
@@ -64,7 +64,7 @@ dropped step refuses old new read command is (Err e) h = elim h [
 module _ {S E : Type 0} (step : S → Command → Answer → S → Type 0) (refuses : S → Command → S → Type 0) (old new : S) (read : Result Command LineFault) (command : Command) (is : read ≡ Ok command) (plain : IsPlain step old command new) where
   pub answered : (text : List ℕ) (r : Result Mark E) → IfOk r (Tells step old command new text) → IfOk r (Marks (λ outcome. Gives step old read outcome new) text)
   answered text (Ok mark) t =
-      record { outcome = Said t.0; holds = subst (λ (x : Result Command LineFault). Gives step old x (Said t.0) new) (sym is) (plain t.0 t.1); told = t.2; replied = t.3; refused = t.4 }
+      record { outcome = Said t.0; holds = subst (λ (x : Result Command LineFault). Gives step old x (Said t.0) new) (sym is) (plain t.0 t.1); reported = t.2; replied = t.3; refused = t.4 }
   answered text (Err e) t = tt
 
   pub unanswered : asked command ≡ command → (r : Result Mark E) → OnErr r (Loses step refuses old command new) → OnErr r (Drops step refuses old read new)
@@ -85,15 +85,15 @@ pub not_proposed : (r : Result Proposed LineFault) (read : Result Command LineFa
 not_proposed r read fault is h = subst (λ (x : Result Proposed LineFault). Proposes x read) is h
 
 -- a line that is not a command
-pub untold : {S E : Type 0} (step : S → Command → Answer → S → Type 0) (old : S) (read : Result Command LineFault) (got : Result Command ReadFault) (fault : ReadFault) → got ≡ Err fault → Says got read
+pub unreported : {S E : Type 0} (step : S → Command → Answer → S → Type 0) (old : S) (read : Result Command LineFault) (got : Result Command ReadFault) (fault : ReadFault) → got ≡ Err fault → Says got read
     → (text : List ℕ) (r : Result Mark E) → IfOk r (IsUnread fault text) → IfOk r (Marks (λ outcome. Gives step old read outcome old) text)
-untold {E = E} step old read got fault is says text r h = of_fault fault (subst (λ (x : Result Command ReadFault). Says x read) is says) h
+unreported {E = E} step old read got fault is says text r h = of_fault fault (subst (λ (x : Result Command ReadFault). Says x read) is says) h
   where
     of_fault : (e : ReadFault) → Says (Err e) read → IfOk r (IsUnread e text) → IfOk r (Marks (λ outcome. Gives step old read outcome old) text)
     of_fault (Line f) same k = made r k
       where
         made : (q : Result Mark E) → IfOk q (IsUnread (Line f) text) → IfOk q (Marks (λ outcome. Gives step old read outcome old) text)
-        made (Ok mark) p = record { outcome = Bad f; holds = subst (λ (x : Result Command LineFault). Gives step old x (Bad f) old) (sym same) (refl, refl); told = p.0; replied = p.1; refused = p.2 }
+        made (Ok mark) p = record { outcome = Bad f; holds = subst (λ (x : Result Command LineFault). Gives step old x (Bad f) old) (sym same) (refl, refl); reported = p.0; replied = p.1; refused = p.2 }
         made (Err x) p = tt
     of_fault NoMemory same k = made r k
       where
@@ -109,4 +109,4 @@ read_whole r read command is h = subst (λ (x : Result Command ReadFault). Says 
 pub bad_head : {S : Type 0} (step : S → Command → Answer → S → Type 0) (old : S) (read : Result Command LineFault) (fault : LineFault) → read ≡ Err fault
     → (text : List ℕ) → Marks (λ outcome. Gives step old read outcome old) text (marks.Bad fault)
 bad_head step old read fault is text =
-    record { outcome = Bad fault; holds = subst (λ (x : Result Command LineFault). Gives step old x (Bad fault) old) (sym is) (refl, refl); told = refl; replied = refl; refused = refl }
+    record { outcome = Bad fault; holds = subst (λ (x : Result Command LineFault). Gives step old x (Bad fault) old) (sym is) (refl, refl); reported = refl; replied = refl; refused = refl }

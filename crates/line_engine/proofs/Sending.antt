@@ -6,15 +6,15 @@ use Rattle.board_lines.specs.declared.command.Command.{Command}
 use Rattle.line_front.specs.Answers.{Answer}
 use Rattle.line_engine.specs.declared.run_fault.RunFault.{RunFault}
 use Rattle.line_engine.specs.declared.run_fault.RunFault.TheVariants as runs
-use Rattle.line_engine.specs.Running.{AppendsFront, Reaches, MayBeWrite, Grows, Progress, BrokenWithin}
+use Rattle.line_engine.specs.Running.{AppendsPrefix, Reaches, MayBeWrite, Grows, Progress, BrokenWithin}
 use Rattle.line_engine.proofs.Bytes.{Appends-then}
 use Rattle.line_engine.proofs.Runs.{Broken-write, Progress-broken, feed_line, part_broken, nil_of}
 
-pub AppendsFront-then : (a b c : Option (List ℕ)) (x y : List ℕ) → Appends a b x → AppendsFront b c y → AppendsFront a c (x ++ y)
-AppendsFront-then a b c x y p q = (x ++ q.0, q.1, ap (λ (l : List ℕ). x ++ l) q.2 ∙ sym (append_assoc x q.0 q.1), Appends-then a b c x q.0 p q.3)
+pub AppendsPrefix-then : (a b c : Option (List ℕ)) (x y : List ℕ) → Appends a b x → AppendsPrefix b c y → AppendsPrefix a c (x ++ y)
+AppendsPrefix-then a b c x y p q = (x ++ q.0, q.1, ap (λ (l : List ℕ). x ++ l) q.2 ∙ sym (append_assoc x q.0 q.1), Appends-then a b c x q.0 p q.3)
 
 pub Reaches-then : (fault : RunFault) (a b c : Option (List ℕ)) (x y : List ℕ) → Appends a b x → Reaches fault b c y → Reaches fault a c (x ++ y)
-Reaches-then runs.Write a b c x y p q = AppendsFront-then a b c x y p q
+Reaches-then runs.Write a b c x y p q = AppendsPrefix-then a b c x y p q
 Reaches-then runs.Read a b c x y p q = Appends-then a b c x y p q
 Reaches-then runs.LongLine a b c x y p q = Appends-then a b c x y p q
 Reaches-then runs.NoMemory a b c x y p q = Appends-then a b c x y p q

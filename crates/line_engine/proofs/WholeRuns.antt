@@ -9,7 +9,7 @@ use Rattle.line_front.specs.Answers.{Answer}
 use Rattle.line_engine.specs.Outcomes.{Outcome, written, has_reply, is_refusal}
 use Rattle.line_engine.specs.declared.run_fault.RunFault.{RunFault}
 use Rattle.line_engine.specs.declared.run_fault.RunFault.TheVariants as runs
-use Rattle.line_engine.specs.Running.{AppendsFront, Reaches, MayBeWrite, IsLine, Cut, Runs, StandsAt, Ends, Progress, Broken, BrokenWithin, ServeBroken, EndsLast, Finished, last_line}
+use Rattle.line_engine.specs.Running.{AppendsPrefix, Reaches, MayBeWrite, IsLine, Cut, Runs, StandsAt, Ends, Progress, Broken, BrokenWithin, ServeBroken, EndsLast, Finished, last_line}
 use Rattle.line_engine.specs.TextLines.{lines_of}
 use Rattle.line_engine.specs.WholeRuns.{AreOutcomes, IsAnswered, IsNear, AllLines, EndsAt, IsStopped}
 use Rattle.line_engine.proofs.Bytes.{Appends-none, Consumes-none, Consumes-then, Consumes-kept}
@@ -123,7 +123,7 @@ no_room step refuses f a was = broken_stopped step refuses runs.NoMemory f f a a
 
 -- the replies were not written before a read
 pub unflushed : {S : Type 0} (step : S → Command → Answer → S → Type 0) (refuses : S → Command → S → Type 0) (old new : S) (a b was now : Option (List ℕ)) (out bytes rest : List ℕ) (s n r : ℕ)
-    → Consumes a b bytes → AppendsFront was now out → Progress step old new out bytes rest 0 s 0 n 0 r → IsStopped step refuses runs.Write old new a b was now
+    → Consumes a b bytes → AppendsPrefix was now out → Progress step old new out bytes rest 0 s 0 n 0 r → IsStopped step refuses runs.Write old new a b was now
 unflushed step refuses old new a b was now out bytes rest s n r g q p =
     broken_stopped step refuses runs.Write old new a b was now bytes [] out (open_end a b bytes g) q (Progress-broken step refuses old new out bytes rest 0 s 0 n 0 r p)
 
@@ -161,7 +161,7 @@ last_stopped step refuses fault last old mid new a d c was now x out bytes rest 
 
 -- the replies to the last lines were not written
 pub last_unwritten : {S : Type 0} (step : S → Command → Answer → S → Type 0) (refuses : S → Command → S → Type 0) (old mid new : S) (a b c was now : Option (List ℕ)) (x y out bytes rest given chunk : List ℕ) (s n0 n1 r0 r1 : ℕ)
-    → Consumes a b bytes → Consumes b c chunk → chunk ≡ [] → IsAtEnd c → AppendsFront was now out → out ≡ x ++ y → Progress step old mid x bytes rest 0 s 0 n0 0 r0 → given ≡ rest → Finished step mid new y given n0 n1 r0 r1 → IsStopped step refuses runs.Write old new a c was now
+    → Consumes a b bytes → Consumes b c chunk → chunk ≡ [] → IsAtEnd c → AppendsPrefix was now out → out ≡ x ++ y → Progress step old mid x bytes rest 0 s 0 n0 0 r0 → given ≡ rest → Finished step mid new y given n0 n1 r0 r1 → IsStopped step refuses runs.Write old new a c was now
 last_unwritten step refuses old mid new a b c was now x y out bytes rest given chunk s n0 n1 r0 r1 g k none end q e p same f =
     let f' = subst (λ (l : List ℕ). Finished step mid new y l n0 n1 r0 r1) same f in
     let given' = subst (λ (l : List ℕ). Consumes a c (bytes ++ l)) none (Consumes-then a b c bytes chunk g k) in
@@ -177,7 +177,7 @@ last_unwritten step refuses old mid new a b c was now x y out bytes rest given c
       mid = new;
       run = outcomes_are step old new bytes (p.lines ++ last_line rest) (p.outcomes ++ f'.outcomes) (cut_is bytes p.lines rest p.cut) (all_lines p.lines rest p.cut.each p.cut.partial) run;
       end = near;
-      text = subst (λ (l : List ℕ). AppendsFront was now l) text q;
+      text = subst (λ (l : List ℕ). AppendsPrefix was now l) text q;
     }
 
 pub all_answered : {S : Type 0} (step : S → Command → Answer → S → Type 0) (old mid new : S) (a b c was now : Option (List ℕ)) (x y out bytes rest given chunk : List ℕ) (s n0 n1 r0 r1 : ℕ)

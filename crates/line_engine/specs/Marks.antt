@@ -39,7 +39,7 @@ mark_is_refusal _ = false
 pub record Marks (P : Outcome → Type 0) (text : List ℕ) (mark : Mark) : Type 0 where
   pub outcome : Outcome
   pub holds : P outcome
-  pub told : mark_text mark text ≡ outcome_text outcome
+  pub reported : mark_text mark text ≡ outcome_text outcome
   pub replied : mark_has_reply mark ≡ has_reply outcome
   pub refused : mark_is_refusal mark ≡ is_refusal outcome
 

@@ -43,8 +43,8 @@ Runs step old [] (outcome ∷ outcomes) new = ⊥
 Runs step old (line ∷ lines) [] new = ⊥
 
 -- known bytes grow by a prefix of bs
-abbrev pub AppendsFront : Option (List ℕ) → Option (List ℕ) → List ℕ → Type 0
-AppendsFront old new bs = (front : List ℕ) × (more : List ℕ) × (bs ≡ front ++ more) × Appends old new front
+abbrev pub AppendsPrefix : Option (List ℕ) → Option (List ℕ) → List ℕ → Type 0
+AppendsPrefix old new bs = (front : List ℕ) × (more : List ℕ) × (bs ≡ front ++ more) × Appends old new front
 
 -- ---- what a run has done so far; out are the replies, written or not
 
@@ -136,7 +136,7 @@ pub record Finished {S : Type 0} (step : S → Command → Answer → S → Type
 
 -- The replies were written in full, or only a prefix of them where the writer failed.
 abbrev pub Reaches : RunFault → Option (List ℕ) → Option (List ℕ) → List ℕ → Type 0
-Reaches runs.Write was now out = AppendsFront was now out
+Reaches runs.Write was now out = AppendsPrefix was now out
 Reaches _ was now out = Appends was now out
 
 -- the fault of a run, or that of its writer at the end

@@ -4,7 +4,7 @@ ghost use Rattle.std.specs.Prelude.{◌≡◌, ◌+◌, ◌<◌, ◌++◌, [], i
 ghost use Rattle.std.specs.Io.KnownBytes.{Appends};
 ghost use Rattle.board_lines.specs.Replies.{ended, line_fault_text};
 ghost use Rattle.line_engine.specs.Marks.{mark_text, mark_has_reply, mark_is_refusal};
-ghost use Rattle.line_engine.specs.Running.{AppendsFront, Reaches, MayBeWrite};
+ghost use Rattle.line_engine.specs.Running.{AppendsPrefix, Reaches, MayBeWrite};
 
 use crate::mark::Mark;
 use crate::run_fault::RunFault;
@@ -114,7 +114,7 @@ impl Outbox {
     pub(crate) fn hand_on<W: Write>(&mut self, writer: &mut W) -> Result<(), RunFault>
         ensures ok { OnOk result (Appends (W.contents writer.old) (W.contents writer.new) self.old.held.items) }
         ensures none { OnOk result (self.new.held.items ≡ []) }
-        ensures err { OnErr result (AppendsFront (W.contents writer.old) (W.contents writer.new) self.old.held.items) }
+        ensures err { OnErr result (AppendsPrefix (W.contents writer.old) (W.contents writer.new) self.old.held.items) }
         ensures kind { IfErr result (λ e. e ≡ RunFault.Write) }
         ensures tally { self.new.tally ≡ self.old.tally }
     {
@@ -127,7 +127,7 @@ impl Outbox {
     pub(crate) fn flush<W: Write>(&mut self, writer: &mut W) -> Result<(), RunFault>
         ensures ok { OnOk result (Appends (W.contents writer.old) (W.contents writer.new) self.old.held.items) }
         ensures none { OnOk result (self.new.held.items ≡ []) }
-        ensures err { OnErr result (AppendsFront (W.contents writer.old) (W.contents writer.new) self.old.held.items) }
+        ensures err { OnErr result (AppendsPrefix (W.contents writer.old) (W.contents writer.new) self.old.held.items) }
         ensures kind { IfErr result (λ e. e ≡ RunFault.Write) }
         ensures tally { self.new.tally ≡ self.old.tally }
     {

@@ -5,7 +5,7 @@ use Rattle.std.specs.List.{flat_map}
 use Rattle.std.proofs.lemmas.List.{flat_map_more, take-append-drop, take_more}
 use Rattle.std.proofs.lemmas.List.Concat.{flat_map-append}
 use Rattle.std.specs.Io.KnownBytes.{Appends}
-use Rattle.line_engine.specs.Running.{AppendsFront}
+use Rattle.line_engine.specs.Running.{AppendsPrefix}
 use Rattle.plan_sums.specs.declared.row.Row.{Row}
 use Rattle.plan_sums.specs.declared.tour.Tour.{Tour}
 use Rattle.plan_sums.specs.Places.{Places}
@@ -54,19 +54,19 @@ on_err (Ok x) p = tt
 on_err (Err e) p = p
 
 -- a prefix of nothing
-pub part_none : (was : Option (List ℕ)) (all : List ℕ) → AppendsFront was was all
+pub part_none : (was : Option (List ℕ)) (all : List ℕ) → AppendsPrefix was was all
 part_none was all = ([], all, refl, adds_none was)
 
 -- a prefix of the first part is one of the whole
-pub part_longer : (was now : Option (List ℕ)) (x y : List ℕ) → AppendsFront was now x → AppendsFront was now (x ++ y)
+pub part_longer : (was now : Option (List ℕ)) (x y : List ℕ) → AppendsPrefix was now x → AppendsPrefix was now (x ++ y)
 part_longer was now x y h = (h.0, h.1 ++ y, ap (λ (l : List ℕ). l ++ y) h.2 ∙ append_assoc h.0 h.1 y, h.3)
 
 -- what was written of a held text
-pub part_held : (was now : Option (List ℕ)) (held all : List ℕ) → IsHeld was now held all → AppendsFront was now all
+pub part_held : (was now : Option (List ℕ)) (held all : List ℕ) → IsHeld was now held all → AppendsPrefix was now all
 part_held was now held all h = (h.done, held, sym h.whole, h.appended)
 
 -- more was held, and a prefix of what was held is written
-pub part_more : (a b c : Option (List ℕ)) (held mid all text : List ℕ) → IsHeld a b held all → mid ≡ held ++ text → AppendsFront b c mid → AppendsFront a c (all ++ text)
+pub part_more : (a b c : Option (List ℕ)) (held mid all text : List ℕ) → IsHeld a b held all → mid ≡ held ++ text → AppendsPrefix b c mid → AppendsPrefix a c (all ++ text)
 part_more a b c held mid all text h e k = (
   h.done ++ k.0,
   k.1,
@@ -77,33 +77,33 @@ part_more a b c held mid all text h e k = (
 -- ---- a picture
 
 -- a prefix of the text of the first marks
-pub marks_part : (a b : Option (List ℕ)) (start : List ℕ) (marks : List Mark) (i : ℕ) → AppendsFront a b (start ++ flat_map mark_text (take i marks)) → AppendsFront a b (start ++ flat_map mark_text marks)
+pub marks_part : (a b : Option (List ℕ)) (start : List ℕ) (marks : List Mark) (i : ℕ) → AppendsPrefix a b (start ++ flat_map mark_text (take i marks)) → AppendsPrefix a b (start ++ flat_map mark_text marks)
 marks_part a b start marks i h =
-    subst (λ (l : List ℕ). AppendsFront a b l)
+    subst (λ (l : List ℕ). AppendsPrefix a b l)
     (append_assoc start (flat_map mark_text (take i marks)) (flat_map mark_text (drop i marks)) ∙ ap (λ (l : List ℕ). start ++ l) (sym (flat_map-append mark_text (take i marks) (drop i marks)) ∙ ap (λ (xs : List Mark). flat_map mark_text xs) (take-append-drop i marks)))
     (part_longer a b (start ++ flat_map mark_text (take i marks)) (flat_map mark_text (drop i marks)) h)
 
 -- memory runs out at one more mark
-pub marks_held : (a b : Option (List ℕ)) (held start : List ℕ) (marks : List Mark) (i : ℕ) → IsHeld a b held (start ++ flat_map mark_text (take i marks)) → AppendsFront a b (start ++ flat_map mark_text marks)
+pub marks_held : (a b : Option (List ℕ)) (held start : List ℕ) (marks : List Mark) (i : ℕ) → IsHeld a b held (start ++ flat_map mark_text (take i marks)) → AppendsPrefix a b (start ++ flat_map mark_text marks)
 marks_held a b held start marks i h = marks_part a b start marks i (part_held a b held (start ++ flat_map mark_text (take i marks)) h)
 
 -- or the writer fails
-pub marks_fail : (a b c : Option (List ℕ)) (held mid start : List ℕ) (marks : List Mark) (i : ℕ) (d : Mark) → i < length marks → IsHeld a b held (start ++ flat_map mark_text (take i marks)) → mid ≡ held ++ mark_text (get_or marks i d) → AppendsFront b c mid → AppendsFront a c (start ++ flat_map mark_text marks)
+pub marks_fail : (a b c : Option (List ℕ)) (held mid start : List ℕ) (marks : List Mark) (i : ℕ) (d : Mark) → i < length marks → IsHeld a b held (start ++ flat_map mark_text (take i marks)) → mid ≡ held ++ mark_text (get_or marks i d) → AppendsPrefix b c mid → AppendsPrefix a c (start ++ flat_map mark_text marks)
 marks_fail a b c held mid start marks i d lt h e k =
     marks_part a c start marks (i + 1)
-    (subst (λ (l : List ℕ). AppendsFront a c l) (flat_map_more mark_text start (take i marks) (get_or marks i d) ∙ ap (λ (xs : List Mark). start ++ flat_map mark_text xs) (sym (take_more marks i d lt)))
+    (subst (λ (l : List ℕ). AppendsPrefix a c l) (flat_map_more mark_text start (take i marks) (get_or marks i d) ∙ ap (λ (xs : List Mark). start ++ flat_map mark_text xs) (sym (take_more marks i d lt)))
     (part_more a b c held mid (start ++ flat_map mark_text (take i marks)) (mark_text (get_or marks i d)) h e k))
 
 -- a prefix of all that is to be written
-pub drawn_part : (a c : Option (List ℕ)) (none out head marks : List ℕ) → none ≡ [] → out ≡ none ++ head → AppendsFront a c (out ++ marks) → AppendsFront a c (head ++ (marks ++ end_text))
+pub drawn_part : (a c : Option (List ℕ)) (none out head marks : List ℕ) → none ≡ [] → out ≡ none ++ head → AppendsPrefix a c (out ++ marks) → AppendsPrefix a c (head ++ (marks ++ end_text))
 drawn_part a c none out head marks n o h =
     let whole : out ≡ head = o ∙ ap (λ (l : List ℕ). l ++ head) n in
-    subst (λ (l : List ℕ). AppendsFront a c l) (ap (λ (l : List ℕ). (l ++ marks) ++ end_text) whole ∙ append_assoc head marks end_text) (part_longer a c (out ++ marks) end_text h)
+    subst (λ (l : List ℕ). AppendsPrefix a c l) (ap (λ (l : List ℕ). (l ++ marks) ++ end_text) whole ∙ append_assoc head marks end_text) (part_longer a c (out ++ marks) end_text h)
 
-pub drawn_end : (a b c : Option (List ℕ)) (none out held mid head marks : List ℕ) → none ≡ [] → out ≡ none ++ head → IsHeld a b held (out ++ marks) → mid ≡ held ++ end_text → AppendsFront b c mid → AppendsFront a c (head ++ (marks ++ end_text))
+pub drawn_end : (a b c : Option (List ℕ)) (none out held mid head marks : List ℕ) → none ≡ [] → out ≡ none ++ head → IsHeld a b held (out ++ marks) → mid ≡ held ++ end_text → AppendsPrefix b c mid → AppendsPrefix a c (head ++ (marks ++ end_text))
 drawn_end a b c none out held mid head marks n o h e k =
     let whole : out ≡ head = o ∙ ap (λ (l : List ℕ). l ++ head) n in
-    subst (λ (l : List ℕ). AppendsFront a c l) (ap (λ (l : List ℕ). (l ++ marks) ++ end_text) whole ∙ append_assoc head marks end_text) (part_more a b c held mid (out ++ marks) end_text h e k)
+    subst (λ (l : List ℕ). AppendsPrefix a c l) (ap (λ (l : List ℕ). (l ++ marks) ++ end_text) whole ∙ append_assoc head marks end_text) (part_more a b c held mid (out ++ marks) end_text h e k)
 
 -- one more mark
 pub marks_more : (a b c : Option (List ℕ)) (held mid next start : List ℕ) (marks : List Mark) (i : ℕ) (d : Mark) → i < length marks → IsHeld a b held (start ++ flat_map mark_text (take i marks)) → mid ≡ held ++ mark_text (get_or marks i d) → IsHeld b c next mid → IsHeld a c next (start ++ flat_map mark_text (take (i + 1) marks))

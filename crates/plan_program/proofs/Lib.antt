@@ -1,4 +1,4 @@
 pub mod Holds
 pub mod Sums
-pub mod Told
+pub mod Reported
 pub mod Unshown

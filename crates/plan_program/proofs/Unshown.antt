@@ -2,7 +2,7 @@
 use Rattle.std.proofs.Common.{◌≡◌, ◌∙◌, ℕ, List, [], Option, Some, None, refl, subst, sym, append-nil, inl, inr}
 use Rattle.std.specs.Prelude.{Err, IfErr, IsErrAnd, Ok, Result}
 use Rattle.std.specs.Io.KnownBytes.{Appends, Keeps}
-use Rattle.line_engine.specs.Running.{AppendsFront}
+use Rattle.line_engine.specs.Running.{AppendsPrefix}
 use Rattle.line_engine.specs.declared.run_fault.RunFault.TheVariants as runs
 use Rattle.program_parts.specs.declared.stop.Stop.TheVariants as stops
 use Rattle.plan_sums.specs.declared.row.Row.{Row}
@@ -24,11 +24,11 @@ unopened text_of instance output was (views.Parts stops.Open) h = inl (same was)
 unopened text_of instance output was (views.Parts (stops.Run fault)) h = absurd h
 unopened text_of instance output was (views.Rows line) h = (h.0, h.1, h.2, same was)
 
-part_of : (text_of : Places → List Row → List ℕ) (instance output : List ℕ) (was now : Option (List ℕ)) (p : Places) (rows : List Row) (tours : List Tour) → IsOpened instance output p rows tours → AppendsFront was now (text_of p rows) → IsPartShown text_of instance output was now
+part_of : (text_of : Places → List Row → List ℕ) (instance output : List ℕ) (was now : Option (List ℕ)) (p : Places) (rows : List Row) (tours : List Tour) → IsOpened instance output p rows tours → AppendsPrefix was now (text_of p rows) → IsPartShown text_of instance output was now
 part_of text_of instance output was now p rows tours o w = record { places = p; of = o.of; rows = rows; listed = o.listed; written = w }
 
 -- a prefix was written
-pub part_shown : (text_of : Places → List Row → List ℕ) (instance output : List ℕ) (was now : Option (List ℕ)) (p : Places) (rows : List Row) (tours : List Tour) (stop : ViewStop) → IsOpened instance output p rows tours → AppendsFront was now (text_of p rows) → IsWriting stop → IsUnshown text_of instance output was now stop
+pub part_shown : (text_of : Places → List Row → List ℕ) (instance output : List ℕ) (was now : Option (List ℕ)) (p : Places) (rows : List Row) (tours : List Tour) (stop : ViewStop) → IsOpened instance output p rows tours → AppendsPrefix was now (text_of p rows) → IsWriting stop → IsUnshown text_of instance output was now stop
 part_shown text_of instance output was now p rows tours (views.Parts (stops.Instance kind line)) o w h = absurd h
 part_shown text_of instance output was now p rows tours (views.Parts stops.Open) o w h = inr (part_of text_of instance output was now p rows tours o w)
 part_shown text_of instance output was now p rows tours (views.Parts (stops.Run runs.Read)) o w h = absurd h
@@ -37,7 +37,7 @@ part_shown text_of instance output was now p rows tours (views.Parts (stops.Run 
 part_shown text_of instance output was now p rows tours (views.Parts (stops.Run runs.NoMemory)) o w h = absurd h
 part_shown text_of instance output was now p rows tours (views.Rows line) o w h = absurd h
 
-whole : (a b c : Option (List ℕ)) (text : List ℕ) → Appends a b text → Keeps b c → AppendsFront a c text
+whole : (a b c : Option (List ℕ)) (text : List ℕ) → Appends a b text → Keeps b c → AppendsPrefix a c text
 whole None b c text h k = (text, [], sym (append-nil text), tt)
 whole (Some x) None c text h k = absurd h
 whole (Some x) (Some y) None text h k = absurd k

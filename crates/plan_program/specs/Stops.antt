@@ -3,7 +3,7 @@ use Rattle.std.specs.Prelude.{◌≡◌, ℕ, List, ◌++◌, codes, Option}
 use Rattle.std.specs.Fmt.{decimal}
 use Rattle.solomon_reader.specs.declared.fault.ReadFault.{ReadFault}
 use Rattle.solomon_reader.specs.declared.fault.ReadFault.TheVariants as reads
-use Rattle.line_engine.specs.Running.{AppendsFront}
+use Rattle.line_engine.specs.Running.{AppendsPrefix}
 use Rattle.line_engine.specs.declared.run_fault.RunFault.TheVariants as runs
 use Rattle.program_parts.specs.declared.stop.Stop.TheVariants as stops
 use Rattle.program_parts.specs.Streams.{stop_line}
@@ -28,8 +28,8 @@ view_line (views.Parts stop) = stop_line stop
 view_line (views.Rows line) = codes "dispatch: rows fault line " ++ (decimal line ++ codes "\n")
 
 -- The status is 3, and the line of the stop is reported, or a prefix of it where that stream fails.
-abbrev pub IsViewTold : ViewStop → Option (List ℕ) → Option (List ℕ) → ℕ → Type 0
-IsViewTold stop was now status = (status ≡ 3) × AppendsFront was now (view_line stop)
+abbrev pub IsViewReported : ViewStop → Option (List ℕ) → Option (List ℕ) → ℕ → Type 0
+IsViewReported stop was now status = (status ≡ 3) × AppendsPrefix was now (view_line stop)
 
 -- what may come while a view is written: memory runs out, or the writer fails
 abbrev pub IsWriting : ViewStop → Type 0

@@ -1,7 +1,7 @@
 -- What is written of a plan: its picture, or its sums.
 use Rattle.std.specs.Prelude.{◌≡◌, ℕ, ◌≤◌, ◌⊎◌, All, List, length, Option, Ok}
 use Rattle.std.specs.Io.KnownBytes.{Appends, Keeps}
-use Rattle.line_engine.specs.Running.{AppendsFront}
+use Rattle.line_engine.specs.Running.{AppendsPrefix}
 use Rattle.solomon_reader.specs.Checks.{fault}
 use Rattle.solomon_reader.specs.Instances.{Plain}
 use Rattle.solomon_reader.specs.Reading.{read_of}
@@ -17,7 +17,7 @@ use Rattle.plan_sums.specs.Rows.{AreRows}
 use Rattle.plan_sums.specs.Tours.{tours_of}
 use Rattle.plan_program.specs.declared.stop.ViewStop.{ViewStop}
 use Rattle.plan_program.specs.declared.stop.ViewStop.TheVariants as views
-use Rattle.plan_program.specs.Stops.{IsViewTold}
+use Rattle.plan_program.specs.Stops.{IsViewReported}
 
 -- the bytes are those of an instance, which has these places
 pub record IsInstanceOf (bytes : List ℕ) (p : Places) : Type 0 where
@@ -43,7 +43,7 @@ pub record IsPartShown (text_of : Places → List Row → List ℕ) (instance ou
   pub of : IsInstanceOf instance places
   pub rows : List Row
   pub listed : AreLastRows places output rows
-  pub written : AppendsFront was now (text_of places rows)
+  pub written : AppendsPrefix was now (text_of places rows)
 
 -- Why it is not: there is no instance, or a row is at fault, and nothing is written; or the writer fails, or memory runs out, maybe before
 -- anything is written, and a prefix of the text is.
@@ -56,8 +56,8 @@ IsUnshown text_of instance output was now (views.Rows line) = (p : Places) × Is
 
 -- By both inputs: all is written, nothing is reported, and the status is 0; or not, which is reported, and it is 3.
 abbrev pub IsView : (Places → List Row → List ℕ) → List ℕ → List ℕ → Streams → ℕ → Type 0
-IsView text_of instance output streams status = ((status ≡ 0) × IsShown text_of instance output streams.was streams.now × Keeps streams.told_was streams.told_now)
-    ⊎ ((stop : ViewStop) × IsUnshown text_of instance output streams.was streams.now stop × IsViewTold stop streams.told_was streams.told_now status)
+IsView text_of instance output streams status = ((status ≡ 0) × IsShown text_of instance output streams.was streams.now × Keeps streams.reports_were streams.reports_are)
+    ⊎ ((stop : ViewStop) × IsUnshown text_of instance output streams.was streams.now stop × IsViewReported stop streams.reports_were streams.reports_are status)
 
 -- ---- before anything is written
 
@@ -81,7 +81,7 @@ IsUnopened instance output (views.Rows line) = (p : Places) × IsInstanceOf inst
 
 -- a file that cannot be read is reported, and nothing is written
 abbrev pub IsUnreadFile : List ℕ → Streams → ℕ → Type 0
-IsUnreadFile path streams status = (streams.now ≡ streams.was) × IsUnreadable path streams.told_was streams.told_now status
+IsUnreadFile path streams status = (streams.now ≡ streams.was) × IsUnreadable path streams.reports_were streams.reports_are status
 
 -- one of the files cannot be read, or some bytes were read of each
 abbrev pub IsViewOfFiles : (Places → List Row → List ℕ) → List ℕ → List ℕ → Streams → ℕ → Type 0

@@ -3,7 +3,7 @@
 ghost use Rattle.std.specs.Prelude.{◌≡◌, ◌≤◌, ◌++◌, [], All, IfOk, IfErr, OnErr, OnOk, length, string_bytes};
 ghost use Rattle.std.specs.List.{flat_map};
 ghost use Rattle.std.specs.Io.KnownBytes.{Appends};
-ghost use Rattle.line_engine.specs.Running.{AppendsFront};
+ghost use Rattle.line_engine.specs.Running.{AppendsPrefix};
 ghost use Rattle.plan_sums.specs.Rows.{AreRows};
 ghost use Rattle.plan_sums.specs.Tours.{tours_of};
 ghost use Rattle.plan_picture.specs.Texts.{mark_text, svg_text};
@@ -25,7 +25,7 @@ const FULL_BYTES: usize = 65_536;
 fn hand_on<W: Write>(writer: &mut W, text: &mut String) -> Result<(), RunFault>
     ensures ok { OnOk result (Appends (W.contents writer.old) (W.contents writer.new) (string_bytes text.old)) }
     ensures none { OnOk result (string_bytes text.new ≡ []) }
-    ensures err { OnErr result (AppendsFront (W.contents writer.old) (W.contents writer.new) (string_bytes text.old)) }
+    ensures err { OnErr result (AppendsPrefix (W.contents writer.old) (W.contents writer.new) (string_bytes text.old)) }
     ensures kind { IfErr result (λ e. e ≡ RunFault.Write) }
 {
     write_whole(writer, text.as_bytes())?;
@@ -36,7 +36,7 @@ fn hand_on<W: Write>(writer: &mut W, text: &mut String) -> Result<(), RunFault>
 /// Writes it where it is long.
 fn hand_on_full<W: Write>(writer: &mut W, text: &mut String) -> Result<(), RunFault>
     ensures ok { OnOk result (IsHeld (W.contents writer.old) (W.contents writer.new) (string_bytes text.new) (string_bytes text.old)) }
-    ensures err { OnErr result (AppendsFront (W.contents writer.old) (W.contents writer.new) (string_bytes text.old)) }
+    ensures err { OnErr result (AppendsPrefix (W.contents writer.old) (W.contents writer.new) (string_bytes text.old)) }
     ensures kind { IfErr result (λ e. e ≡ RunFault.Write) }
 {
     if text.len() < FULL_BYTES {
@@ -48,7 +48,7 @@ fn hand_on_full<W: Write>(writer: &mut W, text: &mut String) -> Result<(), RunFa
 /// Writes marks, and holds the last of their text.
 fn write_marks<W: Write>(writer: &mut W, text: &mut String, marks: &[Mark]) -> Result<(), ViewStop>
     ensures ok { OnOk result (IsHeld (W.contents writer.old) (W.contents writer.new) (string_bytes text.new) (string_bytes text.old ++ flat_map mark_text marks.now)) }
-    ensures part { OnErr result (AppendsFront (W.contents writer.old) (W.contents writer.new) (string_bytes text.old ++ flat_map mark_text marks.now)) }
+    ensures part { OnErr result (AppendsPrefix (W.contents writer.old) (W.contents writer.new) (string_bytes text.old ++ flat_map mark_text marks.now)) }
     ensures err { IfErr result IsWriting }
 {
     for mark in marks {
@@ -71,7 +71,7 @@ pub(crate) fn write_picture<W: Write>(
     requires few { length tours.now ≤ 1000 }
     requires small { All (λ tour. tour.distance ≤ 1000141421342) tours.now }
     ensures ok { OnOk result (Appends (W.contents writer.old) (W.contents writer.new) (svg_text roads.now rows.now)) }
-    ensures part { OnErr result (AppendsFront (W.contents writer.old) (W.contents writer.new) (svg_text roads.now rows.now)) }
+    ensures part { OnErr result (AppendsPrefix (W.contents writer.old) (W.contents writer.new) (svg_text roads.now rows.now)) }
     ensures err { IfErr result IsWriting }
 {
     let layout = Layout::new(roads, rows, tours);

@@ -3,7 +3,7 @@
 ghost use Rattle.std.specs.Prelude.{◌≡◌, ◌≤◌, ◌++◌, All, IfErr, OnErr, OnOk, length, string_bytes};
 ghost use Rattle.std.specs.List.{flat_map};
 ghost use Rattle.std.specs.Io.KnownBytes.{Appends};
-ghost use Rattle.line_engine.specs.Running.{AppendsFront};
+ghost use Rattle.line_engine.specs.Running.{AppendsPrefix};
 ghost use Rattle.plan_sums.specs.Tours.{tours_of};
 ghost use Rattle.plan_sums.specs.Texts.{sums_text, tour_text};
 ghost use Rattle.plan_program.specs.Stops.{IsWriting};
@@ -36,7 +36,7 @@ pub(crate) fn write_sums<W: Write>(
     requires few { length tours.now ≤ 1000 }
     requires small { All (λ tour. tour.distance ≤ 1000141421342) tours.now }
     ensures ok { OnOk result (Appends (W.contents writer.old) (W.contents writer.new) (sums_text roads.now rows.now)) }
-    ensures part { OnErr result (AppendsFront (W.contents writer.old) (W.contents writer.new) (sums_text roads.now rows.now)) }
+    ensures part { OnErr result (AppendsPrefix (W.contents writer.old) (W.contents writer.new) (sums_text roads.now rows.now)) }
     ensures err { IfErr result IsWriting }
 {
     let mut text = String::new(alloc);

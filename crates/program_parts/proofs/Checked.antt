@@ -3,7 +3,7 @@ use Rattle.std.proofs.Common.{◌≡◌, ◌∙◌, ℕ, List, [], Option, Some,
 use Rattle.std.specs.Io.KnownBytes.{Appends, Keeps}
 use Rattle.solomon_reader.specs.Checks.{Fault}
 use Rattle.solomon_reader.specs.Instances.{Plain}
-use Rattle.line_engine.specs.Running.{AppendsFront}
+use Rattle.line_engine.specs.Running.{AppendsPrefix}
 use Rattle.line_engine.specs.declared.run_fault.RunFault.TheVariants as runs
 use Rattle.program_parts.specs.Report.{IsCheckShort, report_text}
 use Rattle.program_parts.specs.declared.stop.Stop.{Stop}
@@ -24,9 +24,9 @@ pub unreported : (stop : Stop) (r : Result Plain Fault) (was : Option (List ℕ)
 unreported stop r was s = subst (λ (x : Stop). IsCheckShort r was was x) (sym s) (keeps was)
 
 -- the report was written in part
-pub half_written : (stop : Stop) (r : Result Plain Fault) (i : Plain) (bytes : List ℕ) (was now : Option (List ℕ)) → stop ≡ stops.Run runs.Write → r ≡ Ok i → bytes ≡ report_text i → AppendsFront was now bytes → IsCheckShort r was now stop
+pub half_written : (stop : Stop) (r : Result Plain Fault) (i : Plain) (bytes : List ℕ) (was now : Option (List ℕ)) → stop ≡ stops.Run runs.Write → r ≡ Ok i → bytes ≡ report_text i → AppendsPrefix was now bytes → IsCheckShort r was now stop
 half_written stop r i bytes was now s is same h =
-    subst (λ (x : Stop). IsCheckShort r was now x) (sym s) (i, is, subst (λ (x : List ℕ). AppendsFront was now x) same h)
+    subst (λ (x : Stop). IsCheckShort r was now x) (sym s) (i, is, subst (λ (x : List ℕ). AppendsPrefix was now x) same h)
 
 -- it was written, and the flush failed
 pub unflushed : (r : Result Plain Fault) (i : Plain) (bytes : List ℕ) (was mid now : Option (List ℕ)) → r ≡ Ok i → bytes ≡ report_text i → Appends was mid bytes → Keeps mid now → IsCheckShort r was now (stops.Run runs.Write)

@@ -1,5 +1,5 @@
 pub mod Checked
 pub mod Halves
 pub mod Listed
-pub mod Told
+pub mod Reported
 pub mod Whole

@@ -4,7 +4,7 @@ use Rattle.std.specs.Fmt.{decimal}
 use Rattle.std.specs.Io.KnownBytes.{Keeps}
 use Rattle.solomon_reader.specs.declared.fault.Kind.{Kind}
 use Rattle.solomon_reader.specs.declared.fault.Kind.TheVariants as kinds
-use Rattle.line_engine.specs.Running.{AppendsFront}
+use Rattle.line_engine.specs.Running.{AppendsPrefix}
 use Rattle.line_engine.specs.declared.run_fault.RunFault.TheVariants as runs
 use Rattle.program_parts.specs.declared.stop.Stop.{Stop}
 use Rattle.program_parts.specs.declared.stop.Stop.TheVariants as stops
@@ -13,11 +13,11 @@ use Rattle.program_parts.specs.declared.stop.Stop.TheVariants as stops
 pub record Streams : Type 0 where
   pub was : Option (List ℕ)
   pub now : Option (List ℕ)
-  pub told_was : Option (List ℕ)
-  pub told_now : Option (List ℕ)
+  pub reports_were : Option (List ℕ)
+  pub reports_are : Option (List ℕ)
 
 abbrev pub streams_of : Option (List ℕ) → Option (List ℕ) → Option (List ℕ) → Option (List ℕ) → Streams
-streams_of was now told_was told_now = record { was = was; now = now; told_was = told_was; told_now = told_now }
+streams_of was now reports_were reports_are = record { was = was; now = now; reports_were = reports_were; reports_are = reports_are }
 
 -- the check of an instance that fails
 abbrev pub kind_text : Kind → List ℕ
@@ -52,13 +52,13 @@ abbrev pub path_line : List ℕ → List ℕ
 path_line path = codes "dispatch: cannot read " ++ (path ++ codes "\n")
 
 -- The status is 3, and the line of the stop is reported, or a prefix of it where that stream fails.
-abbrev pub IsTold : Stop → Option (List ℕ) → Option (List ℕ) → ℕ → Type 0
-IsTold stop was now status = (status ≡ 3) × AppendsFront was now (stop_line stop)
+abbrev pub IsReported : Stop → Option (List ℕ) → Option (List ℕ) → ℕ → Type 0
+IsReported stop was now status = (status ≡ 3) × AppendsPrefix was now (stop_line stop)
 
 -- Nothing is reported where the status is 0 or 1, and else the line of some stop is.
 abbrev pub AgreesWithStatus : Option (List ℕ) → Option (List ℕ) → ℕ → Type 0
-AgreesWithStatus was now status = ((status ≤ 1) × Keeps was now) ⊎ ((stop : Stop) × IsTold stop was now status)
+AgreesWithStatus was now status = ((status ≤ 1) × Keeps was now) ⊎ ((stop : Stop) × IsReported stop was now status)
 
 -- The status is 3, and the line of a path that cannot be read is reported, or that of memory which ran out.
 abbrev pub IsUnreadable : List ℕ → Option (List ℕ) → Option (List ℕ) → ℕ → Type 0
-IsUnreadable path was now status = (status ≡ 3) × (AppendsFront was now (path_line path) ⊎ AppendsFront was now (stop_line stops.Open))
+IsUnreadable path was now status = (status ≡ 3) × (AppendsPrefix was now (path_line path) ⊎ AppendsPrefix was now (stop_line stops.Open))

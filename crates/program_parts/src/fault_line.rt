@@ -1,7 +1,7 @@
 //! The lines on the stream of faults. They are written part by part, so that no memory is taken for them: it may have run out.
 
 ghost use Rattle.std.specs.Prelude.{◌≡◌, ◌++◌, codes};
-ghost use Rattle.line_engine.specs.Running.{AppendsFront};
+ghost use Rattle.line_engine.specs.Running.{AppendsPrefix};
 ghost use Rattle.program_parts.specs.Streams.{instance_head, path_line, stop_line};
 ghost use Rattle.program_parts.specs.declared.stop.Stop.TheVariants as stops;
 
@@ -33,14 +33,14 @@ fn instance_head(kind: Kind) -> &'static str
 
 /// Writes a text, or a prefix of it where the stream fails.
 fn tell_text<F: Write>(faults: &mut F, text: &str)
-    ensures { AppendsFront (F.contents faults.old) (F.contents faults.new) text.now }
+    ensures { AppendsPrefix (F.contents faults.old) (F.contents faults.new) text.now }
 {
     let _ = write_whole(faults, text.as_bytes());
 }
 
 /// The same of two texts and a line end.
 fn tell_line<F: Write>(faults: &mut F, head: &str, rest: &str)
-    ensures { AppendsFront (F.contents faults.old) (F.contents faults.new) (head.now ++ (rest.now ++ codes "\n")) }
+    ensures { AppendsPrefix (F.contents faults.old) (F.contents faults.new) (head.now ++ (rest.now ++ codes "\n")) }
 {
     let Ok(()) = write_whole(faults, head.as_bytes()) else {
         return;
@@ -53,7 +53,7 @@ fn tell_line<F: Write>(faults: &mut F, head: &str, rest: &str)
 
 /// The same of an instance's fault.
 fn tell_instance<F: Write>(faults: &mut F, kind: Kind, line: usize)
-    ensures { AppendsFront (F.contents faults.old) (F.contents faults.new) (stop_line (stops.Instance kind line)) }
+    ensures { AppendsPrefix (F.contents faults.old) (F.contents faults.new) (stop_line (stops.Instance kind line)) }
 {
     let mut digits = Buffer::new();
     tell_line(faults, instance_head(kind), digits.format(line));
@@ -61,14 +61,14 @@ fn tell_instance<F: Write>(faults: &mut F, kind: Kind, line: usize)
 
 /// The same of a path that cannot be read.
 pub(crate) fn tell_path<F: Write>(faults: &mut F, path: &str)
-    ensures { AppendsFront (F.contents faults.old) (F.contents faults.new) (path_line path.now) }
+    ensures { AppendsPrefix (F.contents faults.old) (F.contents faults.new) (path_line path.now) }
 {
     tell_line(faults, "dispatch: cannot read ", path);
 }
 
 /// The same of a run that ended early.
 pub(crate) fn tell<F: Write>(faults: &mut F, stop: Stop)
-    ensures { AppendsFront (F.contents faults.old) (F.contents faults.new) (stop_line stop) }
+    ensures { AppendsPrefix (F.contents faults.old) (F.contents faults.new) (stop_line stop) }
 {
     match stop {
         Stop::Instance(kind, line) => tell_instance(faults, kind, line),

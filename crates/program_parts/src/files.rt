@@ -3,7 +3,7 @@
 ghost use Rattle.std.specs.Prelude.{◌≡◌, ◌≢◌, ◌≤◌, IfOk, IfSome, length};
 ghost use Rattle.std.specs.IoError.{error_kind};
 ghost use Rattle.std.specs.declared.io.ErrorKind.TheVariants.{OutOfMemory};
-ghost use Rattle.line_engine.specs.Running.{AppendsFront};
+ghost use Rattle.line_engine.specs.Running.{AppendsPrefix};
 ghost use Rattle.program_parts.specs.Streams.{IsUnreadable, path_line, stop_line};
 ghost use Rattle.program_parts.specs.declared.stop.Stop.TheVariants.{Open};
 
@@ -39,8 +39,8 @@ pub fn read_path<R: Files>(rt: &R, alloc: Global, path: &str) -> io::Result<Vec<
 /// with.
 pub fn unread<F: Write>(faults: &mut F, path: &str, error: &io::Error) -> u8
     ensures unreadable { IsUnreadable path.now (F.contents faults.old) (F.contents faults.new) result }
-    ensures memory { error_kind error.now ≡ OutOfMemory → AppendsFront (F.contents faults.old) (F.contents faults.new) (stop_line Open) }
-    ensures other { error_kind error.now ≢ OutOfMemory → AppendsFront (F.contents faults.old) (F.contents faults.new) (path_line path.now) }
+    ensures memory { error_kind error.now ≡ OutOfMemory → AppendsPrefix (F.contents faults.old) (F.contents faults.new) (stop_line Open) }
+    ensures other { error_kind error.now ≢ OutOfMemory → AppendsPrefix (F.contents faults.old) (F.contents faults.new) (path_line path.now) }
 {
     if error.kind() == ErrorKind::OutOfMemory {
         return stopped(faults, Stop::Open);

@@ -1,7 +1,7 @@
 //! Why a run ended before the end of its script.
 
 ghost use Rattle.std.specs.Prelude.{◌≡◌};
-ghost use Rattle.line_engine.specs.Running.{AppendsFront};
+ghost use Rattle.line_engine.specs.Running.{AppendsPrefix};
 ghost use Rattle.program_parts.specs.Stops.{IsStopOf};
 ghost use Rattle.program_parts.specs.Streams.{stop_line};
 ghost use Rattle.program_parts.specs.declared.stop.Stop.TheVariants.{Open, Run};
@@ -93,7 +93,7 @@ impl From<RunFault> for Stop {
 /// ends with.
 pub fn stopped<F: Write>(faults: &mut F, stop: Stop) -> u8
     ensures status { result ≡ 3 }
-    ensures told { AppendsFront (F.contents faults.old) (F.contents faults.new) (stop_line stop) }
+    ensures reported { AppendsPrefix (F.contents faults.old) (F.contents faults.new) (stop_line stop) }
 {
     tell(faults, stop);
     3

@@ -35,7 +35,7 @@ wrong words s status f t u = elim t [
 ]
 
 pub said : (words : List (List ℕ)) (left : Option (List ℕ)) (fault : OptionFault) (s : Streams) (status : ℕ) → IsFault words fault → (status ≡ status_of fault) ⊎ ((status ≡ 3) × (status_of fault ≡ 0))
-    → (status_of fault ≢ 0 → s.now ≡ s.was) → (status ≡ 0 → s.told_now ≡ s.told_was) → (status ≡ 3 → AppendsPrefix s.told_was s.told_now (early_line fault)) → IsPerformed words left s status
+    → (status_of fault ≢ 0 → s.now ≡ s.was) → (status ≡ 0 → s.reports_are ≡ s.reports_were) → (status ≡ 3 → AppendsPrefix s.reports_were s.reports_are (early_line fault)) → IsPerformed words left s status
 said words left (faults.Usage (usage.Words error)) s status f t u k r = inr (inl (wrong words s status (inl (_, f.0, f.1)) t u))
 said words left (faults.Usage (usage.Number fault)) s status f t u k r = inr (inl (wrong words s status (inr (fault, f)) t u))
 said words left (faults.Help error) s status f t u k r = inr (inl (inl ((_, f.0, f.1), elim t [ inl e ↦ inl (e, k e) | inr e ↦ inr (e.0, r e.0) ])))

@@ -4,7 +4,7 @@ use Rattle.std.specs.Prelude.{◌≡◌, ◌≢◌, ℕ, ◌⊎◌, List, drop, 
 use Rattle.std.specs.declared.io.ErrorKind.{ErrorKind}
 use Rattle.std.specs.declared.io.ErrorKind.TheVariants.{OutOfMemory}
 use Rattle.solomon_reader.specs.Reading.{read_of}
-use Rattle.line_engine.specs.Running.{AppendsFront}
+use Rattle.line_engine.specs.Running.{AppendsPrefix}
 use Rattle.line_engine.specs.declared.run_fault.RunFault.TheVariants as runs
 use Rattle.plan_picture.specs.Texts.{svg_text}
 use Rattle.plan_sums.specs.Texts.{sums_text}
@@ -28,7 +28,7 @@ IsOfInput left s status = IfSome left (λ bytes. IsJoined bytes s status) × ((h
 abbrev pub IsCheckOfFile : List ℕ → Streams → ℕ → Type 0
 IsCheckOfFile path s status = IsUnreadFile path s status ⊎ ((bytes : List ℕ) × IsChecked (read_of bytes) s status)
 
--- the workers of a run are told what the words say
+-- the workers of a run are to do what the words say
 pub record AreOrdersOf (run : Run) (orders : Orders) : Type 0 where
   pub workers : orders.workers ≡ run.workers
   pub rounds : orders.rounds ≡ run.rounds
@@ -45,8 +45,8 @@ IsDone (forms.sums instance rows) left s status = IsViewOfFiles sums_text instan
 
 -- Nothing is reported where help or the version is written; where it cannot be, that is.
 abbrev pub IsAnswered : Streams → ℕ → Type 0
-IsAnswered s status = ((status ≡ 0) × (s.told_now ≡ s.told_was))
-    ⊎ ((status ≡ 3) × AppendsFront s.told_was s.told_now (stop_line (stops.Run runs.Write)))
+IsAnswered s status = ((status ≡ 0) × (s.reports_are ≡ s.reports_were))
+    ⊎ ((status ≡ 3) × AppendsPrefix s.reports_were s.reports_are (stop_line (stops.Run runs.Write)))
 
 -- Nothing can be done: the parse may fail with help or the version; or otherwise, with nothing written.
 abbrev pub IsSaid : List (List ℕ) → Streams → ℕ → Type 0
@@ -54,7 +54,7 @@ IsSaid words s status = (AskForHelp words × IsAnswered s status) ⊎ (AreWrong 
 
 -- Memory ran out while the words were read, which is reported, and nothing is written.
 abbrev pub IsOutOfMemory : Streams → ℕ → Type 0
-IsOutOfMemory s status = (s.now ≡ s.was) × (status ≡ 3) × AppendsFront s.told_was s.told_now (stop_line stops.Open)
+IsOutOfMemory s status = (s.now ≡ s.was) × (status ≡ 3) × AppendsPrefix s.reports_were s.reports_are (stop_line stops.Open)
 
 -- The words, of which the first is the program's own name, ask for something, which is done; or they ask for nothing, which is said; or
 -- memory ran out.
@@ -65,7 +65,7 @@ IsPerformed words left s status = ((form : Form) × (asked (drop 1 words) ≡ So
 -- The words could not be read, and nothing is written: memory ran out, which is reported, with status 3; or a word is not UTF-8, with status 2.
 abbrev pub AreUnread : ErrorKind → Streams → ℕ → Type 0
 AreUnread kind s status = (s.now ≡ s.was)
-    × (kind ≡ OutOfMemory → (status ≡ 3) × AppendsFront s.told_was s.told_now (stop_line stops.Open)) × (kind ≢ OutOfMemory → status ≡ 2)
+    × (kind ≡ OutOfMemory → (status ≡ 3) × AppendsPrefix s.reports_were s.reports_are (stop_line stops.Open)) × (kind ≢ OutOfMemory → status ≡ 2)
 
 -- All of the program: it has words, and does what they ask for; or they could not be read.
 abbrev pub IsProgram : Option (List ℕ) → Streams → ℕ → Type 0

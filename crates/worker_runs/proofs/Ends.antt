@@ -6,7 +6,7 @@ use Rattle.std.specs.Io.KnownBytes.{Appends}
 use Rattle.board_rules.specs.declared.call.Entry.{Entry}
 use Rattle.board_rules.specs.History.{Opening}
 use Rattle.board_seat.specs.Watches.{Watch, watch_at}
-use Rattle.line_engine.specs.Running.{AppendsFront}
+use Rattle.line_engine.specs.Running.{AppendsPrefix}
 use Rattle.line_engine.specs.declared.run_fault.Counts.{Counts}
 use Rattle.line_engine.specs.declared.run_fault.RunFault.{RunFault}
 use Rattle.line_engine.specs.declared.run_fault.RunFault.TheVariants as runs
@@ -44,7 +44,7 @@ module _ (o : Opening) (orders : Orders) (entries : List Entry) (left_old left_n
   closes_by (suc n) desk mid now text some s a = (text, s, a)
 
   abbrev Early : Watch → Option (List ℕ) → Option (List ℕ) → Type 0
-  Early desk mid now = (now ≡ mid) ⊎ ((text : List ℕ) × IsSearched o orders entries desk text × AppendsFront mid now text)
+  Early desk mid now = (now ≡ mid) ⊎ ((text : List ℕ) × IsSearched o orders entries desk text × AppendsPrefix mid now text)
 
   may_none : (n : ℕ) (fault : RunFault) (desk : Watch) (now : Option (List ℕ)) → n ≡ 0 → MayClose n fault o orders entries desk now now
   may_none n fault desk now none = subst (λ (k : ℕ). MayClose k fault o orders entries desk now now) (sym none) refl
@@ -77,7 +77,7 @@ module _ (o : Opening) (orders : Orders) (entries : List Entry) (left_old left_n
   unclosed first desk mid now counts afters tallies (stops.Run fault) e some a all c = inr (record { desk = desk; refusals = counts.refused; mid = mid; some = some; live = live first desk mid counts e a; why = inr (afters, tallies, all, c) })
   unclosed first desk mid now counts afters tallies (stops.Instance kind line) e some a all c = absurd c
 
-  early : (found : Found) (desk : Watch) (mid now : Option (List ℕ)) → AreFound found → (now ≡ mid) ⊎ IsSomeAnd found (λ f. (text : List ℕ) × IsClosing o (desk ∷ f.0) f.1 text × AppendsFront mid now text) → Early desk mid now
+  early : (found : Found) (desk : Watch) (mid now : Option (List ℕ)) → AreFound found → (now ≡ mid) ⊎ IsSomeAnd found (λ f. (text : List ℕ) × IsClosing o (desk ∷ f.0) f.1 text × AppendsPrefix mid now text) → Early desk mid now
   early None desk mid now all c = elim c [ inl e ↦ inl e | inr t ↦ absurd t ]
   early (Some f) desk mid now all c = elim c [ inl e ↦ inl e | inr t ↦ inr (t.0, searched desk f.0 f.1 t.0 all t.1, t.2) ]
 

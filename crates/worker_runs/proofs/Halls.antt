@@ -7,7 +7,7 @@ use Rattle.std.specs.Io.KnownBytes.{Appends}
 use Rattle.board_rules.specs.declared.call.Entry.{Entry}
 use Rattle.board_rules.specs.History.{Opening}
 use Rattle.board_seat.specs.Watches.{Watch, watch_at, watches}
-use Rattle.line_engine.specs.Running.{AppendsFront}
+use Rattle.line_engine.specs.Running.{AppendsPrefix}
 use Rattle.line_engine.specs.declared.run_fault.RunFault.{RunFault}
 use Rattle.line_engine.specs.declared.run_fault.RunFault.TheVariants as runs
 use Rattle.search_rounds.specs.declared.tally.Tally.{Tally}
@@ -86,7 +86,7 @@ seats_by es (suc n) ws rest w is some at left =
 
 -- ---- the end
 
-pub whole_front : (was now : Option (List ℕ)) (text : List ℕ) → Appends was now text → AppendsFront was now text
+pub whole_front : (was now : Option (List ℕ)) (text : List ℕ) → Appends was now text → AppendsPrefix was now text
 whole_front was now text a = (text, [], sym (append-nil text), a)
 
 pub closed_short : (o : Opening) (desks : List Watch) (tallies : List Tally) (was now : Option (List ℕ)) (fault : RunFault) (seen : List Entry) (version : ℕ) → IsVersionOf o desks seen version
@@ -99,7 +99,7 @@ closed_short o desks tallies was now runs.LongLine seen version m w = absurd w
 -- a prefix of the text was written, or nothing
 pub as_far : (o : Opening) (desks : List Watch) (tallies : List Tally) (was now : Option (List ℕ)) (r : Result (Unit {0}) Stop)
     → OnOk r ((text : List ℕ) × IsClosing o desks tallies text × Appends was now text) → IfErr r (λ stop. IsClosedShort o desks tallies was now stop)
-    → (now ≡ was) ⊎ ((text : List ℕ) × IsClosing o desks tallies text × AppendsFront was now text)
+    → (now ≡ was) ⊎ ((text : List ℕ) × IsClosing o desks tallies text × AppendsPrefix was now text)
 as_far o desks tallies was now (Ok done) ok err = inr (ok.0, ok.1, whole_front was now ok.0 ok.2)
 as_far o desks tallies was now (Err stops.Open) ok err = inl err
 as_far o desks tallies was now (Err (stops.Run runs.NoMemory)) ok err = inl err

@@ -4,7 +4,7 @@ use Rattle.std.specs.Prelude.{◌||◌, nat_lt, MatchResult}
 use Rattle.std.specs.Io.KnownBytes.{Keeps}
 use Rattle.board_rules.specs.declared.call.Entry.{Entry}
 use Rattle.board_rules.specs.History.{History, Opening}
-use Rattle.line_engine.specs.Running.{AppendsFront}
+use Rattle.line_engine.specs.Running.{AppendsPrefix}
 use Rattle.solomon_reader.specs.Checks.{Fault}
 use Rattle.solomon_reader.specs.Reading.{Fails}
 use Rattle.solomon_reader.specs.declared.fault.ReadFault.{ReadFault}
@@ -64,21 +64,21 @@ no_instance reads.NoMemory stop read f u s x = subst (λ (z : Stop). IsNoInstanc
 no_instance (reads.At kind line) stop read f u s x = subst (λ (z : Stop). IsNoInstance read f z) (sym s) (x, u)
 
 -- what came of an instance's board, with its status
-pub ran : (i : Plain) (orders : Orders) (f : Flow) (told_was told_now : Option (List ℕ)) (refused : Bool) (status : ℕ) → IsRunOf i orders f refused → status ≡ status_of refused → Keeps told_was told_now → IsRunOfBytes (Ok i) orders f told_was told_now status
-ran i orders f told_was told_now refused status r s k = inl (i, refl, refused, r, s, k)
+pub ran : (i : Plain) (orders : Orders) (f : Flow) (reports_were reports_are : Option (List ℕ)) (refused : Bool) (status : ℕ) → IsRunOf i orders f refused → status ≡ status_of refused → Keeps reports_were reports_are → IsRunOfBytes (Ok i) orders f reports_were reports_are status
+ran i orders f reports_were reports_are refused status r s k = inl (i, refl, refused, r, s, k)
 
-pub unrun : (i : Plain) (orders : Orders) (f : Flow) (told_was told_now : Option (List ℕ)) (stop : Stop) (status : ℕ) → IsUnrun i orders f stop → status ≡ 3 → AppendsFront told_was told_now (stop_line stop) → IsRunOfBytes (Ok i) orders f told_was told_now status
-unrun i orders f told_was told_now stop status r s k = inr (stop, inr (i, refl, r), (s, k))
+pub unrun : (i : Plain) (orders : Orders) (f : Flow) (reports_were reports_are : Option (List ℕ)) (stop : Stop) (status : ℕ) → IsUnrun i orders f stop → status ≡ 3 → AppendsPrefix reports_were reports_are (stop_line stop) → IsRunOfBytes (Ok i) orders f reports_were reports_are status
+unrun i orders f reports_were reports_are stop status r s k = inr (stop, inr (i, refl, r), (s, k))
 
-pub unread : (read : Result Plain Fault) (orders : Orders) (f : Flow) (told_was told_now : Option (List ℕ)) (stop : Stop) (status : ℕ) → IsNoInstance read f stop → status ≡ 3 → AppendsFront told_was told_now (stop_line stop) → IsRunOfBytes read orders f told_was told_now status
-unread read orders f told_was told_now stop status r s k = inr (stop, inl r, (s, k))
+pub unread : (read : Result Plain Fault) (orders : Orders) (f : Flow) (reports_were reports_are : Option (List ℕ)) (stop : Stop) (status : ℕ) → IsNoInstance read f stop → status ≡ 3 → AppendsPrefix reports_were reports_are (stop_line stop) → IsRunOfBytes read orders f reports_were reports_are status
+unread read orders f reports_were reports_are stop status r s k = inr (stop, inl r, (s, k))
 
 pub keeps : (was : Option (List ℕ)) → Keeps was was
 keeps None = tt
 keeps (Some xs) = refl
 
-pub at_read : (r q : Result Plain Fault) (orders : Orders) (f : Flow) (told_was told_now : Option (List ℕ)) (status : ℕ) → r ≡ q → IsRunOfBytes q orders f told_was told_now status → IsRunOfBytes r orders f told_was told_now status
-at_read r q orders f told_was told_now status e h = subst (λ (x : Result Plain Fault). IsRunOfBytes x orders f told_was told_now status) (sym e) h
+pub at_read : (r q : Result Plain Fault) (orders : Orders) (f : Flow) (reports_were reports_are : Option (List ℕ)) (status : ℕ) → r ≡ q → IsRunOfBytes q orders f reports_were reports_are status → IsRunOfBytes r orders f reports_were reports_are status
+at_read r q orders f reports_were reports_are status e h = subst (λ (x : Result Plain Fault). IsRunOfBytes x orders f reports_were reports_are status) (sym e) h
 
 -- ---- on the board that was just opened
 

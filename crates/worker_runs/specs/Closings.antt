@@ -4,7 +4,7 @@ use mathlib.Core.List.{IsPrefix}
 use Rattle.board_rules.specs.declared.call.Entry.{Entry}
 use Rattle.board_rules.specs.History.{Opening}
 use Rattle.board_seat.specs.Watches.{Watch}
-use Rattle.line_engine.specs.Running.{AppendsFront}
+use Rattle.line_engine.specs.Running.{AppendsPrefix}
 use Rattle.line_engine.specs.declared.run_fault.RunFault.{RunFault}
 use Rattle.line_engine.specs.declared.run_fault.RunFault.TheVariants as runs
 use Rattle.search_rounds.specs.Jobs.{view_after}
@@ -20,5 +20,5 @@ pub record IsVersionOf (o : Opening) (desks : List Watch) (seen : List Entry) (v
 -- memory ran out before any of it was written, or the writer failed after a prefix of it
 abbrev pub IsWrittenShort : RunFault → Option (List ℕ) → Option (List ℕ) → List ℕ → Type 0
 IsWrittenShort runs.NoMemory was now text = now ≡ was
-IsWrittenShort runs.Write was now text = AppendsFront was now text
+IsWrittenShort runs.Write was now text = AppendsPrefix was now text
 IsWrittenShort _ was now text = ⊥

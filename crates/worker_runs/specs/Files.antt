@@ -10,7 +10,7 @@ use Rattle.worker_runs.specs.Scripted.{IsRunOfBytes, flow_of}
 
 -- a file that cannot be read is reported, and nothing is written
 abbrev pub IsUnreadFile : List ℕ → Streams → ℕ → Type 0
-IsUnreadFile path s status = (s.now ≡ s.was) × IsUnreadable path s.told_was s.told_now status
+IsUnreadFile path s status = (s.now ≡ s.was) × IsUnreadable path s.reports_were s.reports_are status
 
 abbrev pub IsUnreadLive : Option (List ℕ) → Streams → ℕ → Type 0
 IsUnreadLive None s status = ⊥
@@ -24,7 +24,7 @@ IsJudged bytes = (i : Plain) × (read_of bytes ≡ Ok i)
 -- live script there are no live lines
 abbrev pub IsRunOfSome : Result Plain Fault → Option (List ℕ) → Orders → Streams → ℕ → Type 0
 IsRunOfSome read live orders s status = (script_old : Option (List ℕ)) × (script_new : Option (List ℕ)) × (live_old : Option (List ℕ)) × (live_new : Option (List ℕ))
-    × (live ≡ None → live_old ≡ Some []) × IsRunOfBytes read orders (flow_of script_old script_new live_old live_new s.was s.now) s.told_was s.told_now status
+    × (live ≡ None → live_old ≡ Some []) × IsRunOfBytes read orders (flow_of script_old script_new live_old live_new s.was s.now) s.reports_were s.reports_are status
 
 -- once some bytes of an instance are read: they are judged, and the script or then the live script cannot be read; or it is the run of them
 abbrev pub IsOfInstance : List ℕ → List ℕ → Option (List ℕ) → Orders → Streams → ℕ → Type 0

@@ -7,7 +7,7 @@ use Rattle.board_rules.specs.declared.call.Entry.{Entry}
 use Rattle.board_rules.specs.History.{Opening, turns_of}
 use Rattle.locked_board.specs.Commits.{Legal}
 use Rattle.board_seat.specs.Watches.{Watch, watch_at}
-use Rattle.line_engine.specs.Running.{AppendsFront}
+use Rattle.line_engine.specs.Running.{AppendsPrefix}
 use Rattle.line_engine.specs.declared.run_fault.Counts.{Counts}
 use Rattle.line_engine.specs.declared.run_fault.RunFault.{RunFault}
 use Rattle.line_engine.specs.declared.run_fault.RunFault.TheVariants as runs
@@ -27,7 +27,7 @@ abbrev pub worker_desks : List Entry → ℕ → List Watch
 worker_desks entries zero = []
 worker_desks entries (suc n) = worker_desks entries n ++ watch_at entries (n + 2) ∷ []
 
--- what a worker is given: its number, from 1, what all of them are told, and its desk
+-- what a worker is given: its number, from 1, what all of them are to do, and its desk
 pub record Post : Type 0 where
   pub worker : ℕ
   pub orders : Orders
@@ -75,7 +75,7 @@ pub record IsClosing (o : Opening) (desks : List Watch) (tallies : List Tally) (
 abbrev pub IsClosedShort : Opening → List Watch → List Tally → Option (List ℕ) → Option (List ℕ) → Stop → Type 0
 IsClosedShort o desks tallies was now stops.Open = now ≡ was
 IsClosedShort o desks tallies was now (stops.Run runs.NoMemory) = now ≡ was
-IsClosedShort o desks tallies was now (stops.Run runs.Write) = (text : List ℕ) × IsClosing o desks tallies text × AppendsFront was now text
+IsClosedShort o desks tallies was now (stops.Run runs.Write) = (text : List ℕ) × IsClosing o desks tallies text × AppendsPrefix was now text
 IsClosedShort o desks tallies was now _ = ⊥
 
 -- ---- desk 1 and the workers
@@ -90,7 +90,7 @@ IsEnd o desk (Ok counts) (Some found) was now (Ok refusals) = (refusals ≡ coun
 IsEnd o desk (Ok counts) (Some found) was now (Err stop) = IsClosedShort o (desk ∷ found.0) found.1 was now stop
 IsEnd o desk (Ok counts) None was now (Err stop) = (stop ≡ stops.Open) × (now ≡ was)
 IsEnd o desk (Err fault) found was now (Err stop) = (stop ≡ stops.Run fault) × (fault ≡ runs.Write → now ≡ was)
-    × ((now ≡ was) ⊎ IsSomeAnd found (λ f. (text : List ℕ) × IsClosing o (desk ∷ f.0) f.1 text × AppendsFront was now text))
+    × ((now ≡ was) ⊎ IsSomeAnd found (λ f. (text : List ℕ) × IsClosing o (desk ∷ f.0) f.1 text × AppendsPrefix was now text))
 IsEnd o desk _ _ was now _ = ⊥
 
 -- the workers searched from the history of these entries, and the text closes a run in which desk 1 has seen what it has
@@ -109,7 +109,7 @@ Closes (suc n) o orders entries desk was now = (text : List ℕ) × IsSearched o
 abbrev pub MayClose : ℕ → RunFault → Opening → Orders → List Entry → Watch → Option (List ℕ) → Option (List ℕ) → Type 0
 MayClose zero fault o orders entries desk was now = now ≡ was
 MayClose (suc n) runs.Write o orders entries desk was now = now ≡ was
-MayClose (suc n) _ o orders entries desk was now = (now ≡ was) ⊎ ((text : List ℕ) × IsSearched o orders entries desk text × AppendsFront was now text)
+MayClose (suc n) _ o orders entries desk was now = (now ≡ was) ⊎ ((text : List ℕ) × IsSearched o orders entries desk text × AppendsPrefix was now text)
 
 -- the live lines were all answered on desk 1, which had seen these entries
 pub record IsLive (o : Opening) (entries : List Entry) (left_old left_new was now : Option (List ℕ)) (desk : Watch) (refusals : ℕ) : Type 0 where

@@ -8,7 +8,7 @@ use Rattle.line_engine.specs.declared.run_fault.RunFault.{RunFault}
 use Rattle.solomon_reader.specs.Checks.{Fault, fault}
 use Rattle.solomon_reader.specs.Instances.{Plain}
 use Rattle.program_parts.specs.Network.{Sites}
-use Rattle.program_parts.specs.Streams.{IsTold}
+use Rattle.program_parts.specs.Streams.{IsReported}
 use Rattle.program_parts.specs.declared.stop.Stop.{Stop}
 use Rattle.program_parts.specs.declared.stop.Stop.TheVariants as stops
 use Rattle.board_program.specs.Standard.{AreSitesOf, standard_setting}
@@ -116,6 +116,6 @@ IsNoInstance read f (stops.Run fault) = ⊥
 -- By what the instance's bytes say: the run on its board came to its end, nothing is reported, and the status is 0 or 1; or it did not, which
 -- is reported, and the status is 3.
 abbrev pub IsRunOfBytes : Result Plain Fault → Orders → Flow → Option (List ℕ) → Option (List ℕ) → ℕ → Type 0
-IsRunOfBytes read orders f told_was told_now status =
-    ((i : Plain) × (read ≡ Ok i) × (refused : Bool) × IsRunOf i orders f refused × (status ≡ status_of refused) × Keeps told_was told_now)
-    ⊎ ((stop : Stop) × (IsNoInstance read f stop ⊎ ((i : Plain) × (read ≡ Ok i) × IsUnrun i orders f stop)) × IsTold stop told_was told_now status)
+IsRunOfBytes read orders f reports_were reports_are status =
+    ((i : Plain) × (read ≡ Ok i) × (refused : Bool) × IsRunOf i orders f refused × (status ≡ status_of refused) × Keeps reports_were reports_are)
+    ⊎ ((stop : Stop) × (IsNoInstance read f stop ⊎ ((i : Plain) × (read ≡ Ok i) × IsUnrun i orders f stop)) × IsReported stop reports_were reports_are status)

@@ -2,7 +2,7 @@
 ghost use Rattle.std.specs.Prelude.{◌≡◌, ◌∷◌, [], List, IfOk, IfErr, IfSome, OnOk, ℕ};
 ghost use Rattle.std.specs.Io.KnownBytes.{Appends};
 ghost use mathlib.Core.List.{IsPrefix};
-ghost use Rattle.line_engine.specs.Running.{AppendsFront};
+ghost use Rattle.line_engine.specs.Running.{AppendsPrefix};
 ghost use Rattle.worker_runs.specs.Halls.{IsClosing, IsClosedShort};
 ghost use Rattle.worker_runs.specs.Closings.{IsVersionOf, IsWrittenShort};
 ghost use Rattle.worker_runs.specs.Tallies.{closing_text};

@@ -3,7 +3,7 @@ ghost use Rattle.std.specs.Prelude.{◌≡◌, ◌∷◌, ◌+◌, ◌-◌, ◌�
 ghost use Rattle.std.specs.Option.{IsSomeAnd};
 ghost use Rattle.dimension_core.specs.Setup.{setting};
 ghost use Rattle.board_seat.specs.Watches.{watch_at};
-ghost use Rattle.line_engine.specs.Running.{AppendsFront};
+ghost use Rattle.line_engine.specs.Running.{AppendsPrefix};
 ghost use Rattle.program_parts.specs.declared.stop.Stop.TheVariants as stops;
 ghost use Rattle.worker_runs.specs.Halls.{IsClosing, IsEnd, IsHallRun, IsHallShort, worker_desks};
 
@@ -56,7 +56,7 @@ fn close_early<N: Naming, D: Wait + Drop, W: Wait, O: Write>(
     ensures write { fault ≡ RunFault.Write → O.contents writer.new ≡ O.contents writer.old }
     ensures may { (O.contents writer.new ≡ O.contents writer.old)
         ⊎ IsSomeAnd searched (λ s. (text : List ℕ) × IsClosing N.opening (seat.old ∷ s.seats.items) s.tallies.items text
-        × AppendsFront (O.contents writer.old) (O.contents writer.new) text) }
+        × AppendsPrefix (O.contents writer.old) (O.contents writer.new) text) }
 {
     if fault == RunFault::Write {
         return;

@@ -40,7 +40,7 @@ fn answered<
 ) -> u8
     requires { IsSound (view job.instance) }
     ensures status { (result ≡ 0) ⊎ (result ≡ 1) ⊎ (result ≡ 3) }
-    ensures told { AgreesWithStatus (F.contents faults.old) (F.contents faults.new) result }
+    ensures reported { AgreesWithStatus (F.contents faults.old) (F.contents faults.new) result }
     ensures run { IsRunOfBytes (Ok (view job.instance)) job.orders (flow_of (I.remaining script.old) (I.remaining script.new)
         (L.remaining live.old) (L.remaining live.new) (O.contents writer.old) (O.contents writer.new)) (F.contents faults.old) (F.contents faults.new) result }
 {
@@ -77,7 +77,7 @@ pub fn scripted<
     faults: &mut F,
 ) -> u8
     ensures status { (result ≡ 0) ⊎ (result ≡ 1) ⊎ (result ≡ 3) }
-    ensures told { AgreesWithStatus (F.contents faults.old) (F.contents faults.new) result }
+    ensures reported { AgreesWithStatus (F.contents faults.old) (F.contents faults.new) result }
     ensures run { IsRunOfBytes (read_of instance.now) orders (flow_of (I.remaining script.old) (I.remaining script.new)
         (L.remaining live.old) (L.remaining live.new) (O.contents writer.old) (O.contents writer.new)) (F.contents faults.old) (F.contents faults.new) result }
 {

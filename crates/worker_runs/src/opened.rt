@@ -39,7 +39,7 @@ fn either(first: u64, hall: Result<u64, Stop>) -> Result<bool, Stop>
     }
 }
 
-/// A board that is to be opened, and what its workers are told.
+/// A board that is to be opened, and what its workers are to do.
 #[derive(Drop)]
 pub(crate) struct Job {
     pub instance: Instance,

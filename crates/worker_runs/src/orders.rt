@@ -1,4 +1,4 @@
-//! What workers are told.
+//! What workers are to do.
 ghost use Rattle.std.specs.Prelude.{◌≤◌};
 
 /// How many workers search, from 0 to 63, how many rounds each of them does, and the seed: worker i, counted from 1, draws by the seed plus

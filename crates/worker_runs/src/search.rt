@@ -59,7 +59,7 @@ fn start<
     Some(child)
 }
 
-/// What a worker is given, beside the setup: its desk, its number, from 1, and what all workers are told.
+/// What a worker is given, beside the setup: its desk, its number, from 1, and what all workers are to do.
 #[derive(Drop)]
 struct Assignment<N: Naming, D: Wait + Drop> {
     seat: Seat<N, D>,

@@ -9,4 +9,4 @@ returns-in-Ok-open-clause-files g c = files_ran _ _ _ (Ok (view c.in-Ok-read.jud
 
 pub returns-in-Err-read-clause-files : goal.returns-in-Err-read-clause-files
 returns-in-Err-read-clause-files g c =
-    files_unread _ _ c.as_slice.result.now _ c.stopped.result (unread_ran c.in-Err-read.fault c.from.result (read_of c.as_slice.result.now) _ _ _ c.stopped.result c.from.ensures c.in-Err-read.ensures.exact c.stopped.ensures.status c.stopped.ensures.told)
+    files_unread _ _ c.as_slice.result.now _ c.stopped.result (unread_ran c.in-Err-read.fault c.from.result (read_of c.as_slice.result.now) _ _ _ c.stopped.result c.from.ensures c.in-Err-read.ensures.exact c.stopped.ensures.status c.stopped.ensures.reported)

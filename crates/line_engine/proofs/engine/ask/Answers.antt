@@ -1,4 +1,4 @@
-use Rattle.line_engine.proofs.Marked.{dropped, untold, read_whole}
+use Rattle.line_engine.proofs.Marked.{dropped, unreported, read_whole}
 use Rattle.line_engine.proofs.engine.ask.Goals as goal
 
 pub returns-in-Ok-clause-err : goal.returns-in-Ok-clause-err
@@ -7,4 +7,4 @@ returns-in-Ok-clause-err g c =
 
 pub returns-in-Err-clause-ok : goal.returns-in-Err-clause-ok
 returns-in-Err-clause-ok g c =
-    untold g.F.Front.step _ _ _ _ c.in-Err.is c.read_command.ensures _ _ (c.unread.ensures _)
+    unreported g.F.Front.step _ _ _ _ c.in-Err.is c.read_command.ensures _ _ (c.unread.ensures _)

@@ -2,7 +2,7 @@ use Rattle.std.proofs.Common.{◌≡◌, ◌∙◌, [], ◌++◌, take, arith, r
 use Rattle.std.proofs.lemmas.List.{append-nil}
 use Rattle.std.proofs.lemmas.Result.{err_from_is_err_and}
 use Rattle.line_engine.proofs.Bytes.{Appends-none, Consumes-none, Consumes-then, Appends-then}
-use Rattle.line_engine.proofs.Sending.{AppendsFront-then, Reaches-then, nil_first}
+use Rattle.line_engine.proofs.Sending.{AppendsPrefix-then, Reaches-then, nil_first}
 use Rattle.line_engine.proofs.WholeRuns.{started, no_room, unflushed, unread, read_ended, last_stopped, last_unwritten, all_answered, piece_stopped, piece_done}
 use Rattle.line_engine.proofs.engine.run_lines.Goals as goal
 
@@ -18,7 +18,7 @@ pub returns-in_err-flush-clause-err : goal.returns-in_err-flush-clause-err
 returns-in_err-flush-clause-err g c =
     let i = c.reads.invariant in
     let p = err_from_is_err_and c.from_residual-in_err-flush.result c.from_residual-in_err-flush.ensures.1 in
-    rw (p.1, p.2, c.in_err-flush.ensures.kind) (unflushed g.F.Front.step g.F.Front.refuses _ _ _ _ _ _ (i.1 ++ c.reads.outbox.held.items) i.0 _ _ _ _ i.2 (AppendsFront-then _ _ _ i.1 _ i.3 c.in_err-flush.ensures.err) i.4)
+    rw (p.1, p.2, c.in_err-flush.ensures.kind) (unflushed g.F.Front.step g.F.Front.refuses _ _ _ _ _ _ (i.1 ++ c.reads.outbox.held.items) i.0 _ _ _ _ i.2 (AppendsPrefix-then _ _ _ i.1 _ i.3 c.in_err-flush.ensures.err) i.4)
 
 pub returns-in_default-clause-err : goal.returns-in_default-clause-err
 returns-in_default-clause-err g c =
@@ -43,7 +43,7 @@ returns-in_err-flush-2-clause-err g c =
     let sent = Appends-then _ _ _ i.1 _ i.3 c.in_ok-flush.ensures.ok in
     let p = err_from_is_err_and c.from_residual-in_err-flush-2.result c.from_residual-in_err-flush-2.ensures.1 in
     rw (p.1, p.2, c.in_err-flush-2.ensures.kind) (last_unwritten g.F.Front.step g.F.Front.refuses _ _ _ _ _ _ _ _ x f.0 (x ++ c.finish.new.outbox.held.items) i.0 c.reads.partial.items _ _ _ _ _ _ _ i.2 c.in-Ok.ensures.bytes.0 (rw c.if-count-eq0.true refl) (c.in-Ok.ensures.bytes.1 c.if-count-eq0.true (omega arith))
-    (AppendsFront-then _ _ _ x c.finish.new.outbox.held.items sent c.in_err-flush-2.ensures.err) (ap (λ (l : List ℕ). x ++ l) held) (rw (← c.flush.ensures.tally) at i.4) c.as_slice.ensures.value f.2)
+    (AppendsPrefix-then _ _ _ x c.finish.new.outbox.held.items sent c.in_err-flush-2.ensures.err) (ap (λ (l : List ℕ). x ++ l) held) (rw (← c.flush.ensures.tally) at i.4) c.as_slice.ensures.value f.2)
 
 pub returns-then-count-eq0-clause-ok : goal.returns-then-count-eq0-clause-ok
 returns-then-count-eq0-clause-ok g c =

@@ -3,7 +3,7 @@ use Rattle.std.proofs.lemmas.List.{append-nil}
 use Rattle.std.proofs.lemmas.Result.{err_from_is_err_and}
 use Rattle.line_engine.proofs.Bytes.{Appends-none, Appends-then}
 use Rattle.line_engine.proofs.Runs.{nothing_yet}
-use Rattle.line_engine.proofs.Sending.{Reaches-then, AppendsFront-then, sent_all, part_taken, part_stopped, part_unwritten, behind}
+use Rattle.line_engine.proofs.Sending.{Reaches-then, AppendsPrefix-then, sent_all, part_taken, part_stopped, part_unwritten, behind}
 use Rattle.line_engine.proofs.engine.take_piece.Goals as goal
 
 pub parts-init : goal.parts-init
@@ -42,7 +42,7 @@ returns-in_err-hand_on-clause-err g c =
     let r = err_from_is_err_and c.from_residual.result c.from_residual.ensures.1 in
     rw (r.1, r.2, c.in_err-hand_on.ensures.kind) (
       i.1 ++ held,
-      AppendsFront-then _ _ _ i.1 held i.4 c.in_err-hand_on.ensures.err,
+      AppendsPrefix-then _ _ _ i.1 held i.4 c.in_err-hand_on.ensures.err,
       part_unwritten g.F.Front.step g.F.Front.refuses _ _ (i.1 ++ held) c.args.partial.now.items c.args.piece.now (i.0 ++ f.0) _ _ _ _ _ _ _ _ (behind _ i.0 _ f.0 _ i.2 f.1) p,
     )
 

@@ -1,17 +1,17 @@
 use Rattle.std.proofs.Common.{◌++◌}
 use Rattle.std.specs.Prelude.{codes}
-use Rattle.program_parts.proofs.Told.{told_then, told_part}
+use Rattle.program_parts.proofs.Reported.{report_then, report_part}
 use Rattle.program_parts.proofs.fault_line.tell_line.Goals as goal
 
 pub returns-in_default : goal.returns-in_default
-returns-in_default g c = told_part _ _ _ c.args.head.now (c.args.rest.now ++ codes "\n") c.as_bytes.ensures.value c.in_default.ensures.err
+returns-in_default g c = report_part _ _ _ c.args.head.now (c.args.rest.now ++ codes "\n") c.as_bytes.ensures.value c.in_default.ensures.err
 
 pub returns-in_default-write_whole : goal.returns-in_default-write_whole
 returns-in_default-write_whole g c =
-    told_then _ _ _ _ c.args.head.now (c.args.rest.now ++ codes "\n") c.as_bytes.ensures.value c.in-Ok.ensures.ok
-    (told_part _ _ _ c.args.rest.now (codes "\n") c.as_bytes-2.ensures.value c.in_default-write_whole.ensures.err)
+    report_then _ _ _ _ c.args.head.now (c.args.rest.now ++ codes "\n") c.as_bytes.ensures.value c.in-Ok.ensures.ok
+    (report_part _ _ _ c.args.rest.now (codes "\n") c.as_bytes-2.ensures.value c.in_default-write_whole.ensures.err)
 
 pub returns : goal.returns
 returns g c =
-    told_then _ _ _ _ c.args.head.now (c.args.rest.now ++ codes "\n") c.as_bytes.ensures.value c.in-Ok.ensures.ok
-    (told_then _ _ _ _ c.args.rest.now (codes "\n") c.as_bytes-2.ensures.value c.in-Ok-write_whole.ensures.ok c.tell_text.ensures)
+    report_then _ _ _ _ c.args.head.now (c.args.rest.now ++ codes "\n") c.as_bytes.ensures.value c.in-Ok.ensures.ok
+    (report_then _ _ _ _ c.args.rest.now (codes "\n") c.as_bytes-2.ensures.value c.in-Ok-write_whole.ensures.ok c.tell_text.ensures)

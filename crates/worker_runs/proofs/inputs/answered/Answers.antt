@@ -7,4 +7,4 @@ pub returns-in-Ok-clause-run : goal.returns-in-Ok-clause-run
 returns-in-Ok-clause-run g c = ran (view c.args.job.instance) c.args.job.orders _ _ _ c.in-Ok.refused _ c.in-Ok.ensures (search rules) (keeps _)
 
 pub returns-in-Err-clause-run : goal.returns-in-Err-clause-run
-returns-in-Err-clause-run g c = unrun (view c.args.job.instance) c.args.job.orders _ _ _ c.in-Err.stop _ c.in-Err.ensures c.stopped.ensures.status c.stopped.ensures.told
+returns-in-Err-clause-run g c = unrun (view c.args.job.instance) c.args.job.orders _ _ _ c.in-Err.stop _ c.in-Err.ensures c.stopped.ensures.status c.stopped.ensures.reported

@@ -12,7 +12,7 @@ returns-in-Err-read-clause-files g c =
     let was = g.O.Write.contents c.args.writer.now in
     by_run c.args.paths.instance.now c.args.paths.script.now _ c.args.orders None None (Some []) (Some []) was was (g.F.Write.contents c.args.faults.now) (g.F.Write.contents c.stopped.new.faults) c.stopped.result bytes (read_of bytes) refl (λ none. refl)
     (unread (read_of bytes) c.args.orders (flow_of None None (Some []) (Some []) was was) (g.F.Write.contents c.args.faults.now) (g.F.Write.contents c.stopped.new.faults) c.from.result c.stopped.result
-    (no_instance c.in-Err-read.fault c.from.result (read_of bytes) (flow_of None None (Some []) (Some []) was was) (refl, refl, refl) c.from.ensures c.in-Err-read.ensures.exact) c.stopped.ensures.status c.stopped.ensures.told)
+    (no_instance c.in-Err-read.fault c.from.result (read_of bytes) (flow_of None None (Some []) (Some []) was was) (refl, refl, refl) c.from.ensures c.in-Err-read.ensures.exact) c.stopped.ensures.status c.stopped.ensures.reported)
 
 pub returns-in-Err-open-clause-files : goal.returns-in-Err-open-clause-files
 returns-in-Err-open-clause-files g c =
