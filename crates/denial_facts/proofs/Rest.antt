@@ -1,6 +1,6 @@
 -- The new routes that are left to look at.
-use Rattle.std.proofs.Common.{◌≡◌, ℕ, ◌+◌, ◌-◌, ◌<◌, ◌≤◌, arith, refl, sym, subst, inl, inr, ap, ◌∙◌, List, [], ◌∷◌, length}
-use Rattle.std.specs.Prelude.{◌⊎◌, All}
+use Rattle.std.proofs.Common.{◌≡◌, ℕ, ◌-◌, ◌≤◌, refl, subst, inl, inr, List, [], ◌∷◌}
+use Rattle.std.specs.Prelude.{All}
 use Rattle.dimension_core.specs.Feasible.{FitsAll, FitsIn}
 use Rattle.dimension_core.specs.NewRoutes.{Changes, AllKnown, IsOut}
 use Rattle.dimension_core.specs.Setting.{Setting}

@@ -1,14 +1,14 @@
 -- What the denial of a move by a bound says.
 use Rattle.std.proofs.Common.{◌≡◌, ℕ, ◌≤◌, arith, refl, sym, subst, List, [], ◌∷◌, length}
-use Rattle.std.specs.Prelude.{Bool, true, false, Option, Some, None, if◌then◌else◌}
+use Rattle.std.specs.Prelude.{Bool, true, false, Some, None, if◌then◌else◌}
 use Rattle.dimension_core.specs.Feasible.{FitsAll}
-use Rattle.dimension_core.specs.NewRoutes.{Changes, IsOut}
+use Rattle.dimension_core.specs.NewRoutes.{AllKnown, Changes, IsOut}
 use Rattle.dimension_core.specs.Setting.{Setting}
 use Rattle.denial_facts.specs.declared.excess.Excess.{Excess}
 use Rattle.denial_facts.specs.Excesses.{IsOutBy}
-use Rattle.plan_core.specs.Plan.{PlanState}
+use Rattle.plan_core.specs.Plan.{IsPlan, PlanState}
 use Rattle.move_core.specs.declared.moves.Move.{Move}
-use Rattle.move_core.specs.Moves.{changes_by, is_possible}
+use Rattle.move_core.specs.Moves.{changes_by, effect, is_possible}
 use Rattle.board_rules.specs.declared.reply.Denial.TheVariants as denials
 use Rattle.board_rules.specs.Rules.{Basis, IsVerdictBy}
 use Rattle.denial_notes.specs.declared.note.Note.{Note}
@@ -48,3 +48,10 @@ noted s plan found mv v d excess note same e out = (excess, e, subst (λ (change
 pub none_out : (s : Setting) (plan : PlanState) (found : Changes) (b : Basis) (base : ℕ) (mv : Move) (v d : ℕ) → found ≡ changes_by plan.routes mv → (IsOut s found v d → ⊥)
     → b.routes ≡ plan.routes → IsVerdictBy s b base mv (Some (denials.Bound v d)) → ⊥
 none_out s plan found b base mv v d e none same verdict = none (subst (λ (changes : Changes). IsOut s changes v d) (sym e) (bound_out s plan b base mv v d same verdict))
+
+-- the changes that were found are of vehicles and customers that are known
+pub known_by : (s : Setting) (plan : PlanState) (found : Changes) (mv : Move) → plan.customers ≡ s.customers → length plan.routes ≡ s.vehicles → IsPlan plan.customers plan.routes → is_possible plan.customers plan.routes mv ≡ true → found ≡ changes_by plan.routes mv
+    → (length plan.routes ≡ s.vehicles → IsPlan s.customers plan.routes → effect s.customers plan.routes mv ≡ Some (changes_by plan.routes mv) → AllKnown s (changes_by plan.routes mv)) → AllKnown s found
+known_by s plan found mv sized many sound possible same law =
+    let there = subst (λ (n : ℕ). is_possible n plan.routes mv ≡ true) sized possible in
+    subst (λ (changes : Changes). AllKnown s changes) (sym same) (law many (subst (λ (n : ℕ). IsPlan n plan.routes) sized sound) (rw there refl))

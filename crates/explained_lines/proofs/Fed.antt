@@ -305,6 +305,13 @@ module _ {S : Type 0} (step : S → Command → Answer → S → Type 0) (refuse
   abbrev pub IsRest : List ℕ → List ℕ → Option (List ℕ) → Option (List ℕ) → Type 0
   IsRest held text b c = (bytes : List ℕ) × Consumes b c bytes × IsLine text × (held ++ bytes ≡ text) × IsAtEnd c
 
+  -- a line that was cut off, by the text that is held of it
+  pub whole_of : (held next text items : List ℕ) (b c : Option (List ℕ)) → text ≡ items → ((bytes : List ℕ) × Consumes b c bytes × ((line : List ℕ) × IsLine line × (items ≡ ended line) × (held ++ bytes ≡ ended line ++ next))) → IsWhole held next text b c
+  whole_of held next text items b c e h = (h.0, h.1, h.2.0, h.2.1, e ∙ h.2.2, h.2.3)
+
+  pub rest_of : (held text items : List ℕ) (b c : Option (List ℕ)) → text ≡ items → ((bytes : List ℕ) × Consumes b c bytes × (IsLine items × (held ++ bytes ≡ items) × IsAtEnd c)) → IsRest held text b c
+  rest_of held text items b c e h = subst (λ (l : List ℕ). IsRest held l b c) (sym e) (h.0, h.1, h.2.0, h.2.1, h.2.2)
+
   as_ended : (mid new : S) (text line : List ℕ) (x y : Option (List ℕ)) (more : Counts) → text ≡ ended line → IsTextAnswered step mid new text x y more → IsTextAnswered step mid new (ended line) x y more
   as_ended mid new text line x y more e h = subst (λ (l : List ℕ). IsTextAnswered step mid new l x y more) e h
 

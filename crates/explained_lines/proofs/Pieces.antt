@@ -1,5 +1,5 @@
 -- Parts that are cut off what was read.
-use Rattle.std.proofs.Common.{◌≡◌, ◌≢◌, ℕ, ◌+◌, ◌-◌, ◌<◌, ◌≤◌, List, [], ◌∷◌, ◌++◌, length, take, drop, get_or, add-one, false, Option, Ok, Err, refl, sym, ap, ap₂, subst, ◌∙◌, append_assoc, arith}
+use Rattle.std.proofs.Common.{◌≡◌, ◌≢◌, ℕ, ◌+◌, ◌-◌, ◌<◌, ◌≤◌, List, [], ◌∷◌, ◌++◌, length, take, drop, get_or, add-one, false, true, Option, Ok, Err, refl, sym, ap, ap₂, subst, ◌∙◌, append_assoc, arith}
 use Rattle.std.specs.Io.KnownBytes.{Consumes, IsAtEnd, Keeps}
 use Rattle.std.proofs.lemmas.List.{append-nil, length-append, length-drop, take-append-drop, take_all}
 use Rattle.std.proofs.Math.Seq.{take-suc}
@@ -59,3 +59,8 @@ pub last_part : (had mid now after rest : List ℕ) (read new : Option (List ℕ
 last_part had mid now after rest read new bytes e u r f =
     let same : rest ≡ mid = f ∙ r.1 ∙ u.1 in
     (subst IsLine (sym same) u.0, ap (λ (l : List ℕ). had ++ l) (append-nil bytes) ∙ sym e ∙ sym same, r.2)
+
+-- there was more to read
+pub read_more : (had mid now held : List ℕ) (old read new : Option (List ℕ)) (bytes : List ℕ) → Consumes old read bytes → mid ≡ had ++ bytes → IsUncut mid now → AreRead true now held read new → (all : List ℕ) × Consumes old new all × (held ≡ had ++ all)
+read_more had mid now held old read new bytes g e u r =
+    (bytes ++ r.0, Consumes-then old read new bytes r.0 g r.1, r.2 ∙ ap (λ (l : List ℕ). l ++ r.0) (u.1 ∙ e) ∙ append_assoc had bytes r.0)

@@ -112,15 +112,22 @@ fn push_question(out: &mut String, fault: Option<AskFault>) -> Result<(), AllocE
     }
 }
 
-/// Appends why a command is answered with no of which nothing is journaled.
-fn push_unanswered(out: &mut String, board: &Board, command: &Command) -> Result<(), AllocError> {
-    match command {
-        Command::Submit(_) => out.push_str("the journal is full"),
-        Command::Review { session, which } => {
+/// Appends why a line, by what was read of its words, is answered with no, and nothing is journaled.
+fn push_unanswered(
+    out: &mut String,
+    board: &Board,
+    words: &[&[u8]],
+    read: &Result<Command, ReadFault>,
+) -> Result<(), AllocError> {
+    match read {
+        Ok(Command::Submit(_)) => out.push_str("the journal is full"),
+        Ok(Command::Review { session, which }) => {
             push_question(out, review_fault(board, *session, *which))
         }
-        Command::Audit { session } => push_question(out, audit_fault(board, *session)),
-        _ => push_question(out, Some(AskFault::NoSession)),
+        Ok(Command::Audit { session }) => push_question(out, audit_fault(board, *session)),
+        Ok(_) => push_question(out, Some(AskFault::NoSession)),
+        Err(ReadFault::Line(fault)) => push_bad(out, words, *fault),
+        Err(ReadFault::NoMemory) => Err(AllocError),
     }
 }
 
@@ -133,11 +140,8 @@ fn push_unjournaled(
 ) -> Result<(), AllocError> {
     let mut words = Vec::new(alloc);
     keep_all_words(&mut words, line)?;
-    match read_words(alloc, words.as_slice()) {
-        Ok(command) => push_unanswered(out, board, &command),
-        Err(ReadFault::Line(fault)) => push_bad(out, words.as_slice(), fault),
-        Err(ReadFault::NoMemory) => Err(AllocError),
-    }
+    let read = read_words(alloc, words.as_slice());
+    push_unanswered(out, board, words.as_slice(), &read)
 }
 
 /// The note on a line, by its number, that a board answered with no as its last one. Before the line it had so many entries.

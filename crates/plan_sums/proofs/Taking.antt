@@ -1,10 +1,9 @@
 -- One more row of a listing.
-use Rattle.std.proofs.Common.{◌≡◌, ◌≢◌, ◌∙◌, ℕ, ◌+◌, ◌<◌, ◌≤◌, Bool, true, false, ◌||◌, ◌&&◌, not, eqb, List, [], ◌∷◌, ◌++◌, length, take, set, Option, Some, None, ⊎_elim, refl, sym, ap, subst, arith}
-use Rattle.std.specs.Prelude.{nat_lt, nat_le, slice_index_or}
+use Rattle.std.proofs.Common.{◌≡◌, ◌≢◌, ◌∙◌, ℕ, ◌+◌, ◌<◌, ◌≤◌, Bool, true, false, ◌||◌, ◌&&◌, eqb, List, [], ◌∷◌, ◌++◌, length, map, get_or, take, set, Bor, Option, Some, None, ⊎_elim, refl, sym, ap, subst, arith}
+use Rattle.std.specs.Prelude.{nat_lt, slice_index_or}
 use Rattle.std.specs.List.{list_any}
 use Rattle.std.proofs.lemmas.Bool.{cases_lt}
 use Rattle.std.proofs.lemmas.Bool.Decides.{nat_tests}
-use Rattle.std.proofs.lemmas.Grind.{common_steps}
 use Rattle.std.proofs.lemmas.List.{length_push, get_or_push, get_or_append_left, take-append-le, take_at, get_or-set_same, get_or-set_other, length-set}
 use Rattle.std.proofs.lemmas.List.Folds.{list_any-append}
 use Rattle.plan_sums.specs.declared.row.Row.{Row}
@@ -13,7 +12,8 @@ use Rattle.plan_sums.specs.Rows.{AllFit, AreRows, AreSeen, IsRow, fits, is_row, 
 use Rattle.plan_sums.specs.Progress.{AreTaken}
 use Rattle.plan_sums.specs.Lines.{line_at}
 use Rattle.plan_sums.specs.declared.finding.Span.{Span}
-use Rattle.plan_sums.specs.Reading.{IsBadRowAt, IsNoRow, row_of, row_of_words}
+use Rattle.text_words.specs.Words.{number}
+use Rattle.plan_sums.specs.Reading.{IsBadRowAt, IsNoRow, lone_row, planned_row, row_of, row_of_words}
 
 -- one more row, at a place before the last one and at the last
 row_before : (rows : List Row) (row : Row) (k : ℕ) → k < length rows → row_at (rows ++ row ∷ []) k ≡ row_at rows k
@@ -111,3 +111,25 @@ five_words (a ∷ b ∷ c ∷ []) low high = absurd (omega arith)
 five_words (a ∷ b ∷ c ∷ d ∷ []) low high = absurd (omega arith)
 five_words (a ∷ b ∷ c ∷ d ∷ e ∷ []) low high = refl
 five_words (a ∷ b ∷ c ∷ d ∷ e ∷ f ∷ ws) low high = absurd (omega arith)
+
+-- what a line of four words is, and one of six
+pub four_words : (ws : List (Bor (List ℕ))) (e : Bor (List ℕ)) (v p c : Option ℕ) (r : Option Row) → 4 ≤ length ws → length ws < 5
+    → v ≡ number (get_or ws 1 e).now → p ≡ number (get_or ws 2 e).now → c ≡ number (get_or ws 3 e).now → r ≡ lone_row v p c → r ≡ row_of_words (map (λ w. w.now) ws)
+four_words [] e v p c r low high ev ep ec is = absurd (omega arith)
+four_words (w1 ∷ []) e v p c r low high ev ep ec is = absurd (omega arith)
+four_words (w1 ∷ w2 ∷ []) e v p c r low high ev ep ec is = absurd (omega arith)
+four_words (w1 ∷ w2 ∷ w3 ∷ []) e v p c r low high ev ep ec is = absurd (omega arith)
+four_words (w1 ∷ w2 ∷ w3 ∷ w4 ∷ []) e v p c r low high ev ep ec is = is ∙ rw (ev, ep, ec) refl
+four_words (w1 ∷ w2 ∷ w3 ∷ w4 ∷ w5 ∷ ws) e v p c r low high ev ep ec is = absurd (omega arith)
+
+pub six_words : (ws : List (Bor (List ℕ))) (e : Bor (List ℕ)) (v p c l t : Option ℕ) (r : Option Row) → 6 ≤ length ws → length ws < 7
+    → v ≡ number (get_or ws 1 e).now → p ≡ number (get_or ws 2 e).now → c ≡ number (get_or ws 3 e).now → l ≡ number (get_or ws 4 e).now → t ≡ number (get_or ws 5 e).now
+    → r ≡ planned_row v p c l t → r ≡ row_of_words (map (λ w. w.now) ws)
+six_words [] e v p c l t r low high ev ep ec el et is = absurd (omega arith)
+six_words (w1 ∷ []) e v p c l t r low high ev ep ec el et is = absurd (omega arith)
+six_words (w1 ∷ w2 ∷ []) e v p c l t r low high ev ep ec el et is = absurd (omega arith)
+six_words (w1 ∷ w2 ∷ w3 ∷ []) e v p c l t r low high ev ep ec el et is = absurd (omega arith)
+six_words (w1 ∷ w2 ∷ w3 ∷ w4 ∷ []) e v p c l t r low high ev ep ec el et is = absurd (omega arith)
+six_words (w1 ∷ w2 ∷ w3 ∷ w4 ∷ w5 ∷ []) e v p c l t r low high ev ep ec el et is = absurd (omega arith)
+six_words (w1 ∷ w2 ∷ w3 ∷ w4 ∷ w5 ∷ w6 ∷ []) e v p c l t r low high ev ep ec el et is = is ∙ rw (ev, ep, ec, el, et) refl
+six_words (w1 ∷ w2 ∷ w3 ∷ w4 ∷ w5 ∷ w6 ∷ w7 ∷ ws) e v p c l t r low high ev ep ec el et is = absurd (omega arith)

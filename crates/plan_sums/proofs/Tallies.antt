@@ -1,6 +1,5 @@
 -- Sums along the rows of a listing.
-use Rattle.std.proofs.Common.{◌≡◌, ◌∙◌, ℕ, zero, suc, ◌+◌, ◌-◌, ◌*◌, ◌<◌, ◌≤◌, Bool, true, false, List, [], ◌∷◌, ◌++◌, length, refl, sym, ap, subst, arith}
-use Rattle.std.specs.Prelude.{All}
+use Rattle.std.proofs.Common.{◌≡◌, ◌∙◌, ℕ, zero, suc, ◌+◌, ◌-◌, ◌≤◌, true, false, List, [], ◌∷◌, ◌++◌, refl, sym, ap, arith}
 use Rattle.std.specs.List.{flat_map, range_with_len, sum_by}
 use Rattle.std.proofs.lemmas.List.{append-nil, map-id}
 use Rattle.std.proofs.lemmas.List.Concat.{flat_map-append}
@@ -11,7 +10,6 @@ use Rattle.plan_sums.specs.declared.tour.Tally.{Tally}
 use Rattle.plan_sums.specs.declared.tour.Tour.{Tour}
 use Rattle.plan_sums.specs.Places.{Places}
 use Rattle.plan_sums.specs.Progress.{IsTallied}
-use Rattle.plan_sums.specs.Rows.{row_at}
 use Rattle.plan_sums.specs.Tours.{first_of, ways, tours_before, ends_tour, tour_at, tour_of}
 use Rattle.plan_sums.specs.Visits.{is_first, way_at}
 

@@ -1,4 +1,4 @@
-use Rattle.std.proofs.Common.{◌<◌, arith, length, refl, [], ◌∷◌, ◌∙◌}
+use Rattle.std.proofs.Common.{◌<◌, ◌≤◌, arith, length, refl, [], ◌∷◌, ◌∙◌}
 use Rattle.std.proofs.lemmas.List.{length-append}
 use Rattle.callback_store.specs.Registry.{tables}
 use Rattle.dimension_core.specs.Cumuls.{table_of}
@@ -40,3 +40,18 @@ pub returns : goal.returns
 returns g c =
     let t = table_of (tables c.args.registry.now) c.args.dimension.now in
     at_end t c.args.dimension.now c.args.vehicle c.args.route.now c.loop-k.k c.loop-k.range c.spans_go_on.ensures (omega arith) c.loop-k.invariant.0
+
+pub stop_at-node-requires : goal.stop_at-node-requires
+stop_at-node-requires g c = omega arith
+
+pub extend-requires-clause-to : goal.extend-requires-clause-to
+extend-requires-clause-to g c = c.stop_at-node.ensures.known (length c.args.dimension.now.ranges) c.start.ensures.depot c.requires.known
+
+pub least_after-requires-clause-to : goal.least_after-requires-clause-to
+least_after-requires-clause-to g c = c.stop_at-node.ensures.known (length c.args.dimension.now.ranges) c.start.ensures.depot c.requires.known
+
+pub least_after-requires-clause-early : goal.least_after-requires-clause-early
+least_after-requires-clause-early g c = let filled : c.loop-k.range.lo ≤ c.loop-k.range.hi = c.loop-k.invariant.0.filled in omega (arith, filled, c.loop-k.invariant.3)
+
+pub most_at-requires-clause-to : goal.most_at-requires-clause-to
+most_at-requires-clause-to g c = c.stop_at-node.ensures.known (length c.args.dimension.now.ranges) c.start.ensures.depot c.requires.known

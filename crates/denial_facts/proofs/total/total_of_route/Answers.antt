@@ -17,3 +17,13 @@ loop-k-preserved g c =
       c.stop_at-node.ensures.known (length c.args.dimension.now.ranges) (omega (arith, c.nodes-depots.ensures.value, c.nodes-depots.ensures.low)) c.requires.known,
       omega (arith, c.ask-sum.ensures.small, c.loop-k.invariant.2),
     )
+
+pub ask-sum-requires-clause-registered : goal.ask-sum-requires-clause-registered
+ask-sum-requires-clause-registered g c = rw c.id.ensures c.requires.served.registered
+
+pub ask-sum-requires-clause-from : goal.ask-sum-requires-clause-from
+ask-sum-requires-clause-from g c = rw c.requires.served.sized c.loop-k.invariant.1
+
+pub ask-sum-requires-clause-to : goal.ask-sum-requires-clause-to
+ask-sum-requires-clause-to g c =
+    rw c.requires.served.sized (c.stop_at-node.ensures.known (length c.args.dimension.now.ranges) (omega (arith, c.nodes-depots.ensures.value, c.nodes-depots.ensures.low)) c.requires.known)

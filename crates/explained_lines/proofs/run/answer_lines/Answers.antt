@@ -1,6 +1,6 @@
 use Rattle.std.proofs.Common.{◌≤◌, ◌+◌, ◌∙◌, refl, arith}
 use Rattle.std.proofs.lemmas.Result.{err_from_is_err_and}
-use Rattle.explained_lines.proofs.Fed.{full_fed, last_answered, last_broken, last_sums, line_answered, line_broken, line_sums, long_fed, none_fed, unread_at, IsRest, IsWhole}
+use Rattle.explained_lines.proofs.Fed.{full_fed, last_answered, last_broken, last_sums, line_answered, line_broken, line_sums, long_fed, none_fed, rest_of, unread_at, whole_of}
 use Rattle.explained_lines.proofs.run.answer_lines.Goals as goal
 
 pub lines-init : goal.lines-init
@@ -16,45 +16,45 @@ returns-in_err-more-in-Line-clause-err g c =
     let p = err_from_is_err_and c.from_residual-in_err-more-in-Line.result c.from_residual-in_err-more-in-Line.ensures.1 in
     let n = rw c.in-Line.is at c.in_ok-line.ensures in
     rw (p.1, p.2) (line_broken g.F.Front.step g.F.Front.refuses c.requires.skips c.in_err-more-in-Line.field-0.0 _ _ _ _ _ _ _ _ _ c.lines.feed.held.items c.next.new.self.held.items c.as_slice.result.now c.lines.before c.lines.counts c.lines.invariant.0
-    (n.0, n.1, n.2.0, n.2.1, c.as_slice.ensures.value ∙ n.2.2, n.2.3) c.in_err-more-in-Line.ensures.err)
+    (whole_of g.F.Front.step g.F.Front.refuses c.lines.feed.held.items c.next.new.self.held.items c.as_slice.result.now _ (g.I.Read.remaining c.lines.reader) (g.I.Read.remaining c.next.new.reader) c.as_slice.ensures.value n) c.in_err-more-in-Line.ensures.err)
 
 pub plus-counts-requires-clause-lines : goal.plus-counts-requires-clause-lines
 plus-counts-requires-clause-lines g c =
     let n = rw c.in-Line.is at c.in_ok-line.ensures in
     (line_sums g.F.Front.step g.F.Front.refuses _ _ _ _ _ _ _ _ c.lines.feed.held.items c.next.new.self.held.items c.as_slice.result.now c.lines.before c.lines.counts c.in_ok-more-in-Line.more c.lines.invariant.0 c.lines.auto.before-end
-    (n.0, n.1, n.2.0, n.2.1, c.as_slice.ensures.value ∙ n.2.2, n.2.3) c.in_ok-more-in-Line.ensures.ok).0
+    (whole_of g.F.Front.step g.F.Front.refuses c.lines.feed.held.items c.next.new.self.held.items c.as_slice.result.now _ (g.I.Read.remaining c.lines.reader) (g.I.Read.remaining c.next.new.reader) c.as_slice.ensures.value n) c.in_ok-more-in-Line.ensures.ok).0
 
 pub plus-counts-requires-clause-refused : goal.plus-counts-requires-clause-refused
 plus-counts-requires-clause-refused g c =
     let n = rw c.in-Line.is at c.in_ok-line.ensures in
     (line_sums g.F.Front.step g.F.Front.refuses _ _ _ _ _ _ _ _ c.lines.feed.held.items c.next.new.self.held.items c.as_slice.result.now c.lines.before c.lines.counts c.in_ok-more-in-Line.more c.lines.invariant.0 c.lines.auto.before-end
-    (n.0, n.1, n.2.0, n.2.1, c.as_slice.ensures.value ∙ n.2.2, n.2.3) c.in_ok-more-in-Line.ensures.ok).1
+    (whole_of g.F.Front.step g.F.Front.refuses c.lines.feed.held.items c.next.new.self.held.items c.as_slice.result.now _ (g.I.Read.remaining c.lines.reader) (g.I.Read.remaining c.next.new.reader) c.as_slice.ensures.value n) c.in_ok-more-in-Line.ensures.ok).1
 
 pub returns-in_err-more-in-Last-clause-err : goal.returns-in_err-more-in-Last-clause-err
 returns-in_err-more-in-Last-clause-err g c =
     let p = err_from_is_err_and c.from_residual-in_err-more-in-Last.result c.from_residual-in_err-more-in-Last.ensures.1 in
     let n = rw c.in-Last.is at c.in_ok-line.ensures in
     rw (p.1, p.2) (last_broken g.F.Front.step g.F.Front.refuses c.requires.skips c.in_err-more-in-Last.field-0.0 _ _ _ _ _ _ _ _ _ c.lines.feed.held.items c.as_slice-in-Last.result.now c.lines.before c.lines.counts c.lines.invariant.0
-    (rw c.as_slice-in-Last.ensures.value (n.0, n.1, n.2.0, n.2.1, n.2.2)) c.in_err-more-in-Last.ensures.err)
+    (rest_of g.F.Front.step g.F.Front.refuses c.lines.feed.held.items c.as_slice-in-Last.result.now _ (g.I.Read.remaining c.lines.reader) (g.I.Read.remaining c.next.new.reader) c.as_slice-in-Last.ensures.value n) c.in_err-more-in-Last.ensures.err)
 
 pub plus-requires-clause-lines : goal.plus-requires-clause-lines
 plus-requires-clause-lines g c =
     let n = rw c.in-Last.is at c.in_ok-line.ensures in
     (last_sums g.F.Front.step g.F.Front.refuses _ _ _ _ (g.I.Read.remaining c.lines.reader) (g.I.Read.remaining c.next.new.reader) _ _ c.lines.feed.held.items c.as_slice-in-Last.result.now c.lines.before c.lines.counts c.in_ok-more-in-Last.more c.lines.invariant.0 c.lines.auto.before-end
-    (rw c.as_slice-in-Last.ensures.value (n.0, n.1, n.2.0, n.2.1, n.2.2)) c.in_ok-more-in-Last.ensures.ok).0
+    (rest_of g.F.Front.step g.F.Front.refuses c.lines.feed.held.items c.as_slice-in-Last.result.now _ (g.I.Read.remaining c.lines.reader) (g.I.Read.remaining c.next.new.reader) c.as_slice-in-Last.ensures.value n) c.in_ok-more-in-Last.ensures.ok).0
 
 pub plus-requires-clause-refused : goal.plus-requires-clause-refused
 plus-requires-clause-refused g c =
     let n = rw c.in-Last.is at c.in_ok-line.ensures in
     (last_sums g.F.Front.step g.F.Front.refuses _ _ _ _ (g.I.Read.remaining c.lines.reader) (g.I.Read.remaining c.next.new.reader) _ _ c.lines.feed.held.items c.as_slice-in-Last.result.now c.lines.before c.lines.counts c.in_ok-more-in-Last.more c.lines.invariant.0 c.lines.auto.before-end
-    (rw c.as_slice-in-Last.ensures.value (n.0, n.1, n.2.0, n.2.1, n.2.2)) c.in_ok-more-in-Last.ensures.ok).1
+    (rest_of g.F.Front.step g.F.Front.refuses c.lines.feed.held.items c.as_slice-in-Last.result.now _ (g.I.Read.remaining c.lines.reader) (g.I.Read.remaining c.next.new.reader) c.as_slice-in-Last.ensures.value n) c.in_ok-more-in-Last.ensures.ok).1
 
 pub returns-in-Last-clause-ok : goal.returns-in-Last-clause-ok
 returns-in-Last-clause-ok g c =
     let n = rw c.in-Last.is at c.in_ok-line.ensures in
     let few : c.lines.before + 1 ≤ 4294967296 = omega (arith, c.lines-test.true, c.lines.auto.before-end) in
     last_answered g.F.Front.step g.F.Front.refuses _ _ _ _ _ _ _ _ _ c.lines.feed.held.items c.as_slice-in-Last.result.now c.lines.before c.lines.counts c.in_ok-more-in-Last.more c.plus.result c.lines.invariant.0
-    (rw c.as_slice-in-Last.ensures.value (n.0, n.1, n.2.0, n.2.1, n.2.2)) few c.in_ok-more-in-Last.ensures.ok c.plus.ensures.lines c.plus.ensures.refused
+    (rest_of g.F.Front.step g.F.Front.refuses c.lines.feed.held.items c.as_slice-in-Last.result.now _ (g.I.Read.remaining c.lines.reader) (g.I.Read.remaining c.next.new.reader) c.as_slice-in-Last.ensures.value n) few c.in_ok-more-in-Last.ensures.ok c.plus.ensures.lines c.plus.ensures.refused
 
 pub returns-in-Long-clause-err : goal.returns-in-Long-clause-err
 returns-in-Long-clause-err g c =
@@ -65,7 +65,7 @@ pub lines-preserved : goal.lines-preserved
 lines-preserved g c =
     let n = rw c.in-Line.is at c.in_ok-line.ensures in (
       line_answered g.F.Front.step g.F.Front.refuses _ _ _ _ _ _ _ _ _ c.lines.feed.held.items c.next.new.self.held.items c.as_slice.result.now c.lines.before c.lines.counts c.in_ok-more-in-Line.more c.plus-counts.result c.lines.invariant.0
-          (n.0, n.1, n.2.0, n.2.1, c.as_slice.ensures.value ∙ n.2.2, n.2.3) c.in_ok-more-in-Line.ensures.ok c.plus-counts.ensures.lines c.plus-counts.ensures.refused,
+          (whole_of g.F.Front.step g.F.Front.refuses c.lines.feed.held.items c.next.new.self.held.items c.as_slice.result.now _ (g.I.Read.remaining c.lines.reader) (g.I.Read.remaining c.next.new.reader) c.as_slice.ensures.value n) c.in_ok-more-in-Line.ensures.ok c.plus-counts.ensures.lines c.plus-counts.ensures.refused,
       c.in_ok-more-in-Line.ensures.ready,
     )
 

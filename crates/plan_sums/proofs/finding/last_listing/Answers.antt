@@ -1,4 +1,4 @@
-use Rattle.std.proofs.Common.{ap, arith, length, map, sym, ◌∙◌, [], ◌≡◌}
+use Rattle.std.proofs.Common.{ap, arith, map, sym, ◌∙◌, []}
 use Rattle.std.proofs.lemmas.List.{get_or-map, length-map}
 use Rattle.plan_sums.specs.Lines.{kind_of}
 use Rattle.plan_sums.proofs.Searching.{searched}

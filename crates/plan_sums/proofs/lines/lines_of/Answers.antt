@@ -1,7 +1,6 @@
 use Rattle.std.proofs.Common.{ap, sym, ◌∙◌, ◌≡◌, ◌++◌, List, ℕ, length, map, append-nil}
 use Rattle.std.proofs.lemmas.Bool.Decides.{nat_tests}
 use Rattle.std.proofs.Common.{arith}
-use Rattle.solomon_reader.specs.Cuts.{lines}
 use Rattle.plan_sums.proofs.Cutting.{lines_none}
 use Rattle.plan_sums.proofs.lines.lines_of.Goals as goal
 

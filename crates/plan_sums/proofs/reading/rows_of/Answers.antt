@@ -1,4 +1,4 @@
-use Rattle.std.proofs.Common.{arith, ap, subst, sym, ◌∙◌, ◌≡◌, ◌+◌, [], ◌∷◌, ◌++◌, ℕ, List, Bool, Option, Some, None, false, length, map}
+use Rattle.std.proofs.Common.{arith, ap, subst, sym, ◌∙◌, ◌≡◌, [], Bool, Option, Some, None, false, length, map}
 use Rattle.std.proofs.lemmas.List.{get_or-map, length_push}
 use Rattle.plan_sums.specs.declared.row.Row.{Row}
 use Rattle.plan_sums.specs.Lines.{line_at}
