@@ -1,7 +1,8 @@
 //! Runs with a worker and a live script, where memory runs out.
-use crate::scarce::Hoard;
+use crate::scarce::{Hoard, Outcome};
 use std::io::Eprint;
 use std::process::Abort;
+use std::str;
 use std::sync::Wait;
 use std::thread::Threads;
 use std::time::Clock;
@@ -25,6 +26,17 @@ const LIVE: &str = "\
 1 check move vehicle 1\n\
 1 add-user ann\n";
 
+/// The replies to the script.
+const FIRST: &str = "\
+done\n\
+done\n\
+done\n\
+done\n\
+committed 1\n\
+committed 2\n\
+committed 3\n";
+
+/// The replies to both.
 const REPLIES: &str = "\
 done\n\
 done\n\
@@ -36,7 +48,8 @@ committed 3\n\
 yes\n\
 done\n";
 
-const WANTED: &str = "\
+/// All that is written where no memory lacks.
+const WHOLE: &str = "\
 done\n\
 done\n\
 done\n\
@@ -49,6 +62,15 @@ done\n\
 worker 1 tried 1 committed 1 denied 0 refused 0\n\
 version 4\n";
 
+/// The last lines, by how many of the three rounds lacked memory. The first one that did not commits the one move that there is, and those
+/// behind it find none.
+const ENDS: [&str; 4] = [
+    "worker 1 tried 1 committed 1 denied 0 refused 0\nversion 4\n",
+    "worker 1 tried 2 committed 1 denied 0 refused 1\nversion 4\n",
+    "worker 1 tried 3 committed 1 denied 0 refused 2\nversion 4\n",
+    "worker 1 tried 3 committed 0 denied 0 refused 3\nversion 3\n",
+];
+
 const ONE_WORKER: Orders = Orders {
     workers: 1,
     rounds: 3,
@@ -56,36 +78,53 @@ const ONE_WORKER: Orders = Orders {
     progress: false,
 };
 
-/// Whether what was written is whole lines of the replies.
-fn is_front(written: &[u8]) -> bool {
-    let ends = written.is_empty() || written.ends_with(b"\n".as_slice());
-    ends && REPLIES.as_bytes().starts_with(written)
-}
-
-/// Whether what was written is whole lines of the replies, behind which may come what the worker did.
-fn is_shaped(written: &[u8]) -> bool {
-    for at in 0..written.len() {
-        let (front, rest) = written.split_at(at);
-        if rest.starts_with(b"worker 1 tried ".as_slice()) {
-            return is_front(front);
+/// What stands before the last lines, if one of these closes a text.
+fn before_end(text: &str) -> Option<&str> {
+    for end in ENDS {
+        if let Some(front) = text.strip_suffix(end) {
+            return Some(front);
         }
     }
-    is_front(written)
+    None
 }
 
-/// What a run came to: what is wanted, or an end or refused rounds for lack of memory.
-fn judged(written: &[u8], faults: &[u8], status: u8) -> Option<bool> {
-    if faults.is_empty() && written == WANTED.as_bytes() {
-        return Some(status == 0);
+/// Whether a text is that of a run one of whose lines, or whose last lines, lacked memory: whole lines of the replies, and behind those to
+/// the script, where the live script lacked it, the last lines.
+fn is_early(text: &str) -> bool {
+    let front = before_end(text).unwrap_or(text);
+    let is_closed = front.len() < text.len();
+    let is_live = FIRST.len() <= front.len() && front.len() < REPLIES.len();
+    let is_whole = front.is_empty() || front.ends_with("\n");
+    REPLIES.starts_with(front) && is_whole && (is_live || !is_closed)
+}
+
+/// Whether a run ended as it may where memory lacks.
+fn is_documented(text: &str, faults: &str, status: u8) -> bool {
+    if faults == "dispatch: open fault\n" {
+        return status == 3 && (text.is_empty() || text == FIRST || text == REPLIES);
     }
-    let is_open = faults == b"dispatch: open fault\n".as_slice();
-    let is_run = faults == b"dispatch: run fault no-memory\n".as_slice();
-    let is_early = status == 3 && (is_open || is_run);
-    let is_refused = status == 0 && faults.is_empty();
-    if (is_early || is_refused) && is_shaped(written) {
-        return None;
+    if faults == "dispatch: run fault no-memory\n" {
+        return status == 3 && is_early(text);
     }
-    Some(false)
+    status == 0 && faults.is_empty() && before_end(text) == Some(REPLIES)
+}
+
+/// Whether a run ended as it may; none where it was not answered so far.
+fn judged(written: &[u8], faults: &[u8], status: u8, wanted: &str) -> Option<bool> {
+    let Ok(text) = str::from_utf8(written) else {
+        return Some(false);
+    };
+    let Ok(reason) = str::from_utf8(faults) else {
+        return Some(false);
+    };
+    if !is_documented(text, reason, status) {
+        return Some(false);
+    }
+    if text.starts_with(wanted) {
+        Some(true)
+    } else {
+        None
+    }
 }
 
 /// Runs the scripts, and gives the status.
@@ -108,30 +147,50 @@ fn run<H: Threads + Wait + Clock + Eprint + AllocGlobal + Copy + Drop + Send + S
     )
 }
 
-/// Leaves a run no memory, and then more and more, until it gets through: how often memory ran out, and whether what was written then is what
-/// is wanted. A thread takes megabytes, so a share of what was left before is added each time.
+/// Leaves a run so many bytes, and then more and more, as `insist` does, until what is wanted is written.
 fn runs_until<
     H: Threads + Wait + Clock + Eprint + AllocGlobal + Copy + Drop + Send + Sync + 'static,
->(rt: H, hoard: &mut Hoard, written: &mut Vec<u8>, faults: &mut Vec<u8>) -> (u32, bool) {
-    let mut bytes = 0usize;
+>(
+    rt: H,
+    hoard: &mut Hoard,
+    written: &mut Vec<u8>,
+    faults: &mut Vec<u8>,
+    wanted: &str,
+    from: usize,
+) -> Outcome {
+    let mut lacked = from;
+    let mut more = 0usize;
     for refused in 0..4_000u32 {
+        let bytes = from.saturating_add(more);
         hoard.leave(bytes);
         let status = run(rt, written, faults);
         hoard.give_back();
-        if let Some(is_wanted) = judged(written, faults, status) {
-            return (refused, is_wanted);
+        if let Some(is_wanted) = judged(written, faults, status, wanted) {
+            return Outcome {
+                refused,
+                lacked,
+                bytes,
+                is_wanted,
+            };
         }
-        bytes = bytes.saturating_add(16).saturating_add(bytes / 64);
+        lacked = bytes;
+        more = more.saturating_add(16).saturating_add(more / 64);
     }
-    (4_000, false)
+    Outcome {
+        refused: 4_000,
+        lacked,
+        bytes: lacked,
+        is_wanted: false,
+    }
 }
 
-fn compare(rt: &impl Abort, ended: (u32, bool), hoard: &Hoard) {
-    assert!(rt; ended.1, "{ended:?}");
-    assert!(rt; hoard.is_enough(ended.0, 100), "{ended:?}");
+fn compare(rt: &impl Abort, outcome: Outcome, hoard: &Hoard, least: u32) {
+    assert!(rt; outcome.is_wanted, "{outcome:?}");
+    assert!(rt; hoard.is_enough(outcome.refused, least), "{outcome:?}");
 }
 
-/// A run with a worker gets through.
+/// A run with a worker gets through, and then once more: the thread of the second run has the stack of the first one's, so that there
+/// memory lacks for little things too.
 pub(crate) fn runs_beside<
     H: Threads + Wait + Clock + Eprint + AllocGlobal + Abort + Copy + Drop + Send + Sync + 'static,
 >(rt: H, hoard: &mut Hoard) {
@@ -141,6 +200,10 @@ pub(crate) fn runs_beside<
     let Ok(mut faults) = Vec::with_capacity(rt.alloc(), 4096) else {
         return;
     };
-    let ended = runs_until(rt, hoard, &mut written, &mut faults);
-    compare(&rt, ended, hoard);
+    let rough = runs_until(rt, hoard, &mut written, &mut faults, "done\n", 0);
+    compare(&rt, rough, hoard, 100);
+    let first = runs_until(rt, hoard, &mut written, &mut faults, WHOLE, rough.lacked);
+    compare(&rt, first, hoard, 100);
+    let again = runs_until(rt, hoard, &mut written, &mut faults, WHOLE, rough.lacked);
+    compare(&rt, again, hoard, 100);
 }

@@ -6,6 +6,33 @@ use std::alloc::{AllocError, Global};
 use std::io::{self, Read, Write};
 use std::process::Abort;
 
+/// Lines of a script, each once for each number from the first one to the last one, which stands in the place of `_`, and the reply to each.
+const PARTS: [(&str, &str, u32, u32); 16] = [
+    ("1 grant root audit board\n", "done\n", 1, 1),
+    ("1 grant root move vehicle 1 1000\n", "done\n", 1, 1),
+    ("1 grant root move customer 1 1000\n", "done\n", 1, 1),
+    ("1 grant root view vehicle 1 1000\n", "done\n", 1, 1),
+    ("1 grant root view customer 1 1000\n", "done\n", 1, 1),
+    // Each customer on the vehicle of the same number, and then all listed: each way is as long as the number.
+    ("1 insert _ _ 1 0\n", "committed _\n", 1, 1000),
+    ("1 list\n", "", 1, 1),
+    ("", "row _ 1 _ _ _ _ _ _ _ _ _\n", 1, 1000),
+    ("", "end\n", 1, 1),
+    // As many users, roles, sets and sessions as there is room for, and then one more of each.
+    ("1 add-user u_\n", "done\n", 0, 1022),
+    ("1 add-role r_\n", "done\n", 0, 254),
+    ("1 ssd-create s_ 2 r0 r254\n", "done\n", 0, 63),
+    ("1 dsd-create d_ 2 r0 r254\n", "done\n", 0, 63),
+    ("1 open u1022\n", "session _\n", 2, 1024),
+    ("1 open u1022\n", "refused full\n", 1, 1),
+    (
+        "1 add-user u\n1 add-role r\n1 ssd-create s 2 r0 r254\n1 dsd-create d 2 r0 r254\n",
+        "refused full\nrefused full\nrefused full\nrefused full\n",
+        1,
+        1,
+    ),
+];
+
 /// A script and the replies to it.
 #[derive(Drop)]
 struct Texts {
@@ -13,65 +40,17 @@ struct Texts {
     replies: String,
 }
 
-impl Texts {
-    /// Each customer on the vehicle of the same number.
-    fn push_plan(&mut self) -> Result<(), AllocError> {
-        let grants =
-            "1 grant root audit board\n1 grant root move vehicle 1 1000\n1 grant root move customer 1 1000\n1 grant root view vehicle 1 1000\n1 grant root view customer 1 1000\n";
-        self.lines.push_str(grants)?;
-        self.replies.push_str("done\ndone\ndone\ndone\ndone\n")?;
-        for c in 1..1001u32 {
-            write!(self.lines, "1 insert {c} {c} 1 0\n")?;
-            write!(self.replies, "committed {c}\n")?;
+/// Appends a text with a number in the place of each `_`.
+fn push_with(text: &mut String, form: &str, number: u32) -> Result<(), AllocError> {
+    let mut is_first = true;
+    for piece in form.split('_') {
+        if !is_first {
+            write!(text, "{number}")?;
         }
-        Ok(())
+        text.push_str(piece)?;
+        is_first = false;
     }
-
-    /// The row of a customer, whose way is as long as the customer's number.
-    fn push_row(&mut self, c: u32) -> Result<(), AllocError> {
-        write!(
-            self.replies,
-            "row {c} 1 {c} {c} {c} {c} {c} {c} {c} {c} {c}\n"
-        )
-    }
-
-    /// All customers listed.
-    fn push_list(&mut self) -> Result<(), AllocError> {
-        self.lines.push_str("1 list\n")?;
-        for c in 1..1001u32 {
-            self.push_row(c)?;
-        }
-        self.replies.push_str("end\n")
-    }
-
-    /// As many lines of a kind as there is room for, and one more.
-    fn push_numbered(&mut self, word: &str, count: u32, rest: &str) -> Result<(), AllocError> {
-        for n in 0..count {
-            write!(self.lines, "1 {word}{n}{rest}\n")?;
-            self.replies.push_str("done\n")?;
-        }
-        write!(self.lines, "1 {word}{count}{rest}\n")?;
-        self.replies.push_str("refused full\n")
-    }
-
-    /// As many sessions as there is room for beside the first one, and one more.
-    fn push_sessions(&mut self) -> Result<(), AllocError> {
-        for session in 2..1025u32 {
-            self.lines.push_str("1 open u1022\n")?;
-            write!(self.replies, "session {session}\n")?;
-        }
-        self.lines.push_str("1 open u1022\n")?;
-        self.replies.push_str("refused full\n")
-    }
-
-    /// Users, roles, sets and sessions.
-    fn push_rights(&mut self) -> Result<(), AllocError> {
-        self.push_numbered("add-user u", 1023, "")?;
-        self.push_numbered("add-role r", 255, "")?;
-        self.push_numbered("ssd-create s", 64, " 2 r0 r254")?;
-        self.push_numbered("dsd-create d", 64, " 2 r0 r254")?;
-        self.push_sessions()
-    }
+    Ok(())
 }
 
 /// Gives a line so many times, one a read.
@@ -149,14 +128,15 @@ fn says_again(
 
 /// The plan, its listing and the rights.
 fn all_texts(alloc: Global) -> Result<Texts, AllocError> {
-    let mut texts = Texts {
-        lines: String::new(alloc),
-        replies: String::new(alloc),
-    };
-    texts.push_plan()?;
-    texts.push_list()?;
-    texts.push_rights()?;
-    Ok(texts)
+    let mut lines = String::new(alloc);
+    let mut replies = String::new(alloc);
+    for (line, reply, first, last) in PARTS {
+        for number in first..=last {
+            push_with(&mut lines, line, number)?;
+            push_with(&mut replies, reply, number)?;
+        }
+    }
+    Ok(Texts { lines, replies })
 }
 
 /// A script has these replies.

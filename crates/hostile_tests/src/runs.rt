@@ -1,10 +1,10 @@
 //! Whole runs, and what they begin with, where memory runs out.
 use crate::rows::{A, MOVES, RIGHTS};
-use crate::scarce::{Attempt, Hoard, insist, reply_of};
+use crate::scarce::{Attempt, Hoard, insist};
 use board_program::{check_bytes, joined, scripted};
 use command_line::{OptionFault, Options, options};
 use solomon_reader::{ReadFault, read};
-use std::alloc::Global;
+use std::alloc::{AllocError, Global};
 use std::process::Abort;
 use travel_table::Travel;
 
@@ -141,30 +141,24 @@ fn gets_through<T: Attempt>(
 /// What a check says of the instance.
 const REPORT: &str = "name A\ncustomers 4\nvehicles 2\ncapacity 10\nhorizon 1000\n";
 
-/// Appends a row's line and its reply.
-fn push_row(alloc: Global, row: &str, lines: &mut String, replies: &mut String) -> Option<()> {
-    let (line, told) = row.split_once(" => ").unwrap_or((row, ""));
-    let reply = reply_of(alloc, told)?;
-    lines.push_str(line).ok()?;
-    lines.push('\n').ok()?;
-    replies.push_str(&reply).ok()
-}
-
-/// Appends the lines of a script and the replies to them.
-fn push_rows(alloc: Global, script: &str, lines: &mut String, replies: &mut String) -> Option<()> {
+/// Appends the lines of a script, and the replies to them, in which a stroke ends a line.
+fn push_rows(script: &str, lines: &mut String, replies: &mut String) -> Result<(), AllocError> {
     for row in script.split('\n') {
-        push_row(alloc, row, lines, replies)?;
+        let (line, told) = row.split_once(" => ").unwrap_or((row, ""));
+        write!(lines, "{line}\n")?;
+        write!(replies, "{told}/")?;
     }
-    Some(())
+    Ok(())
 }
 
 /// The lines of all moves and rights, and the replies to them.
-fn all_rows(alloc: Global) -> Option<(String, String)> {
+fn all_rows(alloc: Global) -> Result<(String, String), AllocError> {
     let mut lines = String::new(alloc);
     let mut replies = String::new(alloc);
-    push_rows(alloc, MOVES, &mut lines, &mut replies)?;
-    push_rows(alloc, RIGHTS, &mut lines, &mut replies)?;
-    Some((lines, replies))
+    for script in [MOVES, RIGHTS] {
+        push_rows(script, &mut lines, &mut replies)?;
+    }
+    Ok((lines, replies.replace(alloc, "/", "\n")?))
 }
 
 /// A kind of run goes through.
@@ -186,7 +180,7 @@ pub(crate) fn runs_go_through(rt: &impl Abort, alloc: Global, hoard: &mut Hoard)
     gets_through(rt, hoard, &mut Reading { alloc }, A, "A");
     gets_through(rt, hoard, &mut Words { alloc }, "instance", "instance");
     run_goes_through(rt, alloc, hoard, Kind::Check, A, REPORT);
-    let Some((lines, replies)) = all_rows(alloc) else {
+    let Ok((lines, replies)) = all_rows(alloc) else {
         return;
     };
     run_goes_through(rt, alloc, hoard, Kind::Scripted, &lines, &replies);

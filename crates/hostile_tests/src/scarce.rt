@@ -1,6 +1,10 @@
 //! Memory that runs out. All that the process can get is taken up, and a call is left so many bytes.
 //!
 //! A checker of memory, as that of `rt try`, has a memory of its own, and tests over this may fail there.
+//!
+//! The blocks that are taken up come as near below the main thread's stack as the system lets them, so that it can grow no more: a call whose
+//! frame lies below all that was used before would end the process by a signal. Where the stack begins in its first pages is drawn anew for
+//! each process, so that happened in some runs and not in others. So the stack is written first, as deep as any call here goes.
 ghost use Rattle.std.specs.Prelude.{◌<◌};
 
 use std::alloc::Global;
@@ -8,6 +12,20 @@ use std::process::Abort;
 
 /// How many blocks may be taken up.
 const MOST: usize = 300_000;
+
+/// How deep the stack is written. Calls here go 172,032 bytes deep, and the system may let a stack have no more than a megabyte.
+const DEEP: usize = 1 << 19;
+
+/// Writes the stack, and says whether it holds what was written. Each number but the first comes from one before it, so that a compiler
+/// cannot do without the array, and the first one is not known to it.
+#[inline(never)]
+fn is_written(first: u8) -> bool {
+    let mut room = [first; DEEP];
+    for at in 1..DEEP {
+        room[at] = room[at / 2].wrapping_add(1);
+    }
+    room[DEEP - 1] == first.wrapping_add(19)
+}
 
 /// Blocks that keep memory from others.
 #[derive(Drop)]
@@ -37,6 +55,16 @@ impl Blocks {
         };
         self.left -= 1;
         self.taken.push(block).is_ok()
+    }
+
+    /// Takes up so many blocks of one size, and says whether there are so many.
+    fn take_some(&mut self, size: usize, count: u32) -> bool {
+        for _ in 0..count {
+            if !self.take_one(size) {
+                return false;
+            }
+        }
+        true
     }
 
     /// Takes up blocks of one size until there are none, and says whether there are none.
@@ -90,22 +118,25 @@ pub(crate) struct Hoard {
     is_whole: bool,
 }
 
-/// What is left where memory is not to run out.
+/// What is left where memory is not to run out: some blocks of this size. The C library keeps what small blocks were taken from when they
+/// are given back, up to 32 megabytes each time.
 const ROOM: usize = 1 << 29;
 
+/// How many such blocks there are for calls of one thread, and for calls that start threads: a thread's stack needs room in one piece. Each
+/// block more makes it dearer to take up the room.
+pub(crate) const ALONE: u32 = 1;
+
+pub(crate) const THREADED: u32 = 16;
+
 impl Hoard {
-    /// Takes up all memory but the room.
-    pub(crate) fn new(alloc: Global) -> Option<Hoard> {
+    /// Takes up all memory but so many blocks of room.
+    pub(crate) fn new(alloc: Global, rooms: u32) -> Option<Hoard> {
         let mut large = Blocks::new(alloc)?;
         let small = Blocks::new(alloc)?;
-        let is_whole = match Vec::<u8>::with_capacity(alloc, ROOM) {
-            Ok(room) => {
-                let is_whole = large.take_halves(1 << 46, 26);
-                drop(room);
-                is_whole
-            }
-            Err(_) => false,
-        };
+        let mut room = Blocks::new(alloc)?;
+        let is_room = room.take_some(ROOM, rooms);
+        let is_whole = is_written(u8::from(is_room)) && is_room && large.take_halves(1 << 46, 26);
+        drop(room);
         Some(Hoard {
             alloc,
             large,
@@ -125,13 +156,14 @@ impl Hoard {
         !self.began || (self.is_whole && refused >= least)
     }
 
-    /// Takes up the room too, but so many bytes.
+    /// Takes up the room too, but so many bytes. The first blocks are half as large as a heap that the C library makes for a block that it
+    /// has no room for, and never gives back: where such a block lacks room, such a heap does too.
     pub(crate) fn leave(&mut self, bytes: usize) {
         if !self.is_whole {
             return;
         }
         let kept: Option<Vec<u8>> = Vec::with_capacity(self.alloc, bytes).ok();
-        self.is_whole = self.small.take_halves(1 << 30, 20) && self.small.take_crumbs();
+        self.is_whole = self.small.take_halves(1 << 25, 15) && self.small.take_crumbs();
         drop(kept);
     }
 
@@ -206,7 +238,7 @@ fn compare(rt: &impl Abort, outcome: Outcome, line: &str) {
 }
 
 /// The text of a reply: each line ends, where a row has a stroke and at its end.
-pub(crate) fn reply_of(alloc: Global, told: &str) -> Option<String> {
+fn reply_of(alloc: Global, told: &str) -> Option<String> {
     let mut text = told.replace(alloc, "/", "\n").ok()?;
     text.push('\n').ok()?;
     Some(text)

@@ -10,9 +10,9 @@ use crate::held::{compare_held, works_held};
 use crate::openings::{compare_opened, opens_until};
 use crate::rounds::{compare_rounds, works_on};
 use crate::runs::runs_go_through;
-use crate::scarce::Hoard;
+use crate::scarce::{ALONE, Hoard, THREADED};
 use crate::setups::{bounded, foyer_of, free, widest};
-use crate::works::{compare_started, starts_until};
+use crate::works::{compare_started, compare_unpushed, starts_until};
 use board_core::Board;
 use board_text::BoardFront;
 use callback_store::Transit;
@@ -27,7 +27,7 @@ use std::thread::Threads;
 /// All scripts, by boards of one thread and by a desk.
 fn lines_over<W: Wait + Abort>(rt: &W, alloc: Global, setup: Arc<Setup>) -> Result<(), Fail> {
     let (one, another) = (Arc::try_clone(&setup)?, Arc::try_clone(&setup)?);
-    let mut hoard = Hoard::new(alloc).ok_or("memory")?;
+    let mut hoard = Hoard::new(alloc, ALONE).ok_or("memory")?;
     boards_go_through(rt, alloc, &mut hoard, one, another);
     let foyer = foyer_of(rt, alloc, setup, 1).ok_or("a foyer")?;
     desks_go_through::<Brand, _, _>(rt, alloc, &mut hoard, foyer);
@@ -67,7 +67,7 @@ fn lines_go_through(rt: HostRuntime) -> Result<(), Fail> {
 /// All memory that there is can be taken up. Under `rt try` it cannot, and this fails.
 #[test]
 fn memory_can_be_taken_up(rt: HostRuntime) {
-    let is_whole = match Hoard::new(rt.alloc()) {
+    let is_whole = match Hoard::new(rt.alloc(), THREADED) {
         Some(hoard) => hoard.is_whole(),
         None => false,
     };
@@ -77,14 +77,14 @@ fn memory_can_be_taken_up(rt: HostRuntime) {
 #[test]
 fn runs_get_through(rt: HostRuntime) {
     let alloc = rt.alloc();
-    if let Some(mut hoard) = Hoard::new(alloc) {
+    if let Some(mut hoard) = Hoard::new(alloc, ALONE) {
         runs_go_through(&rt, alloc, &mut hoard);
     }
 }
 
 #[test]
 fn runs_with_a_worker_get_through(rt: HostRuntime) {
-    if let Some(mut hoard) = Hoard::new(rt.alloc()) {
+    if let Some(mut hoard) = Hoard::new(rt.alloc(), THREADED) {
         runs_beside(rt, &mut hoard);
     }
 }
@@ -102,49 +102,24 @@ fn rights_change<W: Threads + Wait + Abort + Sync>(
     Ok(())
 }
 
-/// Three customers on a line, 30 from each other.
-#[test]
-fn workers_whose_rights_change(rt: HostRuntime) -> Result<(), Fail> {
-    let drive = Box::new(
-        rt.alloc(),
-        move |i: u32, j: u32| -> u64
-            ensures { result ≡ 30 * way i j }
-        { u64::from(i.abs_diff(j)) * 30 },
-    )?;
-    let drives = Transit::new(4, drive);
-    let setup = free(rt.alloc(), drives).ok_or("a setup")?;
-    rights_change(&rt, rt.alloc(), setup)
-}
-
 /// Rounds of a worker, openings of halls, and then starts of workers, that lack memory.
 fn memory_lacks<W: Threads + Wait + Abort + Sync>(
     rt: &W,
     alloc: Global,
     setup: Arc<Setup>,
 ) -> Result<(), Fail> {
-    let mut hoard = Hoard::new(alloc).ok_or("memory")?;
+    let mut hoard = Hoard::new(alloc, THREADED).ok_or("memory")?;
     let again = Arc::try_clone(&setup)?;
     let foyer = foyer_of(rt, alloc, again, 2).ok_or("a foyer")?;
     let ended = works_on::<Brand, _, _>(rt, alloc, &mut hoard, foyer);
     compare_rounds(rt, &hoard, &ended);
     let opened = opens_until(rt, alloc, &mut hoard, &setup);
     compare_opened(rt, &hoard, opened);
-    let started = starts_until(rt, alloc, &mut hoard, &setup);
-    compare_started(rt, &hoard, started);
+    let started = starts_until(rt, alloc, &mut hoard, &setup, 5, 16);
+    compare_started(rt, &hoard, started, 5);
+    let started = starts_until(rt, alloc, &mut hoard, &setup, 2, usize::MAX);
+    compare_unpushed(rt, &hoard, started, 2);
     Ok(())
-}
-
-#[test]
-fn rounds_and_halls_that_lack_memory(rt: HostRuntime) -> Result<(), Fail> {
-    let drive = Box::new(
-        rt.alloc(),
-        move |i: u32, j: u32| -> u64
-            ensures { result ≡ 30 * way i j }
-        { u64::from(i.abs_diff(j)) * 30 },
-    )?;
-    let drives = Transit::new(4, drive);
-    let setup = free(rt.alloc(), drives).ok_or("a setup")?;
-    memory_lacks(&rt, rt.alloc(), setup)
 }
 
 /// A thousand customers on a line, each as far from the depot as its number.
@@ -167,18 +142,54 @@ fn a_board_as_large_as_may_be(rt: HostRuntime) -> Result<(), Fail> {
     Ok(())
 }
 
-#[test]
-fn given_up_commands_cost_no_copy(rt: HostRuntime) -> Result<(), Fail> {
+/// Commands that are given up.
+fn commands_given_up(rt: &impl Abort, alloc: Global, setup: Arc<Setup>) -> Result<(), Fail> {
+    let again = Arc::try_clone(&setup)?;
+    let mut hoard = Hoard::new(alloc, ALONE).ok_or("memory")?;
+    go_on(rt, alloc, &mut hoard, setup, again);
+    Ok(())
+}
+
+/// What is tried with three customers on a line.
+#[derive(Clone, Copy, Drop)]
+enum Kind {
+    RightsChange,
+    MemoryLacks,
+    GivenUp,
+}
+
+/// Three customers on a line, 30 from each other.
+fn on_a_line<W: Threads + Wait + Abort + Sync>(
+    rt: &W,
+    alloc: Global,
+    kind: Kind,
+) -> Result<(), Fail> {
     let drive = Box::new(
-        rt.alloc(),
+        alloc,
         move |i: u32, j: u32| -> u64
             ensures { result ≡ 30 * way i j }
         { u64::from(i.abs_diff(j)) * 30 },
     )?;
     let drives = Transit::new(4, drive);
-    let setup = free(rt.alloc(), drives).ok_or("a setup")?;
-    let again = Arc::try_clone(&setup)?;
-    let mut hoard = Hoard::new(rt.alloc()).ok_or("memory")?;
-    go_on(&rt, rt.alloc(), &mut hoard, setup, again);
-    Ok(())
+    let setup = free(alloc, drives).ok_or("a setup")?;
+    match kind {
+        Kind::RightsChange => rights_change(rt, alloc, setup),
+        Kind::MemoryLacks => memory_lacks(rt, alloc, setup),
+        Kind::GivenUp => commands_given_up(rt, alloc, setup),
+    }
+}
+
+#[test]
+fn workers_whose_rights_change(rt: HostRuntime) -> Result<(), Fail> {
+    on_a_line(&rt, rt.alloc(), Kind::RightsChange)
+}
+
+#[test]
+fn rounds_and_halls_that_lack_memory(rt: HostRuntime) -> Result<(), Fail> {
+    on_a_line(&rt, rt.alloc(), Kind::MemoryLacks)
+}
+
+#[test]
+fn given_up_commands_cost_no_copy(rt: HostRuntime) -> Result<(), Fail> {
+    on_a_line(&rt, rt.alloc(), Kind::GivenUp)
 }

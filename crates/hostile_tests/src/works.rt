@@ -1,5 +1,5 @@
 //! Workers that are started while memory runs out.
-ghost use Rattle.std.specs.Prelude.{◌≡◌};
+ghost use Rattle.std.specs.Prelude.{◌≡◌, ◌≤◌, ◌<◌};
 
 use crate::scarce::Hoard;
 use crate::setups::foyer_of;
@@ -12,8 +12,8 @@ use std::process::Abort;
 use std::sync::{Arc, Wait};
 use std::thread::Threads;
 
-/// How many shares come of five workers without rounds that are started with so many bytes, or why none do; nothing where their hall was not
-/// opened.
+/// How many shares come of the workers of a hall, each without rounds, that are started with so many bytes, or why none do; nothing where
+/// the hall was not opened.
 fn shares_of<N: Naming + Send + Sync, R: Wait + Drop + Send + Sync, W: Threads + Wait + Sync>(
     rt: &W,
     alloc: Global,
@@ -27,11 +27,11 @@ fn shares_of<N: Naming + Send + Sync, R: Wait + Drop + Send + Sync, W: Threads +
     let Ok(desks) = open_hall::<N, R>(alloc, foyer) else {
         return None;
     };
-    if desks.len() != 5 {
+    if desks.len() > 63 {
         return None;
     }
-    let sessions = Vec::from_slice(alloc, &[1u32, 1, 1, 1, 1]).ok()?;
-    let seeds = Vec::from_slice(alloc, &[1u64, 2, 3, 4, 5]).ok()?;
+    let sessions = Vec::from_elem(alloc, 1u32, desks.len()).ok()?;
+    let seeds = Vec::from_elem(alloc, 1u64, desks.len()).ok()?;
     hoard.leave(bytes);
     let worked = work_all(rt, alloc, desks, sessions, seeds, 0, &OpenGate);
     hoard.give_back();
@@ -41,42 +41,80 @@ fn shares_of<N: Naming + Send + Sync, R: Wait + Drop + Send + Sync, W: Threads +
     }
 }
 
-/// The same by a new board.
+/// The same by a new board of so many desks.
 fn started_with<W: Threads + Wait + Sync>(
     rt: &W,
     alloc: Global,
     hoard: &mut Hoard,
     setup: &Arc<Setup>,
+    workers: u32,
     bytes: usize,
-) -> Option<Result<usize, WorkFault>> {
-    let foyer = foyer_of(rt, alloc, Arc::try_clone(setup).ok()?, 5)?;
+) -> Option<Result<usize, WorkFault>>
+    requires low { 1 ≤ workers }
+    requires high { workers ≤ 64 }
+{
+    let foyer = foyer_of(rt, alloc, Arc::try_clone(setup).ok()?, workers)?;
     shares_of::<Brand, _, _>(rt, alloc, hoard, foyer, bytes)
 }
 
-/// No memory for a thread, memory for some of five, whose stacks take eight megabytes each as a rule, and for all.
-const LEFT: [usize; 3] = [0, 36 << 20, 1 << 28];
+/// How often a thread was not started, how often memory ran out behind the threads, and how many shares there were in the end.
+#[derive(Clone, Copy, Debug, Drop)]
+pub(crate) struct Started {
+    unstarted: u32,
+    unpushed: u32,
+    shares: Option<usize>,
+}
 
-/// Starts five workers time and again, each time with more memory, until all are started: how often one was not, and how many shares there
-/// are then.
+/// How often workers are started at most.
+const TRIES: u32 = 400;
+
+/// Starts workers time and again, first with no memory and then each time with 16 bytes and a part of those before more, until all give
+/// their shares.
 pub(crate) fn starts_until<W: Threads + Wait + Sync>(
     rt: &W,
     alloc: Global,
     hoard: &mut Hoard,
     setup: &Arc<Setup>,
-) -> (u32, Option<usize>) {
-    let mut refused = 0u32;
-    for bytes in LEFT {
-        match started_with(rt, alloc, hoard, setup, bytes) {
-            Some(Err(WorkFault::Spawn)) => refused = refused.wrapping_add(1),
-            Some(Ok(shares)) => return (refused, Some(shares)),
-            _ => return (refused, None),
+    workers: u32,
+    part: usize,
+) -> Started
+    requires low { 1 ≤ workers }
+    requires high { workers ≤ 64 }
+    requires part { 0 < part }
+{
+    let mut started = Started {
+        unstarted: 0,
+        unpushed: 0,
+        shares: None,
+    };
+    let mut bytes = 0usize;
+    for _ in 0..TRIES {
+        match started_with(rt, alloc, hoard, setup, workers, bytes) {
+            Some(Err(WorkFault::Spawn)) => started.unstarted = started.unstarted.wrapping_add(1),
+            Some(Err(WorkFault::NoMemory)) => started.unpushed = started.unpushed.wrapping_add(1),
+            Some(Ok(shares)) => {
+                started.shares = Some(shares);
+                return started;
+            }
+            None => return started,
         }
+        bytes = bytes.saturating_add(16).saturating_add(bytes / part);
     }
-    (refused, None)
+    started
 }
 
 /// Where memory lacked for a thread, for the first one or for a later one, the fault was `Spawn`, and the next start gave all shares.
-pub(crate) fn compare_started(rt: &impl Abort, hoard: &Hoard, started: (u32, Option<usize>)) {
-    assert!(rt; hoard.is_enough(started.0, 1), "{started:?}");
-    assert_eq!(rt; started.1, Some(5usize));
+pub(crate) fn compare_started(rt: &impl Abort, hoard: &Hoard, started: Started, workers: usize) {
+    assert!(rt; hoard.is_enough(started.unstarted, 20), "{started:?}");
+    assert_eq!(rt; started.shares, Some(workers));
+}
+
+/// Where memory lacked for the shares alone, behind threads that had the stacks of threads before them, the fault was `NoMemory`, and the
+/// next start gave all shares. The C library keeps stacks of 40 megabytes in all: where two take more, a thread lacks memory each time.
+pub(crate) fn compare_unpushed(rt: &impl Abort, hoard: &Hoard, started: Started, workers: usize) {
+    if started.unstarted == TRIES {
+        return;
+    }
+    assert!(rt; hoard.is_enough(started.unpushed, 1), "{started:?}");
+    assert_eq!(rt; started.shares, Some(workers));
 }

@@ -3,8 +3,8 @@ use borrow.Pointer.Called.{post_made}
 use Rattle.callback_store.specs.Boxed.{post_of_closure}
 use Rattle.callback_store.specs.Closures.{pairs_of_function}
 use Rattle.hostile_tests.specs.Ways.{way}
-use Rattle.hostile_tests.proofs.tests.given_up_commands_cost_no_copy.OwnLists.{own-1, at-1-1}
-use Rattle.hostile_tests.proofs.tests.given_up_commands_cost_no_copy.Goals as goal
+use Rattle.hostile_tests.proofs.tests.on_a_line.OwnLists.{own-1, at-1-1}
+use Rattle.hostile_tests.proofs.tests.on_a_line.Goals as goal
 
 pub new-drives-requires-clause-table : goal.new-drives-requires-clause-table
 new-drives-requires-clause-table g c =
