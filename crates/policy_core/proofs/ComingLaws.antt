@@ -15,7 +15,7 @@ use Rattle.policy_core.specs.declared.session.Session.{Session}
 use Rattle.policy_core.specs.declared.session.Counting.{Counting}
 use Rattle.policy_core.specs.declared.session.Counting.TheVariants.{Active, Inherited}
 use Rattle.policy_core.specs.State.{PolicyState, IsPolicy, counted, with_roles, with_session, broken_ssd, broken_dsd}
-use Rattle.policy_core.proofs.BreakLaws.{broken_at}
+use Rattle.policy_core.specs.BreakLaws.{broken_at}
 use Rattle.policy_core.proofs.CommandLaws.{counted_of, roles_judged, session_judged}
 
 -- a member that the others did not have is the one that came

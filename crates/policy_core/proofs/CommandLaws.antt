@@ -1,28 +1,27 @@
 -- What the commands' judgements say of the whole policy.
-use Rattle.std.proofs.Common.{◌≡◌, ◌≤◌, ◌<◌, ◌+◌, ℕ, Bool, true, false, List, [], ◌∷◌, length, map, filter, not, ap₂, Option, Some, None, sym, refl, subst, ap, ◌∙◌, arith}
+use Rattle.std.proofs.Common.{◌≡◌, ◌≤◌, ◌<◌, ◌+◌, ℕ, Bool, true, false, List, length, filter, not, Option, Some, None, sym, refl, subst, ap, ◌∙◌, arith}
 use Rattle.std.specs.Prelude.{bytes_eq, nat_eq, is_some, count_ones}
 use Rattle.std.specs.List.{list_all}
 use Rattle.std.specs.Option.{option_map, option_or}
 use Rattle.indexmap.specs.IndexMap.{insert_entry}
 use Rattle.std.specs.Map.{lookup, remove_entry}
-use Rattle.std.proofs.lemmas.Bool.{and_parts, or_parts}
+use Rattle.std.proofs.lemmas.Bool.{or_parts}
 use Rattle.role_hierarchy.specs.Roles.{has, with_role, without}
 use Rattle.role_hierarchy.specs.Order.{Order, with_slot, with_pair, is_there, role_count}
 use Rattle.role_hierarchy.specs.Below.{closed, IsOrder}
-use Rattle.role_hierarchy.specs.RoleLaws.{has-without, has-with_role, has-empty}
+use Rattle.role_hierarchy.specs.RoleLaws.{has-with_role, has-empty}
 use Rattle.role_hierarchy.specs.BelowLaws.{closed_fewer, closed-with_slot}
 use Rattle.separation_core.specs.Groups.{AreSets, Groups, first_broken, first_breaking}
 use Rattle.separation_core.specs.GroupLaws.{first_broken-fewer}
 use Rattle.permission_core.specs.declared.objects.Operation.{Operation}
 use Rattle.permission_core.specs.Permissions.{Rows, row_at, row_set}
-use Rattle.policy_core.specs.declared.refusal.Refusal.{Refusal}
 use Rattle.policy_core.specs.declared.refusal.Refusal.TheVariants.{Ssd, Dsd}
 use Rattle.policy_core.specs.declared.session.Session.{Session}
-use Rattle.policy_core.specs.declared.session.Counting.{Counting}
 use Rattle.policy_core.specs.State.{HasSlots, PolicyState, IsPolicy, AreThere, no_policy, authorized, counted, rise, broken_ssd, broken_dsd, with_roles, with_session, is_session, is_role, broken}
 use Rattle.policy_core.specs.Commands.{slots_of}
-use Rattle.policy_core.proofs.BreakLaws.{breaking_inserted, broken_at, breaking_removed, breaking_filtered, closed_none, none_breaks}
-use Rattle.policy_core.proofs.CountLaws.{counted_fewer, counted-with_slot}
+use Rattle.policy_core.specs.KeptLaws.{none_mapped, without_within, same_authorized, same_counted}
+use Rattle.policy_core.specs.BreakLaws.{breaking_inserted, broken_at, breaking_removed, breaking_filtered, closed_none, none_breaks}
+use Rattle.policy_core.specs.CountLaws.{counted_fewer, counted-with_slot}
 use lib.Count.{ones-le}
 use Rattle.policy_core.proofs.EntryLaws.{length-inserted, length-present, length-removed, length-kept}
 use Rattle.policy_core.proofs.FreeLaws.{with_none, without_none, apart_slots, none_found, named_there, row_other, bare_rows, none_inserted, none_removed, none_kept, no_rows_bare, bare_users, bare_sessions}
@@ -31,10 +30,6 @@ use Rattle.policy_core.proofs.NumberLaws.{numbers-present, rise-removed, rise-fi
 -- what DSD counts of a session
 abbrev pub counted_of : PolicyState → Session → ℕ
 counted_of p s = counted p.counting p.order s.active
-
-pub none_mapped : (f : List ℕ → Refusal) (found : Option (List ℕ)) → option_map f found ≡ None → found ≡ None
-none_mapped f None h = refl
-none_mapped f (Some x) h = cc
 
 module _ (p now : PolicyState) (same : p ≡ now) (is : IsPolicy p) where
   -- the one user whose roles change is judged for all
@@ -200,9 +195,6 @@ module _ (p now : PolicyState) (same : p ≡ now) (is : IsPolicy p) where
         count = is.count;
       })
 
-pub without_within : (roles slot q : ℕ) → has (without roles slot) q ≡ true → has roles q ≡ true
-without_within roles slot q h = (and_parts _ _ (sym (has-without roles slot q) ∙ h)).1
-
 pub fewer_of : (roles slot left : ℕ) → left ≡ without roles slot → (q : ℕ) → has left q ≡ true → has roles q ≡ true
 fewer_of roles slot left is q h = without_within roles slot q (ap (λ s. has s q) (sym is) ∙ h)
 
@@ -238,14 +230,6 @@ none_is_policy customers vehicles few some p is =
       count = sym no_members;
     } in
     subst IsPolicy (sym is) none
-
-same_authorized : (few many : Order) → ((roles : ℕ) → closed few roles ≡ closed many roles) → (users : List (List ℕ × ℕ)) → map (λ u. closed few u.1) users ≡ map (λ u. closed many u.1) users
-same_authorized few many same [] = refl
-same_authorized few many same (u ∷ users) = ap₂ (λ x xs. x ∷ xs) (same u.1) (same_authorized few many same users)
-
-same_counted : (counting : Counting) (few many : Order) → ((active : ℕ) → counted counting few active ≡ counted counting many active) → (sessions : List (ℕ × Session)) → map (λ s. counted counting few s.1.active) sessions ≡ map (λ s. counted counting many s.1.active) sessions
-same_counted counting few many same [] = refl
-same_counted counting few many same (s ∷ sessions) = ap₂ (λ x xs. x ∷ xs) (same s.1.active) (same_counted counting few many same sessions)
 
 -- a new role, at a slot in which no pair stands
 pub role_whole : (p : PolicyState) → IsPolicy p → (roles : List (List ℕ × ℕ)) (order : Order) (slot : ℕ) → order ≡ with_slot p.order slot → HasSlots roles order.roles → length roles ≡ role_count order → IsPolicy (record p { roles = roles; order = order })

@@ -1,14 +1,10 @@
-mod AccessLaws
 mod AuthorityLaws
-mod BreakLaws
 mod ComingLaws
 mod CommandLaws
-mod CountLaws
 mod EntryLaws
 mod FewerLaws
 mod FillLaws
 mod FreeLaws
-mod HoldLaws
 mod MemberLaws
 mod NumberLaws
 mod OpeningLaws

@@ -10,7 +10,7 @@ use Rattle.separation_core.specs.declared.sets.Limit.{Limit}
 use Rattle.policy_core.specs.declared.refusal.Refusal.TheVariants.{Ssd, Dsd}
 use Rattle.policy_core.specs.declared.session.Session.{Session}
 use Rattle.policy_core.specs.declared.session.Counting.{Counting}
-use Rattle.policy_core.proofs.CommandLaws.{none_mapped}
+use Rattle.policy_core.specs.KeptLaws.{none_mapped}
 use Rattle.policy_core.proofs.FreeLaws.{bare_ssd, bare_dsd}
 use Rattle.policy_core.specs.State.{PolicyState, IsPolicy, authorized, counted, counted_all, broken_ssd, broken_dsd}
 

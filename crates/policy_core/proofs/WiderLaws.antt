@@ -19,7 +19,7 @@ use Rattle.policy_core.specs.declared.session.Counting.{Counting}
 use Rattle.policy_core.specs.declared.session.Counting.TheVariants.{Active, Inherited}
 use Rattle.policy_core.specs.State.{PolicyState, IsPolicy, counted, broken_ssd, broken_dsd}
 use Rattle.policy_core.specs.Wider.{AreSeniors, wider, all_wider, held_in, active_in}
-use Rattle.policy_core.proofs.BreakLaws.{not_broken}
+use Rattle.policy_core.specs.BreakLaws.{not_broken}
 
 module _ {E : Type 0} (order : Order) (is : IsOrder order) (s j : ℕ) (in_s : s < 256) (in_j : j < 256) (g : E → ℕ) where
   any_append : (test : ℕ → Bool) (xs ys : List ℕ) → list_any test (xs ++ ys) ≡ (list_any test xs || list_any test ys)

@@ -1,6 +1,11 @@
 pub mod Access
+pub mod AccessLaws
 pub mod Authority
+pub mod BreakLaws
 pub mod Commands
+pub mod CountLaws
+pub mod HoldLaws
+pub mod KeptLaws
 pub mod Opening
 pub mod Parts
 pub mod Reviews

@@ -1,6 +1,6 @@
 use Rattle.std.proofs.Common.{◌≡◌, Bool, true, sym, subst, ◌↔◌}
 use Rattle.policy_core.specs.Access.{CheckAccess}
-use Rattle.policy_core.proofs.AccessLaws.{access_by_test}
+use Rattle.policy_core.specs.AccessLaws.{access_by_test}
 use Rattle.policy_core.proofs.policy.Policy.check_plain.Goals as goal
 
 pub returns-clause-exists : goal.returns-clause-exists

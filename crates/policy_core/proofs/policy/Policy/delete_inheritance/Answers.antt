@@ -3,7 +3,8 @@ use Rattle.std.proofs.lemmas.Bool.{and_parts}
 use Rattle.role_hierarchy.specs.Order.{Order, stands, is_there, role_count}
 use Rattle.policy_core.specs.Seen.{state_of}
 use Rattle.policy_core.specs.State.{HasSlots}
-use Rattle.policy_core.proofs.FewerLaws.{narrowed_whole, fewer_pairs, authorized_none}
+use Rattle.policy_core.specs.KeptLaws.{fewer_pairs}
+use Rattle.policy_core.proofs.FewerLaws.{narrowed_whole, authorized_none}
 use Rattle.policy_core.proofs.FreeLaws.{bare_sessions}
 use Rattle.policy_core.proofs.policy.Policy.delete_inheritance.Goals as goal
 

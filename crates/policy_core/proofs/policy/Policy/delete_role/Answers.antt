@@ -8,12 +8,13 @@ use Rattle.separation_core.specs.Groups.{is_in_some}
 use Rattle.policy_core.specs.Seen.{state_of}
 use Rattle.policy_core.specs.State.{PolicyState, HasSlots, authorized, slot_of}
 use Rattle.role_hierarchy.specs.Below.{closed}
-use Rattle.policy_core.proofs.BreakLaws.{AreFewer}
+use Rattle.policy_core.specs.BreakLaws.{AreFewer}
 use Rattle.policy_core.specs.Commands.{role_gone, role_gone_at, kept_authorized}
-use Rattle.policy_core.proofs.CommandLaws.{same_parts, without_within}
+use Rattle.policy_core.specs.KeptLaws.{without_within, fewer_roles}
+use Rattle.policy_core.proofs.CommandLaws.{same_parts}
 use Rattle.policy_core.proofs.EntryLaws.{length-changed, length-gone}
 use Rattle.policy_core.proofs.SlotLaws.{slots_removed}
-use Rattle.policy_core.proofs.FewerLaws.{narrowed_whole, fewer_roles, role_gone_bare}
+use Rattle.policy_core.proofs.FewerLaws.{narrowed_whole, role_gone_bare}
 use Rattle.policy_core.proofs.policy.Policy.delete_role.Goals as goal
 
 pub returns-clause-ok : goal.returns-clause-ok

@@ -4,7 +4,8 @@ use Rattle.policy_core.specs.declared.session.Session.{Session}
 use Rattle.policy_core.specs.Seen.{state_of}
 use Rattle.policy_core.specs.State.{PolicyState}
 use Rattle.policy_core.specs.Commands.{kept_session, narrowed}
-use Rattle.policy_core.proofs.FewerLaws.{narrowed_sessions, kept_within}
+use Rattle.policy_core.specs.KeptLaws.{kept_within}
+use Rattle.policy_core.proofs.FewerLaws.{narrowed_sessions}
 use Rattle.policy_core.proofs.policy.Policy.narrow_sessions_of.Goals as goal
 
 pub invariant_of-self : goal.invariant_of-self

@@ -3,7 +3,7 @@ use Rattle.std.proofs.lemmas.Bool.{and_from, and_left}
 use Rattle.role_hierarchy.specs.Roles.{has}
 use Rattle.policy_core.specs.State.{PolicyState}
 use Rattle.policy_core.specs.Access.{some_below, is_reached, reaches, row_of}
-use Rattle.policy_core.proofs.AccessLaws.{some_below-none, some_below-next, some_below-past, some_below-at}
+use Rattle.policy_core.specs.AccessLaws.{some_below-none, some_below-next, some_below-past, some_below-at}
 use Rattle.policy_core.proofs.policy.Policy.reaches.Goals as goal
 
 pub loop-slot-init : goal.loop-slot-init

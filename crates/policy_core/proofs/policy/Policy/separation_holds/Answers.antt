@@ -2,7 +2,7 @@ use Rattle.std.proofs.Common.{ℕ, List}
 use Rattle.role_hierarchy.specs.Below.{closed}
 use Rattle.policy_core.specs.declared.session.Session.{Session}
 use Rattle.policy_core.specs.State.{PolicyState, counted}
-use Rattle.policy_core.proofs.HoldLaws.{holds_at}
+use Rattle.policy_core.specs.HoldLaws.{holds_at}
 use Rattle.policy_core.proofs.policy.Policy.separation_holds.Goals as goal
 
 pub returns-clause-ssd : goal.returns-clause-ssd

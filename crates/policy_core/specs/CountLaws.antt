@@ -7,7 +7,7 @@ use Rattle.role_hierarchy.specs.BelowLaws.{closed_fewer, closed_fewer_pairs, clo
 use Rattle.policy_core.specs.declared.session.Counting.{Counting}
 use Rattle.policy_core.specs.declared.session.Counting.TheVariants.{Active, Inherited}
 use Rattle.policy_core.specs.State.{counted}
-use Rattle.policy_core.proofs.BreakLaws.{closed_none}
+use Rattle.policy_core.specs.BreakLaws.{closed_none}
 
 -- fewer active roles, fewer counted
 pub counted_fewer : (counting : Counting) (order : Order) → IsOrder order → (few many : ℕ) → ((q : ℕ) → has few q ≡ true → has many q ≡ true) → (q : ℕ) → has (counted counting order few) q ≡ true → has (counted counting order many) q ≡ true

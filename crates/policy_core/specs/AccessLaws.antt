@@ -37,7 +37,7 @@ some_below-at test k (suc n) h passes = elim (cases_eq k n) [
 
 some_below-found : (test : ℕ → Bool) (n : ℕ) → some_below test n ≡ true → (k : ℕ) × (k < n) × (test k ≡ true)
 unfolding some_below
-some_below-found test zero h = cc
+some_below-found test zero h = absurd cc
 some_below-found test (suc n) h =
     elim (some_below test n) as (λ t. some_below test n ≡ t → (t || test n) ≡ true → (k : ℕ) × (k < suc n) × (test k ≡ true)) [
       | true ↦ λ e w. (let f = some_below-found test n e in (f.0, omega (arith, f.1), f.2))
@@ -70,7 +70,7 @@ module _ (p : PolicyState) (is : IsOrder p.order) (session : ℕ) (operation : O
 
   at_session : (found : Option Session) → AtSession found
   unfolding reaches
-  at_session None = (λ h. cc, λ c. cc)
+  at_session None = (λ h. absurd cc, λ c. absurd cc)
   at_session (Some s) = (
     (λ h.
         let parts = and_parts _ _ h in

@@ -5,7 +5,7 @@ use Rattle.std.specs.List.{list_any}
 use Rattle.std.proofs.lemmas.Bool.{or_parts}
 use Rattle.separation_core.specs.Groups.{Groups, HoldsFor, is_broken, first_broken, first_breaking}
 use Rattle.separation_core.specs.GroupLaws.{first_broken-holds}
-use Rattle.policy_core.proofs.BreakLaws.{not_broken}
+use Rattle.policy_core.specs.BreakLaws.{not_broken}
 
 module _ {E : Type 0} (g : E → ℕ) where
   fails_at : (test : ℕ → Bool) (es : List E) (e : E) → list_any test (map g es) ≡ false → (k : ℕ) → k < length es → get_or es k e ≡ e → test (g e) ≡ false

@@ -19,7 +19,7 @@ or_none true = refl
 or_none false = refl
 
 pub not_broken : (t : Bool) (name : List ℕ) (rest : Option (List ℕ)) → cond t (Some name) rest ≡ None → (t ≡ false) × (rest ≡ None)
-not_broken true name rest h = cc
+not_broken true name rest h = absurd cc
 not_broken false name rest h = (refl, h)
 
 module _ {K X : Type 0} (g : X → ℕ) where
@@ -44,7 +44,7 @@ module _ {K X : Type 0} (g : X → ℕ) where
       ap₂ (λ t rest. cond t (Some l.0) rest) (any_inserted eq (λ given. is_broken given l.1) k x es parts.0) (breaking_inserted eq k x es groups parts.1)
 
   any_at : (test : ℕ → Bool) (key : K → Bool) (x : X) (es : List (K × X)) → list_any test (givens es) ≡ false → Some x ≡ lookup key es → test (g x) ≡ false
-  any_at test key x [] none there = cc
+  any_at test key x [] none there = absurd cc
   any_at test key x (e ∷ es) none there =
       elim (key e.0) as (λ t. Some x ≡ cond t (Some e.1) (lookup key es) → test (g x) ≡ false) [
         | true ↦ λ h. (let same : x ≡ e.1 = cc in ap (λ y. test (g y)) same ∙ (or_parts _ _ none).0)
