@@ -55,22 +55,4 @@ lacks p (AddInheritance senior junior) takes = record { users = λ same. refl; r
 lacks p (CreateSsdSet name number roles) takes = record { users = λ same. refl; roles = λ same. refl; order = λ same. refl; grants = refl; ssd = λ marked. absurd (false≢true (sym marked)); dsd = λ same. refl; sessions = λ same. refl }
 lacks p (CreateDsdSet name number roles) takes = record { users = λ same. refl; roles = λ same. refl; order = λ same. refl; grants = refl; ssd = λ same. refl; dsd = λ marked. absurd (false≢true (sym marked)); sessions = λ same. refl }
 lacks p (CreateSession user roles) takes = record { users = λ same. refl; roles = λ same. refl; order = λ same. refl; grants = refl; ssd = λ same. refl; dsd = λ same. refl; sessions = λ marked. absurd (false≢true (sym marked)) }
-lacks p (DeleteUser user) takes = absurd (false≢true takes)
-lacks p (DeleteRole role) takes = absurd (false≢true takes)
-lacks p (AssignUser user role) takes = absurd (false≢true takes)
-lacks p (DeassignUser user role) takes = absurd (false≢true takes)
-lacks p (GrantPermission role operation range) takes = absurd (false≢true takes)
-lacks p (RevokePermission role operation range) takes = absurd (false≢true takes)
-lacks p (DeleteInheritance senior junior) takes = absurd (false≢true takes)
-lacks p (AddSsdRoleMember name role) takes = absurd (false≢true takes)
-lacks p (DeleteSsdRoleMember name role) takes = absurd (false≢true takes)
-lacks p (DeleteSsdSet name) takes = absurd (false≢true takes)
-lacks p (SetSsdSetCardinality name number) takes = absurd (false≢true takes)
-lacks p (AddDsdRoleMember name role) takes = absurd (false≢true takes)
-lacks p (DeleteDsdRoleMember name role) takes = absurd (false≢true takes)
-lacks p (DeleteDsdSet name) takes = absurd (false≢true takes)
-lacks p (SetDsdSetCardinality name number) takes = absurd (false≢true takes)
-lacks p (DeleteSession session) takes = absurd (false≢true takes)
-lacks p (AddActiveRole session role) takes = absurd (false≢true takes)
-lacks p (DropActiveRole session role) takes = absurd (false≢true takes)
-lacks p Migrate takes = absurd (false≢true takes)
+lacks p command takes = absurd (false≢true takes)

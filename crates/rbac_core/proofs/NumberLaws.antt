@@ -12,7 +12,7 @@ use Rattle.policy_core.specs.declared.refusal.Refusal.TheVariants.{NoRole, Alrea
 use Rattle.policy_core.specs.State.{PolicyState, is_session, is_role, session_of, slot_of, with_session, numbers_of, rise}
 use Rattle.policy_core.specs.Commands.{activate_refusal, deactivate_refusal, opened, role_at}
 use Rattle.rbac_core.specs.declared.command.Command.{Command}
-use Rattle.rbac_core.specs.declared.command.Command.TheVariants.{AddUser, DeleteUser, AddRole, DeleteRole, AssignUser, DeassignUser, GrantPermission, RevokePermission, AddInheritance, DeleteInheritance, CreateSsdSet, AddSsdRoleMember, DeleteSsdRoleMember, DeleteSsdSet, SetSsdSetCardinality, CreateDsdSet, AddDsdRoleMember, DeleteDsdRoleMember, DeleteDsdSet, SetDsdSetCardinality, CreateSession, DeleteSession, AddActiveRole, DropActiveRole, Migrate}
+use Rattle.rbac_core.specs.declared.command.Command.TheVariants.{DeleteUser, AddRole, DeleteRole, DeassignUser, DeleteInheritance, CreateSession, DeleteSession, AddActiveRole, DropActiveRole, Migrate}
 use Rattle.rbac_core.specs.Step.{guard, refusal_of, after, outcome_of, answered, step}
 use Rattle.rbac_core.specs.Numbers.{AreNumbersUsed, IsNumberedNext, DoNumbersRise}
 use Rattle.rbac_core.proofs.AffectedLaws.{lookup-other}
@@ -106,7 +106,6 @@ next p user roles = record {
 }
 
 numbered : (p : PolicyState) (command : Command) → refusal_of p command ≡ None → IsNumberedNext p (after p command)
-numbered p (AddUser user) allowed = stays p _ refl refl
 numbered p (DeleteUser user) allowed = none_new p _ refl (λ n there. there_filter _ n p.sessions there)
 numbered p (AddRole role) allowed = by (first_free p.order.roles)
   where
@@ -114,27 +113,14 @@ numbered p (AddRole role) allowed = by (first_free p.order.roles)
     by None = stays p p refl refl
     by (Some slot) = stays p (role_at p role slot) refl refl
 numbered p (DeleteRole role) allowed = none_new p _ refl (λ n there. there_mapped _ n p.sessions there)
-numbered p (AssignUser user role) allowed = stays p _ refl refl
 numbered p (DeassignUser user role) allowed = none_new p _ refl (λ n there. there_mapped _ n p.sessions there)
-numbered p (GrantPermission role operation range) allowed = stays p _ refl refl
-numbered p (RevokePermission role operation range) allowed = stays p _ refl refl
-numbered p (AddInheritance senior junior) allowed = stays p _ refl refl
 numbered p (DeleteInheritance senior junior) allowed = none_new p _ refl (λ n there. there_mapped _ n p.sessions there)
-numbered p (CreateSsdSet name number roles) allowed = stays p _ refl refl
-numbered p (AddSsdRoleMember name role) allowed = stays p _ refl refl
-numbered p (DeleteSsdRoleMember name role) allowed = stays p _ refl refl
-numbered p (DeleteSsdSet name) allowed = stays p _ refl refl
-numbered p (SetSsdSetCardinality name number) allowed = stays p _ refl refl
-numbered p (CreateDsdSet name number roles) allowed = stays p _ refl refl
-numbered p (AddDsdRoleMember name role) allowed = stays p _ refl refl
-numbered p (DeleteDsdRoleMember name role) allowed = stays p _ refl refl
-numbered p (DeleteDsdSet name) allowed = stays p _ refl refl
-numbered p (SetDsdSetCardinality name number) allowed = stays p _ refl refl
 numbered p (CreateSession user roles) allowed = next p user roles
 numbered p (DeleteSession number) allowed = none_new p _ refl (λ n there. there_removed _ n p.sessions there)
 numbered p (AddActiveRole number role) allowed = put p number _ (activate_there p number role allowed)
 numbered p (DropActiveRole number role) allowed = put p number _ (deactivate_there p number role allowed)
 numbered p Migrate allowed = none_new p _ refl (λ n there. there_mapped _ n p.sessions there)
+numbered p command allowed = stays p (after p command) refl refl
 
 second_none : {X : Type 0} (a b : Option X) → option_or a b ≡ None → b ≡ None
 second_none None b h = h

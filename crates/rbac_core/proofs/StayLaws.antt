@@ -17,9 +17,9 @@ use Rattle.permission_core.specs.declared.objects.Object.TheVariants.{Board}
 use Rattle.policy_core.specs.declared.session.Session.{Session as ASession}
 use Rattle.policy_core.specs.State.{PolicyState, held_by, slot_of, numbers_of}
 use Rattle.policy_core.specs.Access.{has_access, reached_roles, reaches}
-use Rattle.policy_core.specs.Commands.{activated, assigned, deactivated, deassigned, dsd_created, dsd_deleted, dsd_joined, dsd_left, dsd_numbered, granted, inherited, kept_authorized, migrated, migrated_session, opened, revoked, role_at, role_gone, shut, slots_of, ssd_created, ssd_deleted, ssd_joined, ssd_left, ssd_numbered, uninherited, user_added, user_gone}
+use Rattle.policy_core.specs.Commands.{activated, deactivated, deassigned, granted, inherited, kept_authorized, migrated, migrated_session, opened, revoked, role_at, role_gone, shut, slots_of, uninherited, user_gone}
 use Rattle.rbac_core.specs.declared.command.Command.{Command}
-use Rattle.rbac_core.specs.declared.command.Command.TheVariants.{AddUser, DeleteUser, AddRole, DeleteRole, AssignUser, DeassignUser, GrantPermission, RevokePermission, AddInheritance, DeleteInheritance, CreateSsdSet, AddSsdRoleMember, DeleteSsdRoleMember, DeleteSsdSet, SetSsdSetCardinality, CreateDsdSet, AddDsdRoleMember, DeleteDsdRoleMember, DeleteDsdSet, SetDsdSetCardinality, CreateSession, DeleteSession, AddActiveRole, DropActiveRole, Migrate}
+use Rattle.rbac_core.specs.declared.command.Command.TheVariants.{DeleteUser, AddRole, DeleteRole, DeassignUser, GrantPermission, RevokePermission, AddInheritance, DeleteInheritance, CreateSession, DeleteSession, AddActiveRole, DropActiveRole, Migrate}
 use Rattle.rbac_core.specs.Step.{after}
 use Rattle.rbac_core.specs.Affected.{affected_sessions}
 use Rattle.rbac_core.proofs.AffectedLaws.{access_is, same_sessions, with_slot_access, nowhere, absent, lookup-mapped, numbers-mapped, kept_found, left_found, lookup-other, lookup-removed, same_active, migrated_active}
@@ -27,7 +27,6 @@ use Rattle.rbac_core.proofs.AffectedLaws.{access_is, same_sessions, with_slot_ac
 module _ (p : PolicyState) (at : ℕ) (doing : Operation) (what : Object) where
   pub stays : (command : Command) → list_any (nat_eq at) (affected_sessions p command (after p command)) ≡ false → has_access (after p command) at doing what ≡ has_access p at doing what
   unfolding reaches
-  stays (AddUser user) none = same_sessions p (user_added p user) at doing what (λ found. refl) refl
   stays (DeleteUser user) none = same_sessions p (user_gone p user) at doing what (λ found. refl) (left_found p at doing what user none)
   stays (AddRole role) none = by (first_free p.order.roles)
     where
@@ -35,22 +34,11 @@ module _ (p : PolicyState) (at : ℕ) (doing : Operation) (what : Object) where
       by None = refl
       by (Some slot) = same_sessions p (role_at p role slot) at doing what (with_slot_access p (insert_entry bytes_eq p.roles role slot) slot doing what) refl
   stays (DeleteRole role) none = nowhere p at doing what (role_gone p role) (numbers-mapped (kept_authorized (map (λ u. (u.0, without u.1 (slot_of p role))) p.users) (without_slot p.order (slot_of p role))) p.sessions) none
-  stays (AssignUser user role) none = same_sessions p (assigned p user role) at doing what (λ found. refl) refl
   stays (DeassignUser user role) none = same_sessions p (deassigned p user role) at doing what (λ found. refl) (kept_found p at doing what user (closed p.order (without (held_by p user) (slot_of p role))) none)
   stays (GrantPermission role operation range) none = nowhere p at doing what (granted p role operation range) refl none
   stays (RevokePermission role operation range) none = nowhere p at doing what (revoked p role operation range) refl none
   stays (AddInheritance senior junior) none = nowhere p at doing what (inherited p senior junior) refl none
   stays (DeleteInheritance senior junior) none = nowhere p at doing what (uninherited p senior junior) (numbers-mapped (kept_authorized p.users (without_pair p.order (slot_of p senior) (slot_of p junior))) p.sessions) none
-  stays (CreateSsdSet name number roles) none = same_sessions p (ssd_created p name number roles) at doing what (λ found. refl) refl
-  stays (AddSsdRoleMember name role) none = same_sessions p (ssd_joined p name role) at doing what (λ found. refl) refl
-  stays (DeleteSsdRoleMember name role) none = same_sessions p (ssd_left p name role) at doing what (λ found. refl) refl
-  stays (DeleteSsdSet name) none = same_sessions p (ssd_deleted p name) at doing what (λ found. refl) refl
-  stays (SetSsdSetCardinality name number) none = same_sessions p (ssd_numbered p name number) at doing what (λ found. refl) refl
-  stays (CreateDsdSet name number roles) none = same_sessions p (dsd_created p name number roles) at doing what (λ found. refl) refl
-  stays (AddDsdRoleMember name role) none = same_sessions p (dsd_joined p name role) at doing what (λ found. refl) refl
-  stays (DeleteDsdRoleMember name role) none = same_sessions p (dsd_left p name role) at doing what (λ found. refl) refl
-  stays (DeleteDsdSet name) none = same_sessions p (dsd_deleted p name) at doing what (λ found. refl) refl
-  stays (SetDsdSetCardinality name number) none = same_sessions p (dsd_numbered p name number) at doing what (λ found. refl) refl
   stays (CreateSession user roles) none = same_sessions p (opened p user roles) at doing what (λ found. refl) (lookup-other at (p.last + 1) (record { user = user; active = slots_of p roles }) p.sessions (or_parts _ _ none).0)
   stays (DeleteSession number) none = same_sessions p (shut p number) at doing what (λ found. refl) (lookup-removed at number p.sessions (or_parts _ _ none).0)
   stays (AddActiveRole number role) none = same_sessions p (activated p number role) at doing what (λ found. refl) (lookup-other at number _ p.sessions (or_parts _ _ none).0)
@@ -60,6 +48,7 @@ module _ (p : PolicyState) (at : ℕ) (doing : Operation) (what : Object) where
       access_is (migrated p) at doing what
       ∙ same_active p at doing what k (migrated_active p at doing what (migrated p) k refl none)
       ∙ sym (access_is p at doing what)
+  stays command none = same_sessions p (after p command) at doing what (λ found. refl) refl
 
 -- what a session that is found reaches
 abbrev below_found : PolicyState → Option ASession → Option ℕ
@@ -87,7 +76,6 @@ module _ (p : PolicyState) (at : ℕ) where
       by (Some s) h = ap (λ active. Some (closed p.order active)) (sym (same s h))
 
   pub reach_stays : (command : Command) → list_any (nat_eq at) (affected_sessions p command (after p command)) ≡ false → reached_roles (after p command) at ≡ reached_roles p at
-  reach_stays (AddUser user) none = refl
   reach_stays (DeleteUser user) none = ap (below_found p) (left_found p at View Board user none)
   reach_stays (AddRole role) none = by (first_free p.order.roles)
     where
@@ -95,22 +83,9 @@ module _ (p : PolicyState) (at : ℕ) where
       by None = refl
       by (Some slot) = reach_with_slot slot (lookup (nat_eq at) p.sessions)
   reach_stays (DeleteRole role) none = reach_nowhere (role_gone p role) (numbers-mapped (kept_authorized (map (λ u. (u.0, without u.1 (slot_of p role))) p.users) (without_slot p.order (slot_of p role))) p.sessions) none
-  reach_stays (AssignUser user role) none = refl
   reach_stays (DeassignUser user role) none = ap (below_found p) (kept_found p at View Board user (closed p.order (without (held_by p user) (slot_of p role))) none)
-  reach_stays (GrantPermission role operation range) none = refl
-  reach_stays (RevokePermission role operation range) none = refl
   reach_stays (AddInheritance senior junior) none = reach_nowhere (inherited p senior junior) refl none
   reach_stays (DeleteInheritance senior junior) none = reach_nowhere (uninherited p senior junior) (numbers-mapped (kept_authorized p.users (without_pair p.order (slot_of p senior) (slot_of p junior))) p.sessions) none
-  reach_stays (CreateSsdSet name number roles) none = refl
-  reach_stays (AddSsdRoleMember name role) none = refl
-  reach_stays (DeleteSsdRoleMember name role) none = refl
-  reach_stays (DeleteSsdSet name) none = refl
-  reach_stays (SetSsdSetCardinality name number) none = refl
-  reach_stays (CreateDsdSet name number roles) none = refl
-  reach_stays (AddDsdRoleMember name role) none = refl
-  reach_stays (DeleteDsdRoleMember name role) none = refl
-  reach_stays (DeleteDsdSet name) none = refl
-  reach_stays (SetDsdSetCardinality name number) none = refl
   reach_stays (CreateSession user roles) none = ap (below_found p) (lookup-other at (p.last + 1) (record { user = user; active = slots_of p roles }) p.sessions (or_parts _ _ none).0)
   reach_stays (DeleteSession number) none = ap (below_found p) (lookup-removed at number p.sessions (or_parts _ _ none).0)
   reach_stays (AddActiveRole number role) none = ap (below_found p) (lookup-other at number _ p.sessions (or_parts _ _ none).0)
@@ -118,3 +93,4 @@ module _ (p : PolicyState) (at : ℕ) where
   reach_stays Migrate none =
       let k : ASession → ASession = migrated_session p.order p.dsd in
       reach_mapped k (migrated_active p at View Board (migrated p) k refl none)
+  reach_stays command none = refl
