@@ -1,17 +1,14 @@
 -- Separation of duty command by command.
-use Rattle.std.proofs.Common.{◌≡◌, ℕ, inl, inr, Bool, true, false, List, [], ◌∷◌, length, map, Option, Some, None, refl, sym, ap, ◌∙◌, arith, length-set}
-use Rattle.std.specs.Prelude.{cond, unwrap_or, not, bytes_eq, nat_eq, nat_le, if◌then◌else◌, slice_index, slice_set, count_ones}
-use Rattle.std.specs.List.{list_all}
-use Rattle.std.specs.Map.{lookup, remove_entry}
+use Rattle.std.proofs.Common.{◌≡◌, ℕ, Bool, true, false, List, [], ◌∷◌, length, Option, Some, None, refl, sym, ap, ◌∙◌, subst}
+use Rattle.std.specs.Prelude.{not, bytes_eq, nat_eq, nat_le, if◌then◌else◌, count_ones}
+use Rattle.std.specs.Map.{remove_entry}
 use Rattle.std.specs.Option.{option_map_or, option_or}
-use Rattle.std.proofs.lemmas.Bool.{and_parts, and_from, cases_eq, cases_lt, leb-false, ltb-false, le-leb, both_ways}
-use Rattle.std.proofs.lemmas.List.{length-map, get_or-set_same, get_or-set_other, get_or-map}
+use Rattle.std.proofs.lemmas.Bool.{and_from, leb-false, ltb-false, le-leb}
 use Rattle.role_hierarchy.specs.Roles.{has, without, first_free}
-use Rattle.role_hierarchy.specs.RoleLaws.{has-empty}
-use Rattle.role_hierarchy.specs.Order.{Order, stands, without_pair, without_slot}
+use Rattle.role_hierarchy.specs.Order.{stands}
 use Rattle.role_hierarchy.specs.Below.{closed, juniors_of, IsOrder}
-use Rattle.separation_core.specs.Groups.{Groups, AreSets, first_breaking, first_broken, changed, limit_of, limits_of, limit_with, limit_without, limit_of_number, with_set, is_sound, new_refusal, number_refusal, drop_refusal, set_refusal}
-use Rattle.separation_core.specs.GroupLaws.{AreSets-with_set, AreSets-without_set, is_sound-limit_with, breaking-without_member, breaking-without_set}
+use Rattle.separation_core.specs.Groups.{Groups, AreSets, first_breaking, first_broken, changed, limit_of, limit_with, limit_without, limit_of_number, with_set, is_sound, new_refusal, number_refusal, add_refusal, drop_refusal, set_refusal}
+use Rattle.separation_core.specs.GroupLaws.{AreSets-with_set, AreSets-changed, changed-known, sound_limit_of, AreSets-without_set, is_sound-limit_with, breaking-without_member, breaking-without_set}
 use Rattle.separation_core.specs.declared.sets.Limit.{Limit}
 use Rattle.separation_core.specs.declared.sets.SetFault.{SetFault}
 use Rattle.separation_core.specs.declared.sets.SetFault.TheVariants as fault
@@ -25,15 +22,15 @@ use Rattle.rbac_core.specs.declared.command.Command.TheVariants.{AddUser, Delete
 use Rattle.rbac_core.specs.declared.command.Outcome.{Outcome}
 use Rattle.rbac_core.specs.Step.{step, answered, guard, refusal_of, after, outcome_of}
 use Rattle.board_rules.specs.Policies.{policy_after}
-use Rattle.board_rules.proofs.Breaking.{AreFewer, breaking_removed, breaking_filtered, broken_at, closed_none, none_breaks}
-use Rattle.separation_core.specs.GroupLaws.{first_broken-fewer}
-use Rattle.board_rules.proofs.Counted.{counted_fewer, counted_none}
-use Rattle.board_rules.proofs.Orders.{past_end}
-use Rattle.board_rules.proofs.Separation.{IsSeparate, within, none_mapped, kept_within, kept_authorized_within, fewer_users, fewer_pairs, without_within, lessened, slotted, with_user, user_lessened, with_ssd, with_dsd, with_sessions, with_one, migrated_keeps}
+use Rattle.policy_core.specs.BreakLaws.{AreFewer, breaking_removed, breaking_filtered, closed_none, none_breaks}
+use Rattle.policy_core.specs.CountLaws.{counted_fewer, counted_none}
+use Rattle.board_rules.proofs.Orders.{slot_within, pair_within, all_within}
+use Rattle.policy_core.specs.KeptLaws.{none_mapped, without_within, kept_within, kept_authorized_within, fewer_pairs, fewer_roles}
+use Rattle.board_rules.proofs.Separation.{IsSeparate, lessened_at, lessened, slotted, with_user, user_lessened, with_ssd, with_dsd, with_sessions, with_one, migrated_keeps}
 
 -- ---- refusals that do not come
 
-none_if : (t : Bool) (r : PolicyRefusal) (rest : Option PolicyRefusal) → (if t then Some r else rest) ≡ None → (t ≡ false) × (rest ≡ None)
+none_if : {X : Type 0} (t : Bool) (r : X) (rest : Option X) → (if t then Some r else rest) ≡ None → (t ≡ false) × (rest ≡ None)
 none_if true r rest h = absurd cc
 none_if false r rest h = (refl, h)
 
@@ -51,101 +48,47 @@ none_as due (Some fault.NoMemory) h = absurd cc
 none_as due (Some fault.Small) h = absurd cc
 none_as due (Some fault.Large) h = absurd cc
 
-fault_if : (t : Bool) (r : SetFault) (rest : Option SetFault) → (if t then Some r else rest) ≡ None → (t ≡ false) × (rest ≡ None)
-fault_if true r rest h = absurd cc
-fault_if false r rest h = (refl, h)
-
 -- a number that is not refused makes a sound set
 number_sound : (roles number : ℕ) → number_refusal roles number ≡ None → is_sound (record { roles = roles; number = number }) ≡ true
 unfolding number_refusal
 number_sound roles number h =
-    let one = fault_if _ fault.Small _ h in
-    let two = fault_if _ fault.Large _ one.1 in
+    let one = none_if _ fault.Small _ h in
+    let two = none_if _ fault.Large _ one.1 in
     and_from _ _ (le-leb 2 number (ltb-false number 2 one.0)) (le-leb number (count_ones roles) (ltb-false (count_ones roles) number two.0))
 
 new_sound : (groups : Groups) (name : List ℕ) (roles number : ℕ) → new_refusal groups name roles number ≡ None → is_sound (record { roles = roles; number = number }) ≡ true
 unfolding new_refusal
-new_sound groups name roles number h = number_sound roles number (fault_if _ fault.Already _ h).1
+new_sound groups name roles number h = number_sound roles number (none_if _ fault.Already _ h).1
 
 -- ---- sets of which one is changed
 
-length-changed : (groups : Groups) (name : List ℕ) (f : Limit → Limit) → length (changed groups name f) ≡ length groups
-length-changed [] name f = refl
-length-changed (g ∷ gs) name f = elim (bytes_eq name g.0) as (λ t. length (cond t ((g.0, f g.1) ∷ gs) (g ∷ changed gs name f)) ≡ length (g ∷ gs)) [
-  | true ↦ refl
-  | false ↦ (let rest = length-changed gs name f in omega (arith, rest))
-]
+-- a set that such a change does not refuse is there
+there : (refusal : Option Limit → Option SetFault) → refusal None ≡ Some fault.NoSet → (found : Option Limit) → refusal found ≡ None → (limit : Limit) × (found ≡ Some limit)
+there refusal absent None h = absurd cc
+there refusal absent (Some limit) h = (limit, refl)
 
-sound-changed : (groups : Groups) (name : List ℕ) (f : Limit → Limit) → ((limit : Limit) → limit_of groups name ≡ Some limit → is_sound limit ≡ true → is_sound (f limit) ≡ true)
-    → list_all is_sound (limits_of groups) ≡ true → list_all is_sound (limits_of (changed groups name f)) ≡ true
-sound-changed [] name f keeps h = refl
-sound-changed (g ∷ gs) name f keeps h =
-    let parts = and_parts _ _ h in
-    elim (bytes_eq name g.0) as (λ t. ((limit : Limit) → cond t (Some g.1) (limit_of gs name) ≡ Some limit → is_sound limit ≡ true → is_sound (f limit) ≡ true)
-    → list_all is_sound (limits_of (cond t ((g.0, f g.1) ∷ gs) (g ∷ changed gs name f))) ≡ true) [
-      | true ↦ λ k. and_from (is_sound (f g.1)) (list_all is_sound (limits_of gs)) (k g.1 refl parts.0) parts.1
-      | false ↦ λ k. and_from (is_sound g.1) (list_all is_sound (limits_of (changed gs name f))) parts.0 (sound-changed gs name f k parts.1)
-    ] keeps
+sets-changed : (groups : Groups) (name : List ℕ) (f : Limit → Limit) (limit : Limit) → limit_of groups name ≡ Some limit → is_sound (f limit) ≡ true → AreSets groups → AreSets (changed groups name f)
+sets-changed groups name f limit at sound are = subst AreSets (changed-known groups name f limit (f limit) at refl) (AreSets-changed groups name (f limit) sound are)
 
-sets-changed : (groups : Groups) (name : List ℕ) (f : Limit → Limit) → ((limit : Limit) → limit_of groups name ≡ Some limit → is_sound limit ≡ true → is_sound (f limit) ≡ true)
-    → AreSets groups → AreSets (changed groups name f)
-sets-changed groups name f keeps are =
-    let few = are.few in
-    record { few = omega (arith, few, length-changed groups name f); sound = sound-changed groups name f keeps are.sound }
-
-sets-joined : (groups : Groups) (name : List ℕ) (role : ℕ) → AreSets groups → AreSets (changed groups name (limit_with role))
-sets-joined groups name role are = sets-changed groups name (limit_with role) (λ limit at sound. is_sound-limit_with role limit sound) are
+sets-joined : (groups : Groups) (name : List ℕ) (role : ℕ) → add_refusal (limit_of groups name) role ≡ None → AreSets groups → AreSets (changed groups name (limit_with role))
+sets-joined groups name role h are =
+    let found = there (λ o. add_refusal o role) refl (limit_of groups name) h in
+    sets-changed groups name (limit_with role) found.0 found.1 (is_sound-limit_with role found.0 (sound_limit_of groups name found.0 are.sound found.1)) are
 
 sets-left : (groups : Groups) (name : List ℕ) (role : ℕ) → drop_refusal (limit_of groups name) role ≡ None → AreSets groups → AreSets (changed groups name (limit_without role))
-sets-left groups name role h are = sets-changed groups name (limit_without role) (λ limit at sound.
-    number_sound (without limit.roles role) limit.number
-    (fault_if _ fault.Member _ (sym (ap (λ (o : Option Limit). drop_refusal o role) at) ∙ h)).1) are
+sets-left groups name role h are =
+    let found = there (λ o. drop_refusal o role) refl (limit_of groups name) h in
+    sets-changed groups name (limit_without role) found.0 found.1
+    (number_sound (without found.0.roles role) found.0.number (none_if _ fault.Member _ (sym (ap (λ (o : Option Limit). drop_refusal o role) found.1) ∙ h)).1) are
 
 sets-numbered : (groups : Groups) (name : List ℕ) (number : ℕ) → set_refusal (limit_of groups name) number ≡ None → AreSets groups → AreSets (changed groups name (limit_of_number number))
-sets-numbered groups name number h are = sets-changed groups name (limit_of_number number) (λ limit at sound.
-    number_sound limit.roles number (sym (ap (λ (o : Option Limit). set_refusal o number) at) ∙ h)) are
+sets-numbered groups name number h are =
+    let found = there (λ o. set_refusal o number) refl (limit_of groups name) h in
+    sets-changed groups name (limit_of_number number) found.0 found.1 (number_sound found.0.roles number (sym (ap (λ (o : Option Limit). set_refusal o number) found.1) ∙ h)) are
 
 sets-created : (groups : Groups) (name : List ℕ) (roles number : ℕ) → new_refusal groups name roles number ≡ None → nat_le 64 (length groups) ≡ false → AreSets groups
     → AreSets (with_set groups name (record { roles = roles; number = number }))
 sets-created groups name roles number h room are = AreSets-with_set groups name (record { roles = roles; number = number }) (leb-false 64 (length groups) room) (new_sound groups name roles number h) are
-
--- ---- orders with fewer pairs
-
-set_within : (pairs : List ℕ) (at row : ℕ) → ((b : ℕ) → has row b ≡ true → has (slice_index pairs at) b ≡ true) → (a b : ℕ)
-    → has (slice_index (slice_set pairs at row) a) b ≡ true → has (slice_index pairs a) b ≡ true
-set_within pairs at row small a b h = elim (cases_eq a at) [
-  | inr other ↦ sym (ap (λ r. has r b) (get_or-set_other pairs at a row 0 other)) ∙ h
-  | inl same ↦ elim (cases_lt at (length pairs)) [
-    | inl below ↦
-        ap (λ n. has (slice_index pairs n) b) same
-        ∙ small b (sym (ap (λ r. has r b) (ap (λ n. slice_index (slice_set pairs at row) n) same ∙ get_or-set_same pairs at row 0 below)) ∙ h)
-    | inr past ↦
-        let none : slice_index (slice_set pairs at row) a ≡ 0 = past_end (slice_set pairs at row) a (omega (arith, past, same, length-set pairs at row)) in
-        absurd (both_ways (has 0 b) (has-empty b) (sym (ap (λ r. has r b) none) ∙ h))
-  ]
-]
-
-map_within : (pairs : List ℕ) (slot a b : ℕ) → has (slice_index (map (λ row. without row slot) pairs) a) b ≡ true → has (slice_index pairs a) b ≡ true
-map_within pairs slot a b h = elim (cases_lt a (length pairs)) [
-  | inl below ↦ without_within (slice_index pairs a) slot b (sym (ap (λ r. has r b) (get_or-map (λ row. without row slot) pairs a 0 0 below)) ∙ h)
-  | inr past ↦
-      let none : slice_index (map (λ row. without row slot) pairs) a ≡ 0 = past_end (map (λ row. without row slot) pairs) a (omega (arith, past, length-map pairs (λ row. without row slot))) in
-      absurd (both_ways (has 0 b) (has-empty b) (sym (ap (λ r. has r b) none) ∙ h))
-]
-
-slot_within : (order : Order) (slot : ℕ) → within (without_slot order slot) order
-unfolding within
-slot_within order slot a b h =
-    map_within order.pairs slot a b
-    (set_within (map (λ row. without row slot) order.pairs) slot 0 (λ c there. absurd (both_ways (has 0 c) (has-empty c) there)) a b h)
-
-pair_within : (order : Order) (a b : ℕ) → within (without_pair order a b) order
-unfolding within
-pair_within order a b x y h = set_within order.pairs a (without (slice_index order.pairs a) b) (λ c there. without_within (slice_index order.pairs a) b c there) x y h
-
-all_within : (order : Order) → within order order
-unfolding within
-all_within order a b h = h
 
 same_fewer : (xs : List ℕ) → AreFewer xs xs
 same_fewer [] = tt
@@ -181,23 +124,12 @@ module _ (p : PolicyState) (order : IsOrder p.order) (is : IsSeparate p) where
       record { ssd_sets = is.ssd_sets; dsd_sets = is.dsd_sets; ssd = none_mapped Ssd _ none.0; dsd = none_mapped Dsd _ none.1 }
 
   dropped_keeps : (number : ℕ) (role : List ℕ) → IsSeparate (after p (DropActiveRole number role))
-  dropped_keeps number role = with_one p is number (record (session_of p number) { active = without (session_of p number).active (slot_of p role) }) (judged (lookup (nat_eq number) p.sessions) refl)
-    where
-      default : Session
-      default = record { user = []; active = 0 }
-
-      judged : (found : Option Session) → lookup (nat_eq number) p.sessions ≡ found
-          → first_broken (counted p.counting p.order (without (unwrap_or (lookup (nat_eq number) p.sessions) (record { user = []; active = 0 })).active (slot_of p role))) p.dsd ≡ None
-      judged None at =
-          ap (λ (o : Option Session). first_broken (counted p.counting p.order (without (unwrap_or o (record { user = []; active = 0 })).active (slot_of p role))) p.dsd) at
-          ∙ first_broken-fewer (counted p.counting p.order (without 0 (slot_of p role))) (counted p.counting p.order 0) p.dsd
-          (counted_fewer p.counting p.order order (without 0 (slot_of p role)) 0 (λ q h. without_within 0 (slot_of p role) q h))
-          (ap (λ given. first_broken given p.dsd) (counted_none p.counting p.order) ∙ none_breaks p.dsd is.dsd_sets)
-      judged (Some s) at =
-          ap (λ (o : Option Session). first_broken (counted p.counting p.order (without (unwrap_or o (record { user = []; active = 0 })).active (slot_of p role))) p.dsd) at
-          ∙ first_broken-fewer (counted p.counting p.order (without s.active (slot_of p role))) (counted p.counting p.order s.active) p.dsd
-          (counted_fewer p.counting p.order order (without s.active (slot_of p role)) s.active (λ q h. without_within s.active (slot_of p role) q h))
-          (broken_at (λ (x : Session). counted p.counting p.order x.active) (nat_eq number) s p.sessions p.dsd is.dsd (sym at))
+  dropped_keeps number role =
+      let slot : ℕ = slot_of p role in
+      with_one p is number (record (session_of p number) { active = without (session_of p number).active slot })
+      (lessened_at (λ (x : Session). counted p.counting p.order x.active) (λ (x : Session). record x { active = without x.active slot })
+      (λ x q h. counted_fewer p.counting p.order order (without x.active slot) x.active (λ c there. without_within x.active slot c there) q h)
+      (nat_eq number) (record { user = []; active = 0 }) (counted_none p.counting p.order) p.sessions p.dsd is.dsd_sets is.dsd)
 
   ssd_created_keeps : (name : List ℕ) (number : ℕ) (roles : List (List ℕ)) → ssd_create_refusal p name number roles ≡ None
       → IsSeparate (record p { ssd = with_set p.ssd name (record { roles = slots_of p roles; number = number }) })
@@ -222,12 +154,14 @@ module _ (p : PolicyState) (order : IsOrder p.order) (is : IsSeparate p) where
   ssd_joined_keeps : (name role : List ℕ) → ssd_add_refusal p name role ≡ None → IsSeparate (after p (AddSsdRoleMember name role))
   unfolding ssd_add_refusal
   ssd_joined_keeps name role h =
-      with_ssd p is (changed p.ssd name (limit_with (slot_of p role))) (sets-joined p.ssd name (slot_of p role) is.ssd_sets) (none_mapped Ssd _ (none_or _ _ (none_if _ NoRole _ h).1).1)
+      let none = none_or _ _ (none_if _ NoRole _ h).1 in
+      with_ssd p is (changed p.ssd name (limit_with (slot_of p role))) (sets-joined p.ssd name (slot_of p role) (none_as Already _ none.0) is.ssd_sets) (none_mapped Ssd _ none.1)
 
   dsd_joined_keeps : (name role : List ℕ) → dsd_add_refusal p name role ≡ None → IsSeparate (after p (AddDsdRoleMember name role))
   unfolding dsd_add_refusal
   dsd_joined_keeps name role h =
-      with_dsd p is (changed p.dsd name (limit_with (slot_of p role))) (sets-joined p.dsd name (slot_of p role) is.dsd_sets) (none_mapped Dsd _ (none_or _ _ (none_if _ NoRole _ h).1).1)
+      let none = none_or _ _ (none_if _ NoRole _ h).1 in
+      with_dsd p is (changed p.dsd name (limit_with (slot_of p role))) (sets-joined p.dsd name (slot_of p role) (none_as Already _ none.0) is.dsd_sets) (none_mapped Dsd _ none.1)
 
   ssd_left_keeps : (name role : List ℕ) → ssd_drop_refusal p name role ≡ None → IsSeparate (after p (DeleteSsdRoleMember name role))
   unfolding ssd_drop_refusal
@@ -277,7 +211,7 @@ module _ (p : PolicyState) (order : IsOrder p.order) (is : IsSeparate p) where
       let slot : ℕ = slot_of p role in
       let q : PolicyState = after p (DeleteRole role) in
       lessened p is order q next (slot_within p.order slot) (kept_authorized q.users q.order) (kept_authorized_within q.users q.order) refl refl refl
-      (fewer_users q.order p.order next order (slot_within p.order slot) (λ r. without r slot) (λ r c there. without_within r slot c there) p.users) refl
+      (fewer_roles q.order p.order next order (slot_within p.order slot) (λ r. without r slot) (λ r c there. without_within r slot c there) p.users) refl
   separate (AssignUser user role) next h = assigned_keeps user role h
   separate (DeassignUser user role) next h = deassigned_keeps user role
   separate (GrantPermission role operation range) next h = record { ssd_sets = is.ssd_sets; dsd_sets = is.dsd_sets; ssd = is.ssd; dsd = is.dsd }
@@ -309,11 +243,8 @@ answered_keeps : (p next : PolicyState) (outcome : Outcome) (refusal : Option Po
 answered_keeps p next outcome None is keeps = keeps refl
 answered_keeps p next outcome (Some e) is keeps = is
 
-none_second : (a b : Option PolicyRefusal) → option_or a b ≡ None → b ≡ None
-none_second a b h = (none_or a b h).1
-
 pub separate_after : (p : PolicyState) (session : ℕ) (command : Command) → IsOrder p.order → IsOrder (after p command).order → IsSeparate p → IsSeparate (policy_after p session command)
 unfolding policy_after step
 separate_after p session command order next is =
     answered_keeps p (after p command) (outcome_of p command) (option_or (guard p session command) (refusal_of p command)) is
-    (λ none. separate p order is command next (none_second (guard p session command) (refusal_of p command) none))
+    (λ none. separate p order is command next (none_or (guard p session command) (refusal_of p command) none).1)

@@ -1,9 +1,6 @@
-mod Accesses
 mod Agreeing
 mod Bounds
-mod Breaking
 mod Commands
-mod Counted
 mod Currency
 mod Existing
 mod Finds

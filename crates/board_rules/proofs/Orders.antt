@@ -1,23 +1,24 @@
 -- What the policy of every history keeps: its sizes, and an order whose rows are those of 256 slots.
-use Rattle.std.proofs.Common.{◌≡◌, ℕ, zero, suc, ◌+◌, ◌<◌, ◌≤◌, inl, inr, Bool, true, false, List, [], ◌∷◌, length, map, replicate, Option, Some, None, refl, sym, ap, ◌∙◌, subst, arith, length-set}
+use Rattle.std.proofs.Common.{◌≡◌, ℕ, zero, suc, ◌+◌, ◌<◌, inl, inr, Bool, true, false, List, [], ◌∷◌, length, map, replicate, Option, Some, None, refl, sym, ap, ◌∙◌, subst, arith, length-set}
 use Rattle.std.specs.Prelude.{slice_index, slice_set, cond, unwrap_or, find, not, bytes_eq}
 use Rattle.std.specs.List.{range_with_len}
 use Rattle.std.specs.Map.{lookup, remove_entry}
 use Rattle.std.specs.Option.{option_map_or, option_or}
-use Rattle.std.proofs.lemmas.Bool.{cases_eq, cases_lt, and_parts, both_ways}
-use Rattle.std.proofs.lemmas.List.{length-map, length-replicate, get_or-set_same, get_or-set_other, get_or-map}
+use Rattle.std.proofs.lemmas.Bool.{cases_eq, cases_lt, both_ways}
+use Rattle.std.proofs.lemmas.List.{length-map, length-replicate, get_or-set_same, get_or-set_other, get_or-map, get_or_past}
 use Rattle.indexmap.specs.IndexMap.{insert_entry}
 use Rattle.role_hierarchy.specs.Roles.{has, without, first_free}
-use Rattle.role_hierarchy.specs.RoleLaws.{has-empty, has-without}
-use Rattle.role_hierarchy.specs.Order.{Order}
+use Rattle.role_hierarchy.specs.RoleLaws.{has-empty}
+use Rattle.role_hierarchy.specs.Order.{Order, stands, without_pair, without_slot}
 use Rattle.role_hierarchy.specs.Below.{IsOrder}
 use Rattle.role_hierarchy.specs.BelowLaws.{order-with_pair}
 use Rattle.policy_core.specs.declared.refusal.Refusal.{Refusal as PolicyRefusal}
 use Rattle.policy_core.specs.State.{PolicyState, slot_of}
+use Rattle.policy_core.specs.KeptLaws.{without_within}
 use Rattle.policy_core.specs.Commands.{role_at, role_added}
 use Rattle.policy_core.specs.Opening.{opening}
 use Rattle.rbac_core.specs.declared.command.Command.{Command}
-use Rattle.rbac_core.specs.declared.command.Command.TheVariants.{AddUser, DeleteUser, AddRole, DeleteRole, AssignUser, DeassignUser, GrantPermission, RevokePermission, AddInheritance, DeleteInheritance, CreateSsdSet, AddSsdRoleMember, DeleteSsdRoleMember, DeleteSsdSet, SetSsdSetCardinality, CreateDsdSet, AddDsdRoleMember, DeleteDsdRoleMember, DeleteDsdSet, SetDsdSetCardinality, CreateSession, DeleteSession, AddActiveRole, DropActiveRole, Migrate}
+use Rattle.rbac_core.specs.declared.command.Command.TheVariants.{AddRole, DeleteRole, AddInheritance, DeleteInheritance}
 use Rattle.rbac_core.specs.declared.command.Outcome.{Outcome}
 use Rattle.rbac_core.specs.Step.{step, answered, guard, refusal_of, after, outcome_of}
 use Rattle.board_rules.specs.Policies.{policy_after}
@@ -64,40 +65,44 @@ free_below : (roles r : ℕ) → first_free roles ≡ Some r → r < 256
 unfolding first_free
 free_below roles r h = found_below (λ role. not (has roles role)) 0 256 r h
 
--- past its end a list gives 0
-pub past_end : (xs : List ℕ) (k : ℕ) → length xs ≤ k → slice_index xs k ≡ 0
-past_end [] k h = refl
-past_end (x ∷ xs) zero h = absurd (omega (arith, h))
-past_end (x ∷ xs) (suc k) h = past_end xs k (omega (arith, h))
+-- ---- orders with fewer pairs
 
--- the members of each row are slots
-RowsSmall : List ℕ → Type 0
-RowsSmall pairs = (a b : ℕ) → has (slice_index pairs a) b ≡ true → b < 256
+-- each pair of the first order stands in the second
+abbrev pub within : Order → Order → Type 0
+within few many = (a b : ℕ) → stands few a b ≡ true → stands many a b ≡ true
 
-rows_set : (pairs : List ℕ) (at row : ℕ) → ((b : ℕ) → has row b ≡ true → b < 256) → RowsSmall pairs → RowsSmall (slice_set pairs at row)
-unfolding RowsSmall
-rows_set pairs at row small rows a b h = elim (cases_eq a at) [
-  | inr other ↦ rows a b (sym (ap (λ r. has r b) (get_or-set_other pairs at a row 0 other)) ∙ h)
+set_within : (pairs : List ℕ) (at row : ℕ) → ((b : ℕ) → has row b ≡ true → has (slice_index pairs at) b ≡ true) → (a b : ℕ)
+    → has (slice_index (slice_set pairs at row) a) b ≡ true → has (slice_index pairs a) b ≡ true
+set_within pairs at row small a b h = elim (cases_eq a at) [
+  | inr other ↦ sym (ap (λ r. has r b) (get_or-set_other pairs at a row 0 other)) ∙ h
   | inl same ↦ elim (cases_lt at (length pairs)) [
-    | inl within ↦ small b (sym (ap (λ r. has r b) (ap (λ n. slice_index (slice_set pairs at row) n) same ∙ get_or-set_same pairs at row 0 within)) ∙ h)
+    | inl below ↦
+        ap (λ n. has (slice_index pairs n) b) same
+        ∙ small b (sym (ap (λ r. has r b) (ap (λ n. slice_index (slice_set pairs at row) n) same ∙ get_or-set_same pairs at row 0 below)) ∙ h)
     | inr past ↦
-        let none : slice_index (slice_set pairs at row) a ≡ 0 = past_end (slice_set pairs at row) a (omega (arith, past, same, length-set pairs at row)) in
+        let none : slice_index (slice_set pairs at row) a ≡ 0 = get_or_past (slice_set pairs at row) a 0 (omega (arith, past, same, length-set pairs at row)) in
         absurd (both_ways (has 0 b) (has-empty b) (sym (ap (λ r. has r b) none) ∙ h))
   ]
 ]
 
-less_small : (pairs : List ℕ) (a slot b : ℕ) → RowsSmall pairs → has (without (slice_index pairs a) slot) b ≡ true → b < 256
-unfolding RowsSmall
-less_small pairs a slot b rows h = rows a b (and_parts _ _ (sym (has-without (slice_index pairs a) slot b) ∙ h)).1
-
-rows_less : (pairs : List ℕ) (slot : ℕ) → RowsSmall pairs → RowsSmall (map (λ row. without row slot) pairs)
-unfolding RowsSmall
-rows_less pairs slot rows a b h = elim (cases_lt a (length pairs)) [
-  | inl within ↦ less_small pairs a slot b rows (sym (ap (λ r. has r b) (get_or-map (λ row. without row slot) pairs a 0 0 within)) ∙ h)
+map_within : (pairs : List ℕ) (slot a b : ℕ) → has (slice_index (map (λ row. without row slot) pairs) a) b ≡ true → has (slice_index pairs a) b ≡ true
+map_within pairs slot a b h = elim (cases_lt a (length pairs)) [
+  | inl below ↦ without_within (slice_index pairs a) slot b (sym (ap (λ r. has r b) (get_or-map (λ row. without row slot) pairs a 0 0 below)) ∙ h)
   | inr past ↦
-      let none : slice_index (map (λ row. without row slot) pairs) a ≡ 0 = past_end (map (λ row. without row slot) pairs) a (omega (arith, past, length-map pairs (λ row. without row slot))) in
+      let none : slice_index (map (λ row. without row slot) pairs) a ≡ 0 = get_or_past (map (λ row. without row slot) pairs) a 0 (omega (arith, past, length-map pairs (λ row. without row slot))) in
       absurd (both_ways (has 0 b) (has-empty b) (sym (ap (λ r. has r b) none) ∙ h))
 ]
+
+pub slot_within : (order : Order) (slot : ℕ) → within (without_slot order slot) order
+slot_within order slot a b h =
+    map_within order.pairs slot a b
+    (set_within (map (λ row. without row slot) order.pairs) slot 0 (λ c there. absurd (both_ways (has 0 c) (has-empty c) there)) a b h)
+
+pub pair_within : (order : Order) (a b : ℕ) → within (without_pair order a b) order
+pair_within order a b x y h = set_within order.pairs a (without (slice_index order.pairs a) b) (λ c there. without_within (slice_index order.pairs a) b c there) x y h
+
+pub all_within : (order : Order) → within order order
+all_within order a b h = h
 
 -- the policy is over this many customers and vehicles, and its order has the rows of 256 slots
 pub record IsSettled (customers vehicles : ℕ) (p : PolicyState) : Type 0 where
@@ -130,7 +135,6 @@ module _ (customers vehicles : ℕ) where
   settled_role p role h = role_added_at p role (first_free p.order.roles) (free_below p.order.roles) h
 
   settled_gone : (p : PolicyState) (role : List ℕ) → IsSettled customers vehicles p → IsSettled customers vehicles (after p (DeleteRole role))
-  unfolding RowsSmall
   settled_gone p role h =
       let slot : ℕ = slot_of p role in
       let less : List ℕ = map (λ row. without row slot) p.order.pairs in
@@ -139,13 +143,12 @@ module _ (customers vehicles : ℕ) where
         vehicles_are = h.vehicles_are;
         order = record {
           rows = length-set less slot 0 ∙ (length-map p.order.pairs (λ row. without row slot) ∙ h.order.rows);
-          small = rows_set less slot 0 (λ b there. absurd (both_ways (has 0 b) (has-empty b) there)) (rows_less p.order.pairs slot h.order.small);
+          small = λ a b there. h.order.small a b (slot_within p.order slot a b there);
         };
         slots = slots_less (bytes_eq role) p.roles h.slots;
       }
 
   settled_uninherited : (p : PolicyState) (senior junior : List ℕ) → IsSettled customers vehicles p → IsSettled customers vehicles (after p (DeleteInheritance senior junior))
-  unfolding RowsSmall
   settled_uninherited p senior junior h =
       let a : ℕ = slot_of p senior in
       let b : ℕ = slot_of p junior in
@@ -155,7 +158,7 @@ module _ (customers vehicles : ℕ) where
         vehicles_are = h.vehicles_are;
         order = record {
           rows = length-set p.order.pairs a row ∙ h.order.rows;
-          small = rows_set p.order.pairs a row (λ c there. less_small p.order.pairs a b c h.order.small there) h.order.small;
+          small = λ x y there. h.order.small x y (pair_within p.order a b x y there);
         };
         slots = h.slots;
       }
@@ -173,27 +176,7 @@ module _ (customers vehicles : ℕ) where
   settled p (DeleteRole role) h = settled_gone p role h
   settled p (AddInheritance senior junior) h = settled_inherited p senior junior h
   settled p (DeleteInheritance senior junior) h = settled_uninherited p senior junior h
-  settled p (AddUser user) h = settled_order p h p.order (after p (AddUser user)) refl refl refl refl h.order
-  settled p (DeleteUser user) h = settled_order p h p.order (after p (DeleteUser user)) refl refl refl refl h.order
-  settled p (AssignUser user role) h = settled_order p h p.order (after p (AssignUser user role)) refl refl refl refl h.order
-  settled p (DeassignUser user role) h = settled_order p h p.order (after p (DeassignUser user role)) refl refl refl refl h.order
-  settled p (GrantPermission role operation range) h = settled_order p h p.order (after p (GrantPermission role operation range)) refl refl refl refl h.order
-  settled p (RevokePermission role operation range) h = settled_order p h p.order (after p (RevokePermission role operation range)) refl refl refl refl h.order
-  settled p (CreateSsdSet name number roles) h = settled_order p h p.order (after p (CreateSsdSet name number roles)) refl refl refl refl h.order
-  settled p (AddSsdRoleMember name role) h = settled_order p h p.order (after p (AddSsdRoleMember name role)) refl refl refl refl h.order
-  settled p (DeleteSsdRoleMember name role) h = settled_order p h p.order (after p (DeleteSsdRoleMember name role)) refl refl refl refl h.order
-  settled p (DeleteSsdSet name) h = settled_order p h p.order (after p (DeleteSsdSet name)) refl refl refl refl h.order
-  settled p (SetSsdSetCardinality name number) h = settled_order p h p.order (after p (SetSsdSetCardinality name number)) refl refl refl refl h.order
-  settled p (CreateDsdSet name number roles) h = settled_order p h p.order (after p (CreateDsdSet name number roles)) refl refl refl refl h.order
-  settled p (AddDsdRoleMember name role) h = settled_order p h p.order (after p (AddDsdRoleMember name role)) refl refl refl refl h.order
-  settled p (DeleteDsdRoleMember name role) h = settled_order p h p.order (after p (DeleteDsdRoleMember name role)) refl refl refl refl h.order
-  settled p (DeleteDsdSet name) h = settled_order p h p.order (after p (DeleteDsdSet name)) refl refl refl refl h.order
-  settled p (SetDsdSetCardinality name number) h = settled_order p h p.order (after p (SetDsdSetCardinality name number)) refl refl refl refl h.order
-  settled p (CreateSession user roles) h = settled_order p h p.order (after p (CreateSession user roles)) refl refl refl refl h.order
-  settled p (DeleteSession session) h = settled_order p h p.order (after p (DeleteSession session)) refl refl refl refl h.order
-  settled p (AddActiveRole session role) h = settled_order p h p.order (after p (AddActiveRole session role)) refl refl refl refl h.order
-  settled p (DropActiveRole session role) h = settled_order p h p.order (after p (DropActiveRole session role)) refl refl refl refl h.order
-  settled p Migrate h = settled_order p h p.order (after p Migrate) refl refl refl refl h.order
+  settled p command h = settled_order p h p.order (after p command) refl refl refl refl h.order
 
   answered_settled : (p next : PolicyState) (outcome : Outcome) (refusal : Option PolicyRefusal) → IsSettled customers vehicles p → IsSettled customers vehicles next
       → IsSettled customers vehicles (answered p refusal next outcome).0

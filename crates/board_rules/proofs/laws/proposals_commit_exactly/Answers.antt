@@ -1,5 +1,5 @@
 use Rattle.board_rules.specs.Good.{state_of}
-use Rattle.board_rules.proofs.Accesses.{access_by_test}
+use Rattle.policy_core.specs.AccessLaws.{access_by_test}
 use Rattle.board_rules.proofs.Headline.{commits_exactly, denies_exactly, committed_or_denied}
 use Rattle.board_rules.proofs.Settled.{orderly_state}
 use Rattle.board_rules.proofs.laws.proposals_commit_exactly.Goals as goal
