@@ -17,6 +17,7 @@ use std::alloc::{AllocError, Global};
 /// The numbers of the sessions whose access the command may have changed, by the policy before and after it, ascending: all after a grant,
 /// a revocation, a change of the hierarchy, and DeleteRole; those of the user after DeassignUser and DeleteUser; the session itself after a
 /// session command; those that lost their roles after the change of the counting; none otherwise.
+#[inline(always)]
 pub fn affected(
     alloc: Global,
     old: &Policy,

@@ -123,6 +123,7 @@ pub(crate) fn change(policy: &mut Policy, command: &Command) -> Result<(), Refus
 
 /// Carries out a command that the policy does not refuse, as another policy did before: for a new pair or role of a user the sets are not
 /// looked at again.
+#[inline(always)]
 pub(crate) fn change_again(policy: &mut Policy, command: &Command) -> Result<(), Refusal>
     requires { refusal_of policy.old command.now ≡ None }
     ensures ok { OnOk result (policy.new ≡ after policy.old command.now) }

@@ -171,6 +171,7 @@ impl Twin {
 }
 
 /// Gives the spare policy the command that the other already has. How it then compares with the other.
+#[inline(always)]
 fn follow(spare: &mut Policy, command: &Command) -> Lag
     requires { refusal_of spare.old command.now ≡ None }
     ensures follows { Follows result spare.new (after spare.old command.now) }
