@@ -2,7 +2,8 @@
 //!
 //! The eight colours are those of Okabe and Ito, which people with any colour vision tell apart. On white a brown stands for their yellow, which
 //! does not show there, and on black a white for their black. The lines of ways are whole or broken in one of three ways, by turns of eight
-//! vehicles: whole for vehicles 1 to 7, and again for 32 to 39.
+//! vehicles: whole for vehicles 1 to 7, and again for 32 to 39. The numbers of customers have an outline in the colour of the ground, so that
+//! they can be read where they lie over lines.
 
 /// Colours and widths, by class, on a light background and on a dark one, and the heads of the arrows.
 pub const STYLE: &str = "\
@@ -13,7 +14,7 @@ text{fill:#222;font-family:sans-serif;font-size:125px}
 .m{font-size:150px}
 .e{text-anchor:end}
 .y{text-anchor:middle}
-.n{font-size:100px}
+.n{font-size:100px;paint-order:stroke;stroke:#fff;stroke-width:30px;stroke-linejoin:round}
 .g{fill:none;stroke:#ccc;stroke-width:8}
 .d{fill:#fff;fill-opacity:.7;stroke:#222;stroke-width:44}
 .s{stroke:#fff;stroke-width:8}
@@ -43,6 +44,7 @@ text{fill:#ddd}
 .g{stroke:#444}
 .d{fill:#151515;stroke:#ddd}
 .s{stroke:#151515}
+.n{stroke:#151515}
 .o{stroke:#aaa}
 .h{fill:#222}
 .w{fill:#4c4c4c}
