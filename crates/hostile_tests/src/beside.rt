@@ -9,11 +9,11 @@ use std::time::Clock;
 use worker_runs::{Orders, scripted};
 
 /// Three customers in a line, and one vehicle.
-const B: &str =
+pub(crate) const B: &str =
     "B\nVEHICLE\nNUMBER CAPACITY\n1 10\nCUSTOMER\nCUST NO.\n0 0 0 0 0 1000 0\n1 3 0 1 0 1000 0\n2 6 0 1 0 1000 0\n3 9 0 1 0 1000 0\n";
 
 /// The customers in the order 2, 1, 3, where the worker may move them.
-const SCRIPT: &str = "\
+pub(crate) const SCRIPT: &str = "\
 1 grant root move vehicle 1 1\n\
 1 grant root move customer 1 3\n\
 1 grant worker move vehicle 1 1\n\
@@ -27,7 +27,7 @@ const LIVE: &str = "\
 1 add-user ann\n";
 
 /// The replies to the script.
-const FIRST: &str = "\
+pub(crate) const FIRST: &str = "\
 done\n\
 done\n\
 done\n\

@@ -9,6 +9,8 @@ mod boards;
 #[cfg(test)]
 mod desks;
 #[cfg(test)]
+mod early;
+#[cfg(test)]
 mod full;
 #[cfg(test)]
 mod given_up;

@@ -4,6 +4,7 @@ ghost use Rattle.hostile_tests.specs.Ways.{way};
 
 use crate::beside::runs_beside;
 use crate::boards::{boards_go_through, desks_go_through};
+use crate::early::breaks_off;
 use crate::full::fills;
 use crate::given_up::go_on;
 use crate::held::{compare_held, works_held};
@@ -86,6 +87,15 @@ fn runs_get_through(rt: HostRuntime) {
 fn runs_with_a_worker_get_through(rt: HostRuntime) {
     if let Some(mut hoard) = Hoard::new(rt.alloc(), THREADED) {
         runs_beside(rt, &mut hoard);
+    }
+}
+
+#[test]
+fn live_lines_that_lack_memory(rt: HostRuntime) {
+    if let Some(mut hoard) = Hoard::new(rt.alloc(), THREADED) {
+        if hoard.is_whole() {
+            breaks_off(rt, &mut hoard);
+        }
     }
 }
 

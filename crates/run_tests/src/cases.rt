@@ -113,7 +113,7 @@ const LONG_LINE: &str = "dispatch: run fault long-line\n";
 /// A line of 4,097 bytes is made of this at the end of a script, since no word of a table is so long.
 pub(crate) const LONG: &str = "LONG";
 
-pub(crate) const CASES: [Case; 15] = [
+pub(crate) const CASES: [Case; 16] = [
     Case {
         instance: A,
         script: "",
@@ -233,6 +233,18 @@ pub(crate) const CASES: [Case; 15] = [
         orders: (1, 0, 1),
         wanted: (
             "bad word\nend\nworker 1 tried 0 committed 0 denied 0 refused 0\nversion 0\n",
+            LONG_LINE,
+            3,
+        ),
+    },
+    // The lines of all workers follow what a live script came to that ended early.
+    Case {
+        instance: A,
+        script: "",
+        live: "1 list\nLONG",
+        orders: (2, 0, 1),
+        wanted: (
+            "end\nworker 1 tried 0 committed 0 denied 0 refused 0\nworker 2 tried 0 committed 0 denied 0 refused 0\nversion 0\n",
             LONG_LINE,
             3,
         ),
