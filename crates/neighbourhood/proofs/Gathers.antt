@@ -1,5 +1,6 @@
 -- What a search gathers before it begins, put together.
-use Rattle.std.proofs.Common.{◌≡◌, ℕ, ◌-◌, ◌^◌, ◌≤◌, refl, sym, subst, true, false, List, length, take, drop, All}
+use Rattle.std.proofs.Common.{◌≡◌, ℕ, ◌-◌, ◌^◌, ◌≤◌, refl, sym, subst, true, false, List, ◌++◌, length, take, drop, All}
+use Rattle.std.proofs.Math.Seq.{take-append_seam, drop-append_seam}
 use Rattle.callback_store.specs.Tables.{Table}
 use Rattle.way_costs.specs.Sides.{AlongState, AreFloored, AreWaysBetween, IsAlong, TwoWays}
 use Rattle.way_costs.specs.Ways.{AreBothSums, AreEdges, AreFloors, AreHopsFrom, AreStops, AreSums}
@@ -26,18 +27,18 @@ gathered_between q g ways from to from_edges to_edges most between floored e f =
 }
 
 -- of one vehicle
-pub gathered_inside : (q : Searched) (g : Gathered) (ways : TwoWays) (way : AlongState) → q.v ≡ q.w → g.to.now ≡ g.from.now → AreStops q.setting.customers q.view.routes q.v g.from.now
-    → AreWaysBetween (costs_of q) g.from.now g.from.now ways → IsAlong (costs_of q) g.from.now way
-    → g.from_edges.now ≡ way.edges → g.to_edges.now ≡ way.edges → g.most ≡ way.most → g.out.now ≡ ways.out → g.into.now ≡ ways.into → IsGathered q g
-gathered_inside q g ways way inside same are between goes e f m o i =
+pub gathered_inside : (q : Searched) (g : Gathered) (ways : TwoWays) (E : List ℕ) (way : AlongState) → q.v ≡ q.w → g.to.now ≡ g.from.now → AreStops q.setting.customers q.view.routes q.v g.from.now
+    → AreWaysBetween (costs_of q) g.from.now g.from.now ways → IsAlong (costs_of q) g.from.now E way
+    → g.from_edges.now ≡ E → g.to_edges.now ≡ E → g.most ≡ way.most → g.out.now ≡ ways.out → g.into.now ≡ ways.into → IsGathered q g
+gathered_inside q g ways E way inside same are between goes e f m o i =
     let t = costs_of q in
     let S = g.from.now in
     record {
       from = are;
       to = subst (λ (xs : List ℕ). AreStops q.setting.customers q.view.routes q.w xs) (sym same) (subst (λ (w : ℕ). AreStops q.setting.customers q.view.routes w S) inside are);
-      from_edges = edges_of t S way.edges S g.from_edges.now refl e goes.edges;
-      to_edges = edges_of t S way.edges g.to.now g.to_edges.now same f goes.edges;
-      most = subst (λ (xs : List ℕ). All (λ x. x ≤ g.most) xs) (sym f) (subst (λ (n : ℕ). All (λ x. x ≤ n) way.edges) (sym m) goes.most);
+      from_edges = edges_of t S E S g.from_edges.now refl e goes.ways;
+      to_edges = edges_of t S E g.to.now g.to_edges.now same f goes.ways;
+      most = subst (λ (xs : List ℕ). All (λ x. x ≤ g.most) xs) (sym f) (subst (λ (n : ℕ). All (λ x. x ≤ n) E) (sym m) goes.most);
       out = subst (λ (xs : List ℕ). AreHopsFrom false t S xs 0 1 g.out.now) (sym same) (subst (λ (xs : List ℕ). AreHopsFrom false t S S 0 1 xs) (sym o) between.out);
       into = subst (λ (xs : List ℕ). AreHopsFrom true t S xs 1 0 g.into.now) (sym same) (subst (λ (xs : List ℕ). AreHopsFrom true t S S 1 0 xs) (sym i) between.into);
       out_floors = λ apart. absurd (apart inside);
@@ -45,9 +46,9 @@ gathered_inside q g ways way inside same are between goes e f m o i =
     }
 
 -- the two halves of its sums
-pub summed_inside : (q : Searched) (g : Gathered) (way : AlongState) (cells on back : List ℕ) → IsAlong (costs_of q) g.from.now way → cells ≡ way.sums
+pub summed_inside : (q : Searched) (g : Gathered) (E : List ℕ) (way : AlongState) (cells on back : List ℕ) → IsAlong (costs_of q) g.from.now E way → cells ≡ way.sums
     → on ≡ take (length g.from.now - 1) cells → back ≡ drop (length g.from.now - 1) cells → AreSummed q g on back
-summed_inside q g way cells on back goes e f b =
+summed_inside q g E way cells on back goes e f b =
     let t = costs_of q in
     let n = length g.from.now - 1 in
     let both = subst (λ (xs : List ℕ). AreBothSums t g.from.now xs) (sym e) goes.sums in
@@ -56,3 +57,10 @@ summed_inside q g way cells on back goes e f b =
       back_sums = subst (λ (xs : List ℕ). AreSums true t g.from.now n xs) (sym b) both.back_sums;
       small = (subst (λ (xs : List ℕ). All (λ x. x ≤ 2 ^ 42) xs) (sym f) both.small.0, subst (λ (xs : List ℕ). All (λ x. x ≤ 2 ^ 42) xs) (sym b) both.small.1);
     }
+
+-- a list of two parts, as it is split behind the first
+pub halves_of : (S E all : List ℕ) (n : ℕ) → all ≡ S ++ E → n ≡ length S → (take n all ≡ S) × (drop n all ≡ E)
+halves_of S E all n e m =
+    let there = subst (λ (xs : List ℕ). take (length S) xs ≡ S) (sym e) (take-append_seam S E) in
+    let then = subst (λ (xs : List ℕ). drop (length S) xs ≡ E) (sym e) (drop-append_seam S E) in
+    (subst (λ (k : ℕ). take k all ≡ S) (sym m) there, subst (λ (k : ℕ). drop k all ≡ E) (sym m) then)

@@ -127,18 +127,18 @@ impl Searcher {
             return Ok(None);
         }
         fill_stops(view, setup, v, &mut self.sides.stops)?;
-        let sides = &self.sides;
-        let stops = sides.stops.as_slice();
-        self.ways.gather_among(setup, stops)?;
+        let count = self.sides.stops.len();
+        self.ways.gather_among(setup, &self.sides.stops)?;
         let ways = &self.ways;
-        self.along.gather(stops, &ways.out)?;
+        self.along.gather(&mut self.sides.stops, &ways.out)?;
         let along = &self.along;
-        let (sums, back_sums) = along.sums.split_at(stops.len() - 1);
+        let (stops, edges) = self.sides.stops.split_at(count);
+        let (sums, back_sums) = along.sums.split_at(count - 1);
         let gathered = Gathered {
             from: stops,
             to: stops,
-            from_edges: &along.edges,
-            to_edges: &along.edges,
+            from_edges: edges,
+            to_edges: edges,
             most: along.most,
             out: &ways.out,
             into: &ways.into,

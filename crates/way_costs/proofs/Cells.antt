@@ -1,6 +1,6 @@
 use Rattle.std.proofs.Common.{add-zero, append_assoc, All, Fits, w32, w64, ◌^◌, ◌≡◌, ◌≢◌, ℕ, ◌+◌, ◌-◌, ◌*◌, ◌<◌, ◌≤◌, ◌∙◌, refl, sym, ap, subst, arith, inl, inr, List, [], ◌∷◌, ◌++◌, length, map, set, slice_index, slice_index_or, length-append, min, Bool, true, false, ◌==◌, if◌then◌else◌, take, drop, suc, Option, Some, None, IfSome}
 use Rattle.std.proofs.lemmas.Bool.{cases_lt, ne_eqb}
-use Rattle.std.proofs.lemmas.List.{get_or_default, get_or_push, get_or_append_left, get_or-append-add, get_or-take, get_or-drop, get_or-set_same, get_or-set_other, get_or-map, length-map, length-set, length-take-le, length-drop, take_more}
+use Rattle.std.proofs.lemmas.List.{get_or_default, get_or_push, get_or_append_left, get_or-append-add, get_or-take, get_or-drop, get_or-set_same, get_or-set_other, get_or-map, length-map, length-set, length-take-le, length-drop, take_all, take_more}
 use Rattle.std.proofs.lemmas.List.Elements.{All-append, All-cons, All-drop, All-nil, All-take}
 use Rattle.std.proofs.Math.Seq.{take-append_seam, drop-append_seam}
 use Rattle.std.proofs.lemmas.Nat.{mul-le}
@@ -224,46 +224,18 @@ rows_floors from to cells row column first begin spare n e f s end g = λ a b la
     let place : spare ≡ spare_of column to = s ∙ ap (λ (k : ℕ). spare_of k to) f in
     subst (λ (k : ℕ). slice_index cells (a * length to + k) ≤ slice_index cells (a * length to + b)) place (g.floors a b (omega arith) (omega arith) (omega arith) (omega arith))
 
--- a table that is turned: the rows before one, and the first numbers of this one
-pub record IsTurnedTo (w i j : ℕ) (cells back : List ℕ) : Type 0 where
-  pub rows : IsTurned w i cells back
-  pub row : (b : ℕ) → b < j → slice_index back (i * w + b) ≡ slice_index cells (b * w + i)
-
-pub turned_begin : (w i : ℕ) (cells back : List ℕ) → IsTurned w i cells back → IsTurnedTo w i 0 cells back
-turned_begin w i cells back f = record { rows = f; row = λ b h. absurd (omega arith) }
-
--- one number more
-pub turned_more : (w : ℕ) (cells back : List ℕ) (i j x : ℕ) → i < w → j < w → IsTurnedTo w i j cells back → x ≡ slice_index cells (j * w + i)
-    → IsTurnedTo w i (j + 1) cells (set back (i * w + j) x)
-turned_more w cells back i j x g h f r =
-    let fits = row_fits i w w g in
-    let whole = f.rows.whole in
-    let room : i * w + j < length back = omega arith in
-    record {
-      rows = record {
-        whole = length-set back (i * w + j) x ∙ f.rows.whole;
-        turned = λ a b la ha lb.
-            let before = row_fits a i w ha in
-            get_or-set_other back (i * w + j) (a * w + b) x 0 (λ same. absurd (omega (arith, same))) ∙ f.rows.turned a b la ha lb;
-      };
-      row = λ b below. elim (cases_lt b j) [
-        | inl less ↦ get_or-set_other back (i * w + j) (i * w + b) x 0 (λ same. absurd (omega (arith, same))) ∙ f.row b less
-        | inr more ↦
-            let same : j ≡ b = omega arith in
-            subst (λ (n : ℕ). slice_index (set back (i * w + j) x) (i * w + n) ≡ slice_index cells (n * w + i)) same
-            (get_or-set_same back (i * w + j) x 0 room ∙ r)
-      ];
-    }
-
--- one row more
-pub turned_row : (w i j : ℕ) (cells back : List ℕ) → w ≤ j + 1 → IsTurnedTo w i j cells back → IsTurned w (i + 1) cells back
-turned_row w i j cells back all f = record {
-  whole = f.rows.whole;
+-- a table that is turned: one row more
+pub turned_line : (w i : ℕ) (cells back new : List ℕ) → IsTurned w i cells back → length new ≡ length back
+    → ((k : ℕ) → k < w - 1 → slice_index new (i * w + k) ≡ slice_index cells (k * w + i)) → ((k : ℕ) → k < i * w → slice_index new k ≡ slice_index back k) → IsTurned w (i + 1) cells new
+turned_line w i cells back new f sized line kept = record {
+  whole = sized ∙ f.whole;
   turned = λ a b la ha lb. elim (cases_lt a i) [
-    | inl less ↦ f.rows.turned a b la less lb
+    | inl less ↦
+        let before = row_fits a i w less in
+        kept (a * w + b) (omega arith) ∙ f.turned a b la less lb
     | inr more ↦
         let same : i ≡ a = omega arith in
-        subst (λ (n : ℕ). slice_index back (n * w + b) ≡ slice_index cells (b * w + n)) same (f.row b (omega arith))
+        subst (λ (n : ℕ). slice_index new (n * w + b) ≡ slice_index cells (b * w + n)) same (line b (omega arith))
   ];
 }
 
@@ -486,3 +458,11 @@ answers_at s ts id answers e f is sized at =
 pub some_both : {T : Type 0} (o : Option T) (P Q R : T → Type 0) → ((x : T) → P x → Q x → R x) → IfSome o P → IfSome o Q → IfSome o R
 some_both None P Q R f p q = tt
 some_both (Some x) P Q R f p q = f x p q
+
+-- what stands behind the first part of a list
+pub behind_first : (S E all : List ℕ) (n : ℕ) → all ≡ S ++ E → n ≡ length S → take (length all - n) (drop n all) ≡ E
+behind_first S E all n e m =
+    let behind : drop n all ≡ E =
+    subst (λ (k : ℕ). drop k all ≡ E) (sym m) (subst (λ (xs : List ℕ). drop (length S) xs ≡ E) (sym e) (drop-append_seam S E)) in
+    let long : length all ≡ length S + length E = ap length e ∙ length-append S E in
+    subst (λ (xs : List ℕ). take (length all - n) xs ≡ E) (sym behind) (take_all (length all - n) E (omega (arith, long, m)))

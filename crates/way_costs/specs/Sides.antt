@@ -33,14 +33,14 @@ pub record AreFloored (from to : List ℕ) (ways : TwoWays) : Type 0 where
   pub out : AreFloors from to 0 1 ways.out
   pub into : AreFloors from to 1 0 ways.into
 
--- the ways along some stops: from each to the next, a number that none of these is above, and those over the first ones, as they are
--- driven, then as they are driven back
+-- the ways along some stops: a number that none from one to the next is above, and those over the first ones, as they are driven, then as
+-- they are driven back
 pub record AlongState : Type 0 where
-  pub edges : List ℕ
   pub most : ℕ
   pub sums : List ℕ
 
-pub record IsAlong (t : Table) (stops : List ℕ) (along : AlongState) : Type 0 where
-  pub edges : AreEdges t stops along.edges
-  pub most : All (λ x. x ≤ along.most) along.edges
+-- of some stops, with the ways from each to the next
+pub record IsAlong (t : Table) (stops edges : List ℕ) (along : AlongState) : Type 0 where
+  pub ways : AreEdges t stops edges
+  pub most : All (λ x. x ≤ along.most) edges
   pub sums : AreBothSums t stops along.sums

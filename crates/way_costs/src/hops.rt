@@ -40,7 +40,7 @@ pub fn fill_stops(view: &View, setup: &Setup, v: u32, all: &mut Vec<u32>) -> Res
     let _customers = setup.customers();
     let customers = view.customers(v);
     all.clear();
-    all.reserve(customers.len() + 2)?;
+    all.reserve(2 * customers.len() + 3)?;
     all.push(0)?;
     all.extend_from_slice(customers)?;
     all.push(0)?;

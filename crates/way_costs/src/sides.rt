@@ -1,6 +1,6 @@
 //! What is gathered before a search: the stops of the vehicles, and the ways between them. Each group is made by one function, so that a
 //! search owns few values.
-ghost use Rattle.std.specs.Prelude.{◌≡◌, ◌≤◌, ◌*◌, ◌∷◌, ℕ, false, List, length, All, IfOk};
+ghost use Rattle.std.specs.Prelude.{◌≡◌, ◌≤◌, ◌*◌, ◌∷◌, ◌++◌, ℕ, false, List, length, All, IfOk};
 ghost use Rattle.callback_store.specs.Tables.{Table, table_at};
 ghost use Rattle.dimension_core.specs.Setup.{setting};
 ghost use Rattle.plan_core.specs.Plan.{IsPlan, route_at};
@@ -8,7 +8,7 @@ ghost use Rattle.way_costs.specs.Sides.{AreSides, AreWaysBetween, AreFloored, Is
 ghost use Rattle.way_costs.specs.Ways.{AreStops, AreEdges, AreHopsFrom};
 
 use crate::hops::fill_stops_of_both;
-use crate::table::{fill_edges, fill_sums, fill_turned, fill_ways, most_of, pick_edges};
+use crate::table::{add_edges, fill_edges, fill_sums, fill_turned, fill_ways, most_of};
 use dimension_core::Setup;
 use pin_core::View;
 use plan_core::routes_are_known;
@@ -45,11 +45,10 @@ impl Model for Ways {
     ghost view = { λ a. record { out = a.out.items; into = a.into.items } };
 }
 
-/// The ways along the stops of a vehicle: from each to the next, the dearest of these, and those over the first ones, as they are driven
-/// and behind them as they are driven back.
+/// The ways along the stops of a vehicle: the dearest from one to the next, and those over the first ones, as they are driven and behind
+/// them as they are driven back.
 #[derive(Drop)]
 pub struct Along {
-    pub edges: Vec<u32>,
     pub most: u32,
     pub sums: Vec<u64>,
 }
@@ -59,7 +58,7 @@ impl Model for Along {
 
     ghost Value = { AlongState };
 
-    ghost view = { λ a. record { edges = a.edges.items; most = a.most; sums = a.sums.items } };
+    ghost view = { λ a. record { most = a.most; sums = a.sums.items } };
 }
 
 impl Sides {
@@ -159,22 +158,25 @@ impl Along {
     #[inline(always)]
     pub fn new(alloc: Global) -> Along {
         Along {
-            edges: Vec::new(alloc),
             most: 0,
             sums: Vec::new(alloc),
         }
     }
 
-    /// Gathers the ways along some stops, by the ways between them all, in place of what was gathered.
-    pub fn gather(&mut self, stops: &[u32], cells: &[u32]) -> Result<(), AllocError>
-        requires sized { length cells.now ≡ length stops.now * length stops.now }
-        requires depot { (rest : List ℕ) × (stops.now ≡ 0 ∷ rest) }
-        requires long { 2 ≤ length stops.now }
-        requires short { length stops.now ≤ 1002 }
-        ensures { IfOk result (λ _. (t : Table) → AreHopsFrom false t stops.now stops.now 0 1 cells.now → IsAlong t stops.now self.new) }
+    /// Gathers the ways along some stops, by the ways between them all, in place of what was gathered, and puts those from each stop to the
+    /// next one behind the stops.
+    pub fn gather(&mut self, stops: &mut Vec<u32>, cells: &[u32]) -> Result<(), AllocError>
+        requires sized { length cells.now ≡ length stops.old.items * length stops.old.items }
+        requires depot { (rest : List ℕ) × (stops.old.items ≡ 0 ∷ rest) }
+        requires long { 2 ≤ length stops.old.items }
+        requires short { length stops.old.items ≤ 1002 }
+        ensures { IfOk result (λ _. (edges : List ℕ) × (stops.new.items ≡ stops.old.items ++ edges)
+            × ((t : Table) → AreHopsFrom false t stops.old.items stops.old.items 0 1 cells.now → IsAlong t stops.old.items edges self.new)) }
     {
-        pick_edges(stops, cells, &mut self.edges)?;
-        self.most = most_of(&self.edges);
-        fill_sums(stops, cells, &mut self.sums)
+        fill_sums(stops, cells, &mut self.sums)?;
+        let count = stops.len();
+        add_edges(stops, cells)?;
+        self.most = most_of(&stops[count..]);
+        Ok(())
     }
 }

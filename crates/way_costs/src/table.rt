@@ -1,5 +1,5 @@
 //! What the ways between stops cost, asked once and kept.
-ghost use Rattle.std.specs.Prelude.{◌≡◌, ◌≢◌, ◌≤◌, ◌<◌, ◌+◌, ◌-◌, ◌*◌, ◌^◌, ◌∷◌, ◌==◌, if◌then◌else◌, ℕ, true, false, List, length, slice_index, take, drop, All, IfOk, IfSome};
+ghost use Rattle.std.specs.Prelude.{◌≡◌, ◌≢◌, ◌≤◌, ◌<◌, ◌+◌, ◌-◌, ◌*◌, ◌^◌, ◌∷◌, ◌==◌, if◌then◌else◌, ℕ, true, false, ◌++◌, List, length, slice_index, take, drop, All, IfOk, IfSome};
 ghost use Rattle.callback_store.specs.Tables.{Table, table_at};
 ghost use Rattle.dimension_core.specs.Setup.{setting};
 ghost use Rattle.way_costs.specs.Known.{AreAnswers};
@@ -332,6 +332,36 @@ fn cell(cells: &[u32], width: usize, from: usize, to: usize) -> u32
     row(cells, width, from)[to]
 }
 
+/// Puts a column of a table, but its last number, into a part of a row.
+#[inline(always)]
+fn turn_column(width: usize, cells: &[u32], column: usize, line: &mut [u32])
+    requires sized { length cells.now ≡ width * width }
+    requires short { width ≤ 1002 }
+    requires room { length line.old + 1 ≡ width }
+    requires column { column < width }
+    ensures sized { length line.new ≡ length line.old }
+    ensures cells { (k : ℕ) → k < length line.old → slice_index line.new k ≡ slice_index cells.now (k * width + column) }
+{
+    for j in 0..line.len() {
+        line[j] = cells[j * width + column];
+    }
+}
+
+/// Puts a column of a table, but its last number, into another one, from a place on.
+#[inline(always)]
+fn turn_at(width: usize, cells: &[u32], column: usize, back: &mut [u32], at: usize)
+    requires sized { length cells.now ≡ width * width }
+    requires short { width ≤ 1002 }
+    requires column { column < width }
+    requires room { at + (width - 1) ≤ length back.old }
+    ensures sized { length back.new ≡ length back.old }
+    ensures cells { (k : ℕ) → k < width - 1 → slice_index back.new (at + k) ≡ slice_index cells.now (k * width + column) }
+    ensures kept { (k : ℕ) → k < at → slice_index back.new k ≡ slice_index back.old k }
+{
+    let line = &mut back[at..at + (width - 1)];
+    turn_column(width, cells, column, line)
+}
+
 /// Puts the ways of a table, driven back, into another one.
 #[inline(always)]
 fn turn(width: usize, cells: &[u32], back: &mut [u32])
@@ -341,14 +371,12 @@ fn turn(width: usize, cells: &[u32], back: &mut [u32])
     ensures { IsTurned width width cells.now back.new }
 {
     for i in 1..width {
-        for j in 0..width - 1 {
-            back[i * width + j] = cell(cells, width, j, i);
-        }
+        turn_at(width, cells, i, back, i * width);
     }
 }
 
 /// Fills a table with what the ways between some stops cost, driven back, by those as they are driven. What it held is given up.
-#[inline(never)]
+#[inline(always)]
 pub(crate) fn fill_turned(
     stops: &[u32],
     cells: &[u32],
@@ -364,21 +392,17 @@ pub(crate) fn fill_turned(
     Ok(())
 }
 
-/// Puts what the way from each stop to the next one costs, by the ways between them all, in place of what `edges` held.
-pub(crate) fn pick_edges(
-    stops: &[u32],
-    cells: &[u32],
-    edges: &mut Vec<u32>,
-) -> Result<(), AllocError>
-    requires sized { length cells.now ≡ length stops.now * length stops.now }
-    requires some { 1 ≤ length stops.now }
-    ensures { IfOk result (λ _. ArePicked (length stops.now) (length stops.now - 1) cells.now edges.new.items) }
+/// Puts what the way from each stop to the next one costs, by the ways between them all, behind the stops.
+#[inline(always)]
+pub(crate) fn add_edges(stops: &mut Vec<u32>, cells: &[u32]) -> Result<(), AllocError>
+    requires sized { length cells.now ≡ length stops.old.items * length stops.old.items }
+    requires some { 1 ≤ length stops.old.items }
+    ensures { IfOk result (λ _. (edges : List ℕ) × (stops.new.items ≡ stops.old.items ++ edges) × ArePicked (length stops.old.items) (length stops.old.items - 1) cells.now edges) }
 {
-    let last = stops.len() - 1;
-    edges.clear();
-    edges.reserve(last)?;
-    for k in 0..last {
-        edges.push(cell(cells, stops.len(), k, k + 1))?;
+    let width = stops.len();
+    stops.reserve(width - 1)?;
+    for k in 0..width - 1 {
+        stops.push(cell(cells, width, k, k + 1))?;
     }
     Ok(())
 }
@@ -399,6 +423,7 @@ fn step(cells: &[u32], width: usize, turned: bool, from: usize) -> u32
 
 /// Adds what the ways over the first stops cost together, but the first of these ways, for each number of stops from 1 on, as they are
 /// driven or driven back, by the ways between all. The last way is in no sum.
+#[inline(always)]
 fn add_sums(
     turned: bool,
     stops: &[u32],
@@ -423,6 +448,7 @@ fn add_sums(
 }
 
 /// Puts these sums as the ways are driven, and behind them as they are driven back, in place of what `sums` held.
+#[inline(always)]
 pub(crate) fn fill_sums(stops: &[u32], cells: &[u32], sums: &mut Vec<u64>) -> Result<(), AllocError>
     requires sized { length cells.now ≡ length stops.now * length stops.now }
     requires depot { (rest : List ℕ) × (stops.now ≡ 0 ∷ rest) }

@@ -1,11 +1,6 @@
 use Rattle.way_costs.specs.Ways.{IsTurned}
-use Rattle.way_costs.proofs.Cells.{IsTurnedTo}
 use Rattle.way_costs.proofs.table.turn.Given as goal
 
 -- the rows so far
 abbrev pub invariant-loop-i : goal.invariant-loop-i
 invariant-loop-i l = IsTurned l.width l.i l.cells l.back
-
--- and the numbers of this row
-abbrev pub invariant-loop-j : goal.invariant-loop-j
-invariant-loop-j l = IsTurnedTo l.width l.i l.j l.cells l.back
