@@ -1,4 +1,4 @@
-use Rattle.std.proofs.Common.{◌≡◌, ◌∙◌, ◌≤◌, ◌-◌, ◌*◌, List, ℕ, ◌++◌, All, ap, arith, drop, length, length-append, refl, subst, sym, take, false}
+use Rattle.std.proofs.Common.{◌≡◌, ◌∙◌, ◌≤◌, ◌-◌, ◌*◌, List, ℕ, ◌++◌, All, ap, arith, drop, length, length-append, refl, rules, subst, sym, vec_len, take, false}
 use Rattle.std.proofs.Math.Seq.{take-append_seam, drop-append_seam}
 use Rattle.callback_store.specs.Tables.{table_at}
 use Rattle.dimension_core.specs.Setup.{setting}
@@ -86,8 +86,8 @@ split_at-requires g c =
     let count = c.len-count.ensures in
     omega arith
 
-pub split_at-2-requires : goal.split_at-2-requires
-split_at-2-requires g c =
+pub split_at-requires-2 : goal.split_at-requires-2
+split_at-requires-2 g c =
     let s = setting c.args.setup.now in
     let S = c.fill_stops.new.all.items in
     let are : AreStops s.customers c.args.view.now.routes c.args.v S = c.in_ok-fill_stops.ensures in
@@ -98,7 +98,8 @@ split_at-2-requires g c =
     let E = added.0 in
     let way : IsAlong t S E c.gather.new.self = added.2 t (subst (λ (xs : List ℕ). AreHopsFrom false t S S 0 1 xs) (sym out) among.out) in
     let long = subst (λ (xs : List ℕ). length S - 1 ≤ length xs) (sym (c.deref-4.ensures.value ∙ ap (λ (x : AlongState). x.sums) c.along.view_is)) way.sums.long in
-    let count = c.len-count.ensures in
+    let known : vec_len c.fill_stops.new.all ≡ length S = search rules in
+    let count = c.len-count.ensures ∙ known in
     omega arith
 
 pub best_of_one-found-requires-clause-search : goal.best_of_one-found-requires-clause-search
@@ -115,7 +116,9 @@ best_of_one-found-requires-clause-gathered g c =
     let added = c.in_ok-gather.ensures in
     let E = added.0 in
     let way : IsAlong t S E c.gather.new.self = added.2 t (subst (λ (xs : List ℕ). AreHopsFrom false t S S 0 1 xs) (sym out) among.out) in
-    let halves = halves_of S E c.deref-3.result.now c.len-count.result (c.deref-3.ensures.value ∙ added.1) c.len-count.ensures in
+    let known : vec_len c.fill_stops.new.all ≡ length S = search rules in
+    let count : c.len-count.result ≡ length S = c.len-count.ensures ∙ known in
+    let halves = halves_of S E c.deref-3.result.now c.len-count.result (c.deref-3.ensures.value ∙ added.1) count in
     let front : c.split_at.result.0.now ≡ S = c.split_at.ensures.front ∙ halves.0 in
     let back : c.split_at.result.1.now ≡ E = c.split_at.ensures.back ∙ halves.1 in
     gathered_inside _ _ c.gather_among.new.self E c.gather.new.self refl refl (subst (λ (xs : List ℕ). AreStops s.customers c.args.view.now.routes c.args.v xs) (sym front) are)
@@ -134,9 +137,11 @@ best_of_one-found-requires-clause-sums g c =
     let added = c.in_ok-gather.ensures in
     let E = added.0 in
     let way : IsAlong t S E c.gather.new.self = added.2 t (subst (λ (xs : List ℕ). AreHopsFrom false t S S 0 1 xs) (sym out) among.out) in
-    let halves = halves_of S E c.deref-3.result.now c.len-count.result (c.deref-3.ensures.value ∙ added.1) c.len-count.ensures in
+    let known : vec_len c.fill_stops.new.all ≡ length S = search rules in
+    let count : c.len-count.result ≡ length S = c.len-count.ensures ∙ known in
+    let halves = halves_of S E c.deref-3.result.now c.len-count.result (c.deref-3.ensures.value ∙ added.1) count in
     let front : c.split_at.result.0.now ≡ S = c.split_at.ensures.front ∙ halves.0 in
-    let counted : c.len-count.result ≡ length c.split_at.result.0.now = c.len-count.ensures ∙ ap length (sym front) in
+    let counted : c.len-count.result ≡ length c.split_at.result.0.now = count ∙ ap length (sym front) in
     summed_inside _ _ E c.gather.new.self c.deref-4.result.now _ _ (subst (λ (xs : List ℕ). IsAlong t xs E c.gather.new.self) (sym front) way)
     (c.deref-4.ensures.value ∙ ap (λ (x : AlongState). x.sums) c.along.view_is)
     (c.split_at-2.ensures.front ∙ ap (λ (n : ℕ). take (n - 1) c.deref-4.result.now) counted) (c.split_at-2.ensures.back ∙ ap (λ (n : ℕ). drop (n - 1) c.deref-4.result.now) counted)
@@ -155,7 +160,9 @@ best_of_one-requires-clause-gathered g c =
     let added = c.in_ok-gather.ensures in
     let E = added.0 in
     let way : IsAlong t S E c.gather.new.self = added.2 t (subst (λ (xs : List ℕ). AreHopsFrom false t S S 0 1 xs) (sym out) among.out) in
-    let halves = halves_of S E c.deref-3.result.now c.len-count.result (c.deref-3.ensures.value ∙ added.1) c.len-count.ensures in
+    let known : vec_len c.fill_stops.new.all ≡ length S = search rules in
+    let count : c.len-count.result ≡ length S = c.len-count.ensures ∙ known in
+    let halves = halves_of S E c.deref-3.result.now c.len-count.result (c.deref-3.ensures.value ∙ added.1) count in
     let front : c.split_at.result.0.now ≡ S = c.split_at.ensures.front ∙ halves.0 in
     let back : c.split_at.result.1.now ≡ E = c.split_at.ensures.back ∙ halves.1 in
     gathered_inside _ _ c.gather_among.new.self E c.gather.new.self refl refl (subst (λ (xs : List ℕ). AreStops s.customers c.args.view.now.routes c.args.v xs) (sym front) are)
@@ -174,9 +181,11 @@ best_of_one-requires-clause-sums g c =
     let added = c.in_ok-gather.ensures in
     let E = added.0 in
     let way : IsAlong t S E c.gather.new.self = added.2 t (subst (λ (xs : List ℕ). AreHopsFrom false t S S 0 1 xs) (sym out) among.out) in
-    let halves = halves_of S E c.deref-3.result.now c.len-count.result (c.deref-3.ensures.value ∙ added.1) c.len-count.ensures in
+    let known : vec_len c.fill_stops.new.all ≡ length S = search rules in
+    let count : c.len-count.result ≡ length S = c.len-count.ensures ∙ known in
+    let halves = halves_of S E c.deref-3.result.now c.len-count.result (c.deref-3.ensures.value ∙ added.1) count in
     let front : c.split_at.result.0.now ≡ S = c.split_at.ensures.front ∙ halves.0 in
-    let counted : c.len-count.result ≡ length c.split_at.result.0.now = c.len-count.ensures ∙ ap length (sym front) in
+    let counted : c.len-count.result ≡ length c.split_at.result.0.now = count ∙ ap length (sym front) in
     summed_inside _ _ E c.gather.new.self c.deref-4.result.now _ _ (subst (λ (xs : List ℕ). IsAlong t xs E c.gather.new.self) (sym front) way)
     (c.deref-4.ensures.value ∙ ap (λ (x : AlongState). x.sums) c.along.view_is)
     (c.split_at-2.ensures.front ∙ ap (λ (n : ℕ). take (n - 1) c.deref-4.result.now) counted) (c.split_at-2.ensures.back ∙ ap (λ (n : ℕ). drop (n - 1) c.deref-4.result.now) counted)
