@@ -16,6 +16,10 @@ pub record Table : Type 0 where
 abbrev pub entry : Table → ℕ → ℕ → ℕ
 entry t i j = slice_index t.entries (if t.paired then i * t.size + j else i)
 
+-- each two of so many nodes have one answer both ways
+abbrev pub IsSymmetric : ℕ → Table → Type 0
+IsSymmetric nodes t = (i j : ℕ) → i < nodes → j < nodes → entry t i j ≡ entry t j i
+
 -- the entries of a one-node callback that answers by a function
 abbrev pub node_values : ℕ → (ℕ → ℕ) → List ℕ
 node_values size f = map f (range_with_len 0 size)

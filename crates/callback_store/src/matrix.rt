@@ -1,5 +1,6 @@
-ghost use Rattle.std.specs.Prelude.{◌≡◌, ℕ, ◌*◌, ◌<◌, ◌≤◌, length, map, All};
+ghost use Rattle.std.specs.Prelude.{◌≡◌, ℕ, ◌*◌, ◌<◌, ◌≤◌, IsTrue, length, map, All};
 ghost use Rattle.callback_store.specs.Meter.{after_ask, after_asks, AsksJust};
+ghost use Rattle.callback_store.specs.Symmetry.{AreSymmetric};
 
 use crate::meter::Meter;
 
@@ -11,12 +12,14 @@ use crate::meter::Meter;
 pub struct Matrix {
     size: u32,
     answers: Vec<u32>,
+    symmetric: bool,
     ghost sized: { length answers.items ≡ size * size },
     ghost limited: { All (λ x. x ≤ 1000000000) answers.items },
+    ghost even: { IsTrue symmetric → AreSymmetric size answers.items },
 }
 
 impl Matrix {
-    ghost use Rattle.callback_store.specs.Tables.{matrix_table, entry};
+    ghost use Rattle.callback_store.specs.Tables.{matrix_table, entry, IsSymmetric};
 
     /// The answers for `size` nodes. Any size is taken here; a registry takes 2 to 1,001 nodes.
     pub fn new(size: u32, answers: Vec<u32>) -> Matrix
@@ -25,7 +28,34 @@ impl Matrix {
         ensures sized { (matrix_table result).size ≡ size }
         ensures answers { (matrix_table result).entries ≡ answers.items }
     {
-        Matrix { size, answers }
+        Matrix {
+            size,
+            answers,
+            symmetric: false,
+        }
+    }
+
+    /// The same, where the way from a node to another has the answer of the way back. It is known of these answers from then on, so that
+    /// either of the two may be read for both.
+    pub fn symmetric(size: u32, answers: Vec<u32>) -> Matrix
+        requires sized { length answers.items ≡ size * size }
+        requires limited { All (λ x. x ≤ 1000000000) answers.items }
+        requires even { AreSymmetric size answers.items }
+        ensures sized { (matrix_table result).size ≡ size }
+        ensures answers { (matrix_table result).entries ≡ answers.items }
+    {
+        Matrix {
+            size,
+            answers,
+            symmetric: true,
+        }
+    }
+
+    /// Whether each two nodes are known to have one answer both ways.
+    pub(crate) fn is_symmetric(&self) -> bool
+        ensures { IsTrue result → IsSymmetric (matrix_table self.now).size (matrix_table self.now) }
+    {
+        self.symmetric
     }
 
     /// How many nodes it knows.

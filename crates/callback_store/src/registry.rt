@@ -1,6 +1,6 @@
-ghost use Rattle.std.specs.Prelude.{◌≡◌, ℕ, ◌+◌, ◌*◌, ◌<◌, ◌≤◌, ◌↔◌, true, false, List, [], ◌∷◌, ◌++◌, length, slice_index, map, IfOk, OnErr, IsErrOf, nat_lt, All, IfSome};
+ghost use Rattle.std.specs.Prelude.{◌≡◌, ℕ, ◌+◌, ◌*◌, ◌<◌, ◌≤◌, ◌↔◌, true, false, List, [], ◌∷◌, ◌++◌, length, slice_index, map, IfOk, OnErr, IsErrOf, nat_lt, All, IfSome, IsTrue};
 ghost use Rattle.callback_store.specs.Meter.{after_ask, after_asks, AsksJust};
-ghost use Rattle.callback_store.specs.Tables.{AreTables, slot_table, pair_table, node_table, matrix_table, table_at, nodes_of, is_fitting, entry};
+ghost use Rattle.callback_store.specs.Tables.{AreTables, slot_table, pair_table, node_table, matrix_table, table_at, nodes_of, is_fitting, entry, IsSymmetric};
 
 use crate::matrix::Matrix;
 use crate::meter::Meter;
@@ -182,6 +182,14 @@ impl Registry {
         ensures answers { IfSome result (λ a. (i j : ℕ) → slice_index a.now (i * nodes_of (tables self.now) + j) ≡ entry (table_at (tables self.now) id) i j) }
     {
         self.slots[id.index as usize].answers()
+    }
+
+    /// Whether each two nodes are known to have one answer both ways.
+    pub fn is_symmetric(&self, id: TransitId) -> bool
+        requires registered { id < length (tables self.now) }
+        ensures { IsTrue result → IsSymmetric (nodes_of (tables self.now)) (table_at (tables self.now) id) }
+    {
+        self.slots[id.index as usize].is_symmetric()
     }
 
     /// The answer of a callback on the way from node `i` to node `j`: that for the ordered pair, or that for `i` where it is a one-node

@@ -10,7 +10,7 @@ use callback_store::Matrix;
 use solomon_reader::{Instance, Node};
 use std::alloc::{AllocError, Global};
 use std::marker::Model;
-use travel_table::Travel;
+use travel_table::{Travel, travel_is_symmetric};
 
 /// An instance, and the travel between its nodes. Node 0 is the depot.
 #[derive(Drop)]
@@ -100,13 +100,14 @@ impl Network {
         service * 10 + u64::from(self.travel.get(from, to))
     }
 
-    /// All travel, as the answers of a callback.
+    /// All travel, as the answers of a callback that are the same both ways.
     pub fn travel_matrix(&self, alloc: Global) -> Result<Matrix, AllocError>
         ensures { IfOk result (λ m. matrix_table m ≡ record { size = length self.now.nodes; paired = true; entries = pair_values (length self.now.nodes) (travel_at self.now.travel) }) }
     {
         let mut answers = Vec::new(alloc);
         answers.extend_from_slice(self.travel.entries())?;
-        Ok(Matrix::new(self.size(), answers))
+        travel_is_symmetric();
+        Ok(Matrix::symmetric(self.size(), answers))
     }
 
     /// The travel from a node to another, in tenths.

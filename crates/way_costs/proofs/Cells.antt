@@ -1,4 +1,4 @@
-use Rattle.std.proofs.Common.{add-zero, append_assoc, All, Fits, w32, w64, ◌^◌, ◌≡◌, ◌≢◌, ℕ, ◌+◌, ◌-◌, ◌*◌, ◌<◌, ◌≤◌, ◌∙◌, refl, sym, ap, subst, arith, inl, inr, List, [], ◌∷◌, ◌++◌, length, map, set, slice_index, slice_index_or, length-append, min, Bool, true, false, ◌==◌, if◌then◌else◌, take, drop, suc, Option, Some, None, IfSome}
+use Rattle.std.proofs.Common.{add-zero, append_assoc, All, Fits, w32, w64, ◌^◌, ◌≡◌, ◌≢◌, ℕ, ◌+◌, ◌-◌, ◌*◌, ◌<◌, ◌≤◌, ◌∙◌, refl, sym, ap, subst, arith, inl, inr, List, [], ◌∷◌, ◌++◌, length, map, set, slice_index, slice_index_or, length-append, min, Bool, true, false, ◌==◌, if◌then◌else◌, take, drop, suc, Option, Some, None, IfSome, IsTrue, not}
 use Rattle.std.proofs.lemmas.Bool.{cases_lt, ne_eqb}
 use Rattle.std.proofs.lemmas.List.{get_or_default, get_or_push, get_or_append_left, get_or-append-add, get_or-take, get_or-drop, get_or-set_same, get_or-set_other, get_or-map, length-map, length-set, length-take-le, length-drop, take_all, take_more}
 use Rattle.std.proofs.lemmas.List.Elements.{All-append, All-cons, All-drop, All-nil, All-take}
@@ -6,11 +6,11 @@ use Rattle.std.proofs.Math.Seq.{take-append_seam, drop-append_seam}
 use Rattle.std.proofs.lemmas.Nat.{mul-le}
 use Rattle.std.proofs.Math.Nat.{min-le_left, min-le_right}
 use borrow.Rule.Slice.PartMut.{put_mid, post_of, same_len_mid}
-use Rattle.callback_store.specs.Tables.{Table, entry, nodes_of, table_at}
+use Rattle.callback_store.specs.Tables.{Table, entry, nodes_of, table_at, IsSymmetric}
 use Rattle.dimension_core.specs.Setting.{Setting, IsSetting}
 use Rattle.plan_core.specs.Cost.{way}
 use Rattle.way_costs.proofs.WayParts.{way_append, last_take}
-use Rattle.way_costs.specs.Known.{AreAnswers}
+use Rattle.way_costs.specs.Known.{AreAlike, AreAnswers}
 use Rattle.way_costs.specs.Ways.{hop, hop_by, entry_by, along, spare_of, AreHopsFrom, AreFloors, AreEdges, ArePicked, IsTurned, AreSums, AddsSums, AreBothSums}
 
 -- a row lies inside its table
@@ -453,6 +453,25 @@ answers_at s ts id answers e f is sized at =
       sized = subst (λ (n : ℕ). length answers ≡ n * n) nodes sized;
       at = λ i j. subst (λ (n : ℕ). slice_index answers (i * n + j) ≡ entry (table_at s.tables s.cost) i j) nodes (answer_of s ts id i j (slice_index answers (i * nodes_of ts + j)) e f (at i j));
     }
+
+-- the way back between two nodes that have one answer both ways
+pub hop_back : (t : Table) (i j : ℕ) → entry t i j ≡ entry t j i → hop t i j ≡ hop t j i
+hop_back t i j e = elim (cases_lt 0 (i + j)) [
+  | inl more ↦ hop_away t i j (λ x y. absurd (omega (arith, x, y))) ∙ e ∙ sym (hop_away t j i (λ x y. absurd (omega (arith, x, y))))
+  | inr none ↦
+      let same : i ≡ j = omega arith in
+      ap (λ (k : ℕ). hop t i k) (sym same) ∙ ap (λ (k : ℕ). hop t k i) same
+]
+
+-- ways back that have the answers of the ways there are read as these
+pub read_along : (s : Setting) (ts : List Table) (id : ℕ) (turned symmetric : Bool) → ts ≡ s.tables → id ≡ s.cost → IsSetting s → turned ≡ true
+    → (IsTrue symmetric → IsSymmetric (nodes_of ts) (table_at ts id)) → AreAlike s (not symmetric) turned
+read_along s ts id turned false e f is back even = λ i j h k. ap (λ (b : Bool). hop_by b (table_at s.tables s.cost) i j) (sym back)
+read_along s ts id turned true e f is back even =
+    let nodes : nodes_of ts ≡ s.customers + 1 = ap (λ (xs : List Table). nodes_of xs) e ∙ is.tables in
+    let same : IsSymmetric (nodes_of s.tables) (table_at s.tables s.cost) =
+    subst (λ (n : ℕ). IsSymmetric (nodes_of s.tables) (table_at s.tables n)) f (subst (λ (xs : List Table). IsSymmetric (nodes_of xs) (table_at xs id)) e (even refl)) in
+    λ i j h k. hop_back (table_at s.tables s.cost) i j (same i j (omega arith) (omega arith)) ∙ ap (λ (b : Bool). hop_by b (table_at s.tables s.cost) i j) (sym back)
 
 -- two facts of what there may be give a third
 pub some_both : {T : Type 0} (o : Option T) (P Q R : T → Type 0) → ((x : T) → P x → Q x → R x) → IfSome o P → IfSome o Q → IfSome o R

@@ -2,7 +2,7 @@
 ghost use Rattle.std.specs.Prelude.{◌≡◌, ◌≤◌, ◌<◌, ◌+◌, ◌*◌, ℕ, true, false, List, length, slice_index, IfSome};
 ghost use Rattle.callback_store.specs.Tables.{table_at};
 ghost use Rattle.dimension_core.specs.Setup.{setting};
-ghost use Rattle.way_costs.specs.Known.{AreAnswers};
+ghost use Rattle.way_costs.specs.Known.{AreAlike, AreAnswers};
 ghost use Rattle.way_costs.specs.Ways.{hop, hop_by};
 
 use dimension_core::Setup;
@@ -13,6 +13,15 @@ pub(crate) fn known_ways(setup: &Setup) -> Option<&[u32]>
     ensures { IfSome result (λ a. AreAnswers (setting setup.now) a.now) }
 {
     setup.registry().answers(setup.cost())
+}
+
+/// Whether the ways that are driven or driven back are read as they are driven back. Where both ways have one answer, none is: then what is
+/// read of a stop lies in its own row, and the next reader of that row finds it near.
+#[inline(always)]
+pub(crate) fn is_read_across(setup: &Setup, turned: bool) -> bool
+    ensures { AreAlike (setting setup.now) result turned }
+{
+    turned && !setup.registry().is_symmetric(setup.cost())
 }
 
 /// What the way from a stop to another one costs, by all answers.

@@ -2,11 +2,11 @@
 ghost use Rattle.std.specs.Prelude.{◌≡◌, ◌≢◌, ◌≤◌, ◌<◌, ◌+◌, ◌-◌, ◌*◌, ◌^◌, ◌∷◌, ◌==◌, if◌then◌else◌, ℕ, true, false, ◌++◌, List, length, slice_index, take, drop, All, IfOk, IfSome};
 ghost use Rattle.callback_store.specs.Tables.{Table, table_at};
 ghost use Rattle.dimension_core.specs.Setup.{setting};
-ghost use Rattle.way_costs.specs.Known.{AreAnswers};
+ghost use Rattle.way_costs.specs.Known.{AreAlike, AreAnswers};
 ghost use Rattle.way_costs.specs.Ways.{entry_by, hop_by, AreHopsFrom, AreFloors, AreEdges, ArePicked, AddsSums, AreBothSums, IsTurned};
 
 use crate::hops::hop;
-use crate::known::{known_by, known_ways};
+use crate::known::{is_read_across, known_by, known_ways};
 use callback_store::Meter;
 use dimension_core::Setup;
 use std::alloc::AllocError;
@@ -65,11 +65,12 @@ const NONE: u32 = 4_294_967_295;
 /// Up to so many ways are asked one by one: with the least of them, asking for them together takes longer.
 const FEW: usize = 9;
 
-/// How the ways of a table are had: as they are driven or driven back, from all answers of the cost callback where it was given as these, and
-/// whether a floor is wanted of short rows.
+/// How the ways of a table are had: as they are driven or driven back, from all answers of the cost callback where it was given as these, read
+/// as they are driven or driven back, and whether a floor is wanted of short rows.
 #[derive(Clone, Copy)]
 struct Asking<'a> {
     known: Option<&'a [u32]>,
+    across: bool,
     floored: bool,
     turned: bool,
 }
@@ -152,6 +153,7 @@ fn read_row(
 #[inline(always)]
 fn fill_row(setup: &Setup, asking: &Asking, stop: u32, to: &[u32], row: &mut [u32]) -> u32
     requires known { IfSome asking.now.known (λ a. AreAnswers (setting setup.now) a.now) }
+    requires across { AreAlike (setting setup.now) asking.now.across asking.now.turned }
     requires stop { stop ≤ (setting setup.now).customers }
     requires to { All (λ c. c ≤ (setting setup.now).customers) to.now }
     requires room { length row.old ≡ length to.now }
@@ -161,7 +163,7 @@ fn fill_row(setup: &Setup, asking: &Asking, stop: u32, to: &[u32], row: &mut [u3
 {
     let (floored, turned) = (asking.floored, asking.turned);
     if let Some(answers) = asking.known {
-        return read_row(setup, answers, turned, stop, to, row);
+        return read_row(setup, answers, asking.across, stop, to, row);
     }
     if !floored || stop == 0 || to.len() > FEW {
         ask_together(setup, turned, stop, to, row);
@@ -185,6 +187,7 @@ fn fill_at(
     at: usize,
 ) -> u32
     requires known { IfSome asking.now.known (λ a. AreAnswers (setting setup.now) a.now) }
+    requires across { AreAlike (setting setup.now) asking.now.across asking.now.turned }
     requires stop { stop ≤ (setting setup.now).customers }
     requires to { All (λ c. c ≤ (setting setup.now).customers) to.now }
     requires room { at + length to.now ≤ length cells.old }
@@ -262,8 +265,10 @@ pub(crate) fn fill_ways(
     let spare = spare_column(column, width);
     let asked = all_but_one(to, column);
     let known = known_ways(setup);
+    let across = is_read_across(setup, turned);
     let asking = Asking {
         known,
+        across,
         floored,
         turned,
     };

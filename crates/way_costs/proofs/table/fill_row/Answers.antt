@@ -1,8 +1,11 @@
-use Rattle.std.proofs.Common.{arith, true, false}
+use Rattle.std.proofs.Common.{◌∙◌, arith, slice_index, true, false}
 use Rattle.callback_store.specs.Tables.{table_at}
 use Rattle.dimension_core.specs.Setup.{setting}
 use Rattle.way_costs.proofs.Cells.{ways_by}
 use Rattle.way_costs.proofs.table.fill_row.Goals as goal
+
+pub returns-in-Some-clause-ways : goal.returns-in-Some-clause-ways
+returns-in-Some-clause-ways g c = λ k h. c.read_row.ensures.ways k h ∙ c.requires.across c.args.stop (slice_index c.args.to.now k) c.requires.stop (c.requires.to k 0 h)
 
 pub returns-then-not-floored-clause-sized : goal.returns-then-not-floored-clause-sized
 returns-then-not-floored-clause-sized g c = c.ask_together.ensures.sized

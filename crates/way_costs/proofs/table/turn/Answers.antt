@@ -1,4 +1,3 @@
-use Rattle.std.proofs.Common.{arith}
 use Rattle.way_costs.proofs.Cells.{turned_line, turned_all}
 use Rattle.way_costs.proofs.table.turn.Goals as goal
 

@@ -1,4 +1,4 @@
-use Rattle.std.proofs.Common.{◌≡◌, ◌+◌, ◌-◌, ◌∙◌, length, arith}
+use Rattle.std.proofs.Common.{◌-◌, ◌∙◌, arith}
 use Rattle.way_costs.proofs.Cells.{row_at, row_kept, row_long, row_sized}
 use Rattle.way_costs.proofs.table.turn_at.Goals as goal
 

@@ -7,5 +7,5 @@ use Rattle.program_parts.proofs.network.Network.travel_matrix.Goals as goal
 pub returns : goal.returns
 returns c =
     let nodes = subst (λ (s : Sites). s.travel.size ≡ length s.nodes) c.self.view_is c.self.invariant.travel.sized in
-    travel_listed (length c.args.self.now.nodes) c.size.result c.args.self.now.travel (matrix_table c.new.result) _
-    c.size.ensures.value nodes (search rules) (search rules) c.new.ensures.sized refl c.new.ensures.answers
+    travel_listed (length c.args.self.now.nodes) c.size.result c.args.self.now.travel (matrix_table c.symmetric.result) _
+    c.size.ensures.value nodes (search rules) (search rules) c.symmetric.ensures.sized refl c.symmetric.ensures.answers

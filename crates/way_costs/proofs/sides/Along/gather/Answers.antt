@@ -1,4 +1,4 @@
-use Rattle.std.proofs.Common.{◌≡◌, ◌-◌, ◌≤◌, ◌∙◌, ℕ, false, List, drop, length, take, All, arith, rules, subst, sym, vec_len}
+use Rattle.std.proofs.Common.{◌≡◌, ◌≤◌, ◌∙◌, ℕ, false, List, length, All, arith, rules, subst, sym, vec_len}
 use Rattle.way_costs.specs.Ways.{AreBothSums, AreHopsFrom}
 use Rattle.way_costs.proofs.Cells.{behind_first, picked_edges}
 use Rattle.way_costs.proofs.sides.Along.gather.Goals as goal
