@@ -1,12 +1,12 @@
 -- A publication before and after an entry is staged and shown.
 use Rattle.std.specs.Prelude.{MatchOption}
-use Rattle.std.proofs.Common.{◌≡◌, ◌+◌, List, [], ◌∷◌, ◌++◌, length, length-append, fold, refl, sym, subst, ap, ◌∙◌, arith, Option}
+use Rattle.std.proofs.Common.{◌≡◌, List, [], ◌∷◌, ◌++◌, length, length-append, fold, sym, subst, ap, ◌∙◌, arith, Option}
 use Rattle.board_rules.specs.declared.call.Entry.{Entry}
 use Rattle.board_rules.specs.History.{IsLegal}
 use Rattle.published_board.specs.declared.trail.Head.{Head}
 use Rattle.published_board.specs.declared.shown.Picture.{Picture}
 use Rattle.published_board.specs.declared.shown.Step.{Step}
-use Rattle.published_board.specs.Reached.{Reached, entries_of, opening_of, history_in}
+use Rattle.published_board.specs.Reached.{Reached, entries_of, history_in}
 use Rattle.published_board.specs.Pictures.{after_step}
 use Rattle.published_board.specs.Sights.{IsPicture, Sees, GoesOn}
 use Rattle.published_board.specs.Published.{TellSame, IsPublished}

@@ -1,5 +1,5 @@
 //! A reader of one hall, with what it has seen and the view that it keeps.
-ghost use Rattle.std.specs.Prelude.{◌≡◌, List, Some, None, IfOk, IfErr, OnOk, IsErrOf};
+ghost use Rattle.std.specs.Prelude.{◌≡◌, List, Some, None, IfOk, IfErr, IfSome, OnOk, IsErrOf};
 ghost use Rattle.std.specs.Bool.{OnTrue};
 ghost use mathlib.Core.List.{IsPrefix};
 ghost use Rattle.logbook.specs.Pages.{Book};
@@ -23,6 +23,7 @@ use plan_core::Route;
 use std::alloc::{AllocError, Global};
 use std::marker::{Model, PhantomData};
 use std::sync::Arc;
+use std::sync::atomic::{AtomicU64, Ordering};
 use thiserror::Error;
 
 pub type CopyReader = Reader<Shown, Option<Trail>, Grows>;
@@ -41,10 +42,15 @@ pub struct Eye<N: Naming> {
     // It is there between any two calls.
     pub reader: Option<CopyReader>,
     pub kept: Option<Kept>,
+    /// How many pages the log had where they were published last. Its place in memory is the writer's.
+    pub latest: Arc<AtomicU64>,
+    /// What `latest` was before the copy was read of which the view tells, where nothing was seen since.
+    pub told: Option<u64>,
     pub of: PhantomData<N>,
 }
 
 impl<N: Naming> Model for Eye<N> {
+    ghost use Rattle.std.specs.Prelude.{◌≡◌, Some, IfSome};
     ghost use Rattle.std.specs.Option.{option_and_then};
     ghost use Rattle.left_right.specs.Sides.{view as place_view};
     ghost use Rattle.published_board.specs.Sights.{IsOf, entries_in};
@@ -54,7 +60,7 @@ impl<N: Naming> Model for Eye<N> {
 
     ghost view = { λ e. record { seen = entries_in (option_and_then (λ r. place_view r.place) e.reader); viewed = viewed_in e.kept } };
 
-    ghost invariant = { λ e. let saw = option_and_then (λ r. place_view r.place) e.reader in IsOf N.opening N.book saw × AreKeptFor N.opening N.book (entries_in saw) e.kept };
+    ghost invariant = { λ e. let saw = option_and_then (λ r. place_view r.place) e.reader in IsOf N.opening N.book saw × AreKeptFor N.opening N.book (entries_in saw) e.kept × IfSome e.told (λ _. viewed_in e.kept ≡ Some (entries_in saw)) };
 }
 
 /// Why there is no snapshot. `Closed` is tried first.
@@ -129,6 +135,11 @@ impl<N: Naming> Eye<N> {
         ensures no_memory { IsErrOf result SnapFault.NoMemory → self.new.viewed ≡ None }
         ensures closed { IsErrOf result SnapFault.Closed → self.new ≡ self.old }
     {
+        // A load costs less than to enter the copy, which writes what other threads read.
+        let latest = self.latest.load(Ordering::Acquire);
+        if self.told == Some(latest) {
+            return Ok(());
+        }
         let Some(reader) = self.reader.take() else {
             unreachable!()
         };
@@ -138,11 +149,13 @@ impl<N: Naming> Eye<N> {
                 Err(SnapFault::Closed)
             }
             Ok(reading) => {
+                self.told = None;
                 let renewed = renewed(alloc, self.kept.take(), reading.get());
                 self.reader = Some(reading.leave());
                 match renewed {
                     Ok(kept) => {
                         self.kept = Some(kept);
+                        self.told = Some(latest);
                         Ok(())
                     }
                     Err(_) => Err(SnapFault::NoMemory),
@@ -213,6 +226,7 @@ impl<N: Naming> Eye<N> {
                 false
             }
             Ok(reading) => {
+                self.told = None;
                 let same = reading.get().shows_same(published);
                 self.reader = Some(reading.leave());
                 same

@@ -21,7 +21,8 @@ use left_right::writer::Writer;
 use pin_core::View;
 use std::alloc::{AllocError, Global};
 use std::marker::{Model, PhantomData};
-use std::sync::Wait;
+use std::sync::atomic::{AtomicU64, Ordering};
+use std::sync::{Arc, Wait};
 
 /// No log has so many pages.
 const ROOM: u64 = 1 << 61;
@@ -34,6 +35,9 @@ pub struct Publication {
     head: Head,
     trail: Trail,
     writer: CopyWriter,
+    /// How many pages the log had where they were published last, for the eyes: where it is what it was, there is nothing new to see. Nothing
+    /// is proved of it.
+    latest: Arc<AtomicU64>,
 }
 
 impl Model for Publication {
@@ -114,6 +118,7 @@ impl Publication {
             base: trail.again(),
         };
         let second = first.copy(alloc)?;
+        let latest = Arc::new(alloc, AtomicU64::new(0))?;
         let made: Result<CopyWriter, AllocError> = Writer::new(alloc, first, second, readers);
         let Ok(writer) = made else {
             return Err(AllocError);
@@ -123,6 +128,7 @@ impl Publication {
             head,
             trail,
             writer,
+            latest,
         })
     }
 
@@ -163,6 +169,7 @@ impl Publication {
         ensures { self.new ≡ record self.old { shown = self.old.entries } }
     {
         let _published = replace_with(&mut self.writer, rt, CopyWriter::publish_as::<Sees, R>);
+        self.latest.store(self.trail.count(), Ordering::Release);
     }
 
     /// A reader that has seen what is published, where that is each entry.
@@ -173,11 +180,14 @@ impl Publication {
         ensures same { self.new ≡ self.old }
         ensures seen { IfOk result (λ e. (e.seen ≡ self.old.entries) × (e.viewed ≡ None)) }
     {
+        let latest = self.latest.clone()?;
         let mut reader = self.writer.factory().reader()?;
         reader.learn::<Learns>(self.writer.tell::<Tells>());
         let eye = Eye {
             reader: Some(reader),
             kept: None,
+            latest,
+            told: None,
             of: PhantomData,
         };
         Ok(eye)
@@ -200,6 +210,7 @@ impl Publication {
             head: _,
             trail: _,
             writer,
+            latest: _,
         } = self;
         drop(writer.take(rt));
     }

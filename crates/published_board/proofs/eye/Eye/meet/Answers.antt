@@ -24,6 +24,7 @@ invariant_of-self-in-Ok g c =
     let is : view c.leave.result.place ≡ _ = c.leave.ensures.1 ∙ saw.now in (
       subst (λ (v : Option Reached). IsOf o b v) (sym is) (sees_of o b _ _ _ of saw),
       subst (λ (v : Option Reached). AreKeptFor o b (entries_in v) c.self.inside.kept) (sym is) (kept_on o b _ _ c.self.inside.kept (grows_in o b _ _ _ of saw) kept),
+      tt,
     )
 
 pub returns-in-Err-clause-legal : goal.returns-in-Err-clause-legal

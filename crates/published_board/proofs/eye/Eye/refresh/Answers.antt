@@ -6,7 +6,8 @@ use Rattle.board_rules.specs.declared.call.Entry.{Entry}
 use Rattle.published_board.specs.declared.shown.Shown.{Shown}
 use Rattle.published_board.specs.Reached.{Reached, entries_of, opening_of}
 use Rattle.published_board.specs.Sights.{IsOf, IsPicture, entries_in}
-use Rattle.published_board.specs.Kepts.{AreKeptFor, IsKeptFor}
+use Rattle.board_rules.specs.History.{IsLegal}
+use Rattle.published_board.specs.Kepts.{AreKeptFor, EyeState, IsKeptFor}
 use Rattle.published_board.specs.Pictures.{picture_of}
 use Rattle.published_board.proofs.Rules.{sees, goes_self}
 use Rattle.published_board.proofs.Publishing.{legal_in, sees_of, grows_in}
@@ -32,10 +33,16 @@ invariant_of-self-in-Ok-renewed g c =
     let had : List Entry = entries_in (view c.in-Some.reader.place) in
     let pre : IsPrefix had (entries_of c.get.result.now.base.pages) = subst (λ (x : Shown). IsPrefix had (entries_of x.base.pages)) (sym shown) (grows_in o b _ _ _ was saw) in
     let lent = subst (λ k. AreKeptFor o b had k) (sym c.take-in-Ok.ensures.value) kept_was in
-    let kept = (c.in-Ok-renewed.ensures o b had lent picture book opening pre).0 in (
+    let done = c.in-Ok-renewed.ensures o b had lent picture book opening pre in
+    let shows : entries_of c.get.result.now.base.pages ≡ entries_in (view c.leave.result.place) = ap (λ (x : Shown). entries_of x.base.pages) shown ∙ sym (ap entries_in is) in (
       subst (λ (v : Option Reached). IsOf o b v) (sym is) of,
-      subst (λ (es : List Entry). IsKeptFor o b es c.in-Ok-renewed.kept) (ap (λ (x : Shown). entries_of x.base.pages) shown ∙ sym (ap entries_in is)) kept,
+      subst (λ (es : List Entry). IsKeptFor o b es c.in-Ok-renewed.kept) shows done.0,
+      ap (λ (es : List Entry). Some es) (ap (λ (r : Reached). entries_of r.pages) done.1 ∙ shows),
     )
+
+pub returns-then-eq-clause-legal : goal.returns-then-eq-clause-legal
+returns-then-eq-clause-legal g c =
+    subst (λ (e : EyeState). IsLegal (record { opening = g.N.Naming.opening; entries = e.seen })) c.self.view_is (legal_in g.N.Naming.opening g.N.Naming.book _ c.self.invariant.0)
 
 pub returns-in-Err-clause-legal : goal.returns-in-Err-clause-legal
 returns-in-Err-clause-legal g c =

@@ -26,4 +26,5 @@ invariant_of-eye g c =
       known_of g.N.Naming.opening g.N.Naming.book trail (view c.learn.new.self.place) (ap (λ (p : Published). p.opening) c.self.view_is ∙ c.requires.opening) (ap (λ (p : Published). p.book) c.self.view_is ∙ c.requires.book) c.self.invariant.legal
           (subst (λ (v : Option Reached). MatchOption v ⊥ (TellSame trail)) (sym told) known),
       tt,
+      tt,
     )

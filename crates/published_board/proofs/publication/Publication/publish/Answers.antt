@@ -1,10 +1,10 @@
-use Rattle.std.proofs.Common.{◌≡◌, ap, sym, ◌∙◌, subst}
+use Rattle.std.proofs.Common.{ap, sym, ◌∙◌, subst}
 use Rattle.std.specs.Prelude.{Result, Ok, Err, IsOk, MatchResult}
 use Rattle.published_board.specs.declared.shown.Shown.{Shown}
 use Rattle.published_board.specs.declared.shown.Picture.{Picture}
 use Rattle.published_board.specs.Pictures.{picture_of}
 use Rattle.published_board.specs.Published.{Published, TellSame}
-use Rattle.published_board.specs.Reached.{Reached, entries_of}
+use Rattle.published_board.specs.Reached.{Reached}
 use Rattle.published_board.specs.Sights.{IsPicture, GoesOn}
 use Rattle.published_board.proofs.Rules.{sees}
 use Rattle.published_board.proofs.Staging.{shown}
