@@ -38,7 +38,7 @@ node_table unary = record { size = unary.size; paired = false; entries = unary.t
 
 -- the table of a two-node callback that is given as its answers
 abbrev pub matrix_table : Matrix → Table
-matrix_table matrix = record { size = matrix.size; paired = true; entries = matrix.answers.items }
+matrix_table matrix = record { size = matrix.size; paired = true; entries = matrix.answers.value.items }
 
 -- the table of any
 abbrev pub slot_table : {i j : Type 0} {held : i → Type 0} {holds : j → Type 0} {calls : _} {asks : _} → Slot i j held holds calls asks → Table

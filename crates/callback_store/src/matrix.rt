@@ -3,30 +3,33 @@ ghost use Rattle.callback_store.specs.Meter.{after_ask, after_asks, AsksJust};
 ghost use Rattle.callback_store.specs.Symmetry.{AreSymmetric};
 
 use crate::meter::Meter;
+use std::sync::Arc;
 
 /// A transit callback that is given as its answers: for each ordered pair of nodes, row by row, so that the answer for the way from node `i`
 /// to node `j` is number `i * size + j` of them.
+///
+/// The answers are shared, not copied: whoever has worked them out may keep them too.
 ///
 /// Nodes count from 0, and node 0 is the depot. An answer is 0 to 1,000,000,000.
 #[derive(Drop)]
 pub struct Matrix {
     size: u32,
-    answers: Vec<u32>,
+    answers: Arc<Vec<u32>>,
     symmetric: bool,
-    ghost sized: { length answers.items ≡ size * size },
-    ghost limited: { All (λ x. x ≤ 1000000000) answers.items },
-    ghost even: { IsTrue symmetric → AreSymmetric size answers.items },
+    ghost sized: { length answers.value.items ≡ size * size },
+    ghost limited: { All (λ x. x ≤ 1000000000) answers.value.items },
+    ghost even: { IsTrue symmetric → AreSymmetric size answers.value.items },
 }
 
 impl Matrix {
     ghost use Rattle.callback_store.specs.Tables.{matrix_table, entry, IsSymmetric};
 
     /// The answers for `size` nodes. Any size is taken here; a registry takes 2 to 1,001 nodes.
-    pub fn new(size: u32, answers: Vec<u32>) -> Matrix
-        requires sized { length answers.items ≡ size * size }
-        requires limited { All (λ x. x ≤ 1000000000) answers.items }
+    pub fn new(size: u32, answers: Arc<Vec<u32>>) -> Matrix
+        requires sized { length answers.value.items ≡ size * size }
+        requires limited { All (λ x. x ≤ 1000000000) answers.value.items }
         ensures sized { (matrix_table result).size ≡ size }
-        ensures answers { (matrix_table result).entries ≡ answers.items }
+        ensures answers { (matrix_table result).entries ≡ answers.value.items }
     {
         Matrix {
             size,
@@ -37,12 +40,12 @@ impl Matrix {
 
     /// The same, where the way from a node to another has the answer of the way back. It is known of these answers from then on, so that
     /// either of the two may be read for both.
-    pub fn symmetric(size: u32, answers: Vec<u32>) -> Matrix
-        requires sized { length answers.items ≡ size * size }
-        requires limited { All (λ x. x ≤ 1000000000) answers.items }
-        requires even { AreSymmetric size answers.items }
+    pub fn symmetric(size: u32, answers: Arc<Vec<u32>>) -> Matrix
+        requires sized { length answers.value.items ≡ size * size }
+        requires limited { All (λ x. x ≤ 1000000000) answers.value.items }
+        requires even { AreSymmetric size answers.value.items }
         ensures sized { (matrix_table result).size ≡ size }
-        ensures answers { (matrix_table result).entries ≡ answers.items }
+        ensures answers { (matrix_table result).entries ≡ answers.value.items }
     {
         Matrix {
             size,

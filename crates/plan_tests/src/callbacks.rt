@@ -80,7 +80,10 @@ fn registers_both_kinds(rt: HostRuntime) -> Result<(), Fail> {
 #[test]
 fn answers_from_a_matrix(rt: HostRuntime) -> Result<(), Fail> {
     let mut registry = Registry::new(rt.alloc());
-    let costs = Matrix::new(2, vec![in rt.alloc(); 0u32, 10, 20, 0]?);
+    let costs = Matrix::new(
+        2,
+        Arc::new(rt.alloc(), vec![in rt.alloc(); 0u32, 10, 20, 0]?)?,
+    );
     let costs = registry.register_matrix(costs).expect(&rt, "room");
     let mut meter = Meter::new();
     compare(&rt, registry.ask(costs, &mut meter, 0, 1), 10, "out");
@@ -91,7 +94,7 @@ fn answers_from_a_matrix(rt: HostRuntime) -> Result<(), Fail> {
     registry.ask_column(costs, &mut meter, 1, &[1, 0, 0, 1], &mut answers);
     compare_answers(&rt, &answers, &[0, 10, 10, 0], &meter, 10);
     compare_lent(&rt, registry.answers(costs), &[0, 10, 20, 0]);
-    let wide = Matrix::new(3, vec![in rt.alloc(); 0u32; 9]?);
+    let wide = Matrix::new(3, Arc::new(rt.alloc(), vec![in rt.alloc(); 0u32; 9]?)?);
     let refused = registry.register_matrix(wide).map(|id| id.index());
     compare_name(&rt, refused, Err(RegisterFault::Size), 0);
     Ok(())

@@ -100,12 +100,11 @@ impl Network {
         service * 10 + u64::from(self.travel.get(from, to))
     }
 
-    /// All travel, as the answers of a callback that are the same both ways.
-    pub fn travel_matrix(&self, alloc: Global) -> Result<Matrix, AllocError>
+    /// All travel, as the answers of a callback that are the same both ways. They are shared with the network.
+    pub fn travel_matrix(&self) -> Result<Matrix, AllocError>
         ensures { IfOk result (λ m. matrix_table m ≡ record { size = length self.now.nodes; paired = true; entries = pair_values (length self.now.nodes) (travel_at self.now.travel) }) }
     {
-        let mut answers = Vec::new(alloc);
-        answers.extend_from_slice(self.travel.entries())?;
+        let answers = self.travel.entries()?;
         travel_is_symmetric();
         Ok(Matrix::symmetric(self.size(), answers))
     }

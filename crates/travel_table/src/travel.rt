@@ -8,6 +8,7 @@ use crate::square_root::{UP, root_near, whole_part};
 use solomon_reader::{Instance, Node};
 use std::alloc::{AllocError, Global};
 use std::marker::Model;
+use std::sync::Arc;
 
 /// The travel between any two nodes of an instance, in tenths of a distance unit.
 ///
@@ -16,7 +17,7 @@ use std::marker::Model;
 #[derive(Drop)]
 pub struct Travel {
     size: usize,
-    entries: Vec<u32>,
+    entries: Arc<Vec<u32>>,
 }
 
 impl Model for Travel {
@@ -24,9 +25,9 @@ impl Model for Travel {
 
     ghost Value = { Distances };
 
-    ghost view = { λ a. record { size = a.size; entries = a.entries.items } };
+    ghost view = { λ a. record { size = a.size; entries = a.entries.value.items } };
 
-    ghost invariant = { λ a. AreDistances (record { size = a.size; entries = a.entries.items }) };
+    ghost invariant = { λ a. AreDistances (record { size = a.size; entries = a.entries.value.items }) };
 }
 
 /// How far two coordinates are apart. The square of this signed form costs no branch.
@@ -103,7 +104,7 @@ impl Travel {
         }
         Ok(Travel {
             size: nodes.len(),
-            entries,
+            entries: Arc::new(alloc, entries)?,
         })
     }
 
@@ -114,13 +115,13 @@ impl Travel {
         self.size
     }
 
-    /// All travel, row by row.
-    pub fn entries(&self) -> &[u32]
-        ensures value { result.now ≡ self.now.entries }
-        ensures square { length result.now ≡ self.now.size * self.now.size }
-        ensures small { All (λ x. x ≤ 141421342) result.now }
+    /// All travel, row by row. It is shared, and no copy.
+    pub fn entries(&self) -> Result<Arc<Vec<u32>>, AllocError>
+        ensures value { IfOk result (λ r. r.value.items ≡ self.now.entries) }
+        ensures square { IfOk result (λ r. length r.value.items ≡ self.now.size * self.now.size) }
+        ensures small { IfOk result (λ r. All (λ x. x ≤ 141421342) r.value.items) }
     {
-        self.entries.as_slice()
+        self.entries.clone()
     }
 
     /// The travel from node `i` to node `j`, both below `nodes()`, in tenths of a distance unit. It takes no memory.

@@ -101,7 +101,7 @@ pub(crate) fn run_with<
     let mut registry = Registry::new(alloc);
     let demand = registry.register_unary(Unary::new(size, demand))?;
     let way = registry.register(Transit::new(size, way))?;
-    let cost = registry.register_matrix(network.travel_matrix(alloc)?)?;
+    let cost = registry.register_matrix(network.travel_matrix()?)?;
     let pair = standard_pair(alloc, &registry, &network, demand, way)?;
     let setup = Setup::new(
         size - 1,
