@@ -11,7 +11,7 @@ use std::marker::Model;
 use std::snapshot::Snapshot;
 use std::sync::Arc;
 
-/// The memory of one proposal's lists, kept for the lists of the next.
+/// The memory of one proposal's lists, and of the routes that it did not leave in the plan, kept for those of the next.
 #[derive(Drop)]
 pub(crate) struct Workspace {
     pub(crate) touched: Vec<Touch>,
@@ -29,9 +29,8 @@ impl Workspace {
         }
     }
 
-    /// Keeps the lists of a move that is not taken. Their memory stays, and its new routes go.
-    pub(crate) fn keep(&mut self, touched: Vec<Touch>, mut changes: Vec<(u32, Arc<Route>)>) {
-        changes.clear();
+    /// Keeps the lists of a move that is not taken, and its new routes, whose memory serves the next move's.
+    pub(crate) fn keep(&mut self, touched: Vec<Touch>, changes: Vec<(u32, Arc<Route>)>) {
         self.touched = touched;
         self.changes = changes;
     }

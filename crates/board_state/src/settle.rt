@@ -78,7 +78,7 @@ impl State {
     }
 
     /// Gives the named vehicles their new routes and ranges, and takes away the pins of customers that left their vehicle. The memory of
-    /// the lists is kept for the next commit. Out of line, so that a proposal that is denied pays nothing for it.
+    /// the lists and of the routes that are replaced is kept for the next. Out of line, so that a proposal that is denied pays nothing for it.
     #[inline(never)]
     pub(crate) fn replace(&mut self, new: NewRoutes)
         requires { ArePlaceableRoutes self.old new }

@@ -32,7 +32,7 @@ pub struct State {
     pub(crate) plan: Plan,
     pub(crate) pins: Pins,
     pub(crate) cache: Cache,
-    /// This is no part of what is held: the memory of the last commit's lists.
+    /// This is no part of what is held: the memory of the last proposal that had an effect.
     pub(crate) workspace: Workspace,
 }
 
@@ -169,7 +169,7 @@ impl State {
         self.tables.check_in(found, operation, object, meter)
     }
 
-    /// The memory that is kept for the lists of a commit.
+    /// The memory that is kept for the lists and routes of a proposal.
     pub(crate) fn workspace(&mut self, alloc: Global) -> Workspace
         ensures { self.new ≡ self.old }
     {

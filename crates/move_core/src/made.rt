@@ -10,7 +10,7 @@ use std::alloc::{AllocError, Global};
 
 #[inline(always)]
 pub(crate) fn by_insert(
-    room: Changes,
+    mut room: Changes,
     alloc: Global,
     plan: &Plan,
     customer: u32,
@@ -20,13 +20,19 @@ pub(crate) fn by_insert(
     requires { is_possible plan.now.customers plan.now.routes (Move.Insert customer vehicle place) ≡ true }
     ensures { IfOk result (λ changes. changes_of changes.items ≡ changes_by plan.now.routes (Move.Insert customer vehicle place)) }
 {
-    let route = parts::with_stretch(alloc, plan.route(vehicle).customers(), place, &[customer])?;
+    let route = parts::with_stretch(
+        &mut room,
+        alloc,
+        plan.route(vehicle).customers(),
+        place,
+        &[customer],
+    )?;
     parts::one_change(room, vehicle, route)
 }
 
 #[inline(always)]
 pub(crate) fn by_remove(
-    room: Changes,
+    mut room: Changes,
     alloc: Global,
     plan: &Plan,
     vehicle: u32,
@@ -35,13 +41,13 @@ pub(crate) fn by_remove(
     requires { is_possible plan.now.customers plan.now.routes (Move.Remove vehicle place) ≡ true }
     ensures { IfOk result (λ changes. changes_of changes.items ≡ changes_by plan.now.routes (Move.Remove vehicle place)) }
 {
-    let route = parts::without(alloc, plan.route(vehicle).customers(), place, 1)?;
+    let route = parts::without(&mut room, alloc, plan.route(vehicle).customers(), place, 1)?;
     parts::one_change(room, vehicle, route)
 }
 
 #[inline(always)]
 pub(crate) fn by_shift(
-    room: Changes,
+    mut room: Changes,
     alloc: Global,
     plan: &Plan,
     vehicle: u32,
@@ -55,11 +61,12 @@ pub(crate) fn by_shift(
 {
     let route = plan.route(vehicle).customers();
     if vehicle == to {
-        let moved = parts::moved_within(alloc, route, place, count, at)?;
+        let moved = parts::moved_within(&mut room, alloc, route, place, count, at)?;
         return parts::one_change(room, vehicle, moved);
     }
-    let rest = parts::without(alloc, route, place, count)?;
+    let rest = parts::without(&mut room, alloc, route, place, count)?;
     let longer = parts::with_stretch(
+        &mut room,
         alloc,
         plan.route(to).customers(),
         at,
@@ -70,7 +77,7 @@ pub(crate) fn by_shift(
 
 #[inline(always)]
 pub(crate) fn by_swap(
-    room: Changes,
+    mut room: Changes,
     alloc: Global,
     plan: &Plan,
     vehicle: u32,
@@ -83,18 +90,18 @@ pub(crate) fn by_swap(
 {
     let route = plan.route(vehicle).customers();
     if vehicle == other {
-        let swapped = parts::swapped_within(alloc, route, place, at)?;
+        let swapped = parts::swapped_within(&mut room, alloc, route, place, at)?;
         return parts::one_change(room, vehicle, swapped);
     }
     let there = plan.route(other).customers();
-    let first = parts::with_customer(alloc, route, place, there[at as usize - 1])?;
-    let second = parts::with_customer(alloc, there, at, route[place as usize - 1])?;
+    let first = parts::with_customer(&mut room, alloc, route, place, there[at as usize - 1])?;
+    let second = parts::with_customer(&mut room, alloc, there, at, route[place as usize - 1])?;
     parts::two_changes(room, vehicle, first, other, second)
 }
 
 #[inline(always)]
 pub(crate) fn by_reverse(
-    room: Changes,
+    mut room: Changes,
     alloc: Global,
     plan: &Plan,
     vehicle: u32,
@@ -104,13 +111,19 @@ pub(crate) fn by_reverse(
     requires { is_possible plan.now.customers plan.now.routes (Move.Reverse vehicle first last) ≡ true }
     ensures { IfOk result (λ changes. changes_of changes.items ≡ changes_by plan.now.routes (Move.Reverse vehicle first last)) }
 {
-    let route = parts::reversed_within(alloc, plan.route(vehicle).customers(), first, last)?;
+    let route = parts::reversed_within(
+        &mut room,
+        alloc,
+        plan.route(vehicle).customers(),
+        first,
+        last,
+    )?;
     parts::one_change(room, vehicle, route)
 }
 
 #[inline(always)]
 pub(crate) fn by_cross(
-    room: Changes,
+    mut room: Changes,
     alloc: Global,
     plan: &Plan,
     vehicle: u32,
@@ -123,7 +136,7 @@ pub(crate) fn by_cross(
 {
     let route = plan.route(vehicle).customers();
     let there = plan.route(other).customers();
-    let first = parts::crossed(alloc, route, keep, there, keep_other)?;
-    let second = parts::crossed(alloc, there, keep_other, route, keep)?;
+    let first = parts::crossed(&mut room, alloc, route, keep, there, keep_other)?;
+    let second = parts::crossed(&mut room, alloc, there, keep_other, route, keep)?;
     parts::two_changes(room, vehicle, first, other, second)
 }

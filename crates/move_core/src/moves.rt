@@ -202,7 +202,8 @@ impl Move {
         self.routes_in(Vec::new(alloc), alloc, plan)
     }
 
-    /// What `routes` gives, listed in the memory of a list that the caller gives up: the list takes more only where that is too small.
+    /// What `routes` gives, in the memory of a list that the caller gives up, and of the routes in it that nobody else has: more memory is
+    /// taken only where that is too small, or some of it given back where it is far too large.
     // Inlined, with what it calls, as `touches_in` is.
     #[inline(always)]
     pub fn routes_in(

@@ -22,8 +22,60 @@ fn push_part(customers: &mut Vec<u32>, part: &[u32]) -> Result<(), AllocError>
     customers.extend_from_slice(part)
 }
 
+/// A route in the making: the list of its customers, and beside it the route to which the list's memory belongs, if it is not new.
+#[derive(Drop)]
+struct Draft {
+    owner: Option<Arc<Route>>,
+    customers: Vec<u32>,
+}
+
+/// Room for more than four times as many customers as are needed, and four times this many more, is given up.
+const SPARE: usize = 8;
+
+/// An empty draft with room for `count` customers: in the memory of a route of the list, where nobody else has that route, and else in new
+/// memory.
+#[inline(always)]
+fn drafted(room: &mut Changes, alloc: Global, count: usize) -> Result<Draft, AllocError>
+    ensures { IfOk result (λ d. d.customers.items ≡ []) }
+{
+    if let Some((_, mut owner)) = room.pop() {
+        if let Some(route) = Arc::get_mut(&mut owner) {
+            let mut customers = route.take_customers();
+            if (customers.capacity() / 4).saturating_sub(SPARE) <= count {
+                customers.clear();
+                customers.reserve(count)?;
+                return Ok(Draft {
+                    owner: Some(owner),
+                    customers,
+                });
+            }
+        }
+    }
+    Ok(Draft {
+        owner: None,
+        customers: Vec::with_capacity(alloc, count)?,
+    })
+}
+
+/// The route of a draft.
+#[inline(always)]
+fn finished(draft: Draft, alloc: Global) -> Result<Arc<Route>, AllocError>
+    ensures { IfOk result (λ route. route.value ≡ draft.customers.items) }
+{
+    let Draft { owner, customers } = draft;
+    if let Some(mut owner) = owner {
+        if let Some(route) = Arc::get_mut(&mut owner) {
+            route.set_customers(customers);
+            return Ok(owner);
+        }
+    }
+    let route = Arc::new(alloc, Route::new(customers))?;
+    Ok(route)
+}
+
 /// A route of three parts. Its memory is taken at once.
 fn joined(
+    room: &mut Changes,
     alloc: Global,
     first: &[u32],
     second: &[u32],
@@ -31,16 +83,16 @@ fn joined(
 ) -> Result<Arc<Route>, AllocError>
     ensures { IfOk result (λ route. route.value ≡ first.now ++ (second.now ++ third.now)) }
 {
-    let mut customers = Vec::with_capacity(alloc, first.len() + second.len() + third.len())?;
-    push_part(&mut customers, first)?;
-    push_part(&mut customers, second)?;
-    push_part(&mut customers, third)?;
-    let route = Arc::new(alloc, Route::new(customers))?;
-    Ok(route)
+    let mut draft = drafted(room, alloc, first.len() + second.len() + third.len())?;
+    push_part(&mut draft.customers, first)?;
+    push_part(&mut draft.customers, second)?;
+    push_part(&mut draft.customers, third)?;
+    finished(draft, alloc)
 }
 
 /// A route of four parts. Its memory is taken at once.
 fn joined_four(
+    room: &mut Changes,
     alloc: Global,
     first: &[u32],
     second: &[u32],
@@ -50,17 +102,27 @@ fn joined_four(
     ensures { IfOk result (λ route. route.value ≡ first.now ++ (second.now ++ (third.now ++ last.now))) }
 {
     let count = first.len() + second.len() + third.len() + last.len();
-    let mut customers = Vec::with_capacity(alloc, count)?;
-    customers.extend_from_slice(first)?;
-    customers.extend_from_slice(second)?;
-    customers.extend_from_slice(third)?;
-    customers.extend_from_slice(last)?;
-    let route = Arc::new(alloc, Route::new(customers))?;
-    Ok(route)
+    let mut draft = drafted(room, alloc, count)?;
+    draft.customers.extend_from_slice(first)?;
+    draft.customers.extend_from_slice(second)?;
+    draft.customers.extend_from_slice(third)?;
+    draft.customers.extend_from_slice(last)?;
+    finished(draft, alloc)
+}
+
+/// The draft of a route that is to differ from another one in some places.
+#[inline(always)]
+fn copied(room: &mut Changes, alloc: Global, route: &[u32]) -> Result<Draft, AllocError>
+    ensures { IfOk result (λ d. d.customers.items ≡ route.now) }
+{
+    let mut draft = drafted(room, alloc, route.len())?;
+    draft.customers.extend_from_slice(route)?;
+    Ok(draft)
 }
 
 /// The route with some customers inserted, the first of them at `place`.
 pub(crate) fn with_stretch(
+    room: &mut Changes,
     alloc: Global,
     route: &[u32],
     place: u32,
@@ -71,11 +133,12 @@ pub(crate) fn with_stretch(
     ensures { IfOk result (λ made. made.value ≡ with_stretch route.now place customers.now) }
 {
     let (front, back) = route.split_at(place as usize - 1);
-    joined(alloc, front, customers, back)
+    joined(room, alloc, front, customers, back)
 }
 
 /// The route without `count` customers from `place` on.
 pub(crate) fn without(
+    room: &mut Changes,
     alloc: Global,
     route: &[u32],
     place: u32,
@@ -87,7 +150,7 @@ pub(crate) fn without(
 {
     let first = place as usize - 1;
     let back = &route[first + count as usize..];
-    joined(alloc, &route[..first], back, &[])
+    joined(room, alloc, &route[..first], back, &[])
 }
 
 /// `count` customers of a route, from `place` on.
@@ -103,6 +166,7 @@ pub(crate) fn stretch(route: &[u32], place: u32, count: u32) -> &[u32]
 
 /// The route with `count` customers from `place` on taken out and put in again, the first of them at `at`.
 pub(crate) fn moved_within(
+    room: &mut Changes,
     alloc: Global,
     route: &[u32],
     place: u32,
@@ -120,10 +184,18 @@ pub(crate) fn moved_within(
     let to = at as usize - 1;
     let moved = &route[first..end];
     if to <= first {
-        return joined_four(alloc, &route[..to], moved, &route[to..first], &route[end..]);
+        return joined_four(
+            room,
+            alloc,
+            &route[..to],
+            moved,
+            &route[to..first],
+            &route[end..],
+        );
     }
     let reach = to + count as usize;
     joined_four(
+        room,
         alloc,
         &route[..first],
         &route[end..reach],
@@ -134,6 +206,7 @@ pub(crate) fn moved_within(
 
 /// The route with another customer at `place`.
 pub(crate) fn with_customer(
+    room: &mut Changes,
     alloc: Global,
     route: &[u32],
     place: u32,
@@ -143,14 +216,14 @@ pub(crate) fn with_customer(
     requires high { place ≤ length route.now }
     ensures { IfOk result (λ made. made.value ≡ with_customer route.now place customer) }
 {
-    let mut customers = Vec::from_slice(alloc, route)?;
-    customers[place as usize - 1] = customer;
-    let made = Arc::new(alloc, Route::new(customers))?;
-    Ok(made)
+    let mut draft = copied(room, alloc, route)?;
+    draft.customers[place as usize - 1] = customer;
+    finished(draft, alloc)
 }
 
 /// The route with two of its customers exchanged.
 pub(crate) fn swapped_within(
+    room: &mut Changes,
     alloc: Global,
     route: &[u32],
     place: u32,
@@ -162,15 +235,15 @@ pub(crate) fn swapped_within(
     requires at_high { at ≤ length route.now }
     ensures { IfOk result (λ made. made.value ≡ with_customer (with_customer route.now place (customer_at route.now at)) at (customer_at route.now place)) }
 {
-    let mut customers = Vec::from_slice(alloc, route)?;
-    customers[place as usize - 1] = route[at as usize - 1];
-    customers[at as usize - 1] = route[place as usize - 1];
-    let made = Arc::new(alloc, Route::new(customers))?;
-    Ok(made)
+    let mut draft = copied(room, alloc, route)?;
+    draft.customers[place as usize - 1] = route[at as usize - 1];
+    draft.customers[at as usize - 1] = route[place as usize - 1];
+    finished(draft, alloc)
 }
 
 /// The route with the customers from `first` to `last` in the opposite order.
 pub(crate) fn reversed_within(
+    room: &mut Changes,
     alloc: Global,
     route: &[u32],
     first: u32,
@@ -181,14 +254,14 @@ pub(crate) fn reversed_within(
     requires high { last ≤ length route.now }
     ensures { IfOk result (λ made. made.value ≡ reversed_within route.now first last) }
 {
-    let mut customers = Vec::from_slice(alloc, route)?;
-    customers[first as usize - 1..last as usize].reverse();
-    let made = Arc::new(alloc, Route::new(customers))?;
-    Ok(made)
+    let mut draft = copied(room, alloc, route)?;
+    draft.customers[first as usize - 1..last as usize].reverse();
+    finished(draft, alloc)
 }
 
 /// The first `keep` customers of one route, then those of another after its first `keep_other`.
 pub(crate) fn crossed(
+    room: &mut Changes,
     alloc: Global,
     route: &[u32],
     keep: u32,
@@ -200,7 +273,7 @@ pub(crate) fn crossed(
     ensures { IfOk result (λ made. made.value ≡ crossed route.now keep other.now keep_other) }
 {
     let back = &other[keep_other as usize..];
-    joined(alloc, &route[..keep as usize], back, &[])
+    joined(room, alloc, &route[..keep as usize], back, &[])
 }
 
 /// New routes for one vehicle, in the memory of another list.

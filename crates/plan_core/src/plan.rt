@@ -139,8 +139,8 @@ impl Plan {
         cost_of_routes(setup.registry(), setup.cost(), &self.routes, meter)
     }
 
-    /// Gives one or two vehicles their new routes, as one more commit, and gives back the list, emptied, for the next commit's. No other
-    /// route is walked, and no memory is taken.
+    /// Gives one or two vehicles their new routes, as one more commit, and gives back the list, now of the routes that they had, whose
+    /// memory may serve the next commit. No other route is walked, and no memory is taken.
     ///
     /// The caller must pass one or two new routes, for different vehicles of the plan, with which the routes are still a plan: they hold
     /// customers from 1 to `customers()`, and none of them twice. The version must be below 16,777,216.
@@ -149,7 +149,6 @@ impl Plan {
         requires plan { IsPlan self.old.customers (with_routes (changes_of changes.items) self.old.routes) }
         requires room { self.old.version < 16777216 }
         ensures plan { self.new ≡ replaced (changes_of changes.items) self.old }
-        ensures emptied { result.items ≡ [] }
     {
         let mut changes = changes;
         let version = self.version + 1;
@@ -161,7 +160,6 @@ impl Plan {
             version,
             &mut changes,
         );
-        changes.clear();
         changes
     }
 }

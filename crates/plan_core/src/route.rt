@@ -1,6 +1,7 @@
 ghost use Rattle.std.specs.Prelude.{◌≡◌, ◌==◌, ◌-◌, ◌≤◌, ℕ, List, length, slice_get, Some, MatchOption, Contains};
 
 use std::marker::Model;
+use std::mem::replace;
 
 /// The customers of a vehicle in the order of its stops. The depot at both ends is not among them.
 #[derive(Drop)]
@@ -35,6 +36,21 @@ impl Route {
     {
         let Route { customers } = self;
         customers
+    }
+
+    /// The list of the customers, with its memory. The route has none until it is given others.
+    pub fn take_customers(&mut self) -> Vec<u32>
+        ensures { result.items ≡ self.old }
+    {
+        let none = Vec::new(*self.customers.allocator());
+        replace(&mut self.customers, none)
+    }
+
+    /// Gives the route other customers.
+    pub fn set_customers(&mut self, customers: Vec<u32>)
+        ensures { self.new ≡ customers.items }
+    {
+        self.customers = customers;
     }
 
     /// How many customers there are.
