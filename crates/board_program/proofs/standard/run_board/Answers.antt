@@ -1,4 +1,5 @@
-use Rattle.std.proofs.Common.{rules, ◌≡◌, ◌<◌, ◌∙◌, length, ℕ, true, false, refl, sym, ap, subst}
+use Rattle.std.proofs.Common.{rules, ◌≡◌, ◌<◌, ◌∙◌, length, ℕ, List, Option, None, Some, true, false, refl, sym, ap, subst}
+use Rattle.std.specs.Io.KnownBytes.{Keeps}
 use borrow.Pointer.Called.{post_made}
 use Rattle.callback_store.specs.Boxed.{post_of_closure}
 use Rattle.callback_store.specs.Closures.{table_of_function, pairs_of_function}
@@ -182,3 +183,18 @@ returns-in_err-run_noted_lines-clause-err g c =
           c.in_err-run_noted_lines.ensures.err;
     } in
     rw (p.1, p.2) cut
+
+-- what was not touched is kept
+untouched : (bytes : Option (List ℕ)) → Keeps bytes bytes
+untouched None = tt
+untouched (Some xs) = refl
+
+pub returns-in_err-demand-2-clause-err : goal.returns-in_err-demand-2-clause-err
+returns-in_err-demand-2-clause-err g c =
+    let p = err_from_is_err_and c.from_residual-in_err-demand-2.result c.from_residual-in_err-demand-2.ensures.1 in
+    rw (p.1, p.2) (untouched _, untouched _)
+
+pub returns-in_err-cost-clause-err : goal.returns-in_err-cost-clause-err
+returns-in_err-cost-clause-err g c =
+    let p = err_from_is_err_and c.from_residual-in_err-cost.result c.from_residual-in_err-cost.ensures.1 in
+    rw (p.1, p.2) (untouched _, untouched _)
