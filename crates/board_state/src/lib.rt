@@ -6,7 +6,6 @@ mod change;
 mod commands;
 mod delta;
 mod difference;
-mod named;
 mod new_routes;
 mod pinning;
 mod pins;

@@ -17,7 +17,7 @@ ghost use Rattle.board_state.specs.Replies.{hold_reply, IsRightReply};
 ghost use Rattle.board_state.specs.Work.{WorksJust};
 
 use crate::change::PinChange;
-use crate::named::is_one_of;
+use crate::rules::is_one_of;
 use crate::state::State;
 use board_rules::{Hold, HoldRefusal, customers_have_one_spot};
 use callback_store::Meter;

@@ -1,4 +1,4 @@
-//! The rules on frozen fronts and pins, over new routes.
+//! Where a pin stands in the way of new routes: whether the session may override it.
 ghost use Rattle.std.specs.Prelude.{◌≡◌, ◌≤◌, ◌⊎◌, true, length, if◌then◌else◌, IfOk, IfErr, OnOk, MatchResult};
 ghost use Rattle.plan_core.specs.Plan.{AreApart, changes_of};
 ghost use Rattle.pin_core.specs.Pins.{IsHeld, DoPinsHold, AreFreezesKept};
@@ -22,37 +22,8 @@ use std::alloc::{AllocError, Global};
 use std::sync::Arc;
 
 impl State {
-    /// Whether new routes keep the frozen fronts, and no pin forbids them. The session is asked for `override` only where a pinned customer
-    /// would leave its vehicle. The answer marks the touched customers that leave the vehicle of their pin, and is empty where none does.
-    pub(crate) fn judge_pins(
-        &self,
-        alloc: Global,
-        session: u32,
-        changes: &[(u32, Arc<Route>)],
-        touched: &[Touch],
-        meter: &mut Meter,
-    ) -> Result<Vec<bool>, Stop>
-        requires { ArePlaceable self.now (changes_of changes.now) touched.now }
-        ensures freed { IfOk result (λ freed. AreFreed self.now.pins (routes_with self.now changes.now) touched.now freed.items) }
-        ensures fronts { OnOk result (AreFreezesKept self.now.pins self.now.plan.routes (routes_with self.now changes.now)) }
-        ensures pins { OnOk result (DoPinsAllow self.now.pins (may_free self.now session) (routes_with self.now changes.now)) }
-        ensures stop { IfErr result
-            (IsPinStop self.now.pins (may_free self.now session) self.now.plan.routes (changes_of changes.now) touched.now) }
-        ensures late { IfErr result IsLate }
-        ensures work { IsWorkOfPins (leaving_with self.now changes.now touched.now) result meter.old meter.new }
-    {
-        pins_after_commits();
-        match self.pins.allows(&self.plan, changes, touched) {
-            Ok(()) => Ok(Vec::new(alloc)),
-            Err(PinFault::Frozen(vehicle)) => Err(Stop::Denied(Denial::Frozen(vehicle))),
-            Err(PinFault::Pinned(..)) => {
-                self.judge_overrides(alloc, session, changes, touched, meter)
-            }
-        }
-    }
-
     /// The same, where some pin is overridden or forbids the new routes.
-    fn judge_overrides(
+    pub(crate) fn judge_overrides(
         &self,
         alloc: Global,
         session: u32,

@@ -19,6 +19,7 @@ ghost use Rattle.board_state.specs.Verdicts.{ArePlaceable, IsStop, ComesEarly, I
 ghost use Rattle.board_state.specs.Work.{Works, IsWithinCost};
 
 use crate::change::{NewRoutes, Workspace};
+use crate::rules::are_in_fleet;
 use crate::state::State;
 use crate::stop::Stop;
 use board_rules::{Denial, plans_are_judged_by_new_routes};
@@ -78,7 +79,7 @@ impl State {
         judged
     }
 
-    /// The denial of a proposal by its session, its vehicles, its base or its places.
+    /// The denial of a proposal by a rule that needs no list of touched customers and no new route.
     #[inline(always)]
     fn early_denial(&self, setup: &Setup, proposal: &Proposal, meter: &mut Meter) -> Option<Denial>
         requires { IsReady (setting setup.now) self.now }
@@ -90,14 +91,30 @@ impl State {
         ensures work { Works meter.old meter.new 0 0
             (early_least (length (named_by proposal.now.mv.now)) result) (length (named_by proposal.now.mv.now)) }
     {
-        match self.base_denial(setup, proposal, meter) {
-            Some(denial) => Some(denial),
-            None => if proposal.mv.is_possible(&self.plan) {
-                None
-            } else {
-                Some(Denial::BadPlace)
-            },
+        let Proposal { session, base, mv } = *proposal;
+        let named = mv.vehicles();
+        // The access to the vehicles is asked first: a session that has it exists, and need not be looked for. The denial is still that of
+        // the first rule that fails.
+        let barred = self.first_barred_vehicle(session, named, meter);
+        if !self.is_open(session, barred.is_none()) {
+            return Some(Denial::NoSession);
         }
+        if !are_in_fleet(setup.vehicles(), named) {
+            return Some(Denial::BadVehicle);
+        }
+        if let Some(vehicle) = barred {
+            return Some(Denial::AccessVehicle(vehicle));
+        }
+        if self.is_ahead(base) {
+            return Some(Denial::Ahead);
+        }
+        if let Some(vehicle) = self.first_stale(base, named) {
+            return Some(Denial::Stale(vehicle));
+        }
+        if !mv.is_possible(&self.plan) {
+            return Some(Denial::BadPlace);
+        }
+        None
     }
 
     /// The rules from the touched customers on, of a move that has an effect. Out of line, so that a proposal that an earlier rule denies

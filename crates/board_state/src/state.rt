@@ -140,16 +140,6 @@ impl State {
         self.policy.policy().is_session(session)
     }
 
-    /// The same, for a caller that knows whether the session may do something: a session that may do something exists, and is not looked up
-    /// again.
-    #[inline(always)]
-    pub(crate) fn is_open(&self, session: u32, may: bool) -> bool
-        requires { may ≡ true → is_session self.now.policy.now session ≡ true }
-        ensures { result ≡ is_session self.now.policy.now session }
-    {
-        may || self.is_session(session)
-    }
-
     /// CheckAccess for a session whose permissions were found: one probe.
     #[tactic(auto, using(crate::proofs::WorkLaws::probed))]
     #[inline(always)]

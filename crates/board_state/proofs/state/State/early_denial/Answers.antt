@@ -4,7 +4,7 @@ use Rattle.permission_core.specs.declared.objects.Operation.TheVariants as opera
 use Rattle.permission_core.specs.declared.objects.Object.TheVariants as objects
 use Rattle.permission_table.specs.Tables.{allows}
 use Rattle.board_state.proofs.Commanding.{allowed_open, first_allowed, none_there}
-use Rattle.board_state.proofs.state.State.base_denial.Goals as goal
+use Rattle.board_state.proofs.state.State.early_denial.Goals as goal
 
 pub is_open-requires : goal.is_open-requires
 is_open-requires g c = λ e.
