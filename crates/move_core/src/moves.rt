@@ -2,7 +2,9 @@ ghost use Rattle.std.specs.Prelude.{◌≡◌, ◌↔◌, ◌==◌, if◌then◌
 ghost use Rattle.plan_core.specs.Plan.{changes_of};
 
 use crate::fault::MoveFault;
-use crate::{made, possible, touches};
+use crate::made::Making;
+use crate::possible;
+use crate::touches::Touching;
 use plan_core::{Plan, Route, Touch};
 use std::alloc::{AllocError, Global};
 use std::sync::Arc;
@@ -160,37 +162,38 @@ impl Move {
         requires { is_possible plan.now.customers plan.now.routes self.now ≡ true }
         ensures { IfOk result (λ touched. touched.items ≡ touched_by plan.now.routes self.now) }
     {
+        let touching = Touching { room, plan };
         match *self {
             Move::Insert {
                 customer,
                 vehicle,
                 place,
-            } => touches::of_insert(room, plan, customer, vehicle, place),
-            Move::Remove { vehicle, place } => touches::of_remove(room, plan, vehicle, place),
+            } => touching.of_insert(customer, vehicle, place),
+            Move::Remove { vehicle, place } => touching.of_remove(vehicle, place),
             Move::Shift {
                 vehicle,
                 place,
                 length,
                 to,
                 at,
-            } => touches::of_shift(room, plan, vehicle, place, length, to, at),
+            } => touching.of_shift(vehicle, place, length, to, at),
             Move::Swap {
                 vehicle,
                 place,
                 other,
                 at,
-            } => touches::of_swap(room, plan, vehicle, place, other, at),
+            } => touching.of_swap(vehicle, place, other, at),
             Move::Reverse {
                 vehicle,
                 first,
                 last,
-            } => touches::of_reverse(room, plan, vehicle, first, last),
+            } => touching.of_reverse(vehicle, first, last),
             Move::Cross {
                 vehicle,
                 keep,
                 other,
                 keep_other,
-            } => touches::of_cross(room, plan, vehicle, keep, other, keep_other),
+            } => touching.of_cross(vehicle, keep, other, keep_other),
         }
     }
 
@@ -215,37 +218,38 @@ impl Move {
         requires { is_possible plan.now.customers plan.now.routes self.now ≡ true }
         ensures { IfOk result (λ changes. changes_of changes.items ≡ changes_by plan.now.routes self.now) }
     {
+        let making = Making { room, alloc, plan };
         match *self {
             Move::Insert {
                 customer,
                 vehicle,
                 place,
-            } => made::by_insert(room, alloc, plan, customer, vehicle, place),
-            Move::Remove { vehicle, place } => made::by_remove(room, alloc, plan, vehicle, place),
+            } => making.by_insert(customer, vehicle, place),
+            Move::Remove { vehicle, place } => making.by_remove(vehicle, place),
             Move::Shift {
                 vehicle,
                 place,
                 length,
                 to,
                 at,
-            } => made::by_shift(room, alloc, plan, vehicle, place, length, to, at),
+            } => making.by_shift(vehicle, place, length, to, at),
             Move::Swap {
                 vehicle,
                 place,
                 other,
                 at,
-            } => made::by_swap(room, alloc, plan, vehicle, place, other, at),
+            } => making.by_swap(vehicle, place, other, at),
             Move::Reverse {
                 vehicle,
                 first,
                 last,
-            } => made::by_reverse(room, alloc, plan, vehicle, first, last),
+            } => making.by_reverse(vehicle, first, last),
             Move::Cross {
                 vehicle,
                 keep,
                 other,
                 keep_other,
-            } => made::by_cross(room, alloc, plan, vehicle, keep, other, keep_other),
+            } => making.by_cross(vehicle, keep, other, keep_other),
         }
     }
 }
