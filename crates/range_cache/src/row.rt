@@ -8,7 +8,7 @@ ghost use Rattle.range_cache.specs.Cache.{IsRowOf, range_at};
 ghost use Rattle.range_cache.specs.Row.{IsRowFault, AsksToRowFault, row_asks};
 
 use crate::fault::JudgeFault;
-use crate::walk::walk;
+use crate::walk::{Axis, walk};
 use callback_store::Meter;
 use dimension_core::{Range, Setup};
 use plan_core::common_front;
@@ -98,7 +98,8 @@ impl Row {
         let front = common_front(old, new);
         for dimension in 0..count {
             let kept = self.front(dimension, front);
-            if !walk(setup, dimension, vehicle, new, kept, &mut row.ranges, meter)? {
+            let axis = Axis { dimension, vehicle };
+            if !walk(setup, axis, new, kept, &mut row.ranges, meter)? {
                 return Err(JudgeFault::Bound(vehicle, dimension as u32 + 1));
             }
         }

@@ -13,26 +13,28 @@ use callback_store::Meter;
 use dimension_core::{Range, Setup, misses_are_found, spans_go_on};
 use std::alloc::AllocError;
 
+/// A vehicle (from 1) in a dimension (from 0).
+#[derive(Clone, Copy)]
+pub(crate) struct Axis {
+    pub(crate) dimension: usize,
+    pub(crate) vehicle: u32,
+}
+
 /// The range from which a walk goes on, and its node: those of the last kept range, or those of the depot; none where no cumul is left
-/// there. Dimensions count from 0.
-fn begin(
-    setup: &Setup,
-    dimension: usize,
-    vehicle: u32,
-    route: &[u32],
-    kept: &[Range],
-) -> Option<(Range, u32)>
-    requires low { 1 ≤ vehicle }
-    requires high { vehicle ≤ (setting setup.now).vehicles }
-    requires dimension { dimension < length (setting setup.now).dimensions }
+/// there.
+fn begin(setup: &Setup, axis: Axis, route: &[u32], kept: &[Range]) -> Option<(Range, u32)>
+    requires low { 1 ≤ axis.vehicle }
+    requires high { axis.vehicle ≤ (setting setup.now).vehicles }
+    requires dimension { axis.dimension < length (setting setup.now).dimensions }
     requires known { All (λ c. c ≤ (setting setup.now).customers) route.now }
-    requires kept { IsTrack (setting setup.now) dimension vehicle route.now kept.now }
-    ensures span { MatchOption result (IsSpanAt (setting setup.now) dimension vehicle [] None) (λ at. IsSpanOf (setting setup.now) dimension vehicle (take (length kept.now) route.now) at.0) }
+    requires kept { IsTrack (setting setup.now) axis.dimension axis.vehicle route.now kept.now }
+    ensures span { MatchOption result (IsSpanAt (setting setup.now) axis.dimension axis.vehicle [] None) (λ at. IsSpanOf (setting setup.now) axis.dimension axis.vehicle (take (length kept.now) route.now) at.0) }
     ensures node { IfSome result (λ at. at.1 ≡ last_of 0 (take (length kept.now) route.now)) }
     ensures known { IfSome result (λ at. at.1 ≤ (setting setup.now).customers) }
     ensures small { IfSome result (λ at. at.0.hi ≤ 1000000000000) }
 {
     spans_go_on();
+    let Axis { dimension, vehicle } = axis;
     let bounds = &setup.dimensions()[dimension];
     bounds.spans_are_small();
     if kept.is_empty() {
@@ -57,36 +59,36 @@ fn push_kept(ranges: &mut Vec<Range>, kept: &[Range]) -> Result<(), AllocError>
 }
 
 /// Walks along a route that is not empty in one dimension, from the customer after the kept ranges to the return. True where the route is
-/// in bounds; the range of each of its customers then follows the others, and there is room for them. Dimensions count from 0.
+/// in bounds; the range of each of its customers then follows the others, and there is room for them.
 ///
 /// It asks the callback once for each customer after the kept ranges and once for the return, up to the first stop at which no cumul is
 /// left, and that one too.
 pub(crate) fn walk(
     setup: &Setup,
-    dimension: usize,
-    vehicle: u32,
+    axis: Axis,
     route: &[u32],
     kept: &[Range],
     ranges: &mut Vec<Range>,
     meter: &mut Meter,
 ) -> Result<bool, AllocError>
-    requires low { 1 ≤ vehicle }
-    requires high { vehicle ≤ (setting setup.now).vehicles }
-    requires dimension { dimension < length (setting setup.now).dimensions }
+    requires low { 1 ≤ axis.vehicle }
+    requires high { axis.vehicle ≤ (setting setup.now).vehicles }
+    requires dimension { axis.dimension < length (setting setup.now).dimensions }
     requires some { 0 < length route.now }
     requires known { All (λ c. c ≤ (setting setup.now).customers) route.now }
-    requires kept { IsTrack (setting setup.now) dimension vehicle route.now kept.now }
+    requires kept { IsTrack (setting setup.now) axis.dimension axis.vehicle route.now kept.now }
     requires room { vec_len ranges.old + length route.now ≤ vec_capacity ranges.old }
-    ensures bounds { IfOk result (λ is_in. IsTrue is_in ↔ FitsIn (setting setup.now) dimension vehicle route.now) }
-    ensures ranges { IfOk result (λ is_in. IsTrue is_in → (more : List Range) × (ranges.new.items ≡ ranges.old.items ++ more) × (length more ≡ length route.now) × IsTrack (setting setup.now) dimension vehicle route.now more) }
+    ensures bounds { IfOk result (λ is_in. IsTrue is_in ↔ FitsIn (setting setup.now) axis.dimension axis.vehicle route.now) }
+    ensures ranges { IfOk result (λ is_in. IsTrue is_in → (more : List Range) × (ranges.new.items ≡ ranges.old.items ++ more) × (length more ≡ length route.now) × IsTrack (setting setup.now) axis.dimension axis.vehicle route.now more) }
     ensures capacity { vec_capacity ranges.old ≤ vec_capacity ranges.new }
     ensures asks { AsksAtMost meter.old meter.new (length route.now + 1 - length kept.now) }
     ensures whole { IfOk result (λ is_in. IsTrue is_in → AsksJust meter.old meter.new (length route.now + 1 - length kept.now)) }
-    ensures missed { IfOk result (λ is_in. is_in ≡ false → (k : ℕ) × IsFirstMissIn (setting setup.now) dimension vehicle route.now k × AsksJust meter.old meter.new (k - length kept.now)) }
+    ensures missed { IfOk result (λ is_in. is_in ≡ false → (k : ℕ) × IsFirstMissIn (setting setup.now) axis.dimension axis.vehicle route.now k × AsksJust meter.old meter.new (k - length kept.now)) }
 {
     spans_go_on();
     misses_are_found();
-    let Some((mut range, mut from)) = begin(setup, dimension, vehicle, route, kept) else {
+    let Axis { dimension, vehicle } = axis;
+    let Some((mut range, mut from)) = begin(setup, axis, route, kept) else {
         return Ok(false);
     };
     push_kept(ranges, kept)?;

@@ -22,9 +22,9 @@ pub returns-clause-small : goal.returns-clause-small
 returns-clause-small g c =
     let s = setting c.args.setup.now in
     let n : ℕ = length c.args.kept.now in
-    let at : IsSpanOf s c.args.dimension c.args.vehicle (take n c.args.route.now) (slice_index_or c.args.kept.now (n - 1) no_range) = search rules in
+    let at : IsSpanOf s c.args.axis.dimension c.args.axis.vehicle (take n c.args.route.now) (slice_index_or c.args.kept.now (n - 1) no_range) = search rules in
     let here : slice_index c.args.route.now (n - 1) ≡ last_of 0 (take n c.args.route.now) = search rules in
     let low : slice_index c.args.route.now (n - 1) ≤ s.customers = search rules in
     let same = dim_at s _ _ _ c.dimensions.ensures.value c.requires.dimension c.index-dimensions-dimension.is in
-    let sized : length c.index-dimensions-dimension.result.ranges ≡ s.customers + 1 = ap (λ (d : Bounds). length d.ranges) same ∙ c.dimensions.ensures.sound.ranges c.args.dimension c.requires.dimension in
+    let sized : length c.index-dimensions-dimension.result.ranges ≡ s.customers + 1 = ap (λ (d : Bounds). length d.ranges) same ∙ c.dimensions.ensures.sound.ranges c.args.axis.dimension c.requires.dimension in
     small_at s _ _ _ _ _ _ c.dimensions.ensures.value c.requires.dimension c.index-dimensions-dimension.is c.spans_are_small.ensures at (omega (arith, here, low, sized))

@@ -11,8 +11,8 @@ use Rattle.range_cache.proofs.walk.walk.Given as goal
 -- the ranges of the customers so far follow the others, and the range is that of the last of them
 abbrev pub invariant-loop-place : goal.invariant-loop-place
 invariant-loop-place g l = record {
-  more : (more : List Range) × (l.ranges.items ≡ l.fn.ranges.items ++ more) × (length more ≡ l.place) × IsTrack (setting l.setup) l.dimension l.vehicle l.route more;
-  span : IsSpanOf (setting l.setup) l.dimension l.vehicle (take l.place l.route) l.range;
+  more : (more : List Range) × (l.ranges.items ≡ l.fn.ranges.items ++ more) × (length more ≡ l.place) × IsTrack (setting l.setup) l.fn.axis.dimension l.fn.axis.vehicle l.route more;
+  span : IsSpanOf (setting l.setup) l.fn.axis.dimension l.fn.axis.vehicle (take l.place l.route) l.range;
   last : l.from ≡ last_of 0 (take l.place l.route);
   small : l.range.hi ≤ 1000000000000;
   room : vec_len l.ranges + length l.route ≤ vec_capacity l.ranges + l.place;
