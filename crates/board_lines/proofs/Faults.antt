@@ -5,6 +5,8 @@ use Rattle.std.specs.List.{list_all, AllByRecursion}
 use Rattle.std.specs.Str.Parse.{digits_value}
 use Rattle.std.proofs.lemmas.Bool.Decides.{nat_tests}
 use Rattle.text_words.specs.Words.{is_number, words}
+use Rattle.text_words.specs.Checks.{Check, check, IsFirstFailed, first_fault}
+use Rattle.text_words.specs.CheckLaws.{first_is, is_first}
 use Rattle.separation_core.specs.Names.{is_name}
 use Rattle.permission_core.specs.declared.objects.Operation.TheVariants as operations
 use Rattle.board_lines.specs.declared.command.LineFault.{LineFault}
@@ -14,7 +16,7 @@ use Rattle.board_lines.specs.declared.word.Word.{Word}
 use Rattle.board_lines.specs.Table.{Kinds, nothing, object, range, names, number, name, operation, row_of, word_of}
 use Rattle.board_lines.specs.Arguments.{a_number, a_name, an_operation, ◌>>=◌, number_arg, name_arg, operation_arg, one_arg, pair_arg, number_then, counted, is_counted, each_read, arguments_of}
 use Rattle.board_lines.specs.Reading.{command_of, named_by, after_session, is_comment, words_read}
-use Rattle.board_lines.specs.Checks.{Check, check, IsFirstFault, is_operation, number_check, name_check, object_checks, argument_checks, named_checks, word_checks, line_checks, FaultsAreFirst}
+use Rattle.board_lines.specs.Checks.{is_operation, number_check, name_check, object_checks, argument_checks, named_checks, word_checks, line_checks, FaultsAreFirst}
 
 -- ---- what failed, and the first check that fails
 
@@ -26,36 +28,11 @@ abbrev or_else : Option LineFault → Option LineFault → Option LineFault
 or_else None v = v
 or_else (Some e) v = Some e
 
-abbrev first_fault : List Check → Option LineFault
-first_fault [] = None
-first_fault (c ∷ cs) = cond c.holds (first_fault cs) (Some c.fault)
-
 none_bad : {A : Type 0} (f : LineFault) → ◌≡◌ {A = Option LineFault} None (Some f) → A
-none_bad f e = absurd (cc)
+none_bad f e = absurd cc
 
 some_same : (e f : LineFault) → ◌≡◌ {A = Option LineFault} (Some e) (Some f) → e ≡ f
 some_same e f h = cc
-
-here : (c : Check) (cs : List Check) (f : LineFault) → c.holds ≡ false → c.fault ≡ f → IsFirstFault (c ∷ cs) f
-here c cs f h e = record { before = []; behind = cs; whole = rw (← h, ← e) refl; earlier = tt }
-
-later : (c : Check) (cs : List Check) (f : LineFault) → c.holds ≡ true → IsFirstFault cs f → IsFirstFault (c ∷ cs) f
-later c cs f h p = record { before = c ∷ p.before; behind = p.behind; whole = ap (λ (l : List Check). c ∷ l) p.whole; earlier = (h, p.earlier) }
-
-split : (c : Check) (cs : List Check) (f : LineFault) (b : Bool) → c.holds ≡ b → cond b (first_fault cs) (Some c.fault) ≡ Some f → (first_fault cs ≡ Some f → IsFirstFault cs f) → IsFirstFault (c ∷ cs) f
-split c cs f true h e again = later c cs f h (again e)
-split c cs f false h e again = here c cs f h (some_same c.fault f e)
-
-first_is : (cs : List Check) (f : LineFault) → first_fault cs ≡ Some f → IsFirstFault cs f
-first_is [] f e = none_bad f e
-first_is (c ∷ cs) f e = split c cs f c.holds refl e (first_is cs f)
-
-found : (before behind : List Check) (f : LineFault) → AllByRecursion (λ c. c.holds ≡ true) before → first_fault (before ++ check f false ∷ behind) ≡ Some f
-found [] behind f h = refl
-found (c ∷ before) behind f h = rw h.0 (found before behind f h.1)
-
-is_first : (cs : List Check) (f : LineFault) → IsFirstFault cs f → first_fault cs ≡ Some f
-is_first cs f p = ap first_fault p.whole ∙ found p.before p.behind f p.earlier
 
 -- ---- steps
 
@@ -104,7 +81,7 @@ operation_fails w =
     (if_fails (is (codes "override")) operations.Override faults.Op))))))
 
 -- a word that fails, or what follows it
-word_fails : {A B C : Type 0} (r : Result A LineFault) (m : Result B LineFault) (g : A → B → C) (b : Bool) (e : LineFault) (cs : List Check) → verdict r ≡ cond b None (Some e) → verdict m ≡ first_fault cs → verdict (r >>= λ x. (m >>= λ y. Ok (g x y))) ≡ first_fault (check e b ∷ cs)
+word_fails : {A B C : Type 0} (r : Result A LineFault) (m : Result B LineFault) (g : A → B → C) (b : Bool) (e : LineFault) (cs : List (Check LineFault)) → verdict r ≡ cond b None (Some e) → verdict m ≡ first_fault cs → verdict (r >>= λ x. (m >>= λ y. Ok (g x y))) ≡ first_fault (check e b ∷ cs)
 word_fails r m g b e cs h i = then_fails r m g ∙ rw (h, i) (or_if b e (first_fault cs))
 
 -- ---- the last words

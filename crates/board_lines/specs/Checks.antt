@@ -1,7 +1,7 @@
 -- What is checked of a line, in order, and its fault: that of the first check that fails.
-use Rattle.std.specs.Prelude.{◌≡◌, ◌↔◌, ℕ, List, [], ◌∷◌, ◌++◌, Bool, true, false, ◌||◌, codes, map, bytes_eq, Option, None, Some, Err, if◌then◌else◌}
-use Rattle.std.specs.List.{AllByRecursion}
+use Rattle.std.specs.Prelude.{◌≡◌, ◌↔◌, ℕ, List, [], ◌∷◌, Bool, true, false, ◌||◌, codes, map, bytes_eq, Option, None, Some, Err, if◌then◌else◌}
 use Rattle.text_words.specs.Words.{is_number, words}
+use Rattle.text_words.specs.Checks.{Check, check, IsFirstFailed}
 use Rattle.separation_core.specs.Names.{is_name}
 use Rattle.board_lines.specs.declared.command.LineFault.{LineFault}
 use Rattle.board_lines.specs.declared.command.LineFault.TheVariants as faults
@@ -9,21 +9,6 @@ use Rattle.board_lines.specs.declared.word.Word.{Word}
 use Rattle.board_lines.specs.Table.{Kinds, nothing, object, range, names, number, name, operation, row_of, word_of}
 use Rattle.board_lines.specs.Arguments.{counted}
 use Rattle.board_lines.specs.Reading.{is_comment, read_of}
-
--- a check: the fault that it gives, and whether it holds
-pub record Check : Type 0 where
-  pub fault : LineFault
-  pub holds : Bool
-
-abbrev pub check : LineFault → Bool → Check
-check f b = record { fault = f; holds = b }
-
--- the first check that fails has that fault: every earlier one holds
-pub record IsFirstFault (checks : List Check) (fault : LineFault) : Type 0 where
-  pub before : List Check
-  pub behind : List Check
-  pub whole : checks ≡ before ++ check fault false ∷ behind
-  pub earlier : AllByRecursion (λ c. c.holds ≡ true) before
 
 -- ---- arguments
 
@@ -35,18 +20,18 @@ is_operation w =
 abbrev pub is_kind : List ℕ → Bool
 is_kind w = bytes_eq w (codes "board") || (bytes_eq w (codes "vehicle") || bytes_eq w (codes "customer"))
 
-abbrev pub number_check : List ℕ → Check
+abbrev pub number_check : List ℕ → Check LineFault
 number_check w = check faults.Number (is_number w)
 
-abbrev pub name_check : List ℕ → Check
+abbrev pub name_check : List ℕ → Check LineFault
 name_check w = check faults.Name (is_name w)
 
 -- an object's kind, then its numbers
-abbrev pub object_checks : List ℕ → List (List ℕ) → List Check
+abbrev pub object_checks : List ℕ → List (List ℕ) → List (Check LineFault)
 object_checks kind ws = check faults.Object (is_kind kind) ∷ map number_check ws
 
 -- each word by its kind, from the left
-abbrev pub argument_checks : Kinds → List (List ℕ) → List Check
+abbrev pub argument_checks : Kinds → List (List ℕ) → List (Check LineFault)
 argument_checks nothing ws = []
 argument_checks object [] = []
 argument_checks object (kind ∷ ws) = object_checks kind ws
@@ -63,21 +48,21 @@ argument_checks (operation more) (w ∷ ws) = check faults.Op (is_operation w) �
 -- ---- lines
 
 -- the command's word, the count of the words after it, and those words
-abbrev pub named_checks : List (List ℕ) → Option Word → List Check
+abbrev pub named_checks : List (List ℕ) → Option Word → List (Check LineFault)
 named_checks args None = check faults.Word false ∷ []
 named_checks args (Some word) =
     let kinds = (row_of word).kinds in
     check faults.Word true ∷ check faults.Count (counted kinds args) ∷ argument_checks kinds args
 
-abbrev pub word_checks : List (List ℕ) → List Check
+abbrev pub word_checks : List (List ℕ) → List (Check LineFault)
 word_checks [] = check faults.Word false ∷ []
 word_checks (word ∷ args) = named_checks args (word_of word)
 
 -- a line without words and a comment are checked for nothing
-abbrev pub line_checks : List (List ℕ) → List Check
+abbrev pub line_checks : List (List ℕ) → List (Check LineFault)
 line_checks [] = []
 line_checks (first ∷ rest) = if is_comment first then [] else (number_check first ∷ word_checks rest)
 
 -- A line is read as a fault exactly where that is the fault of the first check that fails.
 abbrev pub FaultsAreFirst : Type 0
-FaultsAreFirst = (line : List ℕ) → (fault : LineFault) → IsFirstFault (line_checks (words line)) fault ↔ (read_of line ≡ Err fault)
+FaultsAreFirst = (line : List ℕ) → (fault : LineFault) → IsFirstFailed (line_checks (words line)) fault ↔ (read_of line ≡ Err fault)

@@ -2,7 +2,8 @@
 use Rattle.std.proofs.Common.{◌≡◌, List, [], ◌∷◌, ◌++◌, Result, Ok, Err, Bool, true, false, cond, refl, ap}
 use Rattle.solomon_reader.specs.declared.fault.ReadFault.{ReadFault}
 use Rattle.solomon_reader.specs.declared.fault.ReadFault.TheVariants.{NoMemory, At}
-use Rattle.solomon_reader.specs.Checks.{Fault, Check, checked}
+use Rattle.text_words.specs.Checks.{Check}
+use Rattle.solomon_reader.specs.Checks.{Fault, checked}
 use Rattle.solomon_reader.specs.Reading.{Fails}
 
 abbrev pub done : {A : Type 0} → A → Result A Fault
@@ -26,21 +27,21 @@ fail_step true r s d f e h = h e
 fail_step false r s d f e h = err_again d f e
 
 -- checks that hold add nothing
-pub checked_more : {A B : Type 0} (cs more : List Check) (x y : A) (v : B) → checked cs x ≡ done y → checked (cs ++ more) v ≡ checked more v
+pub checked_more : {A B : Type 0} (cs more : List (Check Fault)) (x y : A) (v : B) → checked cs x ≡ done y → checked (cs ++ more) v ≡ checked more v
 checked_more [] more x y v e = refl
 checked_more (c ∷ cs) more x y v e =
-    let h = held c.holds (checked cs x) (record { kind = c.kind; line = c.line }) y e in
+    let h = held c.holds (checked cs x) c.fault y e in
     rw h.0 (checked_more cs more x y v h.1)
 
-pub checked_value : {A : Type 0} (cs : List Check) (x y : A) → checked cs x ≡ done y → x ≡ y
+pub checked_value : {A : Type 0} (cs : List (Check Fault)) (x y : A) → checked cs x ≡ done y → x ≡ y
 checked_value [] x y e = ok_is x y e
-checked_value (c ∷ cs) x y e = checked_value cs x y (held c.holds (checked cs x) (record { kind = c.kind; line = c.line }) y e).1
+checked_value (c ∷ cs) x y e = checked_value cs x y (held c.holds (checked cs x) c.fault y e).1
 
 -- the first fault is that of the whole list
-pub checked_fails : {A B : Type 0} (cs more : List Check) (x : A) (v : B) (f : Fault) → checked cs x ≡ failed f → checked (cs ++ more) v ≡ failed f
+pub checked_fails : {A B : Type 0} (cs more : List (Check Fault)) (x : A) (v : B) (f : Fault) → checked cs x ≡ failed f → checked (cs ++ more) v ≡ failed f
 checked_fails [] more x v f e = absurd cc
-checked_fails (c ∷ cs) more x v f e = fail_step c.holds (checked cs x) (checked (cs ++ more) v) (record { kind = c.kind; line = c.line }) f e (λ h. checked_fails cs more x v f h)
+checked_fails (c ∷ cs) more x v f e = fail_step c.holds (checked cs x) (checked (cs ++ more) v) c.fault f e (λ h. checked_fails cs more x v f h)
 
-pub Fails_on : {A B : Type 0} (bad : ReadFault) (cs more : List Check) (x : A) (v : B) → Fails bad (checked cs x) → Fails bad (checked (cs ++ more) v)
+pub Fails_on : {A B : Type 0} (bad : ReadFault) (cs more : List (Check Fault)) (x : A) (v : B) → Fails bad (checked cs x) → Fails bad (checked (cs ++ more) v)
 Fails_on NoMemory cs more x v h = tt
 Fails_on (At k n) cs more x v h = checked_fails cs more x v (record { kind = k; line = n }) h

@@ -8,7 +8,8 @@ use Rattle.text_words.specs.Words.{words}
 use Rattle.solomon_reader.specs.Cuts.{Numbered}
 use Rattle.solomon_reader.specs.Fields.{is_field, field_value, trimmed, is_name, is_keyword, IsNumber, IsKeyword}
 use Rattle.solomon_reader.specs.declared.instance.Node.{Node}
-use Rattle.solomon_reader.specs.Checks.{Check, value_at, row_checks, rows_checks, checks, is_vehicle, is_fleet_heading, is_customer, is_node_heading}
+use Rattle.text_words.specs.Checks.{Check}
+use Rattle.solomon_reader.specs.Checks.{Fault, value_at, row_checks, rows_checks, checks, is_vehicle, is_fleet_heading, is_customer, is_node_heading}
 use Rattle.solomon_reader.specs.Instances.{Plain, IsRow, AreRows, BeginsWith, IsInstance}
 use Rattle.solomon_reader.specs.Reading.{node_of, nodes_of_rows, instance_of, all_of}
 use Rattle.solomon_reader.proofs.Booleans.{both, eq_from, le_from, lt_from, most_of, lt_test, same_again, depot_from, depot_test, not_two, not_seven}
@@ -17,7 +18,7 @@ use Rattle.solomon_reader.proofs.Faults.{all_hold, hold_all}
 use Rattle.solomon_reader.proofs.NumberRelation.{number_form, value_of}
 use Rattle.solomon_reader.proofs.NameRelation.{name_from, name_test, is_trimmed, trimmed_is}
 
-abbrev Hold : List Check → Type 0
+abbrev Hold : List (Check Fault) → Type 0
 Hold cs = AllByRecursion (λ c. c.holds ≡ true) cs
 
 no : false ≡ true → ⊥

@@ -7,29 +7,30 @@ use Rattle.solomon_reader.specs.declared.fault.Kind.TheVariants.{Vehicle, Fleet,
 use Rattle.solomon_reader.specs.declared.fault.ReadFault.{ReadFault}
 use Rattle.solomon_reader.specs.declared.fault.ReadFault.TheVariants.{NoMemory, At}
 use Rattle.solomon_reader.specs.declared.instance.Node.{Node}
-use Rattle.solomon_reader.specs.Checks.{Fault, Check, checked, name_checks, heading_checks, fleet_checks, rows_checks, tail, checks, first_text, value_at, is_vehicle, is_fleet_heading, is_customer, is_node_heading}
+use Rattle.text_words.specs.Checks.{Check}
+use Rattle.solomon_reader.specs.Checks.{Fault, checked, name_checks, heading_checks, fleet_checks, rows_checks, tail, checks, first_text, value_at, is_vehicle, is_fleet_heading, is_customer, is_node_heading}
 use Rattle.solomon_reader.specs.Reading.{Fails, instance_of, all_of, nodes_of_rows}
 use Rattle.solomon_reader.specs.Instances.{Plain}
 use Rattle.solomon_reader.specs.Parts.{name_read, fleet_read, rows_read}
 use Rattle.solomon_reader.proofs.Checking.{done, failed, held, fail_step, checked_more, checked_value, Fails_on}
 
 -- the checks from each part on
-abbrev pub from_heading : ℕ → List Numbered → List Check
+abbrev pub from_heading : ℕ → List Numbered → List (Check Fault)
 from_heading m lines = heading_checks Heading is_node_heading m lines ++ rows_checks m 0 (tail lines)
 
-abbrev pub from_customer : ℕ → List Numbered → List Check
+abbrev pub from_customer : ℕ → List Numbered → List (Check Fault)
 from_customer m lines = heading_checks Customer is_customer m lines ++ from_heading m (tail lines)
 
-abbrev pub from_fleet : ℕ → List Numbered → List Check
+abbrev pub from_fleet : ℕ → List Numbered → List (Check Fault)
 from_fleet m lines = fleet_checks m lines ++ from_customer m (tail lines)
 
-abbrev pub from_fleet_heading : ℕ → List Numbered → List Check
+abbrev pub from_fleet_heading : ℕ → List Numbered → List (Check Fault)
 from_fleet_heading m lines = heading_checks Fleet is_fleet_heading m lines ++ from_fleet m (tail lines)
 
-abbrev pub from_vehicle : ℕ → List Numbered → List Check
+abbrev pub from_vehicle : ℕ → List Numbered → List (Check Fault)
 from_vehicle m lines = heading_checks Vehicle is_vehicle m lines ++ from_fleet_heading m (tail lines)
 
-abbrev pub from_name : ℕ → List Numbered → List Check
+abbrev pub from_name : ℕ → List Numbered → List (Check Fault)
 from_name m lines = name_checks m lines ++ from_vehicle m (tail lines)
 
 pub start : (m : ℕ) (lines : List Numbered) → checked (from_name m lines) (instance_of lines) ≡ all_of m lines
@@ -37,24 +38,24 @@ unfolding checks
 start m lines = refl
 
 -- a part that holds is skipped
-pub passed : {A : Type 0} (part rest : ℕ → List Numbered → List Check) (m m' : ℕ) (lines lines' : List Numbered) (x y : A) (v : Plain) (whole : Result Plain Fault) → checked (part m lines ++ rest m (tail lines)) v ≡ whole → checked (part m lines) x ≡ Ok y → lines' ≡ tail lines → m' ≡ m → checked (rest m' lines') v ≡ whole
+pub passed : {A : Type 0} (part rest : ℕ → List Numbered → List (Check Fault)) (m m' : ℕ) (lines lines' : List Numbered) (x y : A) (v : Plain) (whole : Result Plain Fault) → checked (part m lines ++ rest m (tail lines)) v ≡ whole → checked (part m lines) x ≡ Ok y → lines' ≡ tail lines → m' ≡ m → checked (rest m' lines') v ≡ whole
 passed part rest m m' lines lines' x y v whole h e l k = rw (k, l) (sym (checked_more (part m lines) (rest m (tail lines)) x y v e) ∙ h)
 
 -- a part that fails gives its fault
-pub stopped : {A : Type 0} (bad : ReadFault) (part rest : ℕ → List Numbered → List Check) (m : ℕ) (lines : List Numbered) (x : A) (v : Plain) (whole : Result Plain Fault) → checked (part m lines ++ rest m (tail lines)) v ≡ whole → Fails bad (checked (part m lines) x) → Fails bad whole
+pub stopped : {A : Type 0} (bad : ReadFault) (part rest : ℕ → List Numbered → List (Check Fault)) (m : ℕ) (lines : List Numbered) (x : A) (v : Plain) (whole : Result Plain Fault) → checked (part m lines ++ rest m (tail lines)) v ≡ whole → Fails bad (checked (part m lines) x) → Fails bad whole
 stopped bad part rest m lines x v whole h e = rw (← h) (Fails_on bad (part m lines) (rest m (tail lines)) x v e)
 
-checked_any : {A B : Type 0} (cs : List Check) (x y : A) (v : B) → checked cs x ≡ done y → checked cs v ≡ done v
+checked_any : {A B : Type 0} (cs : List (Check Fault)) (x y : A) (v : B) → checked cs x ≡ done y → checked cs v ≡ done v
 checked_any [] x y v e = refl
 checked_any (c ∷ cs) x y v e =
-    let h = held c.holds (checked cs x) (record { kind = c.kind; line = c.line }) y e in
+    let h = held c.holds (checked cs x) c.fault y e in
     rw h.0 (checked_any cs x y v h.1)
 
-same_fault : {A B : Type 0} (cs : List Check) (x : A) (v : B) (f : Fault) → checked cs x ≡ failed f → checked cs v ≡ failed f
+same_fault : {A B : Type 0} (cs : List (Check Fault)) (x : A) (v : B) (f : Fault) → checked cs x ≡ failed f → checked cs v ≡ failed f
 same_fault [] x v f e = absurd cc
-same_fault (c ∷ cs) x v f e = fail_step c.holds (checked cs x) (checked cs v) (record { kind = c.kind; line = c.line }) f e (λ h. same_fault cs x v f h)
+same_fault (c ∷ cs) x v f e = fail_step c.holds (checked cs x) (checked cs v) c.fault f e (λ h. same_fault cs x v f h)
 
-any_fails : {A B : Type 0} (bad : ReadFault) (cs : List Check) (x : A) (v : B) → Fails bad (checked cs x) → Fails bad (checked cs v)
+any_fails : {A B : Type 0} (bad : ReadFault) (cs : List (Check Fault)) (x : A) (v : B) → Fails bad (checked cs x) → Fails bad (checked cs v)
 any_fails NoMemory cs x v h = tt
 any_fails (At k n) cs x v h = same_fault cs x v (record { kind = k; line = n }) h
 

@@ -1,7 +1,8 @@
 -- What is checked of an instance file, in the order of the file.
 use Rattle.std.specs.Prelude.{◌≡◌, ℕ, ◌+◌, Bool, true, false, ◌&&◌, ◌||◌, List, [], ◌∷◌, ◌++◌, length, get_or, Result, Ok, Err, nat_lt, nat_le, ◌==◌, if◌then◌else◌, codes}
-use Rattle.std.specs.List.{list_all, AllByRecursion}
+use Rattle.std.specs.List.{list_all}
 use Rattle.text_words.specs.Words.{words}
+use Rattle.text_words.specs.Checks.{Check, IsFirstFailed}
 use Rattle.solomon_reader.specs.Cuts.{Numbered}
 use Rattle.solomon_reader.specs.Fields.{is_field, field_value, is_keyword, trimmed, is_name}
 use Rattle.solomon_reader.specs.declared.fault.Kind.{Kind}
@@ -15,26 +16,18 @@ pub record Fault : Type 0 where
 abbrev pub fault : {A : Type 0} → Kind → ℕ → Result A Fault
 fault k n = Err (record { kind = k; line = n })
 
--- a check: the fault that it gives, its line, and whether it holds
-pub record Check : Type 0 where
-  pub kind : Kind
-  pub line : ℕ
-  pub holds : Bool
-
-abbrev pub check : Kind → ℕ → Bool → Check
-check k n b = record { kind = k; line = n; holds = b }
+-- the check of that kind of a line
+abbrev pub check : Kind → ℕ → Bool → Check Fault
+check k n b = record { fault = record { kind = k; line = n }; holds = b }
 
 -- the value, or the fault of the first check that fails
-abbrev pub checked : {A : Type 0} → List Check → A → Result A Fault
+abbrev pub checked : {A : Type 0} → List (Check Fault) → A → Result A Fault
 checked [] value = Ok value
-checked (c ∷ more) value = if c.holds then checked more value else fault c.kind c.line
+checked (c ∷ more) value = if c.holds then checked more value else Err c.fault
 
 -- the check of that kind on that line fails, and every earlier one holds
-pub record IsFirstFailedCheck (checks : List Check) (kind : Kind) (line : ℕ) : Type 0 where
-  pub before : List Check
-  pub behind : List Check
-  pub whole : checks ≡ before ++ check kind line false ∷ behind
-  pub earlier : AllByRecursion (λ c. c.holds ≡ true) before
+abbrev pub IsFirstFailedCheck : List (Check Fault) → Kind → ℕ → Type 0
+IsFirstFailedCheck checks kind line = IsFirstFailed checks (record { kind = kind; line = line })
 
 -- the bytes of the first line
 abbrev pub first_text : List Numbered → List ℕ
@@ -79,27 +72,27 @@ heading_test _ words = false
 
 -- ---- the checks of each part; the line of a part that is missing is given
 
-abbrev pub name_checks : ℕ → List Numbered → List Check
+abbrev pub name_checks : ℕ → List Numbered → List (Check Fault)
 name_checks missing [] = check Name missing false ∷ []
 name_checks missing (line ∷ more) = check Name line.number (is_name (trimmed line.text)) ∷ []
 
-abbrev pub heading_checks : Kind → (List (List ℕ) → Bool) → ℕ → List Numbered → List Check
+abbrev pub heading_checks : Kind → (List (List ℕ) → Bool) → ℕ → List Numbered → List (Check Fault)
 heading_checks kind test missing [] = check kind missing false ∷ []
 heading_checks kind test missing (line ∷ more) = check kind line.number (test (words line.text)) ∷ []
 
-abbrev pub fleet_line_checks : ℕ → List (List ℕ) → List Check
+abbrev pub fleet_line_checks : ℕ → List (List ℕ) → List (Check Fault)
 fleet_line_checks n fields =
     check Fleet n (length fields == 2)
     ∷ check Number n (list_all is_field fields)
     ∷ check Count n (nat_le 1 (value_at 0 fields) && nat_le (value_at 0 fields) 1000)
     ∷ []
 
-abbrev pub fleet_checks : ℕ → List Numbered → List Check
+abbrev pub fleet_checks : ℕ → List Numbered → List (Check Fault)
 fleet_checks missing [] = check Fleet missing false ∷ []
 fleet_checks missing (line ∷ more) = fleet_line_checks line.number (words line.text)
 
 -- the checks of a node row on line n, with this many rows before it
-abbrev pub row_checks : ℕ → ℕ → List (List ℕ) → List Check
+abbrev pub row_checks : ℕ → ℕ → List (List ℕ) → List (Check Fault)
 row_checks count n fields =
     check Count n (nat_lt count 1001)
     ∷ check Fields n (length fields == 7)
@@ -110,7 +103,7 @@ row_checks count n fields =
     ∷ []
 
 -- all node rows, of which there are at least two
-abbrev pub rows_checks : ℕ → ℕ → List Numbered → List Check
+abbrev pub rows_checks : ℕ → ℕ → List Numbered → List (Check Fault)
 rows_checks missing count [] = check End missing (nat_le 2 count) ∷ []
 rows_checks missing count (line ∷ more) = row_checks count line.number (words line.text) ++ rows_checks missing (count + 1) more
 
@@ -121,7 +114,7 @@ abbrev pub tail : List Numbered → List Numbered
 tail [] = []
 tail (line ∷ more) = more
 
-unfoldable pub checks : ℕ → List Numbered → List Check
+unfoldable pub checks : ℕ → List Numbered → List (Check Fault)
 checks missing lines =
     let vehicle = tail lines in
     let fleet_heading = tail vehicle in
