@@ -14,10 +14,7 @@ ghost use Rattle.board_core.specs.Taking.{IsTaken};
 
 use crate::body::{Core, copy_of};
 use board_journal::Proposal;
-use board_rules::{
-    Call, Denial, Event, Fault, Hold, Reply, Ruling, histories_grow_by_entries,
-    legal_histories_leave_good_states,
-};
+use board_rules::{Call, Denial, Event, Fault, Hold, Reply, Ruling, histories_grow_by_entries};
 use callback_store::Meter;
 use dimension_core::Setup;
 use rbac_core::Command;
@@ -149,9 +146,8 @@ impl Core {
             (call_asks (setting setup.now) (state_after (setting setup.now) self.old.journal).routes (call_of proposal))
             (call_probes (state_after (setting setup.now) self.old.journal).pins (state_after (setting setup.now) self.old.journal).routes (call_of proposal)) }
     {
-        legal_histories_leave_good_states();
+        self.is_ready(setup);
         histories_grow_by_entries();
-        let _most = setup.max_events();
         let alloc = *self.journal.allocator();
         self.journal.make_room()?;
         let Proposal {
@@ -222,9 +218,8 @@ impl Core {
             (call_asks (setting setup.now) (state_after (setting setup.now) self.old.journal).routes (hold_call hold))
             (call_probes (state_after (setting setup.now) self.old.journal).pins (state_after (setting setup.now) self.old.journal).routes (hold_call hold)) }
     {
-        legal_histories_leave_good_states();
+        self.is_ready(setup);
         histories_grow_by_entries();
-        let _most = setup.max_events();
         self.journal.make_room()?;
         let ruling = self.state.hold(setup, hold, meter);
         self.turns[desk as usize - 1] = turn;
@@ -287,9 +282,8 @@ impl Core {
         ensures work { OnOk result (WorksJust meter.old meter.new 0 1) }
         ensures most { WorksAtMost meter.old meter.new 0 1 }
     {
-        legal_histories_leave_good_states();
+        self.is_ready(setup);
         histories_grow_by_entries();
-        let _most = setup.max_events();
         let alloc = *self.journal.allocator();
         self.journal.make_room()?;
         let reply = self.state.command(alloc, session, &command, meter)?;

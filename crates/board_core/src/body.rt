@@ -6,6 +6,7 @@ ghost use Rattle.board_rules.specs.declared.call.Call.TheVariants.{Policy};
 ghost use Rattle.board_rules.specs.declared.reply.Fault.{Fault};
 ghost use Rattle.rbac_core.specs.declared.command.Command.{Command};
 ghost use Rattle.board_rules.specs.History.{is_turn, state_after};
+ghost use Rattle.board_state.specs.Held.{IsReady};
 ghost use Rattle.board_state.specs.Changes.{IsGivenUp, GivesUp};
 ghost use Rattle.board_state.specs.Work.{WorksAtMost, IsWorkOf, call_asks, call_probes};
 ghost use Rattle.board_core.specs.Kept.{IsKept, history_of, entry_of};
@@ -129,6 +130,15 @@ impl Core {
         }
     }
 
+    /// A law of a core that keeps a legal history: where its journal is not full, what it holds is ready for the next call.
+    pub(crate) fn is_ready(&self, setup: &Setup)
+        ensures { IsKept (setting setup.now) self.now → length self.now.journal < (setting setup.now).max_events
+            → IsReady (setting setup.now) self.now.held }
+    {
+        legal_histories_leave_good_states();
+        let _most = setup.max_events();
+    }
+
     /// Judges an event that has its turn, where the journal is not full.
     fn judge(
         &mut self,
@@ -151,8 +161,7 @@ impl Core {
             (call_asks (setting setup.now) (state_after (setting setup.now) self.old.journal).routes event.call)
             (call_probes (state_after (setting setup.now) self.old.journal).pins (state_after (setting setup.now) self.old.journal).routes event.call) }
     {
-        legal_histories_leave_good_states();
-        let _most = setup.max_events();
+        self.is_ready(setup);
         let alloc = *self.journal.allocator();
         self.journal.make_room()?;
         let judged = self.state.prepare(alloc, setup, &event.call, meter)?;

@@ -9,30 +9,18 @@ use Rattle.permission_table.specs.Compiled.{AreCompiled, HasSizes}
 use Rattle.board_state.specs.Changes.{Tries}
 use Rattle.board_state.specs.Held.{Holds, IsReady}
 use Rattle.board_core.specs.Kept.{CoreState, history_of}
-use Rattle.board_core.proofs.Keeping.{ready, kept_same, kept_after, turn_due}
+use Rattle.board_core.proofs.Keeping.{kept_same, kept_after, turn_due}
 use Rattle.board_core.proofs.body.Core.command.Goals as goal
 
 pub command-requires-clause-compiled : goal.command-requires-clause-compiled
 command-requires-clause-compiled g c =
-    let s = setting c.args.setup.now in
-    let core = c.args.self.now in
-    let kept = c.requires.kept in
-    let good = c.legal_histories_leave_good_states.ensures.good (history_of s core) kept.legal in
-    let few = c.legal_histories_leave_good_states.ensures.commits (history_of s core) kept.legal in
-    let most = c.max_events-most.ensures.sound.few_events in
     subst (λ (x : CoreState). ∥ AreCompiled x.held.tables x.held.policy.now ∥₁) (sym c.self.view_is)
-    (ready s core.held (state_after s core.journal) kept.held good (omega (arith, few, most, c.requires.taken.space))).compiled
+    (c.is_ready.ensures c.requires.kept c.requires.taken.space).compiled
 
 pub command-requires-clause-sizes : goal.command-requires-clause-sizes
 command-requires-clause-sizes g c =
-    let s = setting c.args.setup.now in
-    let core = c.args.self.now in
-    let kept = c.requires.kept in
-    let good = c.legal_histories_leave_good_states.ensures.good (history_of s core) kept.legal in
-    let few = c.legal_histories_leave_good_states.ensures.commits (history_of s core) kept.legal in
-    let most = c.max_events-most.ensures.sound.few_events in
     subst (λ (x : CoreState). HasSizes x.held.policy.now x.held.tables) (sym c.self.view_is)
-    (ready s core.held (state_after s core.journal) kept.held good (omega (arith, few, most, c.requires.taken.space))).sizes
+    (c.is_ready.ensures c.requires.kept c.requires.taken.space).sizes
 
 pub returns-in_err-make_room-clause-kept : goal.returns-in_err-make_room-clause-kept
 returns-in_err-make_room-clause-kept g c =

@@ -10,19 +10,13 @@ use Rattle.board_state.specs.Changes.{Tries}
 use Rattle.board_state.specs.Held.{HeldState, Holds, IsReady}
 use Rattle.board_state.specs.Work.{IsWorkOf, WorksAtMost, call_asks, call_probes}
 use Rattle.board_core.specs.Kept.{CoreState, history_of}
-use Rattle.board_core.proofs.Keeping.{ready, kept_same, kept_after, turn_due}
+use Rattle.board_core.proofs.Keeping.{kept_same, kept_after, turn_due}
 use Rattle.board_core.proofs.body.Core.take_proposal.Goals as goal
 
 pub propose-requires : goal.propose-requires
 propose-requires g c =
     let s = setting c.args.setup.now in
-    let core = c.args.self.now in
-    let kept = c.requires.kept in
-    let good = c.legal_histories_leave_good_states.ensures.good (history_of s core) kept.legal in
-    let few = c.legal_histories_leave_good_states.ensures.commits (history_of s core) kept.legal in
-    let most = c.max_events-most.ensures.sound.few_events in
-    subst (λ (x : CoreState). IsReady s x.held) (sym c.self.view_is)
-    (ready s core.held (state_after s core.journal) kept.held good (omega (arith, few, most, c.requires.taken.space)))
+    subst (λ (x : CoreState). IsReady s x.held) (sym c.self.view_is) (c.is_ready.ensures c.requires.kept c.requires.taken.space)
 
 pub returns-in_err-make_room-clause-kept : goal.returns-in_err-make_room-clause-kept
 returns-in_err-make_room-clause-kept g c =
