@@ -36,8 +36,7 @@ impl State {
         meter: &mut Meter,
     ) -> Option<PolicyRefusal>
         requires { ∥ AreCompiled self.now.tables self.now.policy.now ∥₁ }
-        ensures refused { result
-            ≡ guard_by (allows self.now.tables session operations.Admin objects.Board) self.now.policy.now session command.now }
+        ensures refused { result ≡ guard self.now.policy.now session command.now }
         ensures work { WorksJust meter.old meter.new 0 1 }
     {
         let admin = self.may(session, Operation::Admin, Object::Board, meter);
