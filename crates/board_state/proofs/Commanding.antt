@@ -1,13 +1,11 @@
 -- Policy commands: what the compiled permissions and the spare policy say of the step.
-use Rattle.std.proofs.Common.{◌≡◌, ℕ, ◌↔◌, ◌∷◌, List, not, find, ◌&&◌, if◌then◌else◌, Bool, true, false, Option, Some, None, Result, Ok, Err, refl, sym, ap, ◌∙◌, subst}
+use Rattle.std.proofs.Common.{◌≡◌, ℕ, ◌∷◌, List, not, find, ◌&&◌, if◌then◌else◌, Bool, true, false, Option, Some, None, Result, Ok, Err, refl, sym, ap, ◌∙◌, subst}
 use Rattle.std.specs.Result.{IfOk, MatchResult}
 use Rattle.std.specs.Option.{option_or, is_some}
 use Rattle.std.proofs.Math.Logic.{∥∥₁_elim}
 use Rattle.std.proofs.Math.Bool.{Bool-set}
 use Rattle.permission_core.specs.declared.objects.Operation.{Operation}
-use Rattle.permission_core.specs.declared.objects.Operation.TheVariants as operations
 use Rattle.permission_core.specs.declared.objects.Object.{Object}
-use Rattle.permission_core.specs.declared.objects.Object.TheVariants as objects
 use Rattle.policy_core.specs.State.{PolicyState, is_session}
 use Rattle.policy_core.specs.Access.{has_access}
 use Rattle.policy_core.specs.Commands.{Says}

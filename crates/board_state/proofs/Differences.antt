@@ -1,5 +1,5 @@
 -- What a judged change makes different, with its new routes.
-use Rattle.std.proofs.Common.{◌≡◌, ℕ, ◌≤◌, ◌++◌, List, [], ◌∷◌, length, Option, Some, None, refl, sym, ap, subst, ◌∙◌, arith}
+use Rattle.std.proofs.Common.{◌≡◌, ℕ, ◌≤◌, ◌++◌, List, [], ◌∷◌, length, Option, refl, sym, ap, subst, ◌∙◌, arith}
 use Rattle.std.specs.Prelude.{slice_get, option_to_list}
 use Rattle.std.proofs.lemmas.List.{map-append}
 use Rattle.std.specs.declared.sync.Arc.{Arc}

@@ -1,11 +1,10 @@
 -- The named vehicles of a commit, by its new routes.
-use Rattle.std.proofs.Common.{◌≡◌, ℕ, zero, suc, ◌+◌, ◌<◌, ◌≤◌, List, [], ◌∷◌, length, map, drop, get_or, All, Option, Some, None, refl, sym, ap, subst, ◌∙◌, arith}
+use Rattle.std.proofs.Common.{◌≡◌, ℕ, zero, suc, ◌+◌, ◌<◌, ◌≤◌, List, [], ◌∷◌, length, drop, get_or, All, Option, Some, None, refl, sym, ap, subst, ◌∙◌, arith}
 use Rattle.std.specs.Prelude.{slice_get}
-use Rattle.std.specs.Option.{option_map, option_to_list}
+use Rattle.std.specs.Option.{option_map}
 use Rattle.std.specs.declared.sync.Arc.{Arc}
 use Rattle.plan_core.specs.Commits.{named_vehicles}
-use Rattle.plan_core.specs.Laws.{RoutesAreReplaced}
-use Rattle.plan_core.specs.Plan.{Changes, AreApart, changes_of, route_at, with_routes}
+use Rattle.plan_core.specs.Plan.{Changes, changes_of, route_at}
 use Rattle.move_core.specs.declared.moves.Move.{Move}
 use Rattle.board_state.specs.Deltas.{spots_behind, kept_by, new_spots}
 

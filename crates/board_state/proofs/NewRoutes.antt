@@ -1,7 +1,6 @@
 -- The new routes of a judged call lead from the state on which it was judged to the state after it.
-use Rattle.std.proofs.Common.{◌≡◌, ℕ, ◌+◌, ◌-◌, ◌<◌, ◌≤◌, ◌∙◌, refl, sym, ap, subst, arith, List, [], ◌∷◌, length, map, slice_index, Result, Ok, Err}
+use Rattle.std.proofs.Common.{◌≡◌, ℕ, ◌+◌, ◌-◌, ◌<◌, ◌∙◌, refl, sym, ap, subst, arith, List, [], ◌∷◌, length, slice_index, Result, Ok, Err}
 use Rattle.std.specs.Prelude.{slice_set, IfOk}
-use Rattle.std.specs.List.{range_with_len}
 use Rattle.std.proofs.Common.{length-set}
 use Rattle.std.proofs.lemmas.Grind.{same_number_lists}
 use Rattle.std.proofs.lemmas.List.FromFn.{length-map-range_with_len, get_or-map-range_with_len}

@@ -1,5 +1,5 @@
 -- The opening policy gives access to its one session alone.
-use Rattle.std.proofs.Common.{◌≡◌, ℕ, zero, suc, ◌-◌, Bool, true, false, List, [], ◌∷◌, None, ◌∙◌, refl, sym, ap, subst, nat_eq}
+use Rattle.std.proofs.Common.{◌≡◌, ℕ, zero, suc, ◌-◌, Bool, true, false, [], ◌∷◌, None, ◌∙◌, refl, sym, ap, subst, nat_eq}
 use Rattle.std.specs.Prelude.{◌||◌, replicate, slice_index}
 use Rattle.dimension_core.specs.Setting.{Setting}
 use Rattle.plan_core.specs.Plan.{PlanState, stamp_of}

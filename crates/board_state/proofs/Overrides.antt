@@ -6,7 +6,7 @@ use Rattle.std.proofs.lemmas.List.Sums.{sum_by-cons, sum_by-drop_more}
 use Rattle.std.proofs.lemmas.Option.{get_or_from_slice_get, slice_get_within}
 use Rattle.plan_core.specs.declared.touch.Touch.{Touch}
 use Rattle.pin_core.specs.Pins.{PinState, IsHeld, StandsOn, DoPinsHold, pin_of}
-use Rattle.pin_core.specs.Allowed.{IsTouched, AreAllTouched, IsFirstFailing}
+use Rattle.pin_core.specs.Allowed.{IsTouched, AreAllTouched}
 use Rattle.pin_core.specs.Override.{IsPassed, DoPinsPass, IsFirstForbidden, after_commit}
 use Rattle.board_rules.specs.Override.{IsAllowed, DoPinsAllow, IsFirstHeldBack, AreAnswers}
 use Rattle.board_state.specs.Deltas.{AreFreed}

@@ -1,10 +1,9 @@
 -- What follows from judging the new routes of a proposal.
-use Rattle.std.proofs.Common.{◌≡◌, ℕ, ◌+◌, ◌<◌, ◌≤◌, ◌⊎◌, List, length, Option, Some, None, refl, sym, ap, ◌∙◌, subst, All}
+use Rattle.std.proofs.Common.{◌≡◌, ℕ, List, Some, subst}
 use Rattle.dimension_core.specs.Setting.{Setting}
-use Rattle.dimension_core.specs.Feasible.{IsFeasible}
 use Rattle.dimension_core.specs.NewRoutes.{AllFit, IsOut}
 use Rattle.plan_core.specs.declared.touch.Touch.{Touch}
-use Rattle.plan_core.specs.Plan.{Changes, AreApart, with_routes}
+use Rattle.plan_core.specs.Plan.{AreApart, with_routes}
 use Rattle.plan_core.specs.Commits.{named_vehicles}
 use Rattle.pin_core.specs.Pins.{AreFreezesKept}
 use Rattle.pin_core.specs.Allowed.{IsFirstThawed}

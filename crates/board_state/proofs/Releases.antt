@@ -1,8 +1,6 @@
 -- Whose pin a commit releases.
-use Rattle.std.proofs.Common.{◌≡◌, ◌≢◌, ℕ, zero, suc, ◌+◌, ◌-◌, ◌<◌, ◌≤◌, ◌⊎◌, inl, inr, Bool, true, false, cond, List, [], ◌∷◌, ◌++◌, length, map, filter, zip, take, drop, Contains, All, Option, Some, None, refl, sym, ap, subst, ◌∙◌, ap₂, arith, add-one, drop-cons, append_assoc}
-use Rattle.std.specs.Prelude.{⊤, slice_get}
-use Rattle.std.proofs.lemmas.Bool.{cases_eq}
-use Rattle.std.proofs.lemmas.List.Elements.{All-get_or}
+use Rattle.std.proofs.Common.{◌≡◌, ◌≢◌, ℕ, zero, suc, ◌+◌, ◌-◌, ◌≤◌, ◌⊎◌, inl, inr, Bool, true, false, cond, List, [], ◌∷◌, ◌++◌, length, map, drop, Contains, All, Option, Some, None, refl, sym, ap, subst, ◌∙◌, ap₂, arith, add-one, drop-cons, append_assoc}
+use Rattle.std.specs.Prelude.{slice_get}
 use Rattle.std.proofs.lemmas.Option.{slice_get-get_or, get_or_from_slice_get, slice_get_within, cond_some}
 use Rattle.plan_core.specs.declared.touch.Touch.{Touch}
 use Rattle.plan_core.specs.Plan.{Changes, StandsAt, IsPlan, route_at}
@@ -15,7 +13,7 @@ use Rattle.move_core.specs.Moves.{effect, is_possible, changes_by, stretch, cust
 use Rattle.move_core.specs.Touched.{touches, touched_by}
 use Rattle.board_rules.specs.Delta.{AreChangesOf}
 use Rattle.board_state.specs.Deltas.{AreFreed, released}
-use Rattle.board_state.proofs.Numbers.{first, later, first_or_later, none_in, Unlike, distinct, unlike_joined, Once, once_unlike, once_behind, once_taken, behind, place_in, entry_of}
+use Rattle.board_state.proofs.Numbers.{first, later, first_or_later, none_in, Unlike, distinct, unlike_joined, once_unlike, once_behind, once_taken, behind, place_in, entry_of}
 use Rattle.board_state.proofs.Spots.{SpotLaws, one_place}
 
 -- ---- touched customers are touched once

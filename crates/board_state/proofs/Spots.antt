@@ -1,6 +1,6 @@
 -- Where customers stand after a move and did not stand before.
 use Rattle.std.proofs.Common.{◌≡◌, ◌≢◌, ℕ, zero, suc, ◌+◌, ◌-◌, ◌<◌, ◌≤◌, ◌⊎◌, inl, inr, Bool, true, false, not, cond, List, [], ◌∷◌, ◌++◌, length, map, filter, take, drop, get_or, Contains, Option, Some, None, refl, sym, ap, subst, ◌∙◌, arith, drop-cons, add-one, append_assoc}
-use Rattle.std.specs.Prelude.{⊤, slice_get, slice_index_or, flat_map, nat_le, ◌==◌, ◌&&◌}
+use Rattle.std.specs.Prelude.{slice_get, flat_map}
 use Rattle.std.specs.Option.{option_map, option_to_list}
 use Rattle.std.proofs.lemmas.Bool.{cases_eq, cases_lt, cases_Bool, and_from, and_parts, leb-true, eqb-true, le-leb, eq-eqb, both_ways}
 use Rattle.std.proofs.lemmas.List.Elements.{Contains-append_cases, Contains-append_left, Contains-append_right}
@@ -13,7 +13,7 @@ use Rattle.move_core.specs.declared.moves.Move.{Move}
 use Rattle.move_core.specs.declared.moves.Move.TheVariants.{Insert, Remove, Shift, Swap, Reverse, Cross}
 use Rattle.move_core.specs.Changed.{first_change}
 use Rattle.move_core.specs.Laws.{MovesArePossible, PlacedIsTested, MovesNameVehicles, MovesKeepPlans, MovesKeepTheUntouched, MovesInsideRearrange, MovesBetweenCarryOver, FrontsByFirstChange}
-use Rattle.move_core.specs.Moves.{named_by, effect, is_possible, is_placed, customer_at, without, changes_by}
+use Rattle.move_core.specs.Moves.{effect, is_possible, is_placed, customer_at, without, changes_by}
 use Rattle.move_core.specs.Rearranged.{IsRearranging}
 use Rattle.move_core.specs.Touched.{touches, touched_by}
 use Rattle.board_rules.specs.Delta.{AreChangesOf, spot_in}

@@ -1,10 +1,10 @@
 -- What is held answers the rules as the state does, and stands for the next state once a call is in place.
-use Rattle.std.proofs.Common.{◌≡◌, ◌↔◌, ℕ, ◌+◌, ◌≤◌, ◌++◌, ◌∷◌, [], Bool, true, List, length, Option, Some, None, Ok, Err, Result, refl, sym, ap, ◌∙◌, subst, arith}
+use Rattle.std.proofs.Common.{◌≡◌, ℕ, ◌++◌, ◌∷◌, [], List, length, Option, Some, None, Ok, Err, Result, refl, sym, ap, ◌∙◌, subst, arith}
 use Rattle.std.specs.Prelude.{nat_lt}
 use Rattle.std.specs.Prelude.{IfOk}
 use Rattle.std.proofs.Math.Logic.{∥∥₁_map}
 use Rattle.dimension_core.specs.Setting.{Setting}
-use Rattle.plan_core.specs.Plan.{PlanState, Changes, AreApart, changes_of, replaced, with_routes, stamp_of}
+use Rattle.plan_core.specs.Plan.{PlanState, Changes, AreApart, changes_of, replaced, with_routes}
 use Rattle.plan_core.specs.Commits.{AreStamps, last_commit, named_vehicles}
 use Rattle.pin_core.specs.Pins.{PinState}
 use Rattle.pin_core.specs.Override.{after_commit}
@@ -13,11 +13,9 @@ use Rattle.range_cache.specs.Pending.{AreNewRows}
 use Rattle.permission_core.specs.declared.objects.Operation.{Operation}
 use Rattle.permission_core.specs.declared.objects.Object.{Object}
 use Rattle.policy_core.specs.State.{PolicyState, is_session}
-use Rattle.policy_core.specs.Access.{has_access}
 use Rattle.permission_table.specs.Compiled.{AreCompiled, HasSizes}
 use Rattle.move_core.specs.declared.moves.Move.{Move}
-use Rattle.move_core.specs.Moves.{named_by, changes_by, effect}
-use Rattle.board_rules.specs.declared.reply.Denial.{Denial}
+use Rattle.move_core.specs.Moves.{named_by, changes_by}
 use Rattle.board_rules.specs.State.{BoardState}
 use Rattle.board_rules.specs.Rules.{Agree, basis_of, is_changed_after, routes_after}
 use Rattle.std.specs.Option.{option_or}
@@ -38,7 +36,7 @@ use Rattle.board_state.specs.declared.change.NewRoutes.{NewRoutes}
 use Rattle.board_state.specs.declared.change.Change.{Change}
 use Rattle.board_state.specs.declared.change.Change.TheVariants.{Nothing, Replace, Pins, Command}
 use Rattle.board_state.specs.declared.change.PinChange.{PinChange}
-use Rattle.board_state.specs.Held.{HeldState, Holds, IsReady, held_basis}
+use Rattle.board_state.specs.Held.{HeldState, Holds, held_basis}
 use Rattle.board_state.specs.Changes.{Tries, WillHold, WillCompile, WillKeep, PinsWillBe, PolicyWillBe, policy_made, plan_after, pins_after}
 use Rattle.board_state.proofs.Commanding.{allows_access}
 

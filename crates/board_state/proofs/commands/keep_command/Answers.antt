@@ -1,4 +1,4 @@
-use Rattle.std.proofs.Common.{◌≡◌, None, Ok, sym, ap, subst, ◌∙◌}
+use Rattle.std.proofs.Common.{Ok, sym, ap, subst, ◌∙◌}
 use Rattle.policy_core.specs.State.{PolicyState}
 use Rattle.rbac_core.specs.declared.command.Outcome.{Outcome}
 use Rattle.rbac_core.specs.Step.{after, refusal_of}

@@ -7,7 +7,7 @@ use Rattle.rbac_core.specs.declared.command.Command.{Command}
 use Rattle.rbac_core.specs.Step.{after, refusal_of}
 use Rattle.rbac_core.specs.Tried.{Tried}
 use Rattle.permission_table.specs.Tables.{TablesState}
-use Rattle.permission_table.specs.Compiled.{AreCompiled, HasSizes}
+use Rattle.permission_table.specs.Compiled.{AreCompiled}
 use Rattle.board_state.proofs.commands.keep_tried.Goals as goal
 
 pub returns-in-GrantPermission-clause-made : goal.returns-in-GrantPermission-clause-made

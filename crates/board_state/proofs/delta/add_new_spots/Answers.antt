@@ -1,4 +1,4 @@
-use Rattle.std.proofs.Common.{◌≡◌, ◌++◌, ◌+◌, ◌∷◌, [], ℕ, List, Option, drop, sym, ap, ◌∙◌, append-nil, drop_of_length-le}
+use Rattle.std.proofs.Common.{◌++◌, ◌+◌, ℕ, List, Option, drop, sym, ap, ◌∙◌}
 use Rattle.board_state.specs.Deltas.{spots_behind}
 use Rattle.board_state.proofs.Spots.{spots_kept, spots_pushed}
 use Rattle.board_state.proofs.delta.add_new_spots.Goals.{then-not-stood_there+in_ok-push, else-not-stood_there}

@@ -1,7 +1,6 @@
-use Rattle.std.proofs.Common.{◌≡◌, ℕ, List, [], ◌∷◌, ◌∙◌, refl, sym, ap, subst}
+use Rattle.std.proofs.Common.{[], ◌∷◌, refl, sym, subst}
 use Rattle.policy_core.specs.State.{PolicyState}
-use Rattle.policy_core.specs.Opening.{opening}
-use Rattle.permission_table.specs.Compiled.{WillBeCompiled, SameAccessBut, HasSizes}
+use Rattle.permission_table.specs.Compiled.{SameAccessBut}
 use Rattle.board_state.proofs.Opened.{before_session, opened_alone}
 use Rattle.board_state.proofs.state.opening_tables.Goals as goal
 

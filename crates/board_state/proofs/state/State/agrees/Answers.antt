@@ -1,5 +1,4 @@
-use Rattle.std.proofs.Common.{◌≡◌, ◌∙◌, sym, ap, subst, length}
-use Rattle.policy_core.specs.State.{PolicyState}
+use Rattle.std.proofs.Common.{◌∙◌, subst}
 use Rattle.plan_core.specs.Plan.{AreSizes}
 use Rattle.board_state.specs.Held.{HeldState}
 use Rattle.board_state.proofs.Stepping.{agree}

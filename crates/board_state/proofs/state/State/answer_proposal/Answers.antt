@@ -1,8 +1,8 @@
-use Rattle.std.proofs.Common.{◌≡◌, ◌+◌, ◌∙◌, ℕ, Some, None, length, sym, ap, subst}
+use Rattle.std.proofs.Common.{◌+◌, ◌∙◌, ℕ, Some, None, sym, ap, subst}
 use Rattle.dimension_core.specs.Setup.{setting}
-use Rattle.plan_core.specs.Plan.{Changes, AreApart, AreSizes, changes_of}
+use Rattle.plan_core.specs.Plan.{AreApart, AreSizes, changes_of}
 use Rattle.move_core.specs.Moves.{changes_by}
-use Rattle.board_rules.specs.Rules.{basis_of, IsVerdictBy}
+use Rattle.board_rules.specs.Rules.{basis_of}
 use Rattle.board_state.specs.Held.{HeldState, held_basis}
 use Rattle.board_state.proofs.Stepping.{commit_will}
 use Rattle.board_state.proofs.state.State.answer_proposal.Goals as goal

@@ -1,4 +1,4 @@
-use Rattle.std.proofs.Common.{◌≡◌, ◌↔◌, ℕ, Bool, true, Option, Some, None, sym, ap, subst, ◌∙◌, refl}
+use Rattle.std.proofs.Common.{◌≡◌, None, sym, ap, subst, ◌∙◌, refl}
 use Rattle.rbac_core.specs.Step.{guard}
 use Rattle.rbac_core.specs.Tried.{Tried}
 use Rattle.permission_table.specs.Compiled.{AreCompiled, HasSizes}

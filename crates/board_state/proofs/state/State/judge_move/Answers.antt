@@ -1,4 +1,4 @@
-use Rattle.std.proofs.Common.{◌≡◌, ◌∙◌, List, Some, not, find, ℕ, length, refl, sym, ap, subst, arith}
+use Rattle.std.proofs.Common.{◌∙◌, List, not, find, length, refl, sym, ap, arith}
 use Rattle.permission_core.specs.declared.objects.Operation.TheVariants as operations
 use Rattle.permission_core.specs.declared.objects.Object.TheVariants as objects
 use Rattle.permission_table.specs.Tables.{allows}

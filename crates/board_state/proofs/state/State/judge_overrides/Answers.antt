@@ -1,4 +1,4 @@
-use Rattle.std.proofs.Common.{◌≡◌, sym, subst, List, Bool, ℕ, arith}
+use Rattle.std.proofs.Common.{◌≡◌, sym, subst, List, Bool, arith}
 use Rattle.plan_core.specs.declared.touch.Touch.{Touch}
 use Rattle.plan_core.specs.Plan.{changes_of, with_routes}
 use Rattle.pin_core.specs.Pins.{AreFreezesKept}

@@ -1,4 +1,4 @@
-use Rattle.std.proofs.Common.{◌≡◌, ℕ, length, subst, arith}
+use Rattle.std.proofs.Common.{length, subst, arith}
 use Rattle.std.specs.Prelude.{OnOk, IfErr}
 use Rattle.dimension_core.specs.Setup.{setting}
 use Rattle.range_cache.specs.Asks.{judge_asks}

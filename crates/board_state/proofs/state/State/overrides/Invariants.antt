@@ -5,7 +5,6 @@ use Rattle.pin_core.specs.Pins.{IsHeld}
 use Rattle.permission_table.specs.Tables.{allows}
 use Rattle.permission_core.specs.declared.objects.Operation.TheVariants as operations
 use Rattle.permission_core.specs.declared.objects.Object.TheVariants as objects
-use Rattle.board_state.specs.Verdicts.{ArePlaceable}
 use Rattle.board_state.specs.Work.{WorksJust, leaving}
 use Rattle.board_state.proofs.state.State.overrides.Given as goal
 

@@ -1,9 +1,8 @@
-use Rattle.std.proofs.Common.{◌≡◌, ◌+◌, ◌∙◌, ℕ, Some, None, length, sym, ap, subst}
+use Rattle.std.proofs.Common.{◌+◌, ◌∙◌, ℕ, Some, None, sym, ap, subst}
 use Rattle.dimension_core.specs.Setup.{setting}
-use Rattle.plan_core.specs.Plan.{Changes, AreApart, AreSizes, changes_of, replaced, with_routes}
+use Rattle.plan_core.specs.Plan.{AreApart, AreSizes, changes_of, replaced, with_routes}
 use Rattle.move_core.specs.Moves.{changes_by}
-use Rattle.board_rules.specs.Rules.{basis_of, IsVerdictBy}
-use Rattle.board_rules.specs.Step.{committed}
+use Rattle.board_rules.specs.Rules.{basis_of}
 use Rattle.pin_core.specs.Override.{after_commit}
 use Rattle.range_cache.specs.Cache.{IsCacheOf}
 use Rattle.board_state.specs.Held.{HeldState, held_basis}

@@ -1,4 +1,4 @@
-use Rattle.std.proofs.Common.{◌≡◌, ℕ, List, subst}
+use Rattle.std.proofs.Common.{ℕ, List, subst}
 use Rattle.plan_core.specs.Plan.{changes_of}
 use Rattle.range_cache.specs.Cache.{IsCacheOf}
 use Rattle.board_state.specs.declared.change.Change.{Change}
