@@ -1,5 +1,5 @@
 -- Whether an event is taken, in the form in which the public clauses of a core say it.
-use Rattle.std.proofs.Common.{◌≡◌, ◌<◌, ◌≤◌, ◌↔◌, ℕ, true, false, length, refl, sym, ◌∙◌, arith, Result, Ok, Err}
+use Rattle.std.proofs.Common.{◌≡◌, ◌↔◌, ℕ, true, false, length, refl, sym, ◌∙◌, arith, Result, Ok, Err}
 use Rattle.std.specs.Prelude.{IsErrOf, IfErr}
 use Rattle.dimension_core.specs.Setting.{Setting}
 use Rattle.board_rules.specs.declared.reply.Fault.{Fault}

@@ -1,11 +1,11 @@
 -- A line's fault is that of the first check that fails.
-use Rattle.std.proofs.Common.{◌≡◌, ℕ, Bool, true, false, cond, List, [], ◌∷◌, ◌++◌, length, map, codes, Option, None, Some, Result, Ok, Err, refl, sym, ap, ◌∙◌, arith}
+use Rattle.std.proofs.Common.{◌≡◌, ℕ, Bool, true, false, cond, List, [], ◌∷◌, length, map, codes, Option, None, Some, Result, Ok, Err, refl, sym, ap, ◌∙◌, arith}
 use Rattle.std.specs.Prelude.{◌==◌, ◌||◌, ◌&&◌, bytes_eq}
-use Rattle.std.specs.List.{list_all, AllByRecursion}
+use Rattle.std.specs.List.{list_all}
 use Rattle.std.specs.Str.Parse.{digits_value}
 use Rattle.std.proofs.lemmas.Bool.Decides.{nat_tests}
 use Rattle.text_words.specs.Words.{is_number, words}
-use Rattle.text_words.specs.Checks.{Check, check, IsFirstFailed, first_fault}
+use Rattle.text_words.specs.Checks.{Check, check, first_fault}
 use Rattle.text_words.specs.CheckLaws.{first_is, is_first}
 use Rattle.separation_core.specs.Names.{is_name}
 use Rattle.permission_core.specs.declared.objects.Operation.TheVariants as operations

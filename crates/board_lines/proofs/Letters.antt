@@ -1,6 +1,6 @@
 -- A word names a command of its own first letter.
 use Rattle.std.proofs.Common.{◌≡◌, ℕ, Bool, true, false, cond, List, [], ◌∷◌, filter, None, refl, sym, ap, ◌∙◌, subst, arith, slice_index, length, ◌<◌}
-use Rattle.std.specs.Prelude.{bytes_eq, ◌==◌, ◌||◌, ◌≢◌}
+use Rattle.std.specs.Prelude.{bytes_eq, ◌==◌, ◌||◌}
 use Rattle.std.specs.List.{list_all}
 use Rattle.std.specs.Map.{lookup}
 use Rattle.std.proofs.lemmas.Slice.Eq.{bytes_eq-Decides}

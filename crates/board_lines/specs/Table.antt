@@ -1,5 +1,5 @@
 -- The table of commands: the word of each, and the arguments that follow it.
-use Rattle.std.specs.Prelude.{ℕ, List, [], ◌∷◌, length, codes, map, filter, bytes_eq, Option, ◌==◌}
+use Rattle.std.specs.Prelude.{ℕ, List, [], ◌∷◌, codes, map, filter, bytes_eq, Option, ◌==◌}
 use Rattle.std.specs.Map.{lookup}
 use Rattle.board_lines.specs.declared.word.Word.{Word}
 use Rattle.board_lines.specs.declared.word.Word.TheVariants.{Propose, Hold, Manage, Separate, Session, Ask}

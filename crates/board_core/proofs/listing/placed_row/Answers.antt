@@ -1,4 +1,4 @@
-use Rattle.std.proofs.Common.{◌≡◌, ◌+◌, ◌-◌, ◌≤◌, ◌<◌, ◌∷◌, [], ◌++◌, ℕ, List, length, length-append, refl, sym, ap, ◌∙◌, subst, arith, slice_index}
+use Rattle.std.proofs.Common.{◌≡◌, ◌+◌, ◌-◌, ◌≤◌, ◌∷◌, [], ◌++◌, ℕ, length, length-append, refl, sym, ap, ◌∙◌, subst, arith, slice_index}
 use Rattle.dimension_core.specs.Setup.{setting}
 use Rattle.plan_core.specs.declared.touch.Touch.{Touch}
 use Rattle.board_rules.specs.Listing.{RowShown, spot_of}

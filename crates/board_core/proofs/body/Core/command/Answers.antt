@@ -1,14 +1,13 @@
-use Rattle.std.proofs.Common.{◌≡◌, ◌+◌, ◌<◌, ◌≤◌, ◌-◌, ◌++◌, ◌∷◌, [], length, vec_capacity, arith, refl, sym, ap, subst, ◌∙◌, length-append}
+use Rattle.std.proofs.Common.{◌≡◌, ◌-◌, ◌++◌, ◌∷◌, [], length, refl, sym, ap, subst, ◌∙◌}
 use Rattle.std.specs.Prelude.{slice_set}
 use Rattle.dimension_core.specs.Setup.{setting}
 use Rattle.board_rules.specs.declared.call.Entry.{Entry}
-use Rattle.board_rules.specs.History.{state_after, IsNext}
+use Rattle.board_rules.specs.History.{state_after}
 use Rattle.board_journal.specs.Entries.{commanded}
-use Rattle.policy_core.specs.State.{PolicyState}
 use Rattle.permission_table.specs.Compiled.{AreCompiled, HasSizes}
 use Rattle.board_state.specs.Changes.{Tries}
-use Rattle.board_state.specs.Held.{Holds, IsReady}
-use Rattle.board_core.specs.Kept.{CoreState, history_of}
+use Rattle.board_state.specs.Held.{Holds}
+use Rattle.board_core.specs.Kept.{CoreState}
 use Rattle.board_core.proofs.Keeping.{kept_same, kept_after, turn_due}
 use Rattle.board_core.proofs.body.Core.command.Goals as goal
 

@@ -1,4 +1,4 @@
-use Rattle.std.proofs.Common.{◌≡◌, ◌+◌, ◌<◌, ◌≤◌, sym, ◌∙◌, arith, length, subst, ap}
+use Rattle.std.proofs.Common.{◌≡◌, ◌<◌, ◌≤◌, sym, ◌∙◌, arith, length, subst, ap}
 use Rattle.dimension_core.specs.Setup.{setting}
 use Rattle.board_core.specs.Kept.{CoreState}
 use Rattle.board_core.proofs.Keeping.{turn_due}

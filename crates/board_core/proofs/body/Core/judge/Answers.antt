@@ -1,9 +1,9 @@
-use Rattle.std.proofs.Common.{◌≡◌, ◌+◌, ◌<◌, ◌≤◌, length, vec_capacity, arith, refl, sym, ap, subst, ◌∙◌}
+use Rattle.std.proofs.Common.{◌≡◌, refl, sym, ap, subst, ◌∙◌}
 use Rattle.dimension_core.specs.Setup.{setting}
 use Rattle.board_rules.specs.History.{state_after}
 use Rattle.board_state.specs.Changes.{Tries}
 use Rattle.board_state.specs.Held.{Holds, IsReady}
-use Rattle.board_core.specs.Kept.{CoreState, history_of}
+use Rattle.board_core.specs.Kept.{CoreState}
 use Rattle.board_core.proofs.Keeping.{kept_same, makes_of}
 use Rattle.board_core.proofs.body.Core.judge.Goals as goal
 

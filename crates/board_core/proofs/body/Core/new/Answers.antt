@@ -1,4 +1,4 @@
-use Rattle.std.proofs.Common.{◌≡◌, arith, rules, replicate}
+use Rattle.std.proofs.Common.{◌≡◌, rules, replicate}
 use Rattle.dimension_core.specs.Setup.{setting}
 use Rattle.board_core.proofs.Keeping.{kept_opened}
 use Rattle.board_core.proofs.body.Core.new.Goals as goal

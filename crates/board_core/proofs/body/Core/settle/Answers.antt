@@ -1,4 +1,4 @@
-use Rattle.std.proofs.Common.{◌+◌, ◌<◌, ◌≤◌, ◌-◌, ◌++◌, ◌∷◌, [], length, vec_capacity, arith, sym, ap, subst, ◌∙◌, length-append}
+use Rattle.std.proofs.Common.{◌<◌, ◌-◌, ◌++◌, ◌∷◌, [], length, sym, ap, subst, ◌∙◌}
 use Rattle.std.specs.Prelude.{slice_set}
 use Rattle.board_rules.specs.declared.call.Entry.{Entry}
 use Rattle.board_rules.specs.History.{state_after, IsNext}

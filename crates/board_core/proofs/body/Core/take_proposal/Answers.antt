@@ -1,4 +1,4 @@
-use Rattle.std.proofs.Common.{◌≡◌, ℕ, List, ◌+◌, ◌<◌, ◌≤◌, ◌-◌, ◌++◌, ◌∷◌, [], length, arith, refl, sym, ap, subst, ◌∙◌}
+use Rattle.std.proofs.Common.{◌≡◌, ℕ, List, ◌-◌, ◌++◌, ◌∷◌, [], length, refl, sym, ap, subst, ◌∙◌}
 use Rattle.std.specs.Prelude.{slice_set}
 use Rattle.dimension_core.specs.Setup.{setting}
 use Rattle.pin_core.specs.Pins.{PinState}
@@ -9,7 +9,7 @@ use Rattle.board_journal.specs.Entries.{proposed, call_of}
 use Rattle.board_state.specs.Changes.{Tries}
 use Rattle.board_state.specs.Held.{HeldState, Holds, IsReady}
 use Rattle.board_state.specs.Work.{IsWorkOf, WorksAtMost, call_asks, call_probes}
-use Rattle.board_core.specs.Kept.{CoreState, history_of}
+use Rattle.board_core.specs.Kept.{CoreState}
 use Rattle.board_core.proofs.Keeping.{kept_same, kept_after, turn_due}
 use Rattle.board_core.proofs.body.Core.take_proposal.Goals as goal
 
