@@ -27,20 +27,6 @@ const WINDOWS: &[Range] = &[
     Range { lo: 0, hi: 500 },
 ];
 
-fn dimension_of(
-    alloc: Global,
-    registry: &Registry,
-    id: TransitId,
-    slack_max: u64,
-    caps: &[u64],
-    fixed: bool,
-    ranges: &[Range],
-) -> Option<Dimension> {
-    let caps = Vec::from_slice(alloc, caps).ok()?;
-    let ranges = Vec::from_slice(alloc, ranges).ok()?;
-    Dimension::new(registry, id, slack_max, caps, fixed, ranges).ok()
-}
-
 /// Load with the start at 0, and time.
 fn load_and_time(
     alloc: Global,
@@ -49,9 +35,13 @@ fn load_and_time(
     time: TransitId,
 ) -> Option<Vec<Dimension>> {
     let mut dimensions = Vec::with_capacity(alloc, 2).ok()?;
-    let loads = dimension_of(alloc, registry, load, 0, &[10, 10], true, LOADS)?;
+    let caps = Vec::from_slice(alloc, &[10, 10]).ok()?;
+    let ranges = Vec::from_slice(alloc, LOADS).ok()?;
+    let loads = Dimension::new(registry, load, 0, caps, true, ranges).ok()?;
     dimensions.push(loads).ok()?;
-    let times = dimension_of(alloc, registry, time, 1000, &[1000, 1000], false, WINDOWS)?;
+    let caps = Vec::from_slice(alloc, &[1000, 1000]).ok()?;
+    let ranges = Vec::from_slice(alloc, WINDOWS).ok()?;
+    let times = Dimension::new(registry, time, 1000, caps, false, ranges).ok()?;
     dimensions.push(times).ok()?;
     Some(dimensions)
 }

@@ -109,25 +109,33 @@ fn cost_after(
     Some(sum)
 }
 
+/// Two vehicles, or one twice, and what is looked for near them.
+#[derive(Clone, Copy)]
+pub(crate) struct Near<'a> {
+    pub(crate) setup: &'a Setup,
+    pub(crate) plan: &'a Plan,
+    pub(crate) view: &'a View,
+    pub(crate) v: u32,
+    pub(crate) w: u32,
+    pub(crate) skip: &'a [Move],
+}
+
 /// What the whole plan costs after a move, where it has an effect, is not to be skipped and is allowed.
 fn cost_by(
     alloc: Global,
-    setup: &Setup,
-    plan: &Plan,
-    view: &View,
-    skip: &[Move],
+    near: Near,
     mv: Move,
     meter: &mut Meter,
 ) -> Result<Option<u64>, AllocError> {
-    if skip.contains(&mv) || !mv.is_possible(plan) {
+    if near.skip.contains(&mv) || !mv.is_possible(near.plan) {
         return Ok(None);
     }
-    let changes = mv.routes(alloc, plan)?;
-    Ok(cost_after(setup, plan, view, &changes, meter))
+    let changes = mv.routes(alloc, near.plan)?;
+    Ok(cost_after(near.setup, near.plan, near.view, &changes, meter))
 }
 
 /// The move of a kind near two vehicles, or near one, with three numbers of its own. Only a shift has the second one, 1 to 3.
-fn near(kind: u32, v: u32, w: u32, first: u32, length: u32, second: u32) -> Option<Move> {
+fn move_near(kind: u32, v: u32, w: u32, first: u32, length: u32, second: u32) -> Option<Move> {
     match kind {
         1 if 1 <= length && length <= 3 => Some(Move::Shift {
             vehicle: v,
@@ -160,23 +168,19 @@ fn near(kind: u32, v: u32, w: u32, first: u32, length: u32, second: u32) -> Opti
 /// The better of the best so far and the moves of a kind, in the order of ties; with each what the plan costs after it.
 fn best_of_kind(
     alloc: Global,
-    setup: &Setup,
-    plan: &Plan,
-    view: &View,
-    skip: &[Move],
+    near: Near,
     kind: u32,
-    v: u32,
-    w: u32,
     best: (Option<Move>, u64),
     meter: &mut Meter,
 ) -> Result<(Option<Move>, u64), AllocError> {
     let (mut found, mut least) = best;
+    let Near { plan, v, w, .. } = near;
     let end = plan.customers() + 3;
     for first in 0..end {
         for length in 0..5u32 {
             for second in 0..end {
-                if let Some(mv) = near(kind, v, w, first, length, second) {
-                    let cost = cost_by(alloc, setup, plan, view, skip, mv, meter)?;
+                if let Some(mv) = move_near(kind, v, w, first, length, second) {
+                    let cost = cost_by(alloc, near, mv, meter)?;
                     let cost = cost.unwrap_or(least);
                     if cost < least {
                         found = Some(mv);
@@ -190,20 +194,12 @@ fn best_of_kind(
 }
 
 /// The best move near two vehicles, or near one, of a plan, and what it saves.
-pub(crate) fn plain_best(
-    alloc: Global,
-    setup: &Setup,
-    plan: &Plan,
-    view: &View,
-    v: u32,
-    w: u32,
-    skip: &[Move],
-) -> Result<Option<(Move, u64)>, AllocError> {
+pub(crate) fn plain_best(alloc: Global, near: Near) -> Result<Option<(Move, u64)>, AllocError> {
     let mut meter = Meter::new();
-    let before = cost_after(setup, plan, view, &[], &mut meter).unwrap_or(0);
+    let before = cost_after(near.setup, near.plan, near.view, &[], &mut meter).unwrap_or(0);
     let mut best = (None, before);
     for kind in 1..5u32 {
-        best = best_of_kind(alloc, setup, plan, view, skip, kind, v, w, best, &mut meter)?;
+        best = best_of_kind(alloc, near, kind, best, &mut meter)?;
     }
     let (found, least) = best;
     Ok(found.map(|mv| (mv, before.saturating_sub(least))))

@@ -2,7 +2,7 @@ ghost use Rattle.std.specs.Prelude.{◌≡◌, ◌+◌, ◌*◌, ◌%◌, ◌≤
 ghost use Rattle.dimension_core.specs.Setup.{setting};
 ghost use Rattle.neighbourhood.specs.View.{IsViewOf};
 
-use crate::plain::plain_best;
+use crate::plain::{Near, plain_best};
 use crate::views::{below, is_view, some_dimensions, some_plan, some_view};
 use callback_store::{Meter, Registry, Transit, Unary};
 use dimension_core::Setup;
@@ -43,7 +43,15 @@ fn compare_near(
         let found = best_move(alloc, view, setup, v, w, &skip).expect(rt, "memory");
         let again = tally.searcher.best_move(view, setup, v, w, &skip);
         let again = again.expect(rt, "memory");
-        let wanted = plain_best(alloc, setup, plan, view, v, w, &skip).expect(rt, "memory");
+        let plain = Near {
+            setup,
+            plan,
+            view,
+            v,
+            w,
+            skip: &skip,
+        };
+        let wanted = plain_best(alloc, plain).expect(rt, "memory");
         tally.answers = tally.answers.wrapping_add(1);
         if found != wanted || again != wanted {
             tally.differ = tally.differ.wrapping_add(1);

@@ -178,20 +178,20 @@ fn start<
     Some(child)
 }
 
-/// The busy desk in a thread of its own, and the workers beside it.
+/// The busy desk in a thread of its own, and the workers beside it, with their desks and the first of their seeds.
 fn both<N: Naming + Send + Sync, R: Wait + Drop + Send + Sync, W: Threads + Wait + Sync>(
     rt: &W,
     alloc: Global,
     busy: Busy,
     setup: Arc<Setup>,
     seat: Seat<N, R>,
-    desks: Vec<Desk<N, R>>,
-    seed: u64,
+    work: (Vec<Desk<N, R>>, u64),
 ) -> Option<(Seat<N, R>, (u32, u32), Vec<Share<N, R>>)>
     requires one { setting setup.value ≡ N.opening.setting }
-    requires all { All (λ d. setting d.setup.value ≡ N.opening.setting) desks.items }
+    requires all { All (λ d. setting d.setup.value ≡ N.opening.setting) work.0.items }
     ensures { IfSome result (λ t. All (λ s. setting s.desk.setup.value ≡ N.opening.setting) t.2.items) }
 {
+    let (desks, seed) = work;
     thread::scope(
         thread::scope_env(),
         rt,
@@ -226,7 +226,7 @@ fn work_again<N: Naming + Send + Sync, R: Wait + Drop + Send + Sync, W: Threads 
     let role = Name::new(b"worker")?;
     let theirs = Arc::try_clone(setup).ok()?;
     let busy = Busy { role, turns: TURNS };
-    let (seat, turns, shares) = both(rt, alloc, busy, theirs, seat, desks, seed)?;
+    let (seat, turns, shares) = both(rt, alloc, busy, theirs, seat, (desks, seed))?;
     let sums = Sums::of(turns, shares.as_slice());
     match desks_of(alloc, shares) {
         Some(desks) => Some((seat, desks, sums)),
