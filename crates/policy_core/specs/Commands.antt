@@ -19,7 +19,9 @@ use Rattle.policy_core.specs.declared.refusal.Refusal.TheVariants.{NoUser, NoRol
 use Rattle.policy_core.specs.declared.session.Session.{Session}
 use Rattle.policy_core.specs.declared.session.Counting.{Counting}
 use Rattle.policy_core.specs.declared.session.Counting.TheVariants.{Active, Inherited}
+use Rattle.policy_core.specs.declared.separation.Separation.{Separation}
 use Rattle.policy_core.specs.Access.{row_of, with_row}
+use Rattle.policy_core.specs.Kinds.{sets_of, with_sets, broken_by}
 use Rattle.policy_core.specs.State.{PolicyState, is_session, session_of, is_user, is_role, held_by, slot_of, with_roles, with_session, broken_ssd, broken_dsd, broken}
 
 -- A refusal is the one that is due, or running out of memory.
@@ -168,91 +170,49 @@ as_refusal due (Some fault.Full) = Some Full
 as_refusal due (Some fault.NoMemory) = Some NoMemory
 as_refusal due (Some _) = Some Number
 
--- CreateSsdSet (6.3): the named roles, of which fewer than `number` may come together
-abbrev pub ssd_created : PolicyState → List ℕ → ℕ → List (List ℕ) → PolicyState
-ssd_created p name number roles = record p { ssd = with_set p.ssd name (record { roles = slots_of p roles; number = number }) }
+-- CreateSsdSet (6.3), CreateDsdSet (6.4): the named roles, of which fewer than `number` may come together in a user, or be counted in a
+-- session
+abbrev pub set_created : Separation → PolicyState → List ℕ → ℕ → List (List ℕ) → PolicyState
+set_created kind p name number roles = with_sets kind p (with_set (sets_of kind p) name (record { roles = slots_of p roles; number = number }))
 
-unfoldable pub ssd_create_refusal : PolicyState → List ℕ → ℕ → List (List ℕ) → Option Refusal
-ssd_create_refusal p name number roles =
+unfoldable pub create_set_refusal : Separation → PolicyState → List ℕ → ℕ → List (List ℕ) → Option Refusal
+create_set_refusal kind p name number roles =
     if not (list_all (is_role p) roles) then Some NoRole
-    else option_or (as_refusal NotThere (new_refusal p.ssd name (slots_of p roles) number))
-    (option_or (broken_ssd (ssd_created p name number roles)) (if nat_le 64 (length p.ssd) then Some Full else None))
+    else option_or (as_refusal NotThere (new_refusal (sets_of kind p) name (slots_of p roles) number))
+    (option_or (broken_by kind (set_created kind p name number roles)) (if nat_le 64 (length (sets_of kind p)) then Some Full else None))
 
--- AddSsdRoleMember (6.3)
-abbrev pub ssd_joined : PolicyState → List ℕ → List ℕ → PolicyState
-ssd_joined p name role = record p { ssd = with_member p.ssd name (slot_of p role) }
+-- AddSsdRoleMember (6.3), AddDsdRoleMember (6.4)
+abbrev pub member_added : Separation → PolicyState → List ℕ → List ℕ → PolicyState
+member_added kind p name role = with_sets kind p (with_member (sets_of kind p) name (slot_of p role))
 
-unfoldable pub ssd_add_refusal : PolicyState → List ℕ → List ℕ → Option Refusal
-ssd_add_refusal p name role =
+unfoldable pub add_member_refusal : Separation → PolicyState → List ℕ → List ℕ → Option Refusal
+add_member_refusal kind p name role =
     if not (is_role p role) then Some NoRole
-    else option_or (as_refusal Already (add_refusal (limit_of p.ssd name) (slot_of p role))) (broken_ssd (ssd_joined p name role))
+    else option_or (as_refusal Already (add_refusal (limit_of (sets_of kind p) name) (slot_of p role))) (broken_by kind (member_added kind p name role))
 
--- DeleteSsdRoleMember (6.3)
-abbrev pub ssd_left : PolicyState → List ℕ → List ℕ → PolicyState
-ssd_left p name role = record p { ssd = without_member p.ssd name (slot_of p role) }
+-- DeleteSsdRoleMember (6.3), DeleteDsdRoleMember (6.4)
+abbrev pub member_gone : Separation → PolicyState → List ℕ → List ℕ → PolicyState
+member_gone kind p name role = with_sets kind p (without_member (sets_of kind p) name (slot_of p role))
 
-unfoldable pub ssd_drop_refusal : PolicyState → List ℕ → List ℕ → Option Refusal
-ssd_drop_refusal p name role =
+unfoldable pub delete_member_refusal : Separation → PolicyState → List ℕ → List ℕ → Option Refusal
+delete_member_refusal kind p name role =
     if not (is_role p role) then Some NoRole
-    else as_refusal NotThere (drop_refusal (limit_of p.ssd name) (slot_of p role))
+    else as_refusal NotThere (drop_refusal (limit_of (sets_of kind p) name) (slot_of p role))
 
--- DeleteSsdSet (6.3)
-abbrev pub ssd_deleted : PolicyState → List ℕ → PolicyState
-ssd_deleted p name = record p { ssd = without_set p.ssd name }
+-- DeleteSsdSet (6.3), DeleteDsdSet (6.4)
+abbrev pub set_gone : Separation → PolicyState → List ℕ → PolicyState
+set_gone kind p name = with_sets kind p (without_set (sets_of kind p) name)
 
-abbrev pub ssd_delete_refusal : PolicyState → List ℕ → Option Refusal
-ssd_delete_refusal p name = as_refusal NotThere (delete_refusal (limit_of p.ssd name))
+abbrev pub delete_set_refusal : Separation → PolicyState → List ℕ → Option Refusal
+delete_set_refusal kind p name = as_refusal NotThere (delete_refusal (limit_of (sets_of kind p) name))
 
--- SetSsdSetCardinality (6.3)
-abbrev pub ssd_numbered : PolicyState → List ℕ → ℕ → PolicyState
-ssd_numbered p name number = record p { ssd = with_number p.ssd name number }
+-- SetSsdSetCardinality (6.3), SetDsdSetCardinality (6.4)
+abbrev pub set_numbered : Separation → PolicyState → List ℕ → ℕ → PolicyState
+set_numbered kind p name number = with_sets kind p (with_number (sets_of kind p) name number)
 
-unfoldable pub ssd_number_refusal : PolicyState → List ℕ → ℕ → Option Refusal
-ssd_number_refusal p name number =
-    option_or (as_refusal NotThere (set_refusal (limit_of p.ssd name) number)) (broken_ssd (ssd_numbered p name number))
-
--- CreateDsdSet (6.4): the named roles, of which fewer than `number` may be counted in one session
-abbrev pub dsd_created : PolicyState → List ℕ → ℕ → List (List ℕ) → PolicyState
-dsd_created p name number roles = record p { dsd = with_set p.dsd name (record { roles = slots_of p roles; number = number }) }
-
-unfoldable pub dsd_create_refusal : PolicyState → List ℕ → ℕ → List (List ℕ) → Option Refusal
-dsd_create_refusal p name number roles =
-    if not (list_all (is_role p) roles) then Some NoRole
-    else option_or (as_refusal NotThere (new_refusal p.dsd name (slots_of p roles) number))
-    (option_or (broken_dsd (dsd_created p name number roles)) (if nat_le 64 (length p.dsd) then Some Full else None))
-
--- AddDsdRoleMember (6.4)
-abbrev pub dsd_joined : PolicyState → List ℕ → List ℕ → PolicyState
-dsd_joined p name role = record p { dsd = with_member p.dsd name (slot_of p role) }
-
-unfoldable pub dsd_add_refusal : PolicyState → List ℕ → List ℕ → Option Refusal
-dsd_add_refusal p name role =
-    if not (is_role p role) then Some NoRole
-    else option_or (as_refusal Already (add_refusal (limit_of p.dsd name) (slot_of p role))) (broken_dsd (dsd_joined p name role))
-
--- DeleteDsdRoleMember (6.4)
-abbrev pub dsd_left : PolicyState → List ℕ → List ℕ → PolicyState
-dsd_left p name role = record p { dsd = without_member p.dsd name (slot_of p role) }
-
-unfoldable pub dsd_drop_refusal : PolicyState → List ℕ → List ℕ → Option Refusal
-dsd_drop_refusal p name role =
-    if not (is_role p role) then Some NoRole
-    else as_refusal NotThere (drop_refusal (limit_of p.dsd name) (slot_of p role))
-
--- DeleteDsdSet (6.4)
-abbrev pub dsd_deleted : PolicyState → List ℕ → PolicyState
-dsd_deleted p name = record p { dsd = without_set p.dsd name }
-
-abbrev pub dsd_delete_refusal : PolicyState → List ℕ → Option Refusal
-dsd_delete_refusal p name = as_refusal NotThere (delete_refusal (limit_of p.dsd name))
-
--- SetDsdSetCardinality (6.4)
-abbrev pub dsd_numbered : PolicyState → List ℕ → ℕ → PolicyState
-dsd_numbered p name number = record p { dsd = with_number p.dsd name number }
-
-unfoldable pub dsd_number_refusal : PolicyState → List ℕ → ℕ → Option Refusal
-dsd_number_refusal p name number =
-    option_or (as_refusal NotThere (set_refusal (limit_of p.dsd name) number)) (broken_dsd (dsd_numbered p name number))
+unfoldable pub cardinality_refusal : Separation → PolicyState → List ℕ → ℕ → Option Refusal
+cardinality_refusal kind p name number =
+    option_or (as_refusal NotThere (set_refusal (limit_of (sets_of kind p) name) number)) (broken_by kind (set_numbered kind p name number))
 
 -- the roles for which a user is authorized
 abbrev pub authorized_for : PolicyState → List ℕ → ℕ

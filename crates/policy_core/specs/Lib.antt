@@ -6,6 +6,7 @@ pub mod Commands
 pub mod CountLaws
 pub mod HoldLaws
 pub mod KeptLaws
+pub mod Kinds
 pub mod Opening
 pub mod Parts
 pub mod Reviews

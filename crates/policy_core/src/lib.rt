@@ -4,7 +4,6 @@
 
 mod access;
 mod authority;
-mod dsd;
 mod fault;
 mod parts;
 mod policy;
@@ -12,9 +11,10 @@ mod refusal;
 mod reviews;
 mod roles;
 mod rows;
+mod separation;
 mod session;
 mod sessions;
-mod ssd;
+mod sets;
 mod users;
 
 pub use authority::{
@@ -24,4 +24,5 @@ pub use authority::{
 pub use parts::Parts;
 pub use policy::Policy;
 pub use refusal::Refusal;
+pub use separation::Separation;
 pub use session::{Counting, Session};
