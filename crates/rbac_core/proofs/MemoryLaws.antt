@@ -12,10 +12,13 @@ use Rattle.policy_core.specs.declared.refusal.Refusal.{Refusal}
 use Rattle.policy_core.specs.declared.refusal.Refusal.TheVariants.{NoUser, NoRole, BadObject, Cycle, InSet, Already, NotThere, NotAuthorized, Full, NoMemory, Ssd, Dsd}
 use Rattle.policy_core.specs.declared.session.Counting.{Counting}
 use Rattle.policy_core.specs.declared.session.Counting.TheVariants.{Active, Inherited}
+use Rattle.policy_core.specs.declared.separation.Separation.{Separation}
+use Rattle.policy_core.specs.declared.separation.Separation.TheVariants.{Static, Dynamic}
+use Rattle.policy_core.specs.Kinds.{sets_of, broken_by}
 use Rattle.policy_core.specs.State.{PolicyState, is_role, slot_of, broken_ssd, broken_dsd, broken}
-use Rattle.policy_core.specs.Commands.{slots_of, assigned, inherited, ssd_created, ssd_joined, ssd_numbered, dsd_created, dsd_joined, dsd_numbered, opened, activated, as_refusal, add_user_refusal, delete_user_refusal, add_role_refusal, delete_role_refusal, assign_refusal, deassign_refusal, grant_refusal, inherit_refusal, uninherit_refusal, ssd_create_refusal, ssd_add_refusal, ssd_drop_refusal, ssd_number_refusal, dsd_create_refusal, dsd_add_refusal, dsd_drop_refusal, dsd_number_refusal, open_refusal, close_refusal, activate_refusal, deactivate_refusal, migrate_refusal}
+use Rattle.policy_core.specs.Commands.{slots_of, assigned, inherited, set_created, member_added, set_numbered, opened, activated, as_refusal, add_user_refusal, delete_user_refusal, add_role_refusal, delete_role_refusal, assign_refusal, deassign_refusal, grant_refusal, inherit_refusal, uninherit_refusal, create_set_refusal, add_member_refusal, delete_member_refusal, cardinality_refusal, open_refusal, close_refusal, activate_refusal, deactivate_refusal, migrate_refusal}
 use Rattle.rbac_core.specs.declared.command.Command.{Command}
-use Rattle.rbac_core.specs.declared.command.Command.TheVariants.{AddUser, DeleteUser, AddRole, DeleteRole, AssignUser, DeassignUser, GrantPermission, RevokePermission, AddInheritance, DeleteInheritance, CreateSsdSet, AddSsdRoleMember, DeleteSsdRoleMember, DeleteSsdSet, SetSsdSetCardinality, CreateDsdSet, AddDsdRoleMember, DeleteDsdRoleMember, DeleteDsdSet, SetDsdSetCardinality, CreateSession, DeleteSession, AddActiveRole, DropActiveRole, Migrate}
+use Rattle.rbac_core.specs.declared.command.Command.TheVariants.{AddUser, DeleteUser, AddRole, DeleteRole, AssignUser, DeassignUser, GrantPermission, RevokePermission, AddInheritance, DeleteInheritance, CreateSet, AddSetMember, DeleteSetMember, DeleteSet, SetCardinality, CreateSession, DeleteSession, AddActiveRole, DropActiveRole, Migrate}
 use Rattle.rbac_core.specs.Step.{refusal_of}
 
 abbrev IsOther : Option Refusal → Type 0
@@ -49,6 +52,10 @@ dsd p = by _
     by : (found : Option (List ℕ)) → IsOther (option_map Dsd found)
     by None h = cc
     by (Some name) h = cc
+
+by_sets : (kind : Separation) (p : PolicyState) → IsOther (broken_by kind p)
+by_sets Static p = ssd p
+by_sets Dynamic p = dsd p
 
 some_set : (p : PolicyState) → IsOther (broken p)
 some_set p = either (broken_ssd p) (broken_dsd p) (ssd p) (dsd p)
@@ -110,7 +117,7 @@ of_uninherit p senior junior =
     (first (not (stands p.order (slot_of p senior) (slot_of p junior))) NotThere None (λ h. cc) none))
 
 pub other_reason : (p : PolicyState) (command : Command) → refusal_of p command ≢ Some NoMemory
-unfolding add_user_refusal delete_user_refusal add_role_refusal delete_role_refusal assign_refusal deassign_refusal grant_refusal ssd_create_refusal ssd_add_refusal ssd_drop_refusal ssd_number_refusal dsd_create_refusal dsd_add_refusal dsd_drop_refusal dsd_number_refusal open_refusal close_refusal activate_refusal deactivate_refusal
+unfolding add_user_refusal delete_user_refusal add_role_refusal delete_role_refusal assign_refusal deassign_refusal grant_refusal create_set_refusal add_member_refusal delete_member_refusal cardinality_refusal open_refusal close_refusal activate_refusal deactivate_refusal
 other_reason p (AddUser user) = first _ Already _ (λ h. cc) (first _ Full None (λ h. cc) none)
 other_reason p (DeleteUser user) = first _ NoUser None (λ h. cc) none
 other_reason p (AddRole role) = first _ Already _ (λ h. cc) (first _ Full None (λ h. cc) none)
@@ -121,18 +128,12 @@ other_reason p (GrantPermission role operation range) = first _ NoRole _ (λ h. 
 other_reason p (RevokePermission role operation range) = first _ NoRole _ (λ h. cc) (first _ BadObject None (λ h. cc) none)
 other_reason p (AddInheritance senior junior) = of_inherit p senior junior
 other_reason p (DeleteInheritance senior junior) = of_uninherit p senior junior
-other_reason p (CreateSsdSet name number roles) =
-    first _ NoRole _ (λ h. cc) (either _ _ (of_fault NotThere (λ h. cc) _ (of_new p.ssd name (slots_of p roles) number)) (either _ _ (ssd (ssd_created p name number roles)) (first _ Full None (λ h. cc) none)))
-other_reason p (AddSsdRoleMember name role) = first _ NoRole _ (λ h. cc) (either _ _ (of_fault Already (λ h. cc) _ (of_add (limit_of p.ssd name) (slot_of p role))) (ssd (ssd_joined p name role)))
-other_reason p (DeleteSsdRoleMember name role) = first _ NoRole _ (λ h. cc) (of_fault NotThere (λ h. cc) _ (of_drop (limit_of p.ssd name) (slot_of p role)))
-other_reason p (DeleteSsdSet name) = of_fault NotThere (λ h. cc) _ (of_delete (limit_of p.ssd name))
-other_reason p (SetSsdSetCardinality name number) = either _ _ (of_fault NotThere (λ h. cc) _ (of_set (limit_of p.ssd name) number)) (ssd (ssd_numbered p name number))
-other_reason p (CreateDsdSet name number roles) =
-    first _ NoRole _ (λ h. cc) (either _ _ (of_fault NotThere (λ h. cc) _ (of_new p.dsd name (slots_of p roles) number)) (either _ _ (dsd (dsd_created p name number roles)) (first _ Full None (λ h. cc) none)))
-other_reason p (AddDsdRoleMember name role) = first _ NoRole _ (λ h. cc) (either _ _ (of_fault Already (λ h. cc) _ (of_add (limit_of p.dsd name) (slot_of p role))) (dsd (dsd_joined p name role)))
-other_reason p (DeleteDsdRoleMember name role) = first _ NoRole _ (λ h. cc) (of_fault NotThere (λ h. cc) _ (of_drop (limit_of p.dsd name) (slot_of p role)))
-other_reason p (DeleteDsdSet name) = of_fault NotThere (λ h. cc) _ (of_delete (limit_of p.dsd name))
-other_reason p (SetDsdSetCardinality name number) = either _ _ (of_fault NotThere (λ h. cc) _ (of_set (limit_of p.dsd name) number)) (dsd (dsd_numbered p name number))
+other_reason p (CreateSet kind name number roles) =
+    first _ NoRole _ (λ h. cc) (either _ _ (of_fault NotThere (λ h. cc) _ (of_new (sets_of kind p) name (slots_of p roles) number)) (either _ _ (by_sets kind (set_created kind p name number roles)) (first _ Full None (λ h. cc) none)))
+other_reason p (AddSetMember kind name role) = first _ NoRole _ (λ h. cc) (either _ _ (of_fault Already (λ h. cc) _ (of_add (limit_of (sets_of kind p) name) (slot_of p role))) (by_sets kind (member_added kind p name role)))
+other_reason p (DeleteSetMember kind name role) = first _ NoRole _ (λ h. cc) (of_fault NotThere (λ h. cc) _ (of_drop (limit_of (sets_of kind p) name) (slot_of p role)))
+other_reason p (DeleteSet kind name) = of_fault NotThere (λ h. cc) _ (of_delete (limit_of (sets_of kind p) name))
+other_reason p (SetCardinality kind name number) = either _ _ (of_fault NotThere (λ h. cc) _ (of_set (limit_of (sets_of kind p) name) number)) (by_sets kind (set_numbered kind p name number))
 other_reason p (CreateSession user roles) =
     first _ NoUser _ (λ h. cc) (first _ NoRole _ (λ h. cc) (first _ NotAuthorized _ (λ h. cc) (either _ _ (dsd (opened p user roles)) (first _ Full None (λ h. cc) none))))
 other_reason p (DeleteSession session) = first _ NotThere None (λ h. cc) none

@@ -3,6 +3,7 @@ pub use Rattle.permission_core.specs.Objects
 pub use Rattle.permission_core.specs.Permissions
 pub use Rattle.policy_core.specs.Access
 pub use Rattle.policy_core.specs.Commands
+pub use Rattle.policy_core.specs.Kinds
 pub use Rattle.policy_core.specs.Opening
 pub use Rattle.policy_core.specs.Parts
 pub use Rattle.policy_core.specs.Reviews

@@ -7,9 +7,9 @@ use Rattle.policy_core.specs.declared.refusal.Refusal.{Refusal}
 use Rattle.policy_core.specs.declared.refusal.Refusal.TheVariants.{NoSession, NoAccess, NoMemory}
 use Rattle.policy_core.specs.State.{PolicyState, is_session, user_of}
 use Rattle.policy_core.specs.Access.{has_access}
-use Rattle.policy_core.specs.Commands.{activate_refusal, activated, add_role_refusal, add_user_refusal, assign_refusal, assigned, close_refusal, deactivate_refusal, deactivated, deassign_refusal, deassigned, delete_role_refusal, delete_user_refusal, dsd_add_refusal, dsd_create_refusal, dsd_created, dsd_delete_refusal, dsd_deleted, dsd_drop_refusal, dsd_joined, dsd_left, dsd_number_refusal, dsd_numbered, grant_refusal, granted, inherit_refusal, inherited, migrate_refusal, migrated, open_refusal, opened, revoked, role_added, role_gone, shut, ssd_add_refusal, ssd_create_refusal, ssd_created, ssd_delete_refusal, ssd_deleted, ssd_drop_refusal, ssd_joined, ssd_left, ssd_number_refusal, ssd_numbered, uninherit_refusal, uninherited, user_added, user_gone}
+use Rattle.policy_core.specs.Commands.{activate_refusal, activated, add_member_refusal, add_role_refusal, add_user_refusal, assign_refusal, assigned, cardinality_refusal, close_refusal, create_set_refusal, deactivate_refusal, deactivated, deassign_refusal, deassigned, delete_member_refusal, delete_role_refusal, delete_set_refusal, delete_user_refusal, grant_refusal, granted, inherit_refusal, inherited, member_added, member_gone, migrate_refusal, migrated, open_refusal, opened, revoked, role_added, role_gone, set_created, set_gone, set_numbered, shut, uninherit_refusal, uninherited, user_added, user_gone}
 use Rattle.rbac_core.specs.declared.command.Command.{Command}
-use Rattle.rbac_core.specs.declared.command.Command.TheVariants.{AddUser, DeleteUser, AddRole, DeleteRole, AssignUser, DeassignUser, GrantPermission, RevokePermission, AddInheritance, DeleteInheritance, CreateSsdSet, AddSsdRoleMember, DeleteSsdRoleMember, DeleteSsdSet, SetSsdSetCardinality, CreateDsdSet, AddDsdRoleMember, DeleteDsdRoleMember, DeleteDsdSet, SetDsdSetCardinality, CreateSession, DeleteSession, AddActiveRole, DropActiveRole, Migrate}
+use Rattle.rbac_core.specs.declared.command.Command.TheVariants.{AddUser, DeleteUser, AddRole, DeleteRole, AssignUser, DeassignUser, GrantPermission, RevokePermission, AddInheritance, DeleteInheritance, CreateSet, AddSetMember, DeleteSetMember, DeleteSet, SetCardinality, CreateSession, DeleteSession, AddActiveRole, DropActiveRole, Migrate}
 use Rattle.rbac_core.specs.declared.command.Outcome.{Outcome}
 use Rattle.rbac_core.specs.declared.command.Outcome.TheVariants.{Done, Session}
 
@@ -52,16 +52,11 @@ refusal_of p (GrantPermission role operation range) = grant_refusal p role range
 refusal_of p (RevokePermission role operation range) = grant_refusal p role range
 refusal_of p (AddInheritance senior junior) = inherit_refusal p senior junior
 refusal_of p (DeleteInheritance senior junior) = uninherit_refusal p senior junior
-refusal_of p (CreateSsdSet name number roles) = ssd_create_refusal p name number roles
-refusal_of p (AddSsdRoleMember name role) = ssd_add_refusal p name role
-refusal_of p (DeleteSsdRoleMember name role) = ssd_drop_refusal p name role
-refusal_of p (DeleteSsdSet name) = ssd_delete_refusal p name
-refusal_of p (SetSsdSetCardinality name number) = ssd_number_refusal p name number
-refusal_of p (CreateDsdSet name number roles) = dsd_create_refusal p name number roles
-refusal_of p (AddDsdRoleMember name role) = dsd_add_refusal p name role
-refusal_of p (DeleteDsdRoleMember name role) = dsd_drop_refusal p name role
-refusal_of p (DeleteDsdSet name) = dsd_delete_refusal p name
-refusal_of p (SetDsdSetCardinality name number) = dsd_number_refusal p name number
+refusal_of p (CreateSet kind name number roles) = create_set_refusal kind p name number roles
+refusal_of p (AddSetMember kind name role) = add_member_refusal kind p name role
+refusal_of p (DeleteSetMember kind name role) = delete_member_refusal kind p name role
+refusal_of p (DeleteSet kind name) = delete_set_refusal kind p name
+refusal_of p (SetCardinality kind name number) = cardinality_refusal kind p name number
 refusal_of p (CreateSession user roles) = open_refusal p user roles
 refusal_of p (DeleteSession session) = close_refusal p session
 refusal_of p (AddActiveRole session role) = activate_refusal p session role
@@ -80,16 +75,11 @@ after p (GrantPermission role operation range) = granted p role operation range
 after p (RevokePermission role operation range) = revoked p role operation range
 after p (AddInheritance senior junior) = inherited p senior junior
 after p (DeleteInheritance senior junior) = uninherited p senior junior
-after p (CreateSsdSet name number roles) = ssd_created p name number roles
-after p (AddSsdRoleMember name role) = ssd_joined p name role
-after p (DeleteSsdRoleMember name role) = ssd_left p name role
-after p (DeleteSsdSet name) = ssd_deleted p name
-after p (SetSsdSetCardinality name number) = ssd_numbered p name number
-after p (CreateDsdSet name number roles) = dsd_created p name number roles
-after p (AddDsdRoleMember name role) = dsd_joined p name role
-after p (DeleteDsdRoleMember name role) = dsd_left p name role
-after p (DeleteDsdSet name) = dsd_deleted p name
-after p (SetDsdSetCardinality name number) = dsd_numbered p name number
+after p (CreateSet kind name number roles) = set_created kind p name number roles
+after p (AddSetMember kind name role) = member_added kind p name role
+after p (DeleteSetMember kind name role) = member_gone kind p name role
+after p (DeleteSet kind name) = set_gone kind p name
+after p (SetCardinality kind name number) = set_numbered kind p name number
 after p (CreateSession user roles) = opened p user roles
 after p (DeleteSession session) = shut p session
 after p (AddActiveRole session role) = activated p session role
@@ -101,8 +91,7 @@ abbrev pub takes_memory : Command → Bool
 takes_memory (AddUser user) = true
 takes_memory (AddRole role) = true
 takes_memory (AddInheritance senior junior) = true
-takes_memory (CreateSsdSet name number roles) = true
-takes_memory (CreateDsdSet name number roles) = true
+takes_memory (CreateSet kind name number roles) = true
 takes_memory (CreateSession user roles) = true
 takes_memory _ = false
 

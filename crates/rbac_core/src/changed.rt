@@ -3,10 +3,10 @@ ghost use Rattle.std.specs.Prelude.{◌≡◌, true, Some};
 ghost use Rattle.policy_core.specs.State.{PolicyState};
 ghost use Rattle.policy_core.specs.Parts.{DifferIn, no_parts};
 ghost use Rattle.rbac_core.specs.Step.{after, takes_memory};
-ghost use Rattle.rbac_core.specs.Changed.{parts_of};
+ghost use Rattle.rbac_core.specs.Changed.{parts_of, sets_part};
 
 use crate::command::Command;
-use policy_core::Parts;
+use policy_core::{Parts, Separation};
 use separation_core::Name;
 
 /// The parts in which a policy after the command may differ from the one before it.
@@ -51,16 +51,11 @@ fn parts_of(command: &Command) -> Parts
             sessions: true,
             ..order()
         },
-        Command::CreateSsdSet { .. } => ssd(),
-        Command::AddSsdRoleMember { .. } => ssd(),
-        Command::DeleteSsdRoleMember { .. } => ssd(),
-        Command::DeleteSsdSet { .. } => ssd(),
-        Command::SetSsdSetCardinality { .. } => ssd(),
-        Command::CreateDsdSet { .. } => dsd(),
-        Command::AddDsdRoleMember { .. } => dsd(),
-        Command::DeleteDsdRoleMember { .. } => dsd(),
-        Command::DeleteDsdSet { .. } => dsd(),
-        Command::SetDsdSetCardinality { .. } => dsd(),
+        Command::CreateSet { kind, .. } => sets(*kind),
+        Command::AddSetMember { kind, .. } => sets(*kind),
+        Command::DeleteSetMember { kind, .. } => sets(*kind),
+        Command::DeleteSet { kind, .. } => sets(*kind),
+        Command::SetCardinality { kind, .. } => sets(*kind),
         Command::CreateSession { .. } => sessions(),
         Command::DeleteSession { .. } => sessions(),
         Command::AddActiveRole { .. } => sessions(),
@@ -103,25 +98,20 @@ fn order() -> Parts
     }
 }
 
-/// The SSD sets.
+/// The sets of the kind.
 #[inline(always)]
-fn ssd() -> Parts
-    ensures { result ≡ record no_parts { ssd = true } }
+fn sets(kind: Separation) -> Parts
+    ensures { result ≡ sets_part kind }
 {
-    Parts {
-        ssd: true,
-        ..Parts::none()
-    }
-}
-
-/// The DSD sets.
-#[inline(always)]
-fn dsd() -> Parts
-    ensures { result ≡ record no_parts { dsd = true } }
-{
-    Parts {
-        dsd: true,
-        ..Parts::none()
+    match kind {
+        Separation::Static => Parts {
+            ssd: true,
+            ..Parts::none()
+        },
+        Separation::Dynamic => Parts {
+            dsd: true,
+            ..Parts::none()
+        },
     }
 }
 

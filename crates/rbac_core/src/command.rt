@@ -3,6 +3,7 @@ ghost use Rattle.std.specs.Prelude.{◌≡◌, IfOk};
 
 use crate::names::Names;
 use permission_core::{ObjectRange, Operation};
+use policy_core::Separation;
 use separation_core::Name;
 use std::alloc::AllocError;
 
@@ -79,74 +80,49 @@ pub enum Command {
         /// The junior role of the pair.
         junior: Name,
     },
-    /// CreateSsdSet (6.3). Refusals: `NoRole`, `Already`, `Number`, `Ssd`, `Full`.
-    CreateSsdSet {
+    /// CreateSsdSet (6.3), CreateDsdSet (6.4). Refusals: `NoRole`, `Already`, `Number`, `Ssd` or `Dsd`, `Full`.
+    CreateSet {
+        /// Whether it is an SSD set or a DSD set.
+        kind: Separation,
         /// The name of the new set.
         name: Name,
-        /// How many of its roles are too many for one user: 2 to the number of its roles.
+        /// How many of its roles are too many for one user, or for one session: 2 to the number of its roles.
         number: u32,
         /// The roles of the set; one that comes twice counts once.
         roles: Names,
     },
-    /// AddSsdRoleMember (6.3). Refusals: `NoRole`, `NoSet`, `Already`, `Ssd`.
-    AddSsdRoleMember {
+    /// AddSsdRoleMember (6.3), AddDsdRoleMember (6.4). Refusals: `NoRole`, `NoSet`, `Already`, `Ssd` or `Dsd`.
+    AddSetMember {
+        /// Whether it is an SSD set or a DSD set.
+        kind: Separation,
         /// The name of the set.
         name: Name,
         /// The role that joins it.
         role: Name,
     },
-    /// DeleteSsdRoleMember (6.3). Refusals: `NoRole`, `NoSet`, `NotThere`, `Number`.
-    DeleteSsdRoleMember {
+    /// DeleteSsdRoleMember (6.3), DeleteDsdRoleMember (6.4). Refusals: `NoRole`, `NoSet`, `NotThere`, `Number`.
+    DeleteSetMember {
+        /// Whether it is an SSD set or a DSD set.
+        kind: Separation,
         /// The name of the set.
         name: Name,
         /// The role that leaves it.
         role: Name,
     },
-    /// DeleteSsdSet (6.3). Refusal: `NoSet`.
-    DeleteSsdSet {
+    /// DeleteSsdSet (6.3), DeleteDsdSet (6.4). Refusal: `NoSet`.
+    DeleteSet {
+        /// Whether it is an SSD set or a DSD set.
+        kind: Separation,
         /// The name of the set that goes.
         name: Name,
     },
-    /// SetSsdSetCardinality (6.3). Refusals: `NoSet`, `Number`, `Ssd`.
-    SetSsdSetCardinality {
+    /// SetSsdSetCardinality (6.3), SetDsdSetCardinality (6.4). Refusals: `NoSet`, `Number`, `Ssd` or `Dsd`.
+    SetCardinality {
+        /// Whether it is an SSD set or a DSD set.
+        kind: Separation,
         /// The name of the set.
         name: Name,
-        /// How many of its roles are now too many for one user: 2 to the number of its roles.
-        number: u32,
-    },
-    /// CreateDsdSet (6.4). Refusals: `NoRole`, `Already`, `Number`, `Dsd`, `Full`.
-    CreateDsdSet {
-        /// The name of the new set.
-        name: Name,
-        /// How many of its roles are too many for one session: 2 to the number of its roles.
-        number: u32,
-        /// The roles of the set; one that comes twice counts once.
-        roles: Names,
-    },
-    /// AddDsdRoleMember (6.4). Refusals: `NoRole`, `NoSet`, `Already`, `Dsd`.
-    AddDsdRoleMember {
-        /// The name of the set.
-        name: Name,
-        /// The role that joins it.
-        role: Name,
-    },
-    /// DeleteDsdRoleMember (6.4). Refusals: `NoRole`, `NoSet`, `NotThere`, `Number`.
-    DeleteDsdRoleMember {
-        /// The name of the set.
-        name: Name,
-        /// The role that leaves it.
-        role: Name,
-    },
-    /// DeleteDsdSet (6.4). Refusal: `NoSet`.
-    DeleteDsdSet {
-        /// The name of the set that goes.
-        name: Name,
-    },
-    /// SetDsdSetCardinality (6.4). Refusals: `NoSet`, `Number`, `Dsd`.
-    SetDsdSetCardinality {
-        /// The name of the set.
-        name: Name,
-        /// How many of its roles are now too many for one session: 2 to the number of its roles.
+        /// How many of its roles are now too many for one user, or for one session: 2 to the number of its roles.
         number: u32,
     },
     /// CreateSession (6.1, 6.4): it gets the next number. Refusals: `NoUser`, `NoRole`, `NotAuthorized`, `Dsd`, `Full`.
@@ -224,47 +200,33 @@ impl Command {
                 senior: *senior,
                 junior: *junior,
             },
-            Command::CreateSsdSet {
+            Command::CreateSet {
+                kind,
                 name,
                 number,
                 roles,
-            } => Command::CreateSsdSet {
+            } => Command::CreateSet {
+                kind: *kind,
                 name: *name,
                 number: *number,
                 roles: roles.copy()?,
             },
-            Command::AddSsdRoleMember { name, role } => Command::AddSsdRoleMember {
+            Command::AddSetMember { kind, name, role } => Command::AddSetMember {
+                kind: *kind,
                 name: *name,
                 role: *role,
             },
-            Command::DeleteSsdRoleMember { name, role } => Command::DeleteSsdRoleMember {
+            Command::DeleteSetMember { kind, name, role } => Command::DeleteSetMember {
+                kind: *kind,
                 name: *name,
                 role: *role,
             },
-            Command::DeleteSsdSet { name } => Command::DeleteSsdSet { name: *name },
-            Command::SetSsdSetCardinality { name, number } => Command::SetSsdSetCardinality {
+            Command::DeleteSet { kind, name } => Command::DeleteSet {
+                kind: *kind,
                 name: *name,
-                number: *number,
             },
-            Command::CreateDsdSet {
-                name,
-                number,
-                roles,
-            } => Command::CreateDsdSet {
-                name: *name,
-                number: *number,
-                roles: roles.copy()?,
-            },
-            Command::AddDsdRoleMember { name, role } => Command::AddDsdRoleMember {
-                name: *name,
-                role: *role,
-            },
-            Command::DeleteDsdRoleMember { name, role } => Command::DeleteDsdRoleMember {
-                name: *name,
-                role: *role,
-            },
-            Command::DeleteDsdSet { name } => Command::DeleteDsdSet { name: *name },
-            Command::SetDsdSetCardinality { name, number } => Command::SetDsdSetCardinality {
+            Command::SetCardinality { kind, name, number } => Command::SetCardinality {
+                kind: *kind,
                 name: *name,
                 number: *number,
             },

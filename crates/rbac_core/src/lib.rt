@@ -16,6 +16,6 @@ pub use effects::{access_stays, affected, sizes_stay};
 pub use names::Names;
 pub use numbers::{session_numbers_are_used, session_numbers_rise};
 pub use permission_core::{Object, ObjectRange, ObjectSet, Operation};
-pub use policy_core::{Counting, Policy, Refusal, Session};
+pub use policy_core::{Counting, Policy, Refusal, Separation, Session};
 pub use steps::{carry_out, guard, guard_by, is_own, refusals_are_not_of_memory, step};
 pub use twin::Twin;

@@ -85,27 +85,19 @@ pub(crate) fn change(policy: &mut Policy, command: &Command) -> Result<(), Refus
         Command::DeleteInheritance { senior, junior } => policy.delete_inheritance(
             *senior, *junior,
         ),
-        Command::CreateSsdSet {
+        Command::CreateSet {
+            kind,
             name,
             number,
             roles,
-        } => policy.create_ssd_set(*name, *number, roles.as_slice()),
-        Command::AddSsdRoleMember { name, role } => policy.add_ssd_role_member(*name, *role),
-        Command::DeleteSsdRoleMember { name, role } => policy.delete_ssd_role_member(*name, *role),
-        Command::DeleteSsdSet { name } => policy.delete_ssd_set(*name),
-        Command::SetSsdSetCardinality { name, number } => policy.set_ssd_set_cardinality(
-            *name, *number,
+        } => policy.create_set(*kind, *name, *number, roles.as_slice()),
+        Command::AddSetMember { kind, name, role } => policy.add_set_member(*kind, *name, *role),
+        Command::DeleteSetMember { kind, name, role } => policy.delete_set_member(
+            *kind, *name, *role,
         ),
-        Command::CreateDsdSet {
-            name,
-            number,
-            roles,
-        } => policy.create_dsd_set(*name, *number, roles.as_slice()),
-        Command::AddDsdRoleMember { name, role } => policy.add_dsd_role_member(*name, *role),
-        Command::DeleteDsdRoleMember { name, role } => policy.delete_dsd_role_member(*name, *role),
-        Command::DeleteDsdSet { name } => policy.delete_dsd_set(*name),
-        Command::SetDsdSetCardinality { name, number } => policy.set_dsd_set_cardinality(
-            *name, *number,
+        Command::DeleteSet { kind, name } => policy.delete_set(*kind, *name),
+        Command::SetCardinality { kind, name, number } => policy.set_cardinality(
+            *kind, *name, *number,
         ),
         Command::CreateSession { user, roles } => match policy.create_session(
             *user,
@@ -141,7 +133,7 @@ pub(crate) fn change_again(policy: &mut Policy, command: &Command) -> Result<(),
 }
 
 /// Carries out the command, whoever gives it. `NoMemory` may come in place of any answer, but not for a command that takes no memory: only
-/// AddUser, AddRole, AddInheritance, CreateSsdSet, CreateDsdSet and CreateSession take any.
+/// AddUser, AddRole, AddInheritance, CreateSet and CreateSession take any.
 pub fn carry_out(policy: &mut Policy, command: &Command) -> Result<Outcome, Refusal>
     ensures ok { OnOk result (policy.new ≡ after policy.old command.now) }
     ensures outcome { IfOk result (λ outcome. outcome ≡ outcome_of policy.old command.now) }
