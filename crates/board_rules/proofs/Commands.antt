@@ -7,18 +7,20 @@ use Rattle.std.proofs.lemmas.Bool.{and_from, leb-false, ltb-false, le-leb}
 use Rattle.role_hierarchy.specs.Roles.{has, without, first_free}
 use Rattle.role_hierarchy.specs.Order.{stands}
 use Rattle.role_hierarchy.specs.Below.{closed, juniors_of, IsOrder}
-use Rattle.separation_core.specs.Groups.{Groups, AreSets, first_breaking, first_broken, changed, limit_of, limit_with, limit_without, limit_of_number, with_set, is_sound, new_refusal, number_refusal, add_refusal, drop_refusal, set_refusal}
+use Rattle.separation_core.specs.Groups.{Groups, AreSets, first_breaking, first_broken, changed, limit_of, limit_with, limit_without, limit_of_number, with_set, without_set, is_sound, new_refusal, number_refusal, add_refusal, drop_refusal, set_refusal}
 use Rattle.separation_core.specs.GroupLaws.{AreSets-with_set, AreSets-changed, changed-known, sound_limit_of, AreSets-without_set, is_sound-limit_with, breaking-without_member, breaking-without_set}
 use Rattle.separation_core.specs.declared.sets.Limit.{Limit}
 use Rattle.separation_core.specs.declared.sets.SetFault.{SetFault}
 use Rattle.separation_core.specs.declared.sets.SetFault.TheVariants as fault
 use Rattle.policy_core.specs.declared.refusal.Refusal.{Refusal as PolicyRefusal}
 use Rattle.policy_core.specs.declared.refusal.Refusal.TheVariants.{NoUser, NoRole, Already, NotThere, NotAuthorized, Cycle, Full, Ssd, Dsd}
+use Rattle.policy_core.specs.declared.separation.Separation.{Separation}
 use Rattle.policy_core.specs.declared.session.Session.{Session}
+use Rattle.policy_core.specs.Kinds.{sets_of, given_by}
 use Rattle.policy_core.specs.State.{PolicyState, authorized, counted, counted_all, session_of, is_role, held_by, slot_of, with_roles}
-use Rattle.policy_core.specs.Commands.{role_at, kept_session, kept_authorized, as_refusal, slots_of, assign_refusal, inherit_refusal, ssd_create_refusal, ssd_add_refusal, ssd_drop_refusal, ssd_number_refusal, dsd_create_refusal, dsd_add_refusal, dsd_drop_refusal, dsd_number_refusal, open_refusal, activate_refusal, opened}
+use Rattle.policy_core.specs.Commands.{role_at, kept_session, kept_authorized, as_refusal, slots_of, assign_refusal, inherit_refusal, create_set_refusal, add_member_refusal, delete_member_refusal, cardinality_refusal, open_refusal, activate_refusal, opened}
 use Rattle.rbac_core.specs.declared.command.Command.{Command}
-use Rattle.rbac_core.specs.declared.command.Command.TheVariants.{AddUser, DeleteUser, AddRole, DeleteRole, AssignUser, DeassignUser, GrantPermission, RevokePermission, AddInheritance, DeleteInheritance, CreateSsdSet, AddSsdRoleMember, DeleteSsdRoleMember, DeleteSsdSet, SetSsdSetCardinality, CreateDsdSet, AddDsdRoleMember, DeleteDsdRoleMember, DeleteDsdSet, SetDsdSetCardinality, CreateSession, DeleteSession, AddActiveRole, DropActiveRole, Migrate}
+use Rattle.rbac_core.specs.declared.command.Command.TheVariants.{AddUser, DeleteUser, AddRole, DeleteRole, AssignUser, DeassignUser, GrantPermission, RevokePermission, AddInheritance, DeleteInheritance, CreateSet, AddSetMember, DeleteSetMember, DeleteSet, SetCardinality, CreateSession, DeleteSession, AddActiveRole, DropActiveRole, Migrate}
 use Rattle.rbac_core.specs.declared.command.Outcome.{Outcome}
 use Rattle.rbac_core.specs.Step.{step, answered, guard, refusal_of, after, outcome_of}
 use Rattle.board_rules.specs.Policies.{policy_after}
@@ -26,7 +28,7 @@ use Rattle.policy_core.specs.BreakLaws.{AreFewer, breaking_removed, breaking_fil
 use Rattle.policy_core.specs.CountLaws.{counted_fewer, counted_none}
 use Rattle.board_rules.proofs.Orders.{slot_within, pair_within, all_within}
 use Rattle.policy_core.specs.KeptLaws.{none_mapped, without_within, kept_within, kept_authorized_within, fewer_pairs, fewer_roles}
-use Rattle.board_rules.proofs.Separation.{IsSeparate, lessened_at, lessened, slotted, with_user, user_lessened, with_ssd, with_dsd, with_sessions, with_one, migrated_keeps}
+use Rattle.board_rules.proofs.Separation.{IsSeparate, lessened_at, lessened, slotted, with_user, user_lessened, sets_kept, unbroken, none_broken, with_other, with_sessions, with_one, migrated_keeps}
 
 -- ---- refusals that do not come
 
@@ -131,61 +133,34 @@ module _ (p : PolicyState) (order : IsOrder p.order) (is : IsSeparate p) where
       (λ x q h. counted_fewer p.counting p.order order (without x.active slot) x.active (λ c there. without_within x.active slot c there) q h)
       (nat_eq number) (record { user = []; active = 0 }) (counted_none p.counting p.order) p.sessions p.dsd is.dsd_sets is.dsd)
 
-  ssd_created_keeps : (name : List ℕ) (number : ℕ) (roles : List (List ℕ)) → ssd_create_refusal p name number roles ≡ None
-      → IsSeparate (record p { ssd = with_set p.ssd name (record { roles = slots_of p roles; number = number }) })
-  unfolding ssd_create_refusal
-  ssd_created_keeps name number roles h =
+  created_keeps : (kind : Separation) (name : List ℕ) (number : ℕ) (roles : List (List ℕ)) → create_set_refusal kind p name number roles ≡ None → IsSeparate (after p (CreateSet kind name number roles))
+  unfolding create_set_refusal
+  created_keeps kind name number roles h =
       let one = none_or _ _ (none_if _ NoRole _ h).1 in
       let two = none_or _ _ one.1 in
       let room = (none_if _ Full _ two.1).0 in
-      with_ssd p is (with_set p.ssd name (record { roles = slots_of p roles; number = number }))
-      (sets-created p.ssd name (slots_of p roles) number (none_as NotThere _ one.0) room is.ssd_sets) (none_mapped Ssd _ two.0)
+      let sets : Groups = with_set (sets_of kind p) name (record { roles = slots_of p roles; number = number }) in
+      with_other p is kind sets (sets-created (sets_of kind p) name (slots_of p roles) number (none_as NotThere _ one.0) room (sets_kept p is kind)) (none_broken p is kind sets two.0)
 
-  dsd_created_keeps : (name : List ℕ) (number : ℕ) (roles : List (List ℕ)) → dsd_create_refusal p name number roles ≡ None
-      → IsSeparate (record p { dsd = with_set p.dsd name (record { roles = slots_of p roles; number = number }) })
-  unfolding dsd_create_refusal
-  dsd_created_keeps name number roles h =
-      let one = none_or _ _ (none_if _ NoRole _ h).1 in
-      let two = none_or _ _ one.1 in
-      let room = (none_if _ Full _ two.1).0 in
-      with_dsd p is (with_set p.dsd name (record { roles = slots_of p roles; number = number }))
-      (sets-created p.dsd name (slots_of p roles) number (none_as NotThere _ one.0) room is.dsd_sets) (none_mapped Dsd _ two.0)
-
-  ssd_joined_keeps : (name role : List ℕ) → ssd_add_refusal p name role ≡ None → IsSeparate (after p (AddSsdRoleMember name role))
-  unfolding ssd_add_refusal
-  ssd_joined_keeps name role h =
+  joined_keeps : (kind : Separation) (name role : List ℕ) → add_member_refusal kind p name role ≡ None → IsSeparate (after p (AddSetMember kind name role))
+  unfolding add_member_refusal
+  joined_keeps kind name role h =
       let none = none_or _ _ (none_if _ NoRole _ h).1 in
-      with_ssd p is (changed p.ssd name (limit_with (slot_of p role))) (sets-joined p.ssd name (slot_of p role) (none_as Already _ none.0) is.ssd_sets) (none_mapped Ssd _ none.1)
+      let sets : Groups = changed (sets_of kind p) name (limit_with (slot_of p role)) in
+      with_other p is kind sets (sets-joined (sets_of kind p) name (slot_of p role) (none_as Already _ none.0) (sets_kept p is kind)) (none_broken p is kind sets none.1)
 
-  dsd_joined_keeps : (name role : List ℕ) → dsd_add_refusal p name role ≡ None → IsSeparate (after p (AddDsdRoleMember name role))
-  unfolding dsd_add_refusal
-  dsd_joined_keeps name role h =
-      let none = none_or _ _ (none_if _ NoRole _ h).1 in
-      with_dsd p is (changed p.dsd name (limit_with (slot_of p role))) (sets-joined p.dsd name (slot_of p role) (none_as Already _ none.0) is.dsd_sets) (none_mapped Dsd _ none.1)
+  left_keeps : (kind : Separation) (name role : List ℕ) → delete_member_refusal kind p name role ≡ None → IsSeparate (after p (DeleteSetMember kind name role))
+  unfolding delete_member_refusal
+  left_keeps kind name role h =
+      with_other p is kind (changed (sets_of kind p) name (limit_without (slot_of p role))) (sets-left (sets_of kind p) name (slot_of p role) (none_as NotThere _ (none_if _ NoRole _ h).1) (sets_kept p is kind))
+      (breaking-without_member (given_by kind p) (sets_of kind p) name (slot_of p role) (unbroken p is kind))
 
-  ssd_left_keeps : (name role : List ℕ) → ssd_drop_refusal p name role ≡ None → IsSeparate (after p (DeleteSsdRoleMember name role))
-  unfolding ssd_drop_refusal
-  ssd_left_keeps name role h =
-      with_ssd p is (changed p.ssd name (limit_without (slot_of p role))) (sets-left p.ssd name (slot_of p role) (none_as NotThere _ (none_if _ NoRole _ h).1) is.ssd_sets)
-      (breaking-without_member (authorized p) p.ssd name (slot_of p role) is.ssd)
-
-  dsd_left_keeps : (name role : List ℕ) → dsd_drop_refusal p name role ≡ None → IsSeparate (after p (DeleteDsdRoleMember name role))
-  unfolding dsd_drop_refusal
-  dsd_left_keeps name role h =
-      with_dsd p is (changed p.dsd name (limit_without (slot_of p role))) (sets-left p.dsd name (slot_of p role) (none_as NotThere _ (none_if _ NoRole _ h).1) is.dsd_sets)
-      (breaking-without_member (counted_all p) p.dsd name (slot_of p role) is.dsd)
-
-  ssd_numbered_keeps : (name : List ℕ) (number : ℕ) → ssd_number_refusal p name number ≡ None → IsSeparate (after p (SetSsdSetCardinality name number))
-  unfolding ssd_number_refusal
-  ssd_numbered_keeps name number h =
+  numbered_keeps : (kind : Separation) (name : List ℕ) (number : ℕ) → cardinality_refusal kind p name number ≡ None → IsSeparate (after p (SetCardinality kind name number))
+  unfolding cardinality_refusal
+  numbered_keeps kind name number h =
       let one = none_or _ _ h in
-      with_ssd p is (changed p.ssd name (limit_of_number number)) (sets-numbered p.ssd name number (none_as NotThere _ one.0) is.ssd_sets) (none_mapped Ssd _ one.1)
-
-  dsd_numbered_keeps : (name : List ℕ) (number : ℕ) → dsd_number_refusal p name number ≡ None → IsSeparate (after p (SetDsdSetCardinality name number))
-  unfolding dsd_number_refusal
-  dsd_numbered_keeps name number h =
-      let one = none_or _ _ h in
-      with_dsd p is (changed p.dsd name (limit_of_number number)) (sets-numbered p.dsd name number (none_as NotThere _ one.0) is.dsd_sets) (none_mapped Dsd _ one.1)
+      let sets : Groups = changed (sets_of kind p) name (limit_of_number number) in
+      with_other p is kind sets (sets-numbered (sets_of kind p) name number (none_as NotThere _ one.0) (sets_kept p is kind)) (none_broken p is kind sets one.1)
 
   opened_keeps : (user : List ℕ) (roles : List (List ℕ)) → open_refusal p user roles ≡ None
       → first_breaking (counted_all (opened p user roles)) p.dsd ≡ None
@@ -221,16 +196,12 @@ module _ (p : PolicyState) (order : IsOrder p.order) (is : IsSeparate p) where
       let q : PolicyState = after p (DeleteInheritance senior junior) in
       lessened p is order q next (pair_within p.order (slot_of p senior) (slot_of p junior)) (kept_authorized q.users q.order) (kept_authorized_within q.users q.order) refl refl refl
       (fewer_pairs q.order p.order next order (pair_within p.order (slot_of p senior) (slot_of p junior)) p.users) refl
-  separate (CreateSsdSet name number roles) next h = ssd_created_keeps name number roles h
-  separate (AddSsdRoleMember name role) next h = ssd_joined_keeps name role h
-  separate (DeleteSsdRoleMember name role) next h = ssd_left_keeps name role h
-  separate (DeleteSsdSet name) next h = with_ssd p is _ (AreSets-without_set p.ssd name is.ssd_sets) (breaking-without_set (authorized p) p.ssd name is.ssd)
-  separate (SetSsdSetCardinality name number) next h = ssd_numbered_keeps name number h
-  separate (CreateDsdSet name number roles) next h = dsd_created_keeps name number roles h
-  separate (AddDsdRoleMember name role) next h = dsd_joined_keeps name role h
-  separate (DeleteDsdRoleMember name role) next h = dsd_left_keeps name role h
-  separate (DeleteDsdSet name) next h = with_dsd p is _ (AreSets-without_set p.dsd name is.dsd_sets) (breaking-without_set (counted_all p) p.dsd name is.dsd)
-  separate (SetDsdSetCardinality name number) next h = dsd_numbered_keeps name number h
+  separate (CreateSet kind name number roles) next h = created_keeps kind name number roles h
+  separate (AddSetMember kind name role) next h = joined_keeps kind name role h
+  separate (DeleteSetMember kind name role) next h = left_keeps kind name role h
+  separate (DeleteSet kind name) next h =
+      with_other p is kind (without_set (sets_of kind p) name) (AreSets-without_set (sets_of kind p) name (sets_kept p is kind)) (breaking-without_set (given_by kind p) (sets_of kind p) name (unbroken p is kind))
+  separate (SetCardinality kind name number) next h = numbered_keeps kind name number h
   separate (CreateSession user roles) next h = record { ssd_sets = is.ssd_sets; dsd_sets = is.dsd_sets; ssd = is.ssd; dsd = opened_keeps user roles h }
   separate (DeleteSession session) next h = with_sessions p is (remove_entry (nat_eq session) p.sessions) p.last
       (breaking_removed (λ (x : Session). counted p.counting p.order x.active) (nat_eq session) p.sessions p.dsd is.dsd)

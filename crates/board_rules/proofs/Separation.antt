@@ -9,13 +9,17 @@ use Rattle.role_hierarchy.specs.Below.{closed, IsOrder}
 use Rattle.role_hierarchy.specs.BelowLaws.{closed_fewer, closed-with_slot}
 use Rattle.separation_core.specs.Groups.{Groups, AreSets, first_breaking, first_broken}
 use Rattle.separation_core.specs.GroupLaws.{first_broken-fewer}
+use Rattle.policy_core.specs.declared.refusal.Refusal.TheVariants.{Ssd, Dsd}
+use Rattle.policy_core.specs.declared.separation.Separation.{Separation}
+use Rattle.policy_core.specs.declared.separation.Separation.TheVariants.{Static, Dynamic}
 use Rattle.policy_core.specs.declared.session.Session.{Session}
 use Rattle.policy_core.specs.declared.session.Counting.{Counting}
 use Rattle.policy_core.specs.declared.session.Counting.TheVariants.{Inherited}
 use Rattle.policy_core.specs.State.{PolicyState, authorized, counted, counted_all, held_by, with_roles, with_session}
+use Rattle.policy_core.specs.Kinds.{sets_of, with_sets, given_by, broken_by}
 use Rattle.policy_core.specs.Commands.{migrated_session}
 use Rattle.policy_core.specs.BreakLaws.{breaking_inserted, broken_at, AreFewer, breaking_fewer, closed_none, none_breaks}
-use Rattle.policy_core.specs.KeptLaws.{Keeps, fewer_counted, same_authorized, same_counted, migrated_sets}
+use Rattle.policy_core.specs.KeptLaws.{none_mapped, Keeps, fewer_counted, same_authorized, same_counted, migrated_sets}
 use Rattle.policy_core.specs.CountLaws.{counted-with_slot}
 use Rattle.board_rules.proofs.Orders.{within}
 
@@ -80,12 +84,22 @@ module _ (p : PolicyState) (is : IsSeparate p) where
   user_lessened order user f drops =
       with_user user (f (held_by p user)) (lessened_at (closed p.order) f (λ r q h. closed_fewer p.order order (f r) r (drops r) q h) (bytes_eq user) 0 (closed_none p.order) p.users p.ssd is.ssd_sets is.ssd)
 
-  -- other sets
-  pub with_ssd : (groups : Groups) → AreSets groups → first_breaking (authorized p) groups ≡ None → IsSeparate (record p { ssd = groups })
-  with_ssd groups sets none = record { ssd_sets = sets; dsd_sets = is.dsd_sets; ssd = none; dsd = is.dsd }
+  -- the sets of a kind, and others in their place
+  pub sets_kept : (kind : Separation) → AreSets (sets_of kind p)
+  sets_kept Static = is.ssd_sets
+  sets_kept Dynamic = is.dsd_sets
 
-  pub with_dsd : (groups : Groups) → AreSets groups → first_breaking (counted_all p) groups ≡ None → IsSeparate (record p { dsd = groups })
-  with_dsd groups sets none = record { ssd_sets = is.ssd_sets; dsd_sets = sets; ssd = is.ssd; dsd = none }
+  pub unbroken : (kind : Separation) → first_breaking (given_by kind p) (sets_of kind p) ≡ None
+  unbroken Static = is.ssd
+  unbroken Dynamic = is.dsd
+
+  pub none_broken : (kind : Separation) (groups : Groups) → broken_by kind (with_sets kind p groups) ≡ None → first_breaking (given_by kind p) groups ≡ None
+  none_broken Static groups h = none_mapped Ssd _ h
+  none_broken Dynamic groups h = none_mapped Dsd _ h
+
+  pub with_other : (kind : Separation) (groups : Groups) → AreSets groups → first_breaking (given_by kind p) groups ≡ None → IsSeparate (with_sets kind p groups)
+  with_other Static groups sets none = record { ssd_sets = sets; dsd_sets = is.dsd_sets; ssd = none; dsd = is.dsd }
+  with_other Dynamic groups sets none = record { ssd_sets = is.ssd_sets; dsd_sets = sets; ssd = is.ssd; dsd = none }
 
   -- other sessions
   pub with_sessions : (sessions : List (ℕ × Session)) (last : ℕ) → first_breaking (map (λ (e : ℕ × Session). counted p.counting p.order e.1.active) sessions) p.dsd ≡ None
