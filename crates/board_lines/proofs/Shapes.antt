@@ -19,7 +19,8 @@ use Rattle.board_lines.specs.declared.word.ManageWord.{ManageWord}
 use Rattle.board_lines.specs.declared.word.SetWord.{SetWord}
 use Rattle.board_lines.specs.declared.word.SessionWord.{SessionWord}
 use Rattle.board_lines.specs.declared.word.AskWord.{AskWord}
-use Rattle.board_lines.specs.declared.word.Separation.TheVariants.{Static, Dynamic}
+use Rattle.policy_core.specs.declared.separation.Separation.{Separation}
+use Rattle.policy_core.specs.declared.separation.Separation.TheVariants.{Static, Dynamic}
 use Rattle.board_lines.specs.declared.word.MoveWord.TheVariants as moves
 use Rattle.board_lines.specs.declared.word.HoldWord.TheVariants as holds
 use Rattle.board_lines.specs.declared.word.ManageWord.TheVariants as manages
@@ -118,16 +119,11 @@ policy_says s (policy.RevokePermission r op over) = record { kinds = refl; made 
 policy_says s (policy.AddInheritance r j) = record { kinds = refl; made = refl }
 policy_says s (policy.DeleteInheritance r j) = record { kinds = refl; made = refl }
 policy_says s policy.Migrate = record { kinds = refl; made = refl }
-policy_says s (policy.CreateSsdSet x n rs) = record { kinds = refl; made = refl }
-policy_says s (policy.AddSsdRoleMember x r) = record { kinds = refl; made = refl }
-policy_says s (policy.DeleteSsdRoleMember x r) = record { kinds = refl; made = refl }
-policy_says s (policy.DeleteSsdSet x) = record { kinds = refl; made = refl }
-policy_says s (policy.SetSsdSetCardinality x n) = record { kinds = refl; made = refl }
-policy_says s (policy.CreateDsdSet x n rs) = record { kinds = refl; made = refl }
-policy_says s (policy.AddDsdRoleMember x r) = record { kinds = refl; made = refl }
-policy_says s (policy.DeleteDsdRoleMember x r) = record { kinds = refl; made = refl }
-policy_says s (policy.DeleteDsdSet x) = record { kinds = refl; made = refl }
-policy_says s (policy.SetDsdSetCardinality x n) = record { kinds = refl; made = refl }
+policy_says s (policy.CreateSet kind x n rs) = record { kinds = refl; made = refl }
+policy_says s (policy.AddSetMember kind x r) = record { kinds = refl; made = refl }
+policy_says s (policy.DeleteSetMember kind x r) = record { kinds = refl; made = refl }
+policy_says s (policy.DeleteSet kind x) = record { kinds = refl; made = refl }
+policy_says s (policy.SetCardinality kind x n) = record { kinds = refl; made = refl }
 policy_says s (policy.CreateSession u rs) = record { kinds = refl; made = refl }
 policy_says s (policy.DeleteSession n) = record { kinds = refl; made = refl }
 policy_says s (policy.AddActiveRole n r) = record { kinds = refl; made = refl }
@@ -208,30 +204,20 @@ ask_text s asks.Roles (a_name u no_more) ws e h = h
 ask_text s asks.Active (a_number n no_more) ws e h = h
 ask_text s _ _ ws e h = absurd (cc)
 
-static_text : (s : ℕ) (w : SetWord) (a : Arguments) (ws : List (List ℕ)) → kinds_of a ≡ (row_of (Separate Static w)).kinds → IsLine ws (say s (Separate Static w) a) → IsCommandText ws (command_of s (Separate Static w) a)
+separate_text : (s : ℕ) (kind : Separation) (w : SetWord) (a : Arguments) (ws : List (List ℕ)) → kinds_of a ≡ (row_of (Separate kind w)).kinds → IsLine ws (say s (Separate kind w) a) → IsCommandText ws (command_of s (Separate kind w) a)
 unfolding command_of
-static_text s sets.Create (a_name x (a_number n (the_names rs))) ws e h = h
-static_text s sets.Add (a_name x (a_name r no_more)) ws e h = h
-static_text s sets.Drop (a_name x (a_name r no_more)) ws e h = h
-static_text s sets.Delete (a_name x no_more) ws e h = h
-static_text s sets.Number (a_name x (a_number n no_more)) ws e h = h
-static_text s _ _ ws e h = absurd (cc)
-
-dynamic_text : (s : ℕ) (w : SetWord) (a : Arguments) (ws : List (List ℕ)) → kinds_of a ≡ (row_of (Separate Dynamic w)).kinds → IsLine ws (say s (Separate Dynamic w) a) → IsCommandText ws (command_of s (Separate Dynamic w) a)
-unfolding command_of
-dynamic_text s sets.Create (a_name x (a_number n (the_names rs))) ws e h = h
-dynamic_text s sets.Add (a_name x (a_name r no_more)) ws e h = h
-dynamic_text s sets.Drop (a_name x (a_name r no_more)) ws e h = h
-dynamic_text s sets.Delete (a_name x no_more) ws e h = h
-dynamic_text s sets.Number (a_name x (a_number n no_more)) ws e h = h
-dynamic_text s _ _ ws e h = absurd (cc)
+separate_text s kind sets.Create (a_name x (a_number n (the_names rs))) ws e h = h
+separate_text s kind sets.Add (a_name x (a_name r no_more)) ws e h = h
+separate_text s kind sets.Drop (a_name x (a_name r no_more)) ws e h = h
+separate_text s kind sets.Delete (a_name x no_more) ws e h = h
+separate_text s kind sets.Number (a_name x (a_number n no_more)) ws e h = h
+separate_text s kind _ _ ws e h = absurd (cc)
 
 pub command_text : (s : ℕ) (w : Word) (a : Arguments) (ws : List (List ℕ)) → kinds_of a ≡ (row_of w).kinds → IsLine ws (say s w a) → IsCommandText ws (command_of s w a)
 command_text s (Propose w) a ws e h = propose_text s w a ws e h
 command_text s (Hold w) a ws e h = hold_text s w a ws e h
 command_text s (Manage w) a ws e h = manage_text s w a ws e h
-command_text s (Separate Static w) a ws e h = static_text s w a ws e h
-command_text s (Separate Dynamic w) a ws e h = dynamic_text s w a ws e h
+command_text s (Separate kind w) a ws e h = separate_text s kind w a ws e h
 command_text s (Session w) a ws e h = session_text s w a ws e h
 command_text s (Ask w) a ws e h = ask_text s w a ws e h
 

@@ -3,7 +3,7 @@ use Rattle.std.proofs.Common.{◌≡◌, true, refl}
 use Rattle.separation_core.specs.Names.{is_name}
 use Rattle.board_lines.specs.declared.word.Word.{Word}
 use Rattle.board_lines.specs.declared.word.Word.TheVariants.{Propose, Hold, Manage, Separate, Session, Ask}
-use Rattle.board_lines.specs.declared.word.Separation.TheVariants.{Static, Dynamic}
+use Rattle.policy_core.specs.declared.separation.Separation.TheVariants.{Static, Dynamic}
 use Rattle.board_lines.specs.declared.word.MoveWord.TheVariants as moves
 use Rattle.board_lines.specs.declared.word.HoldWord.TheVariants as holds
 use Rattle.board_lines.specs.declared.word.ManageWord.TheVariants as manages

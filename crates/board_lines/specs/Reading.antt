@@ -14,7 +14,6 @@ use Rattle.board_lines.specs.declared.command.ReadFault.{ReadFault}
 use Rattle.board_lines.specs.declared.command.ReadFault.TheVariants.{Line, NoMemory}
 use Rattle.board_lines.specs.declared.word.Word.{Word}
 use Rattle.board_lines.specs.declared.word.Word.TheVariants.{Propose, Hold, Manage, Separate, Session, Ask}
-use Rattle.board_lines.specs.declared.word.Separation.TheVariants.{Static, Dynamic}
 use Rattle.board_lines.specs.declared.word.MoveWord.TheVariants as moves
 use Rattle.board_lines.specs.declared.word.HoldWord.TheVariants as holds
 use Rattle.board_lines.specs.declared.word.ManageWord.TheVariants as manages
@@ -76,16 +75,11 @@ command_of s (Manage manages.Revoke) (a_name r (an_operation op (the_range range
 command_of s (Manage manages.Inherit) (a_name r (a_name j no_more)) = by_policy s (policy.AddInheritance r j)
 command_of s (Manage manages.Uninherit) (a_name r (a_name j no_more)) = by_policy s (policy.DeleteInheritance r j)
 command_of s (Manage manages.Migrate) no_more = by_policy s policy.Migrate
-command_of s (Separate Static sets.Create) (a_name x (a_number n (the_names rs))) = by_policy s (policy.CreateSsdSet x n rs)
-command_of s (Separate Static sets.Add) (a_name x (a_name r no_more)) = by_policy s (policy.AddSsdRoleMember x r)
-command_of s (Separate Static sets.Drop) (a_name x (a_name r no_more)) = by_policy s (policy.DeleteSsdRoleMember x r)
-command_of s (Separate Static sets.Delete) (a_name x no_more) = by_policy s (policy.DeleteSsdSet x)
-command_of s (Separate Static sets.Number) (a_name x (a_number n no_more)) = by_policy s (policy.SetSsdSetCardinality x n)
-command_of s (Separate Dynamic sets.Create) (a_name x (a_number n (the_names rs))) = by_policy s (policy.CreateDsdSet x n rs)
-command_of s (Separate Dynamic sets.Add) (a_name x (a_name r no_more)) = by_policy s (policy.AddDsdRoleMember x r)
-command_of s (Separate Dynamic sets.Drop) (a_name x (a_name r no_more)) = by_policy s (policy.DeleteDsdRoleMember x r)
-command_of s (Separate Dynamic sets.Delete) (a_name x no_more) = by_policy s (policy.DeleteDsdSet x)
-command_of s (Separate Dynamic sets.Number) (a_name x (a_number n no_more)) = by_policy s (policy.SetDsdSetCardinality x n)
+command_of s (Separate kind sets.Create) (a_name x (a_number n (the_names rs))) = by_policy s (policy.CreateSet kind x n rs)
+command_of s (Separate kind sets.Add) (a_name x (a_name r no_more)) = by_policy s (policy.AddSetMember kind x r)
+command_of s (Separate kind sets.Drop) (a_name x (a_name r no_more)) = by_policy s (policy.DeleteSetMember kind x r)
+command_of s (Separate kind sets.Delete) (a_name x no_more) = by_policy s (policy.DeleteSet kind x)
+command_of s (Separate kind sets.Number) (a_name x (a_number n no_more)) = by_policy s (policy.SetCardinality kind x n)
 command_of s (Session sessions.Open) (a_name u (the_names rs)) = by_policy s (policy.CreateSession u rs)
 command_of s (Session sessions.Close) (a_number n no_more) = by_policy s (policy.DeleteSession n)
 command_of s (Session sessions.Activate) (a_number n (a_name r no_more)) = by_policy s (policy.AddActiveRole n r)

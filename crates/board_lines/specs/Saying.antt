@@ -18,7 +18,6 @@ use Rattle.board_rules.specs.declared.call.Call.TheVariants as calls
 use Rattle.board_lines.specs.declared.command.Command.TheVariants.{Submit}
 use Rattle.board_lines.specs.declared.word.Word.{Word}
 use Rattle.board_lines.specs.declared.word.Word.TheVariants.{Propose, Hold, Manage, Separate, Session}
-use Rattle.board_lines.specs.declared.word.Separation.TheVariants.{Static, Dynamic}
 use Rattle.board_lines.specs.declared.word.MoveWord.TheVariants as moves
 use Rattle.board_lines.specs.declared.word.HoldWord.TheVariants as holds
 use Rattle.board_lines.specs.declared.word.ManageWord.TheVariants as manages
@@ -58,16 +57,11 @@ policy_said s (policy.RevokePermission r op range) = say s (Manage manages.Revok
 policy_said s (policy.AddInheritance r j) = say s (Manage manages.Inherit) (a_name r (a_name j no_more))
 policy_said s (policy.DeleteInheritance r j) = say s (Manage manages.Uninherit) (a_name r (a_name j no_more))
 policy_said s policy.Migrate = say s (Manage manages.Migrate) no_more
-policy_said s (policy.CreateSsdSet x n rs) = say s (Separate Static sets.Create) (a_name x (a_number n (the_names rs)))
-policy_said s (policy.AddSsdRoleMember x r) = say s (Separate Static sets.Add) (a_name x (a_name r no_more))
-policy_said s (policy.DeleteSsdRoleMember x r) = say s (Separate Static sets.Drop) (a_name x (a_name r no_more))
-policy_said s (policy.DeleteSsdSet x) = say s (Separate Static sets.Delete) (a_name x no_more)
-policy_said s (policy.SetSsdSetCardinality x n) = say s (Separate Static sets.Number) (a_name x (a_number n no_more))
-policy_said s (policy.CreateDsdSet x n rs) = say s (Separate Dynamic sets.Create) (a_name x (a_number n (the_names rs)))
-policy_said s (policy.AddDsdRoleMember x r) = say s (Separate Dynamic sets.Add) (a_name x (a_name r no_more))
-policy_said s (policy.DeleteDsdRoleMember x r) = say s (Separate Dynamic sets.Drop) (a_name x (a_name r no_more))
-policy_said s (policy.DeleteDsdSet x) = say s (Separate Dynamic sets.Delete) (a_name x no_more)
-policy_said s (policy.SetDsdSetCardinality x n) = say s (Separate Dynamic sets.Number) (a_name x (a_number n no_more))
+policy_said s (policy.CreateSet kind x n rs) = say s (Separate kind sets.Create) (a_name x (a_number n (the_names rs)))
+policy_said s (policy.AddSetMember kind x r) = say s (Separate kind sets.Add) (a_name x (a_name r no_more))
+policy_said s (policy.DeleteSetMember kind x r) = say s (Separate kind sets.Drop) (a_name x (a_name r no_more))
+policy_said s (policy.DeleteSet kind x) = say s (Separate kind sets.Delete) (a_name x no_more)
+policy_said s (policy.SetCardinality kind x n) = say s (Separate kind sets.Number) (a_name x (a_number n no_more))
 policy_said s (policy.CreateSession u rs) = say s (Session sessions.Open) (a_name u (the_names rs))
 policy_said s (policy.DeleteSession n) = say s (Session sessions.Close) (a_number n no_more)
 policy_said s (policy.AddActiveRole n r) = say s (Session sessions.Activate) (a_number n (a_name r no_more))

@@ -3,7 +3,8 @@ use Rattle.std.specs.Prelude.{ℕ, List, [], ◌∷◌, codes, map, filter, byte
 use Rattle.std.specs.Map.{lookup}
 use Rattle.board_lines.specs.declared.word.Word.{Word}
 use Rattle.board_lines.specs.declared.word.Word.TheVariants.{Propose, Hold, Manage, Separate, Session, Ask}
-use Rattle.board_lines.specs.declared.word.Separation.TheVariants.{Static, Dynamic}
+use Rattle.policy_core.specs.declared.separation.Separation.TheVariants.{Static, Dynamic}
+use Rattle.policy_core.specs.Kinds.{by_kind}
 use Rattle.board_lines.specs.declared.word.MoveWord.TheVariants as moves
 use Rattle.board_lines.specs.declared.word.HoldWord.TheVariants as holds
 use Rattle.board_lines.specs.declared.word.ManageWord.TheVariants as manages
@@ -56,16 +57,11 @@ row_of (Manage manages.Inherit) = row (codes "inherit") (name (name nothing))
 row_of (Manage manages.Uninherit) = row (codes "uninherit") (name (name nothing))
 row_of (Manage manages.Migrate) = row (codes "migrate") nothing
 -- sets of separation of duty
-row_of (Separate Static sets.Create) = row (codes "ssd-create") (name (number names))
-row_of (Separate Static sets.Add) = row (codes "ssd-add") (name (name nothing))
-row_of (Separate Static sets.Drop) = row (codes "ssd-drop") (name (name nothing))
-row_of (Separate Static sets.Delete) = row (codes "ssd-delete") (name nothing)
-row_of (Separate Static sets.Number) = row (codes "ssd-number") (name (number nothing))
-row_of (Separate Dynamic sets.Create) = row (codes "dsd-create") (name (number names))
-row_of (Separate Dynamic sets.Add) = row (codes "dsd-add") (name (name nothing))
-row_of (Separate Dynamic sets.Drop) = row (codes "dsd-drop") (name (name nothing))
-row_of (Separate Dynamic sets.Delete) = row (codes "dsd-delete") (name nothing)
-row_of (Separate Dynamic sets.Number) = row (codes "dsd-number") (name (number nothing))
+row_of (Separate kind sets.Create) = row (by_kind kind (codes "ssd-create") (codes "dsd-create")) (name (number names))
+row_of (Separate kind sets.Add) = row (by_kind kind (codes "ssd-add") (codes "dsd-add")) (name (name nothing))
+row_of (Separate kind sets.Drop) = row (by_kind kind (codes "ssd-drop") (codes "dsd-drop")) (name (name nothing))
+row_of (Separate kind sets.Delete) = row (by_kind kind (codes "ssd-delete") (codes "dsd-delete")) (name nothing)
+row_of (Separate kind sets.Number) = row (by_kind kind (codes "ssd-number") (codes "dsd-number")) (name (number nothing))
 -- sessions
 row_of (Session sessions.Open) = row (codes "open") (name names)
 row_of (Session sessions.Close) = row (codes "close") (number nothing)

@@ -26,4 +26,4 @@ pub use replies::{
     push_ask_fault, push_committed, push_fault, push_line_fault, push_reply, reply_text,
 };
 pub use spelling::{event_text, push_event};
-pub use word::{AskWord, HoldWord, ManageWord, MoveWord, Separation, SessionWord, SetWord, Word};
+pub use word::{AskWord, HoldWord, ManageWord, MoveWord, SessionWord, SetWord, Word};

@@ -5,7 +5,6 @@ ghost use Rattle.board_rules.specs.declared.call.Call.TheVariants as calls;
 ghost use Rattle.board_lines.specs.declared.command.Command.TheVariants.{Submit};
 ghost use Rattle.board_lines.specs.declared.word.Word.TheVariants.{Propose, Hold, Manage, Separate, Session, Ask};
 ghost use Rattle.board_lines.specs.declared.word.ManageWord.TheVariants as manages;
-ghost use Rattle.board_lines.specs.declared.word.Separation.TheVariants.{Static, Dynamic};
 ghost use Rattle.text_words.specs.Words.{words as line_words, AreFirstOf};
 ghost use Rattle.board_lines.specs.Reading.{Says, Proposes, Orders, Begins, by_policy, after_word, words_read, read_of};
 
@@ -15,12 +14,10 @@ use crate::arguments::{
     three_numbers, two_names, two_numbers,
 };
 use crate::command::{Command, LineFault, ReadFault};
-use crate::word::{
-    AskWord, HoldWord, ManageWord, MoveWord, Separation, SessionWord, SetWord, Word,
-};
+use crate::word::{AskWord, HoldWord, ManageWord, MoveWord, SessionWord, SetWord, Word};
 use board_rules::{Call, Review};
 use move_core::Move;
-use rbac_core::Command as PolicyCommand;
+use rbac_core::{Command as PolicyCommand, Separation};
 use std::alloc::Global;
 use text_words::keep_all_words;
 
@@ -306,20 +303,22 @@ fn manage(session: u32, word: ManageWord, arguments: &[&[u8]]) -> Result<Command
 
 #[tactic(auto, unfolding(crate::specs::Reading::command_of))]
 #[inline(never)]
-fn separate_static(
+fn separate(
     alloc: Global,
     session: u32,
+    kind: Separation,
     word: SetWord,
     arguments: &[&[u8]],
 ) -> Result<Command, ReadFault>
-    ensures { Says result (after_word session (Separate Static word) (map (λ w. w.now) arguments.now)) }
+    ensures { Says result (after_word session (Separate kind word) (map (λ w. w.now) arguments.now)) }
 {
     match word {
         SetWord::Create => {
             let (name, number, roles) = name_number_and_names(alloc, arguments)?;
             Ok(by_policy(
                 session,
-                PolicyCommand::CreateSsdSet {
+                PolicyCommand::CreateSet {
+                    kind,
                     name,
                     number,
                     roles,
@@ -328,65 +327,21 @@ fn separate_static(
         }
         SetWord::Add => {
             let (name, role) = two_names(arguments)?;
-            Ok(by_policy(session, PolicyCommand::AddSsdRoleMember { name, role }))
+            Ok(by_policy(session, PolicyCommand::AddSetMember { kind, name, role }))
         }
         SetWord::Drop => {
             let (name, role) = two_names(arguments)?;
-            Ok(by_policy(session, PolicyCommand::DeleteSsdRoleMember { name, role }))
+            Ok(by_policy(session, PolicyCommand::DeleteSetMember { kind, name, role }))
         }
         SetWord::Delete => {
             let name = one_name(arguments)?;
-            Ok(by_policy(session, PolicyCommand::DeleteSsdSet { name }))
+            Ok(by_policy(session, PolicyCommand::DeleteSet { kind, name }))
         }
         SetWord::Number => {
             let (name, number) = name_and_number(arguments)?;
             Ok(by_policy(
                 session,
-                PolicyCommand::SetSsdSetCardinality { name, number },
-            ))
-        }
-    }
-}
-
-#[tactic(auto, unfolding(crate::specs::Reading::command_of))]
-#[inline(never)]
-fn separate_dynamic(
-    alloc: Global,
-    session: u32,
-    word: SetWord,
-    arguments: &[&[u8]],
-) -> Result<Command, ReadFault>
-    ensures { Says result (after_word session (Separate Dynamic word) (map (λ w. w.now) arguments.now)) }
-{
-    match word {
-        SetWord::Create => {
-            let (name, number, roles) = name_number_and_names(alloc, arguments)?;
-            Ok(by_policy(
-                session,
-                PolicyCommand::CreateDsdSet {
-                    name,
-                    number,
-                    roles,
-                },
-            ))
-        }
-        SetWord::Add => {
-            let (name, role) = two_names(arguments)?;
-            Ok(by_policy(session, PolicyCommand::AddDsdRoleMember { name, role }))
-        }
-        SetWord::Drop => {
-            let (name, role) = two_names(arguments)?;
-            Ok(by_policy(session, PolicyCommand::DeleteDsdRoleMember { name, role }))
-        }
-        SetWord::Delete => {
-            let name = one_name(arguments)?;
-            Ok(by_policy(session, PolicyCommand::DeleteDsdSet { name }))
-        }
-        SetWord::Number => {
-            let (name, number) = name_and_number(arguments)?;
-            Ok(by_policy(
-                session,
-                PolicyCommand::SetDsdSetCardinality { name, number },
+                PolicyCommand::SetCardinality { kind, name, number },
             ))
         }
     }
@@ -501,12 +456,7 @@ pub fn read_command(
         Word::Propose(word) => proposal(session, word, arguments),
         Word::Hold(word) => hold(session, word, arguments),
         Word::Manage(word) => manage(session, word, arguments),
-        Word::Separate(Separation::Static, word) => {
-            separate_static(alloc, session, word, arguments)
-        }
-        Word::Separate(Separation::Dynamic, word) => {
-            separate_dynamic(alloc, session, word, arguments)
-        }
+        Word::Separate(kind, word) => separate(alloc, session, kind, word, arguments),
         Word::Session(word) => change_session(alloc, session, word, arguments),
         Word::Ask(word) => question(session, word, arguments),
     }

@@ -4,13 +4,16 @@ ghost use Rattle.std.specs.Prelude.{◌≡◌, ◌++◌, [], ◌∷◌, IfOk, On
 ghost use Rattle.std.specs.List.{flat_map};
 ghost use Rattle.std.specs.Fmt.{decimal};
 ghost use Rattle.board_rules.specs.declared.call.Call.TheVariants.{Propose};
+ghost use Rattle.board_lines.specs.declared.word.Word.TheVariants.{Separate};
+ghost use Rattle.board_lines.specs.Table.{row_of};
 ghost use Rattle.board_lines.specs.Replies.{AppendsPrefix, spaced};
 ghost use Rattle.board_lines.specs.Saying.{operation_word, range_words, behind, move_said, policy_said, after_number, event_text};
 
 use crate::digits::{push_ascii, push_each, push_number, push_text};
+use crate::word::SetWord;
 use board_rules::Call;
 use move_core::Move;
-use rbac_core::{Command as PolicyCommand, ObjectRange, Operation};
+use rbac_core::{Command as PolicyCommand, ObjectRange, Operation, Separation};
 use separation_core::Name;
 use std::alloc::{AllocError, Global};
 
@@ -136,6 +139,29 @@ fn push_permission(
     push_range(out, range)
 }
 
+/// The word of a change of a set, behind a space.
+#[inline(always)]
+fn set_word(kind: Separation, word: SetWord) -> &'static str
+    ensures { result.now ≡ 32 ∷ (row_of (Separate kind word)).text }
+{
+    match kind {
+        Separation::Static => match word {
+            SetWord::Create => " ssd-create",
+            SetWord::Add => " ssd-add",
+            SetWord::Drop => " ssd-drop",
+            SetWord::Delete => " ssd-delete",
+            SetWord::Number => " ssd-number",
+        },
+        Separation::Dynamic => match word {
+            SetWord::Create => " dsd-create",
+            SetWord::Add => " dsd-add",
+            SetWord::Drop => " dsd-drop",
+            SetWord::Delete => " dsd-delete",
+            SetWord::Number => " dsd-number",
+        },
+    }
+}
+
 /// Appends a set's word, its name, its number and its roles.
 fn push_set(
     out: &mut String,
@@ -218,41 +244,31 @@ fn push_policy(out: &mut String, session: u32, command: &PolicyCommand) -> Resul
         PolicyCommand::DeleteInheritance { senior, junior } => {
             push_two_names(out, " uninherit", senior, junior)
         }
-        PolicyCommand::CreateSsdSet {
+        PolicyCommand::CreateSet {
+            kind,
             name,
             number,
             roles,
-        } => { push_set(out, " ssd-create", name, *number, roles.as_slice()) }
-        PolicyCommand::AddSsdRoleMember { name, role } => push_two_names(
-            out, " ssd-add", name, role,
-        ),
-        PolicyCommand::DeleteSsdRoleMember { name, role } => push_two_names(
-            out,
-            " ssd-drop",
-            name,
-            role,
-        ),
-        PolicyCommand::DeleteSsdSet { name } => push_one_name(out, " ssd-delete", name),
-        PolicyCommand::SetSsdSetCardinality { name, number } => {
-            push_name_and_number(out, " ssd-number", name, *number)
+        } => {
+            push_set(
+                out,
+                set_word(*kind, SetWord::Create),
+                name,
+                *number,
+                roles.as_slice(),
+            )
         }
-        PolicyCommand::CreateDsdSet {
-            name,
-            number,
-            roles,
-        } => { push_set(out, " dsd-create", name, *number, roles.as_slice()) }
-        PolicyCommand::AddDsdRoleMember { name, role } => push_two_names(
-            out, " dsd-add", name, role,
-        ),
-        PolicyCommand::DeleteDsdRoleMember { name, role } => push_two_names(
-            out,
-            " dsd-drop",
-            name,
-            role,
-        ),
-        PolicyCommand::DeleteDsdSet { name } => push_one_name(out, " dsd-delete", name),
-        PolicyCommand::SetDsdSetCardinality { name, number } => {
-            push_name_and_number(out, " dsd-number", name, *number)
+        PolicyCommand::AddSetMember { kind, name, role } => {
+            push_two_names(out, set_word(*kind, SetWord::Add), name, role)
+        }
+        PolicyCommand::DeleteSetMember { kind, name, role } => {
+            push_two_names(out, set_word(*kind, SetWord::Drop), name, role)
+        }
+        PolicyCommand::DeleteSet { kind, name } => {
+            push_one_name(out, set_word(*kind, SetWord::Delete), name)
+        }
+        PolicyCommand::SetCardinality { kind, name, number } => {
+            push_name_and_number(out, set_word(*kind, SetWord::Number), name, *number)
         }
         PolicyCommand::Migrate => push_text(out, " migrate"),
         PolicyCommand::CreateSession { user, roles } => {

@@ -4,6 +4,8 @@ ghost use Rattle.std.specs.Prelude.{◌≡◌, bytes_eq};
 ghost use Rattle.std.specs.Map.{lookup};
 ghost use Rattle.board_lines.specs.Table.{word_of, of_letter};
 
+use rbac_core::Separation;
+
 /// A command of the board, by family. Each has one word, which a line names it by.
 #[derive(Clone, Copy, Debug, PartialEq, Eq)]
 pub enum Word {
@@ -55,13 +57,6 @@ pub enum ManageWord {
     Inherit,
     Uninherit,
     Migrate,
-}
-
-/// The two kinds of separation of duty.
-#[derive(Clone, Copy, Debug, PartialEq, Eq)]
-pub enum Separation {
-    Static,
-    Dynamic,
 }
 
 /// Changes of a set of separation of duty.

@@ -6,20 +6,8 @@ use Rattle.board_lines.proofs.spelling.push_policy.Goals as goal
 pub returns-in-DeleteUser-clause-ok : goal.returns-in-DeleteUser-clause-ok
 returns-in-DeleteUser-clause-ok c = rw c.in-DeleteUser.is c.push_one_name-in-DeleteUser.ensures.ok
 
-pub returns-in-SetSsdSetCardinality-clause-ok : goal.returns-in-SetSsdSetCardinality-clause-ok
-returns-in-SetSsdSetCardinality-clause-ok c = rw c.in-SetSsdSetCardinality.is c.push_name_and_number.ensures.ok
-
-pub returns-in-SetDsdSetCardinality-clause-ok : goal.returns-in-SetDsdSetCardinality-clause-ok
-returns-in-SetDsdSetCardinality-clause-ok c = rw c.in-SetDsdSetCardinality.is c.push_name_and_number-in-SetDsdSetCardinality.ensures.ok
-
 pub returns-in-DeleteUser-clause-left : goal.returns-in-DeleteUser-clause-left
 returns-in-DeleteUser-clause-left c = rw c.in-DeleteUser.is c.push_one_name-in-DeleteUser.ensures.left
-
-pub returns-in-SetSsdSetCardinality-clause-left : goal.returns-in-SetSsdSetCardinality-clause-left
-returns-in-SetSsdSetCardinality-clause-left c = rw c.in-SetSsdSetCardinality.is c.push_name_and_number.ensures.left
-
-pub returns-in-SetDsdSetCardinality-clause-left : goal.returns-in-SetDsdSetCardinality-clause-left
-returns-in-SetDsdSetCardinality-clause-left c = rw c.in-SetDsdSetCardinality.is c.push_name_and_number-in-SetDsdSetCardinality.ensures.left
 
 pub returns-in_err-push_one_name-in-CreateSession-clause-left : goal.returns-in_err-push_one_name-in-CreateSession-clause-left
 returns-in_err-push_one_name-in-CreateSession-clause-left c = on_err _ (cut_more _ _ (behind c.in-CreateSession.roles) _ _ c.in_err-push_one_name-in-CreateSession.ensures.left (rw c.in-CreateSession.is (search (rules, append_assoc))))
