@@ -1,8 +1,8 @@
-use Rattle.std.proofs.Common.{zero, suc, ◌≡◌, ◌≢◌, ℕ, ◌-◌, ◌≤◌, ◌⊎◌, ◌∙◌, sym, ap, subst, refl, arith, inl, inr, List, [], ◌∷◌, length, slice_get, Some, slice_set, slice_index, get_or, Contains, All}
+use Rattle.std.proofs.Common.{zero, suc, ◌≡◌, ◌≢◌, ℕ, ◌-◌, ◌≤◌, ◌⊎◌, ◌∙◌, sym, ap, subst, refl, arith, inl, inr, List, [], ◌∷◌, ◌++◌, length, slice_get, Some, slice_set, slice_index, get_or, Contains, All}
 use Rattle.std.proofs.lemmas.Bool.{cases_eq}
-use Rattle.std.proofs.lemmas.List.{length-set, get_or-set_same, get_or-set_other}
+use Rattle.std.proofs.lemmas.List.{append_assoc, length-set, get_or-set_same, get_or-set_other}
 use Rattle.std.proofs.lemmas.List.Elements.{Contains-get_or}
-use Rattle.plan_core.specs.Plan.{Changes, StandsAt, IsPlan, IsNamed, AreApart, route_at, with_routes, with_stamps}
+use Rattle.plan_core.specs.Plan.{Changes, StandsAt, IsPlan, IsNamed, AreApart, route_at, former, with_routes, with_stamps}
 use Rattle.plan_core.specs.Homes.{AreHomes}
 use Rattle.plan_core.proofs.Places.{contains_from_stands, stands_from_contains}
 
@@ -92,6 +92,25 @@ done_none changes routes homes apart kept c v p s out =
     let there = stands_from_contains routes c v s.low (omega (arith, s.high))
     (subst (λ (r : List ℕ). Contains r c) same (contains_from_stands (with_routes changes routes) c v p s)) in
     kept.at c v there.0 there.1
+
+-- later changes are of vehicles that still have the routes that they had
+pub former-later : (routes : List (List ℕ)) (v : ℕ) (route : List ℕ) (vehicles : ℕ) (rest : Changes) → 1 ≤ v → ¬ IsNamed rest v → AreApart vehicles rest
+    → former (slice_set routes (v - 1) route) rest ≡ former routes rest
+former-later routes v route n [] low out apart = refl
+former-later routes v route n (c ∷ cs) low out (one, high, once, apart) =
+    let away : c.0 - 1 ≢ v - 1 = λ e. out (inl (omega arith)) in
+    ap (λ (r : List ℕ). (c.0, r) ∷ former (slice_set routes (v - 1) route) cs) (get_or-set_other routes (v - 1) (c.0 - 1) route [] away)
+    ∙ ap (λ (xs : Changes). (c.0, route_at routes c.0) ∷ xs) (former-later routes v route n cs low (λ h. out (inr h)) apart)
+
+pub gone_step : (front rest : Changes) (routes : List (List ℕ)) (v : ℕ) (route before : List ℕ) (all : Changes)
+    → AreApart (length routes) ((v, route) ∷ rest) → before ≡ route_at routes v
+    → front ++ former routes ((v, route) ∷ rest) ≡ all
+    → (front ++ (v, before) ∷ []) ++ former (slice_set routes (v - 1) route) rest ≡ all
+gone_step front rest routes v route before all (one, high, once, apart) e kept =
+    append_assoc front ((v, before) ∷ []) (former (slice_set routes (v - 1) route) rest)
+    ∙ ap (λ (xs : Changes). front ++ (v, before) ∷ xs) (former-later routes v route (length routes) rest one once apart)
+    ∙ ap (λ (r : List ℕ). front ++ (v, r) ∷ former routes rest) e
+    ∙ kept
 
 -- between two exchanges: with the changes that are left, the routes and stamps become the promised ones
 pub record IsExchanging (final : List (List ℕ)) (target : List ℕ) (version : ℕ) (rest : Changes) (routes : List (List ℕ)) (stamps row : List ℕ) : Type 0 where

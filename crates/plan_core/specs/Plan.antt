@@ -58,6 +58,10 @@ abbrev pub with_routes : Changes → List (List ℕ) → List (List ℕ)
 with_routes [] routes = routes
 with_routes (c ∷ cs) routes = with_routes cs (slice_set routes (c.0 - 1) c.1)
 
+-- the named vehicles with the routes that they have
+abbrev pub former : List (List ℕ) → Changes → Changes
+former routes changes = map (λ c. (c.0, route_at routes c.0)) changes
+
 -- the numbers of the last commits after commit n changed the named vehicles
 abbrev pub with_stamps : Changes → ℕ → List ℕ → List ℕ
 with_stamps [] n stamps = stamps

@@ -15,12 +15,14 @@ pub fn currency_by_stamps()
 
 /// One more commit is the last one of the vehicles that it changed, and does not change the last commit of any other vehicle.
 pub fn commits_by_one_more()
-    ensures { (commits : List (List ℕ)) (changed : List ℕ) (v : ℕ) → last_commit v (commits ++ changed ∷ []) ≡ (if is_among v changed then length commits + 1 else last_commit v commits) }
+    ensures { (commits : List (List ℕ)) (changed : List ℕ) (v : ℕ)
+        → last_commit v (commits ++ changed ∷ []) ≡ (if is_among v changed then length commits + 1 else last_commit v commits) }
 {}
 
 /// A plan that keeps the numbers of some commits keeps, after one more commit, those of all.
 pub fn stamps_by_one_more()
-    ensures { (commits : List (List ℕ)) (plan : PlanState) (changes : Changes) → AreStamps commits plan → AreApart (length plan.stamps) changes → AreStamps (commits ++ named_vehicles changes ∷ []) (replaced changes plan) }
+    ensures { (commits : List (List ℕ)) (plan : PlanState) (changes : Changes) → AreStamps commits plan
+        → AreApart (length plan.stamps) changes → AreStamps (commits ++ named_vehicles changes ∷ []) (replaced changes plan) }
 {}
 
 /// Each named vehicle has its new route afterwards, and all others keep theirs.

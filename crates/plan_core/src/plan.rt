@@ -2,7 +2,7 @@ ghost use Rattle.std.specs.Prelude.{◌≡◌, ℕ, ◌+◌, ◌*◌, ◌-◌, �
 ghost use Rattle.callback_store.specs.Meter.{AsksJust};
 ghost use Rattle.callback_store.specs.Tables.{table_at};
 ghost use Rattle.dimension_core.specs.Setup.{setting};
-ghost use Rattle.plan_core.specs.Plan.{routes_of, changes_of, StandsAt, IsPlaced, IsPlan, AreChanges, AreSizes, route_at, stamp_of, with_routes, replaced};
+ghost use Rattle.plan_core.specs.Plan.{routes_of, changes_of, StandsAt, IsPlaced, IsPlan, AreChanges, AreSizes, route_at, stamp_of, with_routes, former, replaced};
 ghost use Rattle.plan_core.specs.Cost.{cost_of, asks_of};
 
 use crate::cost::cost_of_routes;
@@ -34,9 +34,19 @@ impl Model for Plan {
 
     ghost Value = { PlanState };
 
-    ghost view = { λ a. record { customers = a.customers; routes = routes_of a.routes.items; version = a.version; stamps = a.stamps.items } };
+    ghost view = { λ a. record {
+      customers = a.customers;
+      routes = routes_of a.routes.items;
+      version = a.version;
+      stamps = a.stamps.items;
+    } };
 
-    ghost invariant = { λ a. IsKept (record { customers = a.customers; routes = routes_of a.routes.items; version = a.version; stamps = a.stamps.items }) a.homes.items };
+    ghost invariant = { λ a. IsKept (record {
+      customers = a.customers;
+      routes = routes_of a.routes.items;
+      version = a.version;
+      stamps = a.stamps.items;
+    }) a.homes.items };
 }
 
 impl Plan {
@@ -44,7 +54,8 @@ impl Plan {
     pub fn new(alloc: Global, customers: u32, vehicles: u32) -> Result<Plan, AllocError>
         requires customers { customers ≤ 1000 }
         requires vehicles { vehicles ≤ 1000 }
-        ensures { IfOk result (λ plan. plan ≡ record { customers = customers; routes = replicate vehicles []; version = 0; stamps = replicate vehicles 0 }) }
+        ensures { IfOk result (λ plan. plan
+            ≡ record { customers = customers; routes = replicate vehicles []; version = 0; stamps = replicate vehicles 0 }) }
     {
         let routes = empty_routes(alloc, vehicles)?;
         let stamps = vec![in alloc; 0u32; vehicles as usize]?;
@@ -149,6 +160,7 @@ impl Plan {
         requires plan { IsPlan self.old.customers (with_routes (changes_of changes.items) self.old.routes) }
         requires room { self.old.version < 16777216 }
         ensures plan { self.new ≡ replaced (changes_of changes.items) self.old }
+        ensures former { changes_of result.items ≡ former self.old.routes (changes_of changes.items) }
     {
         let mut changes = changes;
         let version = self.version + 1;

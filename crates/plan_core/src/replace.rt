@@ -1,5 +1,5 @@
 ghost use Rattle.std.specs.Prelude.{◌≡◌, ℕ, ◌+◌, ◌-◌, ◌≤◌, ◌<◌, List, [], length, slice_index, All, Contains};
-ghost use Rattle.plan_core.specs.Plan.{routes_of, changes_of, Changes, IsPlan, AreApart, with_routes, with_stamps};
+ghost use Rattle.plan_core.specs.Plan.{routes_of, changes_of, Changes, IsPlan, AreApart, with_routes, with_stamps, former};
 ghost use Rattle.plan_core.specs.Homes.{AreHomes};
 
 use crate::route::Route;
@@ -34,6 +34,7 @@ pub(crate) fn exchange_all(
     ensures routes { routes_of routes.new ≡ with_routes (changes_of changes.old) (routes_of routes.old) }
     ensures stamps { stamps.new ≡ with_stamps (changes_of changes.old) version stamps.old }
     ensures homes { AreHomes (routes_of routes.new) homes.new }
+    ensures former { changes_of changes.new ≡ former (routes_of routes.old) (changes_of changes.old) }
 {
     for k in 0..changes.len() {
         let (vehicle, route) = &mut changes[k];

@@ -71,7 +71,8 @@ impl Route {
 /// The place of a customer in a route, counted from 1, or none.
 pub(crate) fn place_in(route: &[u32], customer: u32) -> Option<u32>
     requires { length route.now ≤ 1000 }
-    ensures { MatchOption result (¬ Contains route.now customer) (λ place. (1 ≤ place) × (slice_get route.now (place - 1) ≡ Some customer)) }
+    ensures { MatchOption result (¬ Contains route.now customer) (λ place. (1 ≤ place)
+        × (slice_get route.now (place - 1) ≡ Some customer)) }
 {
     match route.iter().position(|c| *c == customer) {
         None => None,

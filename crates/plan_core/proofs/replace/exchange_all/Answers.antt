@@ -1,8 +1,8 @@
-use Rattle.std.proofs.Common.{◌≡◌, ◌∙◌, ◌∷◌, ◌+◌, ◌-◌, ℕ, List, length, drop, drop-cons, add-one, subst, sym, arith, slice_index_or, Global}
+use Rattle.std.proofs.Common.{◌≡◌, ◌∙◌, ◌∷◌, ◌++◌, ◌+◌, ◌-◌, ◌≤◌, ℕ, List, [], length, refl, ap, take, drop, drop-cons, add-one, subst, sym, arith, slice_index_or, Global}
 use Rattle.std.specs.declared.sync.Arc.{Arc}
-use Rattle.std.proofs.lemmas.List.{length-set, length-map, map-set, drop-set-lt}
-use Rattle.plan_core.specs.Plan.{AreApart, routes_of, changes_of, with_routes, with_stamps}
-use Rattle.plan_core.proofs.Exchange.{IsExchanging, exchanging_first, exchanging_step, known_next}
+use Rattle.std.proofs.lemmas.List.{length-set, length-map, get_or-map, map-set, map_push, take_more_set, drop-set-lt}
+use Rattle.plan_core.specs.Plan.{AreApart, route_at, routes_of, changes_of, former, with_routes, with_stamps}
+use Rattle.plan_core.proofs.Exchange.{IsExchanging, exchanging_first, exchanging_step, gone_step, known_next}
 use Rattle.plan_core.proofs.replace.exchange_all.Goals as goal
 
 pub loop-k-init : goal.loop-k-init
@@ -11,6 +11,7 @@ loop-k-init c =
     subst (λ (n : ℕ). AreApart n (changes_of c.args.changes.now)) (sym (length-map c.args.routes.now (λ r. r.value))) c.requires.apart in
     record {
       kept = exchanging_first (changes_of c.args.changes.now) (routes_of c.args.routes.now) c.args.version c.args.stamps.now c.args.homes.now apart c.requires.homes;
+      gone = refl;
       sized = c.requires.stamps;
     }
 
@@ -37,7 +38,14 @@ loop-k-preserved c =
     rw add-one (drop-cons c.loop-k.changes at c.index-changes-k.result (omega (arith, c.loop-k-test.true, c.loop-k.auto.changes))) in
     let kept = subst (λ (xs : List (ℕ × Arc (List ℕ) Global)). IsExchanging final target c.args.version (changes_of xs) (routes_of c.loop-k.routes) c.loop-k.stamps c.loop-k.homes)
     next c.loop-k.invariant.kept in
+    let gone = subst (λ (xs : List (ℕ × Arc (List ℕ) Global)). changes_of (take at c.loop-k.changes) ++ former (routes_of c.loop-k.routes) (changes_of xs)
+        ≡ former (routes_of c.args.routes.now) (changes_of c.args.changes.now)) next c.loop-k.invariant.gone in
     let says = c.settle.ensures in
+    let after : ℕ × Arc (List ℕ) Global = (change.0, c.swap.new.y) in
+    let high : change.0 ≤ length c.loop-k.routes = subst (λ (n : ℕ). change.0 ≤ n) (length-map c.loop-k.routes (λ r. r.value)) kept.apart.1 in
+    let old : c.swap.new.y.value ≡ route_at (routes_of c.loop-k.routes) change.0 =
+    ap (λ (r : Arc (List ℕ) Global). r.value) c.swap.ensures.y_after
+    ∙ sym (get_or-map (λ (r : Arc (List ℕ) Global). r.value) c.loop-k.routes (change.0 - 1) c.index-routes-vehicle.result [] (omega (arith, kept.apart.0, high))) in
     let read : c.customers.result.now ≡ change.1.value = c.customers.ensures ∙ c.deref.ensures in
     record {
       kept = rw (
@@ -47,6 +55,15 @@ loop-k-preserved c =
       )
           (exchanging_step (length c.args.homes.now) final target c.args.version change.0 change.1.value _ _ _ _ c.settle.new.homes c.requires.plan kept
           (rw read at says.settled) (rw read at says.others) says.known);
+      gone = rw (
+        c.swap.ensures.x_after,
+        take_more_set c.loop-k.changes at after (omega (arith, c.loop-k-test.true, c.loop-k.auto.changes)),
+        map_push {Y = ℕ × List ℕ} (λ (d : ℕ × Arc (List ℕ) Global). (d.0, d.1.value)) (take at c.loop-k.changes) after,
+        drop-set-lt (at + 1) c.loop-k.changes at after (omega arith),
+        map-set (λ (r : Arc (List ℕ) Global). r.value) c.loop-k.routes (change.0 - 1) change.1,
+      )
+          (gone_step (changes_of (take at c.loop-k.changes)) (changes_of (drop (at + 1) c.loop-k.changes)) (routes_of c.loop-k.routes) change.0 change.1.value
+          c.swap.new.y.value _ kept.apart old gone);
       sized = length-set c.loop-k.stamps (change.0 - 1) c.args.version ∙ c.loop-k.invariant.sized
           ∙ sym (length-set c.loop-k.routes (change.0 - 1) c.swap.new.x);
     }
