@@ -31,15 +31,20 @@ impl Core {
         ensures ok { IfOk result (λ reply. self.new.journal ≡ self.old.journal ++ entry_of event reply ∷ []) }
         ensures desks { length self.new.turns ≡ length self.old.turns }
         ensures err { OnErr result (self.new.journal ≡ self.old.journal) }
-        ensures given_up { (session : ℕ) (command : Command) → event.call ≡ Policy session command → OnOk result (self.new.held.policy.tried ≡ self.new.held.policy.now) }
+        ensures given_up { (session : ℕ) (command : Command) → event.call ≡ Policy session command
+            → OnOk result (self.new.held.policy.tried ≡ self.new.held.policy.now) }
         ensures untried { self.old.held.policy.tried ≡ self.old.held.policy.now → self.new.held.policy.tried ≡ self.new.held.policy.now }
-        ensures out_of_turn { IsErrOf result Fault.OutOfTurn ↔ (is_turn (length self.old.turns) self.old.journal event.desk event.turn ≡ false) }
-        ensures full { IsErrOf result Fault.Full ↔ ((is_turn (length self.old.turns) self.old.journal event.desk event.turn ≡ true) × (length self.old.journal ≡ (setting setup.now).max_events)) }
+        ensures out_of_turn { IsErrOf result Fault.OutOfTurn
+            ↔ (is_turn (length self.old.turns) self.old.journal event.desk event.turn ≡ false) }
+        ensures full { IsErrOf result Fault.Full ↔ ((is_turn (length self.old.turns) self.old.journal event.desk event.turn ≡ true)
+            × (length self.old.journal ≡ (setting setup.now).max_events)) }
         ensures untaken { IfErr result (λ fault. fault ≢ Fault.NoMemory → meter.new ≡ meter.old) }
-        ensures work { IfOk result (λ reply. IsWorkOf (setting setup.now) (state_after (setting setup.now) self.old.journal).pins (state_after (setting setup.now) self.old.journal).routes event.call reply meter.old meter.new) }
+        ensures work { IfOk result (λ reply. IsWorkOf (setting setup.now) (state_after (setting setup.now) self.old.journal).pins
+            (state_after (setting setup.now) self.old.journal).routes event.call reply meter.old meter.new) }
         ensures most { WorksAtMost meter.old meter.new
             (call_asks (setting setup.now) (state_after (setting setup.now) self.old.journal).routes event.call)
-            (call_probes (state_after (setting setup.now) self.old.journal).pins (state_after (setting setup.now) self.old.journal).routes event.call) }
+            (call_probes (state_after (setting setup.now) self.old.journal).pins
+            (state_after (setting setup.now) self.old.journal).routes event.call) }
     {
         let Event { desk, turn, call } = event;
         match call {
@@ -109,13 +114,17 @@ impl Core {
         ensures desks { length self.new.turns ≡ length self.old.turns }
         ensures err { OnErr result (self.new.journal ≡ self.old.journal) }
         ensures untried { self.old.held.policy.tried ≡ self.old.held.policy.now → self.new.held.policy.tried ≡ self.new.held.policy.now }
-        ensures out_of_turn { IsErrOf result Fault.OutOfTurn ↔ (is_turn (length self.old.turns) self.old.journal proposal.desk proposal.turn ≡ false) }
-        ensures full { IsErrOf result Fault.Full ↔ ((is_turn (length self.old.turns) self.old.journal proposal.desk proposal.turn ≡ true) × (length self.old.journal ≡ (setting setup.now).max_events)) }
+        ensures out_of_turn { IsErrOf result Fault.OutOfTurn
+            ↔ (is_turn (length self.old.turns) self.old.journal proposal.desk proposal.turn ≡ false) }
+        ensures full { IsErrOf result Fault.Full ↔ ((is_turn (length self.old.turns) self.old.journal proposal.desk proposal.turn ≡ true)
+            × (length self.old.journal ≡ (setting setup.now).max_events)) }
         ensures untaken { IfErr result (λ fault. fault ≢ Fault.NoMemory → meter.new ≡ meter.old) }
-        ensures work { IfOk result (λ verdict. IsWorkOf (setting setup.now) (state_after (setting setup.now) self.old.journal).pins (state_after (setting setup.now) self.old.journal).routes (call_of proposal) (reply_by verdict) meter.old meter.new) }
+        ensures work { IfOk result (λ verdict. IsWorkOf (setting setup.now) (state_after (setting setup.now) self.old.journal).pins
+            (state_after (setting setup.now) self.old.journal).routes (call_of proposal) (reply_by verdict) meter.old meter.new) }
         ensures most { WorksAtMost meter.old meter.new
             (call_asks (setting setup.now) (state_after (setting setup.now) self.old.journal).routes (call_of proposal))
-            (call_probes (state_after (setting setup.now) self.old.journal).pins (state_after (setting setup.now) self.old.journal).routes (call_of proposal)) }
+            (call_probes (state_after (setting setup.now) self.old.journal).pins (state_after (setting setup.now) self.old.journal).routes
+            (call_of proposal)) }
     {
         if let Some(fault) = self.due_fault(setup, proposal.desk, proposal.turn) {
             return Err(fault);
@@ -141,10 +150,12 @@ impl Core {
         ensures desks { length self.new.turns ≡ length self.old.turns }
         ensures err { OnErr result (self.new.journal ≡ self.old.journal) }
         ensures untried { self.old.held.policy.tried ≡ self.old.held.policy.now → self.new.held.policy.tried ≡ self.new.held.policy.now }
-        ensures work { IfOk result (λ verdict. IsWorkOf (setting setup.now) (state_after (setting setup.now) self.old.journal).pins (state_after (setting setup.now) self.old.journal).routes (call_of proposal) (reply_by verdict) meter.old meter.new) }
+        ensures work { IfOk result (λ verdict. IsWorkOf (setting setup.now) (state_after (setting setup.now) self.old.journal).pins
+            (state_after (setting setup.now) self.old.journal).routes (call_of proposal) (reply_by verdict) meter.old meter.new) }
         ensures most { WorksAtMost meter.old meter.new
             (call_asks (setting setup.now) (state_after (setting setup.now) self.old.journal).routes (call_of proposal))
-            (call_probes (state_after (setting setup.now) self.old.journal).pins (state_after (setting setup.now) self.old.journal).routes (call_of proposal)) }
+            (call_probes (state_after (setting setup.now) self.old.journal).pins (state_after (setting setup.now) self.old.journal).routes
+            (call_of proposal)) }
     {
         self.is_ready(setup);
         histories_grow_by_entries();
@@ -175,17 +186,21 @@ impl Core {
     ) -> Result<Reply, Fault>
         requires { IsKept (setting setup.now) self.old }
         ensures kept { IsKept (setting setup.now) self.new }
-        ensures ok { IfOk result (λ reply. self.new.journal ≡ self.old.journal ++ record { desk = desk; turn = turn; call = hold_call hold; reply = reply } ∷ []) }
+        ensures ok { IfOk result (λ reply. self.new.journal
+            ≡ self.old.journal ++ record { desk = desk; turn = turn; call = hold_call hold; reply = reply } ∷ []) }
         ensures desks { length self.new.turns ≡ length self.old.turns }
         ensures err { OnErr result (self.new.journal ≡ self.old.journal) }
         ensures untried { self.old.held.policy.tried ≡ self.old.held.policy.now → self.new.held.policy.tried ≡ self.new.held.policy.now }
         ensures out_of_turn { IsErrOf result Fault.OutOfTurn ↔ (is_turn (length self.old.turns) self.old.journal desk turn ≡ false) }
-        ensures full { IsErrOf result Fault.Full ↔ ((is_turn (length self.old.turns) self.old.journal desk turn ≡ true) × (length self.old.journal ≡ (setting setup.now).max_events)) }
+        ensures full { IsErrOf result Fault.Full ↔ ((is_turn (length self.old.turns) self.old.journal desk turn ≡ true)
+            × (length self.old.journal ≡ (setting setup.now).max_events)) }
         ensures untaken { IfErr result (λ fault. fault ≢ Fault.NoMemory → meter.new ≡ meter.old) }
-        ensures work { IfOk result (λ reply. IsWorkOf (setting setup.now) (state_after (setting setup.now) self.old.journal).pins (state_after (setting setup.now) self.old.journal).routes (hold_call hold) reply meter.old meter.new) }
+        ensures work { IfOk result (λ reply. IsWorkOf (setting setup.now) (state_after (setting setup.now) self.old.journal).pins
+            (state_after (setting setup.now) self.old.journal).routes (hold_call hold) reply meter.old meter.new) }
         ensures most { WorksAtMost meter.old meter.new
             (call_asks (setting setup.now) (state_after (setting setup.now) self.old.journal).routes (hold_call hold))
-            (call_probes (state_after (setting setup.now) self.old.journal).pins (state_after (setting setup.now) self.old.journal).routes (hold_call hold)) }
+            (call_probes (state_after (setting setup.now) self.old.journal).pins (state_after (setting setup.now) self.old.journal).routes
+            (hold_call hold)) }
     {
         if let Some(fault) = self.due_fault(setup, desk, turn) {
             return Err(fault);
@@ -213,10 +228,12 @@ impl Core {
         ensures desks { length self.new.turns ≡ length self.old.turns }
         ensures err { OnErr result (self.new.journal ≡ self.old.journal) }
         ensures untried { self.old.held.policy.tried ≡ self.old.held.policy.now → self.new.held.policy.tried ≡ self.new.held.policy.now }
-        ensures work { IfOk result (λ ruling. IsWorkOf (setting setup.now) (state_after (setting setup.now) self.old.journal).pins (state_after (setting setup.now) self.old.journal).routes (hold_call hold) (reply_to ruling) meter.old meter.new) }
+        ensures work { IfOk result (λ ruling. IsWorkOf (setting setup.now) (state_after (setting setup.now) self.old.journal).pins
+            (state_after (setting setup.now) self.old.journal).routes (hold_call hold) (reply_to ruling) meter.old meter.new) }
         ensures most { WorksAtMost meter.old meter.new
             (call_asks (setting setup.now) (state_after (setting setup.now) self.old.journal).routes (hold_call hold))
-            (call_probes (state_after (setting setup.now) self.old.journal).pins (state_after (setting setup.now) self.old.journal).routes (hold_call hold)) }
+            (call_probes (state_after (setting setup.now) self.old.journal).pins (state_after (setting setup.now) self.old.journal).routes
+            (hold_call hold)) }
     {
         self.is_ready(setup);
         histories_grow_by_entries();
@@ -246,7 +263,8 @@ impl Core {
         ensures given_up { OnOk result (self.new.held.policy.tried ≡ self.new.held.policy.now) }
         ensures untried { self.old.held.policy.tried ≡ self.old.held.policy.now → self.new.held.policy.tried ≡ self.new.held.policy.now }
         ensures out_of_turn { IsErrOf result Fault.OutOfTurn ↔ (is_turn (length self.old.turns) self.old.journal desk turn ≡ false) }
-        ensures full { IsErrOf result Fault.Full ↔ ((is_turn (length self.old.turns) self.old.journal desk turn ≡ true) × (length self.old.journal ≡ (setting setup.now).max_events)) }
+        ensures full { IsErrOf result Fault.Full ↔ ((is_turn (length self.old.turns) self.old.journal desk turn ≡ true)
+            × (length self.old.journal ≡ (setting setup.now).max_events)) }
         ensures untaken { IfErr result (λ fault. fault ≢ Fault.NoMemory → meter.new ≡ meter.old) }
         ensures work { OnOk result (WorksJust meter.old meter.new 0 1) }
         ensures most { WorksAtMost meter.old meter.new 0 1 }

@@ -48,7 +48,8 @@ impl Board {
     pub fn new(alloc: Global, setup: Arc<Setup>, desks: u32) -> Result<Board, AllocError>
         requires low { 1 ≤ desks }
         requires high { desks ≤ 64 }
-        ensures { IfOk result (λ board. history board ≡ record { opening = record { setting = setting setup.value; desks = desks }; entries = [] }) }
+        ensures { IfOk result (λ board. history board
+            ≡ record { opening = record { setting = setting setup.value; desks = desks }; entries = [] }) }
     {
         let core = Core::new(alloc, &setup, desks)?;
         Ok(Board { setup, core })
@@ -60,14 +61,20 @@ impl Board {
     pub fn apply(&mut self, event: Event, meter: &mut Meter) -> Result<Reply, Fault>
         ensures ok { IfOk result (λ reply. (history self.new).entries ≡ (history self.old).entries ++ entry_of event reply ∷ []) }
         ensures opening { (history self.new).opening ≡ (history self.old).opening }
-        ensures out_of_turn { IsErrOf result Fault.OutOfTurn ↔ (is_turn (history self.old).opening.desks (history self.old).entries event.desk event.turn ≡ false) }
-        ensures full { IsErrOf result Fault.Full ↔ ((is_turn (history self.old).opening.desks (history self.old).entries event.desk event.turn ≡ true) × (length (history self.old).entries ≡ (history self.old).opening.setting.max_events)) }
+        ensures out_of_turn { IsErrOf result Fault.OutOfTurn
+            ↔ (is_turn (history self.old).opening.desks (history self.old).entries event.desk event.turn ≡ false) }
+        ensures full { IsErrOf result Fault.Full
+            ↔ ((is_turn (history self.old).opening.desks (history self.old).entries event.desk event.turn ≡ true)
+            × (length (history self.old).entries ≡ (history self.old).opening.setting.max_events)) }
         ensures untaken { IfErr result (λ fault. fault ≢ Fault.NoMemory → meter.new ≡ meter.old) }
         ensures err { OnErr result (history self.new ≡ history self.old) }
-        ensures given_up { (session : ℕ) (command : Command) → event.call ≡ Policy session command → OnOk result (self.new.core.held.policy.tried ≡ self.new.core.held.policy.now) }
-        ensures untried { self.old.core.held.policy.tried ≡ self.old.core.held.policy.now → self.new.core.held.policy.tried ≡ self.new.core.held.policy.now }
+        ensures given_up { (session : ℕ) (command : Command) → event.call ≡ Policy session command
+            → OnOk result (self.new.core.held.policy.tried ≡ self.new.core.held.policy.now) }
+        ensures untried { self.old.core.held.policy.tried ≡ self.old.core.held.policy.now
+            → self.new.core.held.policy.tried ≡ self.new.core.held.policy.now }
         ensures legal { IsLegal (history self.new) }
-        ensures work { IfOk result (λ reply. IsWorkOf (history self.old).opening.setting (state_of (history self.old)).pins (state_of (history self.old)).routes event.call reply meter.old meter.new) }
+        ensures work { IfOk result (λ reply. IsWorkOf (history self.old).opening.setting (state_of (history self.old)).pins
+            (state_of (history self.old)).routes event.call reply meter.old meter.new) }
         ensures most { WorksAtMost meter.old meter.new
             (call_asks (history self.old).opening.setting (state_of (history self.old)).routes event.call)
             (call_probes (state_of (history self.old)).pins (state_of (history self.old)).routes event.call) }
@@ -82,12 +89,19 @@ impl Board {
         ensures of { IfOk result (λ prepared. prepared.of ≡ self.new.core) }
         ensures entry { IfOk result (λ prepared. prepared.entry ≡ entry_of event prepared.entry.reply) }
         ensures makes { IfOk result (Makes (history self.old).opening.setting) }
-        ensures given_up { (session : ℕ) (command : Command) → event.call ≡ Policy session command → IfOk result (λ prepared. IsGivenUp prepared.judged.change self.new.core.held.policy) }
-        ensures untried { self.old.core.held.policy.tried ≡ self.old.core.held.policy.now → MatchResult result (λ prepared. IsGivenUp prepared.judged.change self.new.core.held.policy) (λ _. self.new.core.held.policy.tried ≡ self.new.core.held.policy.now) }
-        ensures out_of_turn { IsErrOf result Fault.OutOfTurn ↔ (is_turn (history self.old).opening.desks (history self.old).entries event.desk event.turn ≡ false) }
-        ensures full { IsErrOf result Fault.Full ↔ ((is_turn (history self.old).opening.desks (history self.old).entries event.desk event.turn ≡ true) × (length (history self.old).entries ≡ (history self.old).opening.setting.max_events)) }
+        ensures given_up { (session : ℕ) (command : Command) → event.call ≡ Policy session command
+            → IfOk result (λ prepared. IsGivenUp prepared.judged.change self.new.core.held.policy) }
+        ensures untried { self.old.core.held.policy.tried ≡ self.old.core.held.policy.now
+            → MatchResult result (λ prepared. IsGivenUp prepared.judged.change self.new.core.held.policy)
+            (λ _. self.new.core.held.policy.tried ≡ self.new.core.held.policy.now) }
+        ensures out_of_turn { IsErrOf result Fault.OutOfTurn
+            ↔ (is_turn (history self.old).opening.desks (history self.old).entries event.desk event.turn ≡ false) }
+        ensures full { IsErrOf result Fault.Full
+            ↔ ((is_turn (history self.old).opening.desks (history self.old).entries event.desk event.turn ≡ true)
+            × (length (history self.old).entries ≡ (history self.old).opening.setting.max_events)) }
         ensures untaken { IfErr result (λ fault. fault ≢ Fault.NoMemory → meter.new ≡ meter.old) }
-        ensures work { IfOk result (λ prepared. IsWorkOf (history self.old).opening.setting (state_of (history self.old)).pins (state_of (history self.old)).routes event.call prepared.entry.reply meter.old meter.new) }
+        ensures work { IfOk result (λ prepared. IsWorkOf (history self.old).opening.setting (state_of (history self.old)).pins
+            (state_of (history self.old)).routes event.call prepared.entry.reply meter.old meter.new) }
         ensures most { WorksAtMost meter.old meter.new
             (call_asks (history self.old).opening.setting (state_of (history self.old)).routes event.call)
             (call_probes (state_of (history self.old)).pins (state_of (history self.old)).routes event.call) }
@@ -108,7 +122,8 @@ impl Board {
         ensures entries { (history self.new).entries ≡ (history self.old).entries ++ prepared.entry ∷ [] }
         ensures opening { (history self.new).opening ≡ (history self.old).opening }
         ensures legal { IsLegal (history self.new) }
-        ensures untried { IsGivenUp prepared.judged.change self.old.core.held.policy → self.new.core.held.policy.tried ≡ self.new.core.held.policy.now }
+        ensures untried { IsGivenUp prepared.judged.change self.old.core.held.policy
+            → self.new.core.held.policy.tried ≡ self.new.core.held.policy.now }
         ensures reply { result ≡ prepared.entry.reply }
     {
         self.core.settle(prepared)
@@ -132,7 +147,8 @@ impl Board {
         ensures rows { IfOk result (λ rows. IsListing (history self.now).opening.setting (state_of (history self.now)) session rows.items) }
         ensures asked { OnOk result (list_fault (state_of (history self.now)) session ≡ None) }
         ensures fault { IfErr result (MayAsk (list_fault (state_of (history self.now)) session)) }
-        ensures no_session { IsErrOf result AskFault.NoSession ↔ (list_fault (state_of (history self.now)) session ≡ Some AskFault.NoSession) }
+        ensures no_session { IsErrOf result AskFault.NoSession
+            ↔ (list_fault (state_of (history self.now)) session ≡ Some AskFault.NoSession) }
     {
         self.core.list(&self.setup, session)
     }

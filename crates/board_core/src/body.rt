@@ -48,7 +48,13 @@ impl Model for Core {
 
     ghost Value = { CoreState };
 
-    ghost view = { λ a. record { held = a.state; journal = a.journal.entries; turns = a.turns.items; room = a.journal.room; spare = a.journal.spare } };
+    ghost view = { λ a. record {
+      held = a.state;
+      journal = a.journal.entries;
+      turns = a.turns.items;
+      room = a.journal.room;
+      spare = a.journal.spare;
+    } };
 }
 
 impl Core {
@@ -57,7 +63,8 @@ impl Core {
         requires low { 1 ≤ desks }
         requires high { desks ≤ 64 }
         ensures kept { IfOk result (IsKept (setting setup.now)) }
-        ensures history { IfOk result (λ core. history_of (setting setup.now) core ≡ record { opening = record { setting = setting setup.now; desks = desks }; entries = [] }) }
+        ensures history { IfOk result (λ core. history_of (setting setup.now) core
+            ≡ record { opening = record { setting = setting setup.now; desks = desks }; entries = [] }) }
     {
         let state = State::new(alloc, setup)?;
         let turns = vec![in alloc; 0u32; desks as usize]?;
@@ -111,15 +118,22 @@ impl Core {
         ensures of { IfOk result (λ prepared. prepared.of ≡ self.new) }
         ensures entry { IfOk result (λ prepared. prepared.entry ≡ entry_of event prepared.entry.reply) }
         ensures makes { IfOk result (Makes (setting setup.now)) }
-        ensures given_up { (session : ℕ) (command : Command) → event.call ≡ Policy session command → IfOk result (λ prepared. IsGivenUp prepared.judged.change self.new.held.policy) }
-        ensures untried { self.old.held.policy.tried ≡ self.old.held.policy.now → MatchResult result (λ prepared. IsGivenUp prepared.judged.change self.new.held.policy) (λ _. self.new.held.policy.tried ≡ self.new.held.policy.now) }
-        ensures out_of_turn { IsErrOf result Fault.OutOfTurn ↔ (is_turn (length self.old.turns) self.old.journal event.desk event.turn ≡ false) }
-        ensures full { IsErrOf result Fault.Full ↔ ((is_turn (length self.old.turns) self.old.journal event.desk event.turn ≡ true) × (length self.old.journal ≡ (setting setup.now).max_events)) }
+        ensures given_up { (session : ℕ) (command : Command) → event.call ≡ Policy session command
+            → IfOk result (λ prepared. IsGivenUp prepared.judged.change self.new.held.policy) }
+        ensures untried { self.old.held.policy.tried ≡ self.old.held.policy.now
+            → MatchResult result (λ prepared. IsGivenUp prepared.judged.change self.new.held.policy)
+            (λ _. self.new.held.policy.tried ≡ self.new.held.policy.now) }
+        ensures out_of_turn { IsErrOf result Fault.OutOfTurn
+            ↔ (is_turn (length self.old.turns) self.old.journal event.desk event.turn ≡ false) }
+        ensures full { IsErrOf result Fault.Full ↔ ((is_turn (length self.old.turns) self.old.journal event.desk event.turn ≡ true)
+            × (length self.old.journal ≡ (setting setup.now).max_events)) }
         ensures untaken { IfErr result (λ fault. fault ≢ Fault.NoMemory → meter.new ≡ meter.old) }
-        ensures work { IfOk result (λ prepared. IsWorkOf (setting setup.now) (state_after (setting setup.now) self.old.journal).pins (state_after (setting setup.now) self.old.journal).routes event.call prepared.entry.reply meter.old meter.new) }
+        ensures work { IfOk result (λ prepared. IsWorkOf (setting setup.now) (state_after (setting setup.now) self.old.journal).pins
+            (state_after (setting setup.now) self.old.journal).routes event.call prepared.entry.reply meter.old meter.new) }
         ensures most { WorksAtMost meter.old meter.new
             (call_asks (setting setup.now) (state_after (setting setup.now) self.old.journal).routes event.call)
-            (call_probes (state_after (setting setup.now) self.old.journal).pins (state_after (setting setup.now) self.old.journal).routes event.call) }
+            (call_probes (state_after (setting setup.now) self.old.journal).pins
+            (state_after (setting setup.now) self.old.journal).routes event.call) }
     {
         if let Some(fault) = self.due_fault(setup, event.desk, event.turn) {
             return Err(fault);
@@ -154,12 +168,17 @@ impl Core {
         ensures of { IfOk result (λ prepared. prepared.of ≡ self.new) }
         ensures entry { IfOk result (λ prepared. prepared.entry ≡ entry_of event prepared.entry.reply) }
         ensures makes { IfOk result (Makes (setting setup.now)) }
-        ensures given_up { (session : ℕ) (command : Command) → event.call ≡ Policy session command → IfOk result (λ prepared. IsGivenUp prepared.judged.change self.new.held.policy) }
-        ensures untried { self.old.held.policy.tried ≡ self.old.held.policy.now → MatchResult result (λ prepared. IsGivenUp prepared.judged.change self.new.held.policy) (λ _. self.new.held.policy.tried ≡ self.new.held.policy.now) }
-        ensures work { IfOk result (λ prepared. IsWorkOf (setting setup.now) (state_after (setting setup.now) self.old.journal).pins (state_after (setting setup.now) self.old.journal).routes event.call prepared.entry.reply meter.old meter.new) }
+        ensures given_up { (session : ℕ) (command : Command) → event.call ≡ Policy session command
+            → IfOk result (λ prepared. IsGivenUp prepared.judged.change self.new.held.policy) }
+        ensures untried { self.old.held.policy.tried ≡ self.old.held.policy.now
+            → MatchResult result (λ prepared. IsGivenUp prepared.judged.change self.new.held.policy)
+            (λ _. self.new.held.policy.tried ≡ self.new.held.policy.now) }
+        ensures work { IfOk result (λ prepared. IsWorkOf (setting setup.now) (state_after (setting setup.now) self.old.journal).pins
+            (state_after (setting setup.now) self.old.journal).routes event.call prepared.entry.reply meter.old meter.new) }
         ensures most { WorksAtMost meter.old meter.new
             (call_asks (setting setup.now) (state_after (setting setup.now) self.old.journal).routes event.call)
-            (call_probes (state_after (setting setup.now) self.old.journal).pins (state_after (setting setup.now) self.old.journal).routes event.call) }
+            (call_probes (state_after (setting setup.now) self.old.journal).pins
+            (state_after (setting setup.now) self.old.journal).routes event.call) }
     {
         self.is_ready(setup);
         let alloc = *self.journal.allocator();

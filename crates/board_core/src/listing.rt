@@ -27,7 +27,8 @@ pub(crate) fn rows(
     session: u32,
 ) -> Result<Vec<Row>, AllocError>
     requires { (board : BoardState) × Holds (setting setup.now) state.now board }
-    ensures { (board : BoardState) → Holds (setting setup.now) state.now board → IfOk result (λ rows. IsListing (setting setup.now) board session rows.items) }
+    ensures { (board : BoardState) → Holds (setting setup.now) state.now board
+        → IfOk result (λ rows. IsListing (setting setup.now) board session rows.items) }
 {
     let customers = setup.customers() as usize;
     let mut rows = Vec::with_capacity(alloc, customers)?;
@@ -86,7 +87,8 @@ fn push_route(
     requires low { 1 ≤ vehicle }
     requires high { vehicle ≤ (setting setup.now).vehicles }
     ensures { (board : BoardState) → Holds (setting setup.now) state.now board
-        → IfOk result (λ _. Grows (setting setup.now) board session (touches vehicle 1 (route_at board.routes vehicle)) rows.old.items rows.new.items) }
+        → IfOk result (λ _. Grows (setting setup.now) board session
+        (touches vehicle 1 (route_at board.routes vehicle)) rows.old.items rows.new.items) }
 {
     if !state.check_in(seen, Operation::View, Object::Vehicle(vehicle)) {
         return Ok(());
@@ -114,7 +116,8 @@ fn push_unassigned(
     requires seen { option_map (λ found. found.now) seen ≡ rows_of state.now.tables session }
     ensures { (board : BoardState) → Holds (setting setup.now) state.now board
         → ((k : ℕ) → k < length placed.now → slice_index_or placed.now k false ≡ is_placed board.routes (k + 1))
-        → IfOk result (λ _. Grows (setting setup.now) board session (unassigned_spots (setting setup.now).customers board.routes) rows.old.items rows.new.items) }
+        → IfOk result (λ _. Grows (setting setup.now) board session
+        (unassigned_spots (setting setup.now).customers board.routes) rows.old.items rows.new.items) }
 {
     for before in 0..setup.customers() {
         let customer = before + 1;
@@ -131,7 +134,8 @@ fn push_unassigned(
 fn placed_row(setup: &Setup, cache: &Cache, vehicle: u32, place: u32, customer: u32) -> Row
     requires { (routes : List (List ℕ)) × IsStop (setting setup.now) routes cache.now vehicle place }
     ensures spot { spot_of result ≡ record { vehicle = vehicle; place = place; customer = customer } }
-    ensures early { (routes : List (List ℕ)) → IsStop (setting setup.now) routes cache.now vehicle place → HasEarlyValues (setting setup.now) routes result }
+    ensures early { (routes : List (List ℕ)) → IsStop (setting setup.now) routes cache.now vehicle place
+        → HasEarlyValues (setting setup.now) routes result }
 {
     let mut row = Row::new(vehicle, place, customer, &[]);
     for before in 0..setup.dimensions().len() {

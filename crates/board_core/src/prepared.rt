@@ -33,9 +33,14 @@ impl Model for Prepared {
 
     ghost Value = { PreparedState };
 
-    ghost view = { λ a. record { of = a.of.value; entry = record { desk = a.desk; turn = a.turn; call = a.call; reply = a.judged.reply }; judged = a.judged } };
+    ghost view = { λ a. record {
+      of = a.of.value;
+      entry = record { desk = a.desk; turn = a.turn; call = a.call; reply = a.judged.reply };
+      judged = a.judged;
+    } };
 
-    ghost invariant = { λ a. IsFitting (record { of = a.of.value; entry = record { desk = a.desk; turn = a.turn; call = a.call; reply = a.judged.reply }; judged = a.judged }) };
+    ghost invariant = { λ a. IsFitting (record
+        { of = a.of.value; entry = record { desk = a.desk; turn = a.turn; call = a.call; reply = a.judged.reply }; judged = a.judged }) };
 }
 
 impl Prepared {
@@ -43,7 +48,8 @@ impl Prepared {
     /// differs, and the version. It is built from the judgement: only the routes of the named vehicles are walked, from the first changed
     /// place on, and, where a pin is released, the touched customers.
     pub fn delta(&self) -> Result<Delta, AllocError>
-        ensures { (s : Setting) → IsKept s self.now.of → Makes s self.now → IfOk result (IsDeltaOf s (state_after s self.now.of.journal) self.now.entry) }
+        ensures { (s : Setting) → IsKept s self.now.of → Makes s self.now
+            → IfOk result (IsDeltaOf s (state_after s self.now.of.journal) self.now.entry) }
     {
         legal_histories_leave_good_states();
         self.judged.delta()
@@ -62,7 +68,8 @@ impl Prepared {
     /// The new routes of the vehicles whose routes the entry changes, shared with the judgement: one or two where it is a commit, and none
     /// for every other entry. No route is walked or copied.
     pub fn new_routes(&self) -> Result<Vec<(u32, Arc<Route>)>, AllocError>
-        ensures { (s : Setting) → IsKept s self.now.of → Makes s self.now → IfOk result (λ routes. AreRoutesOf (state_after s self.now.of.journal)
+        ensures { (s : Setting) → IsKept s self.now.of → Makes s self.now
+            → IfOk result (λ routes. AreRoutesOf (state_after s self.now.of.journal)
             (after (state_after s self.now.of.journal) self.now.entry.call self.now.entry.reply) (changes_of routes.items)) }
     {
         self.judged.new_routes()

@@ -27,10 +27,12 @@ impl Core {
     #[tactic(auto, unfolding(board_rules::specs::Questions::list_fault))]
     pub fn list(&self, setup: &Setup, session: u32) -> Result<Vec<Row>, AskFault>
         requires { IsKept (setting setup.now) self.now }
-        ensures rows { IfOk result (λ rows. IsListing (setting setup.now) (state_after (setting setup.now) self.now.journal) session rows.items) }
+        ensures rows { IfOk result (λ rows. IsListing (setting setup.now)
+            (state_after (setting setup.now) self.now.journal) session rows.items) }
         ensures asked { OnOk result (list_fault (state_after (setting setup.now) self.now.journal) session ≡ None) }
         ensures fault { IfErr result (MayAsk (list_fault (state_after (setting setup.now) self.now.journal) session)) }
-        ensures no_session { IsErrOf result AskFault.NoSession ↔ (list_fault (state_after (setting setup.now) self.now.journal) session ≡ Some AskFault.NoSession) }
+        ensures no_session { IsErrOf result AskFault.NoSession
+            ↔ (list_fault (state_after (setting setup.now) self.now.journal) session ≡ Some AskFault.NoSession) }
     {
         if !self.state.policy().is_session(session) {
             return Err(AskFault::NoSession);
@@ -70,10 +72,14 @@ impl Core {
     /// `NoUser` or `NotThere` where there is no such role, user or session to review, `NoMemory`.
     #[tactic(auto, unfolding(board_rules::specs::Questions::review_fault))]
     pub fn review(&self, session: u32, which: Review) -> Result<Vec<Name>, AskFault>
-        ensures names { (s : Setting) → IsKept s self.now → IfOk result (λ names. names.items ≡ review_of (state_after s self.now.journal).policy which) }
-        ensures asked { (s : Setting) → IsKept s self.now → OnOk result (review_fault (state_after s self.now.journal) session which ≡ None) }
-        ensures fault { (s : Setting) → IsKept s self.now → IfErr result (MayAsk (review_fault (state_after s self.now.journal) session which)) }
-        ensures barred { (s : Setting) (f : AskFault) → IsKept s self.now → audit_fault (state_after s self.now.journal) session ≡ Some f → IsErrOf result f }
+        ensures names { (s : Setting) → IsKept s self.now
+            → IfOk result (λ names. names.items ≡ review_of (state_after s self.now.journal).policy which) }
+        ensures asked { (s : Setting) → IsKept s self.now
+            → OnOk result (review_fault (state_after s self.now.journal) session which ≡ None) }
+        ensures fault { (s : Setting) → IsKept s self.now
+            → IfErr result (MayAsk (review_fault (state_after s self.now.journal) session which)) }
+        ensures barred { (s : Setting) (f : AskFault) → IsKept s self.now → audit_fault (state_after s self.now.journal) session ≡ Some f
+            → IsErrOf result f }
     {
         if let Some(fault) = self.audit_fault(session) {
             return Err(fault);

@@ -39,7 +39,12 @@ impl Model for Page {
     ghost use Rattle.board_journal.specs.Records.{entries_in};
     ghost use Rattle.board_journal.specs.Pages.{IsPage};
 
-    ghost view = { λ p. record { entries = entries_in p.whole.items p.records.items; room = 4096 - length p.records.items; spare = vec_capacity p.whole - length p.whole.items } };
+    ghost view = { λ p. record {
+      entries = entries_in p.whole.items p.records.items;
+      room = 4096
+          - length p.records.items;
+      spare = vec_capacity p.whole - length p.whole.items;
+    } };
 
     ghost invariant = { λ p. IsPage p.records.items p.whole.items (vec_capacity p.records) (vec_capacity p.whole) };
 }
@@ -203,7 +208,8 @@ impl Page {
     fn push_packed(&mut self, packed: Packed)
         requires room { HasRoom self.old }
         requires within { (n : ℕ) → IsWithin n packed }
-        ensures entries { (entry : Entry) → ((whole : List Entry) → entry_in whole packed ≡ entry) → self.new.entries ≡ self.old.entries ++ entry ∷ [] }
+        ensures entries { (entry : Entry) → ((whole : List Entry) → entry_in whole packed ≡ entry)
+            → self.new.entries ≡ self.old.entries ++ entry ∷ [] }
         ensures room { self.new.room + 1 ≡ self.old.room }
         ensures spare { self.new.spare ≡ self.old.spare }
     {

@@ -64,7 +64,8 @@ fn numbers_of_two(first: &[u8], second: &[u8]) -> Result<(u32, u32), LineFault>
 #[tactic(auto, unfolding(crate::specs::Arguments::number_then))]
 #[inline(always)]
 fn numbers_of_three(first: &[u8], second: &[u8], third: &[u8]) -> Result<(u32, u32, u32), LineFault>
-    ensures { read_as (λ a. a_number a.0 (a_number a.1 (a_number a.2 no_more))) result ≡ number_then first.now (number_then second.now (number_then third.now (Ok no_more))) }
+    ensures { read_as (λ a. a_number a.0 (a_number a.1 (a_number a.2 no_more))) result
+        ≡ number_then first.now (number_then second.now (number_then third.now (Ok no_more))) }
 {
     let first = number_argument(first)?;
     let (second, third) = numbers_of_two(second, third)?;
@@ -79,7 +80,8 @@ fn numbers_of_four(
     third: &[u8],
     fourth: &[u8],
 ) -> Result<(u32, u32, u32, u32), LineFault>
-    ensures { read_as (λ a. a_number a.0 (a_number a.1 (a_number a.2 (a_number a.3 no_more)))) result ≡ number_then first.now (number_then second.now (number_then third.now (number_then fourth.now (Ok no_more)))) }
+    ensures { read_as (λ a. a_number a.0 (a_number a.1 (a_number a.2 (a_number a.3 no_more)))) result
+        ≡ number_then first.now (number_then second.now (number_then third.now (number_then fourth.now (Ok no_more)))) }
 {
     let first = number_argument(first)?;
     let (second, third, fourth) = numbers_of_three(second, third, fourth)?;
@@ -95,7 +97,8 @@ fn numbers_of_five(
     fourth: &[u8],
     fifth: &[u8],
 ) -> Result<(u32, u32, u32, u32, u32), LineFault>
-    ensures { read_as (λ a. a_number a.0 (a_number a.1 (a_number a.2 (a_number a.3 (a_number a.4 no_more))))) result ≡ number_then first.now (number_then second.now (number_then third.now (number_then fourth.now (number_then fifth.now (Ok no_more))))) }
+    ensures { read_as (λ a. a_number a.0 (a_number a.1 (a_number a.2 (a_number a.3 (a_number a.4 no_more))))) result ≡ number_then first.now
+        (number_then second.now (number_then third.now (number_then fourth.now (number_then fifth.now (Ok no_more))))) }
 {
     let first = number_argument(first)?;
     let (second, third, fourth, fifth) = numbers_of_four(second, third, fourth, fifth)?;
@@ -112,7 +115,9 @@ fn numbers_of_six(
     fifth: &[u8],
     sixth: &[u8],
 ) -> Result<(u32, u32, u32, u32, u32, u32), LineFault>
-    ensures { read_as (λ a. a_number a.0 (a_number a.1 (a_number a.2 (a_number a.3 (a_number a.4 (a_number a.5 no_more)))))) result ≡ number_then first.now (number_then second.now (number_then third.now (number_then fourth.now (number_then fifth.now (number_then sixth.now (Ok no_more)))))) }
+    ensures { read_as (λ a. a_number a.0 (a_number a.1 (a_number a.2 (a_number a.3 (a_number a.4 (a_number a.5 no_more)))))) result
+        ≡ number_then first.now (number_then second.now
+        (number_then third.now (number_then fourth.now (number_then fifth.now (number_then sixth.now (Ok no_more)))))) }
 {
     let first = number_argument(first)?;
     let (second, third, fourth, fifth, sixth) = numbers_of_five(
@@ -308,7 +313,8 @@ pub(crate) fn two_names(arguments: &[&[u8]]) -> Result<(Name, Name), LineFault>
 
 #[tactic(auto, unfolding(crate::specs::Arguments::arguments_of, crate::specs::Arguments::number_then))]
 pub(crate) fn name_and_number(arguments: &[&[u8]]) -> Result<(Name, u32), LineFault>
-    ensures { read_as (λ a. a_name a.0 (a_number a.1 no_more)) result ≡ arguments_of (name (number nothing)) (map (λ w. w.now) arguments.now) }
+    ensures { read_as (λ a. a_name a.0 (a_number a.1 no_more)) result
+        ≡ arguments_of (name (number nothing)) (map (λ w. w.now) arguments.now) }
 {
     let [first, second] = arguments else {
         return Err(LineFault::Count);
@@ -320,7 +326,8 @@ pub(crate) fn name_and_number(arguments: &[&[u8]]) -> Result<(Name, u32), LineFa
 
 #[tactic(auto, unfolding(crate::specs::Arguments::arguments_of, crate::specs::Arguments::number_then))]
 pub(crate) fn number_and_name(arguments: &[&[u8]]) -> Result<(u32, Name), LineFault>
-    ensures { read_as (λ a. a_number a.0 (a_name a.1 no_more)) result ≡ arguments_of (number (name nothing)) (map (λ w. w.now) arguments.now) }
+    ensures { read_as (λ a. a_number a.0 (a_name a.1 no_more)) result
+        ≡ arguments_of (number (name nothing)) (map (λ w. w.now) arguments.now) }
 {
     let [first, second] = arguments else {
         return Err(LineFault::Count);
@@ -385,7 +392,8 @@ pub(crate) fn name_number_and_names(
     alloc: Global,
     arguments: &[&[u8]],
 ) -> Result<(Name, u32, Names), ReadFault>
-    ensures { SaysAs (λ a. a_name a.0 (a_number a.1 (the_names a.2))) result (arguments_of (name (number names)) (map (λ w. w.now) arguments.now)) }
+    ensures { SaysAs (λ a. a_name a.0 (a_number a.1 (the_names a.2))) result
+        (arguments_of (name (number names)) (map (λ w. w.now) arguments.now)) }
 {
     let [first, second, rest @ ..] = arguments else {
         return Err(ReadFault::Line(LineFault::Count));

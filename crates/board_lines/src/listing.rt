@@ -103,8 +103,10 @@ fn push_verdict_on(
     mv: &Move,
     answer: Answer,
 ) -> Result<(), AllocError>
-    ensures ok { (desk turn : ℕ) → OnOk result (string_bytes out.new ≡ string_bytes out.old ++ answer_text (record { desk = desk; turn = turn; call = Propose session base mv.now; reply = reply_of answer })) }
-    ensures left { (desk turn : ℕ) → OnErr result (AppendsPrefix (string_bytes out.old) (answer_text (record { desk = desk; turn = turn; call = Propose session base mv.now; reply = reply_of answer })) (string_bytes out.new)) }
+    ensures ok { (desk turn : ℕ) → OnOk result (string_bytes out.new ≡ string_bytes out.old ++ answer_text
+        (record { desk = desk; turn = turn; call = Propose session base mv.now; reply = reply_of answer })) }
+    ensures left { (desk turn : ℕ) → OnErr result (AppendsPrefix (string_bytes out.old) (answer_text
+        (record { desk = desk; turn = turn; call = Propose session base mv.now; reply = reply_of answer })) (string_bytes out.new)) }
 {
     push_text(out, " | ")?;
     push_proposal(out, session, base, *mv)?;
@@ -114,8 +116,10 @@ fn push_verdict_on(
 
 /// Appends a call on pins or fronts, and its reply.
 fn push_ruling_on(out: &mut String, hold: Hold, ruling: Ruling) -> Result<(), AllocError>
-    ensures ok { (desk turn : ℕ) → OnOk result (string_bytes out.new ≡ string_bytes out.old ++ answer_text (record { desk = desk; turn = turn; call = call_of hold; reply = reply_to ruling })) }
-    ensures left { (desk turn : ℕ) → OnErr result (AppendsPrefix (string_bytes out.old) (answer_text (record { desk = desk; turn = turn; call = call_of hold; reply = reply_to ruling })) (string_bytes out.new)) }
+    ensures ok { (desk turn : ℕ) → OnOk result (string_bytes out.new
+        ≡ string_bytes out.old ++ answer_text (record { desk = desk; turn = turn; call = call_of hold; reply = reply_to ruling })) }
+    ensures left { (desk turn : ℕ) → OnErr result (AppendsPrefix (string_bytes out.old)
+        (answer_text (record { desk = desk; turn = turn; call = call_of hold; reply = reply_to ruling })) (string_bytes out.new)) }
 {
     push_text(out, " | ")?;
     push_event(out, &hold.call())?;

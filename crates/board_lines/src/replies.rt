@@ -34,7 +34,8 @@ fn push_second(out: &mut String, number: u32) -> Result<(), AllocError>
 
 fn push_with_two(out: &mut String, text: &str, first: u32, second: u32) -> Result<(), AllocError>
     ensures ok { OnOk result (string_bytes out.new ≡ string_bytes out.old ++ (text.now ++ (decimal first ++ spaced second))) }
-    ensures left { OnErr result (AppendsPrefix (string_bytes out.old) (text.now ++ (decimal first ++ spaced second)) (string_bytes out.new)) }
+    ensures left { OnErr result (AppendsPrefix (string_bytes out.old)
+        (text.now ++ (decimal first ++ spaced second)) (string_bytes out.new)) }
 {
     push_with(out, text, first)?;
     push_second(out, second)

@@ -61,7 +61,8 @@ fn push_two_names(
     second: &Name,
 ) -> Result<(), AllocError>
     ensures ok { OnOk result (string_bytes out.new ≡ string_bytes out.old ++ (word.now ++ behind (first.now ∷ second.now ∷ []))) }
-    ensures left { OnErr result (AppendsPrefix (string_bytes out.old) (word.now ++ behind (first.now ∷ second.now ∷ [])) (string_bytes out.new)) }
+    ensures left { OnErr result (AppendsPrefix (string_bytes out.old)
+        (word.now ++ behind (first.now ∷ second.now ∷ [])) (string_bytes out.new)) }
 {
     push_text(out, word)?;
     push_name(out, first)?;
@@ -75,7 +76,8 @@ fn push_name_and_number(
     number: u32,
 ) -> Result<(), AllocError>
     ensures ok { OnOk result (string_bytes out.new ≡ string_bytes out.old ++ (word.now ++ behind (name.now ∷ decimal number ∷ []))) }
-    ensures left { OnErr result (AppendsPrefix (string_bytes out.old) (word.now ++ behind (name.now ∷ decimal number ∷ [])) (string_bytes out.new)) }
+    ensures left { OnErr result (AppendsPrefix (string_bytes out.old) (word.now ++ behind (name.now ∷ decimal number ∷ []))
+        (string_bytes out.new)) }
 {
     push_text(out, word)?;
     push_name(out, name)?;
@@ -89,7 +91,8 @@ fn push_number_and_name(
     name: &Name,
 ) -> Result<(), AllocError>
     ensures ok { OnOk result (string_bytes out.new ≡ string_bytes out.old ++ (word.now ++ behind (decimal number ∷ name.now ∷ []))) }
-    ensures left { OnErr result (AppendsPrefix (string_bytes out.old) (word.now ++ behind (decimal number ∷ name.now ∷ [])) (string_bytes out.new)) }
+    ensures left { OnErr result (AppendsPrefix (string_bytes out.old) (word.now ++ behind (decimal number ∷ name.now ∷ []))
+        (string_bytes out.new)) }
 {
     push_text(out, word)?;
     push_each(out, &[number])?;
@@ -131,7 +134,8 @@ fn push_permission(
 ) -> Result<(), AllocError>
     ensures ok { OnOk result (string_bytes out.new ≡ string_bytes out.old
         ++ (word.now ++ behind (role.now ∷ operation_word operation ∷ range_words range))) }
-    ensures left { OnErr result (AppendsPrefix (string_bytes out.old) (word.now ++ behind (role.now ∷ operation_word operation ∷ range_words range)) (string_bytes out.new)) }
+    ensures left { OnErr result (AppendsPrefix (string_bytes out.old)
+        (word.now ++ behind (role.now ∷ operation_word operation ∷ range_words range)) (string_bytes out.new)) }
 {
     push_text(out, word)?;
     push_name(out, role)?;
@@ -171,7 +175,8 @@ fn push_set(
     roles: &[Name],
 ) -> Result<(), AllocError>
     ensures ok { OnOk result (string_bytes out.new ≡ string_bytes out.old ++ (word.now ++ behind (name.now ∷ decimal number ∷ roles.now))) }
-    ensures left { OnErr result (AppendsPrefix (string_bytes out.old) (word.now ++ behind (name.now ∷ decimal number ∷ roles.now)) (string_bytes out.new)) }
+    ensures left { OnErr result (AppendsPrefix (string_bytes out.old) (word.now ++ behind (name.now ∷ decimal number ∷ roles.now))
+        (string_bytes out.new)) }
 {
     push_name_and_number(out, word, name, number)?;
     push_names(out, roles)
@@ -219,7 +224,8 @@ fn push_move(out: &mut String, session: u32, base: u32, mv: Move) -> Result<(), 
 
 fn push_policy(out: &mut String, session: u32, command: &PolicyCommand) -> Result<(), AllocError>
     ensures ok { OnOk result (string_bytes out.new ≡ string_bytes out.old ++ after_number (policy_said session command.now)) }
-    ensures left { OnErr result (AppendsPrefix (string_bytes out.old) (after_number (policy_said session command.now)) (string_bytes out.new)) }
+    ensures left { OnErr result (AppendsPrefix (string_bytes out.old)
+        (after_number (policy_said session command.now)) (string_bytes out.new)) }
 {
     match command {
         PolicyCommand::AddUser { user } => push_one_name(out, " add-user", user),

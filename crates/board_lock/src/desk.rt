@@ -65,8 +65,10 @@ impl<N: Naming, R: Wait + Drop> DeskOf<N, Held<N, R>> {
         requires { setting self.old.setup.value ≡ N.opening.setting }
         ensures setup { setting self.new.setup.value ≡ N.opening.setting }
         ensures kept { (self.new.seat.number ≡ self.old.seat.number) × (self.new.seat.viewed ≡ self.old.seat.viewed) }
-        ensures ok { IfOk result (λ r. Submitted N.opening self.old.seat.number self.old.seat.own call r self.old.seat.seen self.new.seat.seen × (self.new.seat.own ≡ self.old.seat.own + 1)) }
-        ensures err { IfErr result (λ f. Faulted N.opening self.old.seat.number self.old.seat.own f self.old.seat.seen self.new.seat.seen × (self.new.seat.own ≡ self.old.seat.own)) }
+        ensures ok { IfOk result (λ r. Submitted N.opening self.old.seat.number self.old.seat.own call r self.old.seat.seen
+            self.new.seat.seen × (self.new.seat.own ≡ self.old.seat.own + 1)) }
+        ensures err { IfErr result (λ f. Faulted N.opening self.old.seat.number self.old.seat.own f self.old.seat.seen self.new.seat.seen
+            × (self.new.seat.own ≡ self.old.seat.own)) }
     {
         self.seat.submit(rt, &self.setup, call)
     }
@@ -75,12 +77,15 @@ impl<N: Naming, R: Wait + Drop> DeskOf<N, Held<N, R>> {
     pub fn list<W: Wait>(&mut self, rt: &W, session: u32) -> Result<Vec<Row>, AskFault>
         requires { setting self.old.setup.value ≡ N.opening.setting }
         ensures setup { setting self.new.setup.value ≡ N.opening.setting }
-        ensures kept { (self.new.seat.number ≡ self.old.seat.number) × (self.new.seat.own ≡ self.old.seat.own) × (self.new.seat.viewed ≡ self.old.seat.viewed) }
+        ensures kept { (self.new.seat.number ≡ self.old.seat.number) × (self.new.seat.own ≡ self.old.seat.own)
+            × (self.new.seat.viewed ≡ self.old.seat.viewed) }
         ensures looked { Looked N.opening self.old.seat.number self.old.seat.own self.old.seat.seen self.new.seat.seen }
-        ensures rows { IfOk result (λ rows. IsListing N.opening.setting (state_after N.opening.setting self.new.seat.seen) session rows.items) }
+        ensures rows { IfOk result (λ rows. IsListing N.opening.setting
+            (state_after N.opening.setting self.new.seat.seen) session rows.items) }
         ensures asked { OnOk result (list_fault (state_after N.opening.setting self.new.seat.seen) session ≡ None) }
         ensures fault { IfErr result (MayAsk (list_fault (state_after N.opening.setting self.new.seat.seen) session)) }
-        ensures no_session { IsErrOf result AskFault.NoSession ↔ (list_fault (state_after N.opening.setting self.new.seat.seen) session ≡ Some AskFault.NoSession) }
+        ensures no_session { IsErrOf result AskFault.NoSession
+            ↔ (list_fault (state_after N.opening.setting self.new.seat.seen) session ≡ Some AskFault.NoSession) }
     {
         self.seat.list(rt, &self.setup, session)
     }
@@ -88,12 +93,14 @@ impl<N: Naming, R: Wait + Drop> DeskOf<N, Held<N, R>> {
     /// The journal, for a session that may `audit` the board.
     pub fn audit<W: Wait>(&mut self, rt: &W, session: u32) -> Result<Journal, AskFault>
         ensures setup { setting self.new.setup.value ≡ setting self.old.setup.value }
-        ensures kept { (self.new.seat.number ≡ self.old.seat.number) × (self.new.seat.own ≡ self.old.seat.own) × (self.new.seat.viewed ≡ self.old.seat.viewed) }
+        ensures kept { (self.new.seat.number ≡ self.old.seat.number) × (self.new.seat.own ≡ self.old.seat.own)
+            × (self.new.seat.viewed ≡ self.old.seat.viewed) }
         ensures looked { Looked N.opening self.old.seat.number self.old.seat.own self.old.seat.seen self.new.seat.seen }
         ensures entries { IfOk result (λ journal. journal.entries ≡ self.new.seat.seen) }
         ensures asked { OnOk result (audit_fault (state_after N.opening.setting self.new.seat.seen) session ≡ None) }
         ensures fault { IfErr result (MayAsk (audit_fault (state_after N.opening.setting self.new.seat.seen) session)) }
-        ensures barred { (f : AskFault) → audit_fault (state_after N.opening.setting self.new.seat.seen) session ≡ Some f → IsErrOf result f }
+        ensures barred { (f : AskFault) → audit_fault (state_after N.opening.setting self.new.seat.seen) session ≡ Some f
+            → IsErrOf result f }
     {
         self.seat.audit(rt, session)
     }
@@ -106,12 +113,14 @@ impl<N: Naming, R: Wait + Drop> DeskOf<N, Held<N, R>> {
         which: Review,
     ) -> Result<Vec<Name>, AskFault>
         ensures setup { setting self.new.setup.value ≡ setting self.old.setup.value }
-        ensures kept { (self.new.seat.number ≡ self.old.seat.number) × (self.new.seat.own ≡ self.old.seat.own) × (self.new.seat.viewed ≡ self.old.seat.viewed) }
+        ensures kept { (self.new.seat.number ≡ self.old.seat.number) × (self.new.seat.own ≡ self.old.seat.own)
+            × (self.new.seat.viewed ≡ self.old.seat.viewed) }
         ensures looked { Looked N.opening self.old.seat.number self.old.seat.own self.old.seat.seen self.new.seat.seen }
         ensures names { IfOk result (λ names. names.items ≡ review_of (state_after N.opening.setting self.new.seat.seen).policy which) }
         ensures asked { OnOk result (review_fault (state_after N.opening.setting self.new.seat.seen) session which ≡ None) }
         ensures fault { IfErr result (MayAsk (review_fault (state_after N.opening.setting self.new.seat.seen) session which)) }
-        ensures barred { (f : AskFault) → audit_fault (state_after N.opening.setting self.new.seat.seen) session ≡ Some f → IsErrOf result f }
+        ensures barred { (f : AskFault) → audit_fault (state_after N.opening.setting self.new.seat.seen) session ≡ Some f
+            → IsErrOf result f }
     {
         self.seat.review(rt, session, which)
     }
@@ -125,7 +134,8 @@ impl<N: Naming, R: Wait + Drop> DeskOf<N, Held<N, R>> {
         object: Object,
     ) -> bool
         ensures setup { setting self.new.setup.value ≡ setting self.old.setup.value }
-        ensures kept { (self.new.seat.number ≡ self.old.seat.number) × (self.new.seat.own ≡ self.old.seat.own) × (self.new.seat.viewed ≡ self.old.seat.viewed) }
+        ensures kept { (self.new.seat.number ≡ self.old.seat.number) × (self.new.seat.own ≡ self.old.seat.own)
+            × (self.new.seat.viewed ≡ self.old.seat.viewed) }
         ensures looked { Looked N.opening self.old.seat.number self.old.seat.own self.old.seat.seen self.new.seat.seen }
         ensures answer { result ≡ check_of (state_after N.opening.setting self.new.seat.seen) session operation object }
     {
@@ -136,8 +146,10 @@ impl<N: Naming, R: Wait + Drop> DeskOf<N, Held<N, R>> {
     pub fn meet<W: Wait>(&mut self, rt: &W, other: &mut Desk<N, R>)
         ensures setup { setting self.new.setup.value ≡ setting self.old.setup.value }
         ensures other_setup { setting other.new.setup.value ≡ setting other.old.setup.value }
-        ensures kept { (self.new.seat.number ≡ self.old.seat.number) × (self.new.seat.own ≡ self.old.seat.own) × (self.new.seat.viewed ≡ self.old.seat.viewed) }
-        ensures other_kept { (other.new.seat.number ≡ other.old.seat.number) × (other.new.seat.own ≡ other.old.seat.own) × (other.new.seat.viewed ≡ other.old.seat.viewed) }
+        ensures kept { (self.new.seat.number ≡ self.old.seat.number) × (self.new.seat.own ≡ self.old.seat.own)
+            × (self.new.seat.viewed ≡ self.old.seat.viewed) }
+        ensures other_kept { (other.new.seat.number ≡ other.old.seat.number) × (other.new.seat.own ≡ other.old.seat.own)
+            × (other.new.seat.viewed ≡ other.old.seat.viewed) }
         ensures one { self.new.seat.seen ≡ other.new.seat.seen }
         ensures looked { Looked N.opening self.old.seat.number self.old.seat.own self.old.seat.seen self.new.seat.seen }
         ensures other_looked { Looked N.opening other.old.seat.number other.old.seat.own other.old.seat.seen other.new.seat.seen }
@@ -164,7 +176,8 @@ impl<N: Naming, L: Drop> DeskOf<N, L> {
 
     /// The view as it was brought up last, if there is one: the plan, its pins and freezes, and the version.
     pub fn view(&self) -> Option<&View>
-        ensures { MatchOption result (self.now.seat.viewed ≡ None) (λ v. MatchOption self.now.seat.viewed ⊥ (λ es. v.now ≡ view_of (state_after N.opening.setting es))) }
+        ensures { MatchOption result (self.now.seat.viewed ≡ None)
+            (λ v. MatchOption self.now.seat.viewed ⊥ (λ es. v.now ≡ view_of (state_after N.opening.setting es))) }
     {
         self.seat.view()
     }

@@ -20,11 +20,15 @@ use board_rules::{histories_go_on, histories_grow_by_entries};
 /// `Committed(n)`, each view of what this desk sees from then on has version n or above, and after the desk met another one, each view of
 /// what that one sees too.
 pub fn commits_stay_in_views()
-    ensures rises { (s : Setting) (before later : List Entry) → IsPrefix before later → (view_of (state_after s before)).version ≤ (view_of (state_after s later)).version }
-    ensures last { (o : Opening) (es : List Entry) (e : Entry) (n : ℕ) → Legal o (es ++ e ∷ []) → e.reply ≡ Committed n → (view_of (state_after o.setting (es ++ e ∷ []))).version ≡ n }
-    ensures own { (o : Opening) (desk own n : ℕ) (call : Call) (before seen later : List Entry) → Submitted o desk own call (Committed n) before seen → IsPrefix seen later
+    ensures rises { (s : Setting) (before later : List Entry) → IsPrefix before later
+        → (view_of (state_after s before)).version ≤ (view_of (state_after s later)).version }
+    ensures last { (o : Opening) (es : List Entry) (e : Entry) (n : ℕ) → Legal o (es ++ e ∷ []) → e.reply ≡ Committed n
+        → (view_of (state_after o.setting (es ++ e ∷ []))).version ≡ n }
+    ensures own { (o : Opening) (desk own n : ℕ) (call : Call) (before seen later : List Entry)
+        → Submitted o desk own call (Committed n) before seen → IsPrefix seen later
         → n ≤ (view_of (state_after o.setting later)).version }
-    ensures met { (o : Opening) (desk own n : ℕ) (call : Call) (before seen met later : List Entry) → Submitted o desk own call (Committed n) before seen → IsPrefix seen met → IsPrefix met later
+    ensures met { (o : Opening) (desk own n : ℕ) (call : Call) (before seen met later : List Entry)
+        → Submitted o desk own call (Committed n) before seen → IsPrefix seen met → IsPrefix met later
         → n ≤ (view_of (state_after o.setting later)).version }
 {
     histories_grow_by_entries();
@@ -33,5 +37,6 @@ pub fn commits_stay_in_views()
 
 /// A proposal that a desk submitted is committed or denied: it has no other reply.
 pub fn proposals_have_verdicts()
-    ensures { (o : Opening) (desk own session base : ℕ) (mv : Move) (reply : Reply) (before seen : List Entry) → Submitted o desk own (Propose session base mv) reply before seen → is_verdict reply ≡ true }
+    ensures { (o : Opening) (desk own session base : ℕ) (mv : Move) (reply : Reply) (before seen : List Entry)
+        → Submitted o desk own (Propose session base mv) reply before seen → is_verdict reply ≡ true }
 {}

@@ -37,7 +37,8 @@ pub(crate) fn view(alloc: Global, setup: &Setup, core: &Core) -> Result<View, Al
 /// The route of each vehicle, with one owner more.
 fn routes(alloc: Global, core: &Core, vehicles: u32) -> Result<Vec<Arc<Route>>, AllocError>
     requires { (s : Setting) × IsKept s core.now × (s.vehicles ≡ vehicles) }
-    ensures { (s : Setting) → IsKept s core.now → IfOk result (λ v. AreCells vehicles [] (route_at (state_after s core.now.journal).routes) (routes_of v.items)) }
+    ensures { (s : Setting) → IsKept s core.now
+        → IfOk result (λ v. AreCells vehicles [] (route_at (state_after s core.now.journal).routes) (routes_of v.items)) }
 {
     let mut made = Vec::with_capacity(alloc, vehicles as usize)?;
     for before in 0..vehicles {
@@ -52,7 +53,8 @@ fn routes(alloc: Global, core: &Core, vehicles: u32) -> Result<Vec<Arc<Route>>, 
 /// The pin of each customer.
 fn pins(alloc: Global, core: &Core, customers: u32) -> Result<Vec<Option<u32>>, AllocError>
     requires { (s : Setting) × IsKept s core.now × (s.customers ≡ customers) }
-    ensures { (s : Setting) → IsKept s core.now → IfOk result (λ v. AreCells customers None (pin_of (state_after s core.now.journal).pins) v.items) }
+    ensures { (s : Setting) → IsKept s core.now
+        → IfOk result (λ v. AreCells customers None (pin_of (state_after s core.now.journal).pins) v.items) }
 {
     let mut cells = Vec::with_capacity(alloc, customers as usize)?;
     for before in 0..customers {
@@ -64,7 +66,8 @@ fn pins(alloc: Global, core: &Core, customers: u32) -> Result<Vec<Option<u32>>, 
 /// The frozen length of each vehicle.
 fn fronts(alloc: Global, core: &Core, vehicles: u32) -> Result<Vec<u32>, AllocError>
     requires { (s : Setting) × IsKept s core.now × (s.vehicles ≡ vehicles) }
-    ensures { (s : Setting) → IsKept s core.now → IfOk result (λ v. AreCells vehicles 0 (front_of (state_after s core.now.journal).pins) v.items) }
+    ensures { (s : Setting) → IsKept s core.now
+        → IfOk result (λ v. AreCells vehicles 0 (front_of (state_after s core.now.journal).pins) v.items) }
 {
     let mut cells = Vec::with_capacity(alloc, vehicles as usize)?;
     for before in 0..vehicles {

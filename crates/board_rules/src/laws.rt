@@ -82,7 +82,8 @@ fn laws_below()
 /// The state before the first call is good, and a right reply leads from a good state to a good one.
 pub fn right_replies_keep_good_states()
     ensures first { (s : Setting) → IsGood s (opening_state s) }
-    ensures next { (s : Setting) (state : BoardState) (call : Call) (reply : Reply) → IsGood s state → IsReply s state call reply → IsGood s (after state call reply) }
+    ensures next { (s : Setting) (state : BoardState) (call : Call) (reply : Reply) → IsGood s state
+        → IsReply s state call reply → IsGood s (after state call reply) }
 {
     laws_below();
 }
@@ -99,16 +100,20 @@ pub fn legal_histories_leave_good_states()
 
 /// A legal history stays legal with one more entry that may come next, and its state is the one after that call and reply.
 pub fn histories_grow_by_entries()
-    ensures legal { (o : Opening) (es : List Entry) (e : Entry) → IsLegal (record { opening = o; entries = es }) → IsNext o es e → IsLegal (record { opening = o; entries = es ++ e ∷ [] }) }
+    ensures legal { (o : Opening) (es : List Entry) (e : Entry) → IsLegal (record { opening = o; entries = es }) → IsNext o es e
+        → IsLegal (record { opening = o; entries = es ++ e ∷ [] }) }
     ensures state { (s : Setting) (es : List Entry) (e : Entry) → state_after s (es ++ e ∷ []) ≡ after (state_after s es) e.call e.reply }
-    ensures turns { (desk : ℕ) (es : List Entry) (e : Entry) → turns_of desk (es ++ e ∷ []) ≡ turns_of desk es + (if e.desk == desk then 1 else 0) }
+    ensures turns { (desk : ℕ) (es : List Entry) (e : Entry)
+        → turns_of desk (es ++ e ∷ []) ≡ turns_of desk es + (if e.desk == desk then 1 else 0) }
 {}
 
 /// A prefix of a legal history is legal: whatever comes later, each entry was right at its place. So the first entries of a legal history,
 /// however many, are a legal history too.
 pub fn prefixes_of_legal_histories_are_legal()
-    ensures prefix { (o : Opening) (es more : List Entry) → IsLegal (record { opening = o; entries = es ++ more }) → IsLegal (record { opening = o; entries = es }) }
-    ensures first { (o : Opening) (es : List Entry) (k : ℕ) → IsLegal (record { opening = o; entries = es }) → IsLegal (record { opening = o; entries = take k es }) }
+    ensures prefix { (o : Opening) (es more : List Entry) → IsLegal (record { opening = o; entries = es ++ more })
+        → IsLegal (record { opening = o; entries = es }) }
+    ensures first { (o : Opening) (es : List Entry) (k : ℕ) → IsLegal (record { opening = o; entries = es })
+        → IsLegal (record { opening = o; entries = take k es }) }
 {}
 
 /// The state after more entries goes on from the one before them, and a desk's turns add up.
@@ -120,7 +125,8 @@ pub fn histories_go_on()
 
 /// After a legal history a call has exactly one right reply.
 pub fn replies_are_determined()
-    ensures one { (h : History) (call : Call) (reply other : Reply) → IsLegal h → IsReply h.opening.setting (state_of h) call reply → IsReply h.opening.setting (state_of h) call other → reply ≡ other }
+    ensures one { (h : History) (call : Call) (reply other : Reply) → IsLegal h → IsReply h.opening.setting (state_of h) call reply
+        → IsReply h.opening.setting (state_of h) call other → reply ≡ other }
     ensures some { (h : History) (call : Call) → IsLegal h → (reply : Reply) × IsReply h.opening.setting (state_of h) call reply }
 {
     laws_below();
@@ -133,7 +139,8 @@ pub fn replies_are_determined()
 pub fn histories_settle_policies()
     ensures customers { (h : History) → (state_of h).policy.customers ≡ h.opening.setting.customers }
     ensures vehicles { (h : History) → (state_of h).policy.vehicles ≡ h.opening.setting.vehicles }
-    ensures access { (h : History) (session : ℕ) (operation : Operation) (object : Object) → (has_access (state_of h).policy session operation object ≡ true) ↔ CheckAccess (state_of h).policy session operation object }
+    ensures access { (h : History) (session : ℕ) (operation : Operation) (object : Object)
+        → (has_access (state_of h).policy session operation object ≡ true) ↔ CheckAccess (state_of h).policy session operation object }
 {}
 
 /// After a history separation of duty holds: of each SSD set fewer roles than its number are among those for which a user is
@@ -159,10 +166,13 @@ pub fn session_numbers_rise_in_histories()
 /// which names the first vehicle or customer for which it does.
 pub fn proposals_commit_exactly()
     ensures committed { (h : History) (session base n : ℕ) (mv : Move) → IsLegal h
-        → IsReply h.opening.setting (state_of h) (Propose session base mv) (Committed n) ↔ ((n ≡ length (state_of h).commits + 1) × MayCommit h.opening.setting (state_of h) session base mv) }
+        → IsReply h.opening.setting (state_of h) (Propose session base mv) (Committed n)
+        ↔ ((n ≡ length (state_of h).commits + 1) × MayCommit h.opening.setting (state_of h) session base mv) }
     ensures denied { (h : History) (session base : ℕ) (mv : Move) (denial : Denial) → IsLegal h
-        → IsReply h.opening.setting (state_of h) (Propose session base mv) (Denied denial) ↔ IsFirstFailed h.opening.setting (state_of h) session base mv denial }
-    ensures only { (s : Setting) (state : BoardState) (session base : ℕ) (mv : Move) (reply : Reply) → IsReply s state (Propose session base mv) reply
+        → IsReply h.opening.setting (state_of h) (Propose session base mv) (Denied denial)
+        ↔ IsFirstFailed h.opening.setting (state_of h) session base mv denial }
+    ensures only { (s : Setting) (state : BoardState) (session base : ℕ) (mv : Move) (reply : Reply)
+        → IsReply s state (Propose session base mv) reply
         → ((n : ℕ) × (reply ≡ Committed n)) ⊎ ((denial : Denial) × (reply ≡ Denied denial)) }
 {
     changes_by_stamps();
@@ -178,7 +188,8 @@ pub fn current_vehicles_keep_their_routes()
 
 /// A session's listing in a state has one list of rows.
 pub fn listings_are_determined()
-    ensures { (s : Setting) (state : BoardState) (session : ℕ) (rows others : List RowShown) → IsListing s state session rows → IsListing s state session others → rows ≡ others }
+    ensures { (s : Setting) (state : BoardState) (session : ℕ) (rows others : List RowShown) → IsListing s state session rows
+        → IsListing s state session others → rows ≡ others }
 {}
 
 /// A call that is denied or refused changes nothing, and every other call leaves what it does not name.
@@ -193,7 +204,8 @@ pub fn calls_keep_the_rest()
 /// Facts that agree give one verdict. A crate that keeps other data of a state, such as a stamp for each vehicle in place of all commits,
 /// judges by these.
 pub fn verdicts_by_agreeing_facts()
-    ensures { (s : Setting) (b c : Basis) (base : ℕ) (mv : Move) (verdict : Option Denial) → Agree s b c → IsVerdictBy s b base mv verdict → IsVerdictBy s c base mv verdict }
+    ensures { (s : Setting) (b c : Basis) (base : ℕ) (mv : Move) (verdict : Option Denial) → Agree s b c
+        → IsVerdictBy s b base mv verdict → IsVerdictBy s c base mv verdict }
 {}
 
 /// Some commit after a base changed a vehicle exactly where the number of the last commit that changed it is above the base, and none
@@ -208,9 +220,12 @@ pub fn changes_by_stamps()
 /// Judging pins by the touches, with an answer for each customer that would leave the vehicle of its pin, is judging them for all
 /// customers: the first touch that is forbidden is the first whose pin forbids the new routes.
 pub fn pins_by_touches()
-    ensures allow { (pins : PinState) (free : ℕ → Bool) (others : List (List ℕ)) (touched : List Touch) (answers : List Bool) → AreAnswers pins free others touched answers
-        → DoPinsPass pins others touched answers → ((c : ℕ) → 1 ≤ c → IsHeld pins others c ⊎ IsTouched touched c) → DoPinsAllow pins free others }
-    ensures first { (pins : PinState) (free : ℕ → Bool) (others : List (List ℕ)) (touched : List Touch) (answers : List Bool) (t : Touch) → AreAnswers pins free others touched answers
+    ensures allow { (pins : PinState) (free : ℕ → Bool) (others : List (List ℕ)) (touched : List Touch) (answers : List Bool)
+        → AreAnswers pins free others touched answers
+        → DoPinsPass pins others touched answers → ((c : ℕ) → 1 ≤ c → IsHeld pins others c ⊎ IsTouched touched c)
+        → DoPinsAllow pins free others }
+    ensures first { (pins : PinState) (free : ℕ → Bool) (others : List (List ℕ)) (touched : List Touch) (answers : List Bool) (t : Touch)
+        → AreAnswers pins free others touched answers
         → IsFirstForbidden pins others touched answers t → IsFirstHeldBack pins free others touched t }
 {}
 
@@ -219,18 +234,22 @@ pub fn pins_by_touches()
 pub fn commands_by_parts()
     ensures barred { (p : PolicyState) (session : ℕ) (command : Command) (e : PolicyRefusal) → guard p session command ≡ Some e
         → (policy_reply p session command ≡ Refused (board_refusal e)) × (policy_after p session command ≡ p) }
-    ensures refused { (p : PolicyState) (session : ℕ) (command : Command) (e : PolicyRefusal) → guard p session command ≡ None → refusal_of p command ≡ Some e
+    ensures refused { (p : PolicyState) (session : ℕ) (command : Command) (e : PolicyRefusal)
+        → guard p session command ≡ None → refusal_of p command ≡ Some e
         → (policy_reply p session command ≡ Refused (board_refusal e)) × (policy_after p session command ≡ p) }
     ensures done { (p : PolicyState) (session : ℕ) (command : Command) → guard p session command ≡ None → refusal_of p command ≡ None
-        → (policy_reply p session command ≡ outcome_reply (outcome_of p command)) × (policy_after p session command ≡ carried_out p command) }
+        → (policy_reply p session command ≡ outcome_reply (outcome_of p command))
+        × (policy_after p session command ≡ carried_out p command) }
 {}
 
 /// The new routes of a move are of vehicles of the fleet and customers of the board, and where they are in bounds, a feasible plan stays
 /// feasible.
 pub fn plans_are_judged_by_new_routes()
-    ensures known { (s : Setting) (routes : List (List ℕ)) (mv : Move) → length routes ≡ s.vehicles → IsPlan s.customers routes → effect s.customers routes mv ≡ Some (changes_by routes mv)
+    ensures known { (s : Setting) (routes : List (List ℕ)) (mv : Move) → length routes ≡ s.vehicles → IsPlan s.customers routes
+        → effect s.customers routes mv ≡ Some (changes_by routes mv)
         → AllKnown s (changes_by routes mv) }
-    ensures feasible { (s : Setting) (routes : List (List ℕ)) (mv : Move) → length routes ≡ s.vehicles → IsFeasible s routes → effect s.customers routes mv ≡ Some (changes_by routes mv)
+    ensures feasible { (s : Setting) (routes : List (List ℕ)) (mv : Move) → length routes ≡ s.vehicles → IsFeasible s routes
+        → effect s.customers routes mv ≡ Some (changes_by routes mv)
         → AllFit s (changes_by routes mv) → IsFeasible s (routes_after routes mv) }
 {
     laws_below();
@@ -242,14 +261,16 @@ pub fn plans_are_judged_by_new_routes()
 pub fn spots_change_on_named_vehicles()
     ensures { (n : ℕ) (routes : List (List ℕ)) (mv : Move) (c : ℕ) → IsPlan n routes → effect n routes mv ≡ Some (changes_by routes mv)
         → spot_in (routes_after routes mv) c ≢ spot_in routes c
-        → (v : ℕ) × ((p : ℕ) × IsNamed (changes_by routes mv) v × (first_change mv v ≤ p) × (StandsAt routes c v p ⊎ StandsAt (routes_after routes mv) c v p)) }
+        → (v : ℕ) × ((p : ℕ) × IsNamed (changes_by routes mv) v × (first_change mv v ≤ p)
+        × (StandsAt routes c v p ⊎ StandsAt (routes_after routes mv) c v p)) }
 {
     laws_below();
 }
 
 /// In a plan a customer that stands at a place has that vehicle and that place and no other; one that stands nowhere has none.
 pub fn customers_have_one_spot()
-    ensures vehicle { (n : ℕ) (routes : List (List ℕ)) (c v p : ℕ) → IsPlan n routes → StandsAt routes c v p → vehicle_of routes c ≡ Some v }
+    ensures vehicle { (n : ℕ) (routes : List (List ℕ)) (c v p : ℕ) → IsPlan n routes
+        → StandsAt routes c v p → vehicle_of routes c ≡ Some v }
     ensures spot { (n : ℕ) (routes : List (List ℕ)) (c v p : ℕ) → IsPlan n routes → StandsAt routes c v p → spot_in routes c ≡ Some (v, p) }
     ensures stands { (routes : List (List ℕ)) (c v p : ℕ) → spot_in routes c ≡ Some (v, p) → StandsAt routes c v p }
     ensures no_vehicle { (routes : List (List ℕ)) (c : ℕ) → ¬ IsPlaced routes c → vehicle_of routes c ≡ None }

@@ -88,7 +88,8 @@ impl<N: Naming, L: Drop> SeatOf<N, L> {
 
     /// The view as it was brought up last, if there is one: the plan, its pins and freezes, and the version.
     pub fn view(&self) -> Option<&View>
-        ensures { MatchOption result (self.now.viewed ≡ None) (λ v. MatchOption self.now.viewed ⊥ (λ es. v.now ≡ view_of (state_after N.opening.setting es))) }
+        ensures { MatchOption result (self.now.viewed ≡ None)
+            (λ v. MatchOption self.now.viewed ⊥ (λ es. v.now ≡ view_of (state_after N.opening.setting es))) }
     {
         self.eye.view()
     }
@@ -133,8 +134,10 @@ impl<N: Naming, R: Wait + Drop> SeatOf<N, Held<N, R>> {
     pub fn submit<W: Wait>(&mut self, rt: &W, setup: &Setup, call: Call) -> Result<Reply, Fault>
         requires { setting setup.now ≡ N.opening.setting }
         ensures kept { (self.new.number ≡ self.old.number) × (self.new.viewed ≡ self.old.viewed) }
-        ensures ok { IfOk result (λ r. Submitted N.opening self.old.number self.old.own call r self.old.seen self.new.seen × (self.new.own ≡ self.old.own + 1)) }
-        ensures err { IfErr result (λ f. Faulted N.opening self.old.number self.old.own f self.old.seen self.new.seen × (self.new.own ≡ self.old.own)) }
+        ensures ok { IfOk result (λ r. Submitted N.opening self.old.number self.old.own call r self.old.seen self.new.seen
+            × (self.new.own ≡ self.old.own + 1)) }
+        ensures err { IfErr result (λ f. Faulted N.opening self.old.number self.old.own f self.old.seen self.new.seen
+            × (self.new.own ≡ self.old.own)) }
     {
         let mut held = self.shared.lock(rt);
         let answer = held.submit(setup, &mut self.eye, self.number, self.own, call);
@@ -161,7 +164,8 @@ impl<N: Naming, R: Wait + Drop> SeatOf<N, Held<N, R>> {
         ensures rows { IfOk result (λ rows. IsListing N.opening.setting (state_after N.opening.setting self.new.seen) session rows.items) }
         ensures asked { OnOk result (list_fault (state_after N.opening.setting self.new.seen) session ≡ None) }
         ensures fault { IfErr result (MayAsk (list_fault (state_after N.opening.setting self.new.seen) session)) }
-        ensures no_session { IsErrOf result AskFault.NoSession ↔ (list_fault (state_after N.opening.setting self.new.seen) session ≡ Some AskFault.NoSession) }
+        ensures no_session { IsErrOf result AskFault.NoSession
+            ↔ (list_fault (state_after N.opening.setting self.new.seen) session ≡ Some AskFault.NoSession) }
     {
         let held = self.shared.lock(rt);
         let answer = held.list(setup, &mut self.eye, self.number, self.own, session);
@@ -234,7 +238,8 @@ impl<N: Naming, R: Wait + Drop> SeatOf<N, Held<N, R>> {
     /// Brings two desks up to the journal, in one hold of the lock.
     pub fn meet<W: Wait>(&mut self, rt: &W, other: &mut Seat<N, R>)
         ensures kept { (self.new.number ≡ self.old.number) × (self.new.own ≡ self.old.own) × (self.new.viewed ≡ self.old.viewed) }
-        ensures other_kept { (other.new.number ≡ other.old.number) × (other.new.own ≡ other.old.own) × (other.new.viewed ≡ other.old.viewed) }
+        ensures other_kept { (other.new.number ≡ other.old.number)
+            × (other.new.own ≡ other.old.own) × (other.new.viewed ≡ other.old.viewed) }
         ensures one { self.new.seen ≡ other.new.seen }
         ensures looked { Looked N.opening self.old.number self.old.own self.old.seen self.new.seen }
         ensures other_looked { Looked N.opening other.old.number other.old.own other.old.seen other.new.seen }

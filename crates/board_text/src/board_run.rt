@@ -25,7 +25,8 @@ pub fn run_board_lines<R, I: Read, W: Write>(
     ensures ok { IfOk result (λ counts. IsAnswered IsBoardStep (desk_state (history front.old.board) front.old.desk front.old.turn)
         (desk_state (history front.new.board) front.new.desk front.new.turn) (I.remaining reader.old)
         (I.remaining reader.new) (W.contents writer.old) (W.contents writer.new) counts.lines counts.refused) }
-    ensures err { IfErr result (λ e. IsStopped IsBoardStep LacksMemory e (desk_state (history front.old.board) front.old.desk front.old.turn)
+    ensures err { IfErr result (λ e. IsStopped IsBoardStep LacksMemory e
+        (desk_state (history front.old.board) front.old.desk front.old.turn)
         (desk_state (history front.new.board) front.new.desk front.new.turn) (I.remaining reader.old)
         (I.remaining reader.new) (W.contents writer.old) (W.contents writer.new)) }
 {

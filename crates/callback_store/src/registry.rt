@@ -113,7 +113,8 @@ impl Registry {
         ensures id { IfOk result (λ id. id ≡ length (tables self.old)) }
         ensures ok { IfOk result (λ id. tables self.new ≡ tables self.old ++ pair_table transit ∷ []) }
         ensures size { IsErrOf result RegisterFault.Size ↔ (is_fitting (tables self.old) (pair_table transit).size ≡ false) }
-        ensures many { IsErrOf result RegisterFault.Many ↔ ((is_fitting (tables self.old) (pair_table transit).size ≡ true) × (16 ≤ length (tables self.old))) }
+        ensures many { IsErrOf result RegisterFault.Many
+            ↔ ((is_fitting (tables self.old) (pair_table transit).size ≡ true) × (16 ≤ length (tables self.old))) }
         ensures err { OnErr result (tables self.new ≡ tables self.old) }
     {
         if !self.is_fitting(transit.size()) {
@@ -136,7 +137,8 @@ impl Registry {
         ensures id { IfOk result (λ id. id ≡ length (tables self.old)) }
         ensures ok { IfOk result (λ id. tables self.new ≡ tables self.old ++ node_table unary ∷ []) }
         ensures size { IsErrOf result RegisterFault.Size ↔ (is_fitting (tables self.old) (node_table unary).size ≡ false) }
-        ensures many { IsErrOf result RegisterFault.Many ↔ ((is_fitting (tables self.old) (node_table unary).size ≡ true) × (16 ≤ length (tables self.old))) }
+        ensures many { IsErrOf result RegisterFault.Many
+            ↔ ((is_fitting (tables self.old) (node_table unary).size ≡ true) × (16 ≤ length (tables self.old))) }
         ensures err { OnErr result (tables self.new ≡ tables self.old) }
     {
         if !self.is_fitting(unary.size()) {
@@ -159,7 +161,8 @@ impl Registry {
         ensures id { IfOk result (λ id. id ≡ length (tables self.old)) }
         ensures ok { IfOk result (λ id. tables self.new ≡ tables self.old ++ matrix_table matrix ∷ []) }
         ensures size { IsErrOf result RegisterFault.Size ↔ (is_fitting (tables self.old) (matrix_table matrix).size ≡ false) }
-        ensures many { IsErrOf result RegisterFault.Many ↔ ((is_fitting (tables self.old) (matrix_table matrix).size ≡ true) × (16 ≤ length (tables self.old))) }
+        ensures many { IsErrOf result RegisterFault.Many
+            ↔ ((is_fitting (tables self.old) (matrix_table matrix).size ≡ true) × (16 ≤ length (tables self.old))) }
         ensures err { OnErr result (tables self.new ≡ tables self.old) }
     {
         if !self.is_fitting(matrix.size()) {
@@ -179,7 +182,8 @@ impl Registry {
     pub fn answers(&self, id: TransitId) -> Option<&[u32]>
         requires registered { id < length (tables self.now) }
         ensures sized { IfSome result (λ a. length a.now ≡ nodes_of (tables self.now) * nodes_of (tables self.now)) }
-        ensures answers { IfSome result (λ a. (i j : ℕ) → slice_index a.now (i * nodes_of (tables self.now) + j) ≡ entry (table_at (tables self.now) id) i j) }
+        ensures answers { IfSome result (λ a. (i j : ℕ)
+            → slice_index a.now (i * nodes_of (tables self.now) + j) ≡ entry (table_at (tables self.now) id) i j) }
     {
         self.slots[id.index as usize].answers()
     }

@@ -44,7 +44,8 @@ fn excess_of(setup: &Setup, route: &[u32], vehicle: u32, dimension: u32) -> Opti
     requires known { All (λ c. c ≤ (setting setup.now).customers) route.now }
     requires first { 1 ≤ dimension }
     requires last { dimension ≤ length (setting setup.now).dimensions }
-    ensures { MatchOption result (FitsIn (setting setup.now) (dimension - 1) vehicle route.now) (IsExcess (setting setup.now) vehicle route.now dimension) }
+    ensures { MatchOption result (FitsIn (setting setup.now) (dimension - 1) vehicle route.now)
+        (IsExcess (setting setup.now) vehicle route.now dimension) }
 {
     let bounds = &setup.dimensions()[dimension as usize - 1];
     let registry = setup.registry();

@@ -153,7 +153,8 @@ fn bound_note(
 ) -> Result<Note, AllocError>
     requires customers { plan.now.customers ≡ (setting setup.now).customers }
     requires vehicles { length plan.now.routes ≡ (setting setup.now).vehicles }
-    ensures { (b : Basis) (base : ℕ) → b.routes ≡ plan.now.routes → IsVerdictBy (setting setup.now) b base mv.now (Some (Denial.Bound vehicle dimension))
+    ensures { (b : Basis) (base : ℕ) → b.routes ≡ plan.now.routes
+        → IsVerdictBy (setting setup.now) b base mv.now (Some (Denial.Bound vehicle dimension))
         → IfOk result (IsBoundNote (setting setup.now) plan.now mv.now vehicle dimension) }
 {
     plans_are_judged_by_new_routes();

@@ -38,7 +38,8 @@ fn push_two(
     between: &str,
     second: u32,
 ) -> Result<(), AllocError>
-    ensures { OnOk result (string_bytes out.new ≡ string_bytes out.old ++ (before.now ++ (decimal first ++ (between.now ++ decimal second)))) }
+    ensures { OnOk result (string_bytes out.new
+        ≡ string_bytes out.old ++ (before.now ++ (decimal first ++ (between.now ++ decimal second)))) }
 {
     write!(out, "{before}{first}{between}{second}")
 }

@@ -44,7 +44,8 @@ pub fn run_desk_lines<
         → IfOk result (λ counts. IsAnswered IsBoardStep (board_state N.opening front.old.seat) (board_state N.opening front.new.seat)
         (I.remaining reader.old) (I.remaining reader.new) (W.contents writer.old) (W.contents writer.new) counts.lines counts.refused) }
     ensures alone_at_fault { N.opening.desks ≡ 1 → IsOnlyDesk front.old.seat
-        → IfErr result (λ e. IsStopped IsBoardStep LacksMemory e (board_state N.opening front.old.seat) (board_state N.opening front.new.seat)
+        → IfErr result (λ e. IsStopped IsBoardStep LacksMemory e
+        (board_state N.opening front.old.seat) (board_state N.opening front.new.seat)
         (I.remaining reader.old) (I.remaining reader.new) (W.contents writer.old) (W.contents writer.new)) }
 {
     front.seat.turns_are_seen();

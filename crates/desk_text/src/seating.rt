@@ -32,7 +32,8 @@ pub trait Seating<N: Naming, D: Wait + Drop> {
     ) -> Result<Vec<Row>, AskFault>
         requires { is_hall self.now }
         ensures ok { IfOk result (λ rows. IsDeskStep N.opening seat.old (Command.List session) (Listed rows.items) seat.new) }
-        ensures err { IfErr result (λ fault. MayRefuse (IsDeskStep N.opening) (DeskLacksMemory N.opening) seat.old (Command.List session) fault seat.new) };
+        ensures err { IfErr result (λ fault. MayRefuse (IsDeskStep N.opening)
+            (DeskLacksMemory N.opening) seat.old (Command.List session) fault seat.new) };
 }
 
 impl<N: Naming, D: Wait + Drop> Seating<N, D> for Arc<Setup> {

@@ -53,7 +53,8 @@ impl Model for Dimension {
 
     ghost view = { λ a. record { id = a.id; slack_max = a.slack_max; caps = a.caps.items; fixed = a.fixed; ranges = a.ranges.items } };
 
-    ghost invariant = { λ a. AreBounds (record { id = a.id; slack_max = a.slack_max; caps = a.caps.items; fixed = a.fixed; ranges = a.ranges.items }) };
+    ghost invariant = { λ a. AreBounds (record
+        { id = a.id; slack_max = a.slack_max; caps = a.caps.items; fixed = a.fixed; ranges = a.ranges.items }) };
 }
 
 /// Whether no range is empty, and no number above the limit.
@@ -99,7 +100,13 @@ impl Dimension {
         fix_start: bool,
         ranges: Vec<Range>,
     ) -> Result<Dimension, DimensionFault>
-        ensures ok { IfOk result (λ d. d ≡ record { id = id; slack_max = slack_max; caps = caps.items; fixed = fix_start; ranges = ranges.items }) }
+        ensures ok { IfOk result (λ d. d ≡ record {
+          id = id;
+          slack_max = slack_max;
+          caps = caps.items;
+          fixed = fix_start;
+          ranges = ranges.items;
+        }) }
         ensures refused { result_err result ≡ dimension_refusal (tables registry.now) id slack_max caps.items ranges.items }
     {
         if !registry.has(id) {
@@ -222,7 +229,8 @@ impl Dimension {
         requires to { j < length self.now.ranges }
         requires low { 1 ≤ vehicle }
         requires high { vehicle ≤ length self.now.caps }
-        ensures span { IsSpan result (λ y. (x : ℕ) × IsWithin (Some range) x × IsStep (table_of (tables registry.now) self.now) self.now vehicle i x j y) }
+        ensures span { IsSpan result (λ y. (x : ℕ) × IsWithin (Some range) x
+            × IsStep (table_of (tables registry.now) self.now) self.now vehicle i x j y) }
         ensures small { IfSome result (λ r. r.hi ≤ 1000000000000) }
         ensures counted { meter.new ≡ after_ask meter.old }
         ensures one { AsksJust meter.old meter.new 1 }
@@ -256,7 +264,8 @@ impl Dimension {
         requires to { j < length self.now.ranges }
         requires low { 1 ≤ vehicle }
         requires high { vehicle ≤ length self.now.caps }
-        ensures span { (t : Table) (i : ℕ) → way ≡ entry t i j → IsSpan result (λ y. (x : ℕ) × IsWithin (Some range) x × IsStep t self.now vehicle i x j y) }
+        ensures span { (t : Table) (i : ℕ) → way ≡ entry t i j
+            → IsSpan result (λ y. (x : ℕ) × IsWithin (Some range) x × IsStep t self.now vehicle i x j y) }
         ensures small { IfSome result (λ r. r.hi ≤ 1000000000000) }
     {
         let node = self.range(j);
@@ -326,7 +335,8 @@ impl Dimension {
         ensures span { IsSpan result (Reaches (table_of (tables registry.now) self.now) self.now vehicle nodes.now) }
         ensures asks { AsksAtMost meter.old meter.new (length nodes.now) }
         ensures whole { OnSome result (AsksJust meter.old meter.new (length nodes.now)) }
-        ensures missed { IfNone result ((k : ℕ) × IsFirstMiss (table_of (tables registry.now) self.now) self.now vehicle nodes.now k × AsksJust meter.old meter.new k) }
+        ensures missed { IfNone result ((k : ℕ) × IsFirstMiss (table_of (tables registry.now) self.now) self.now vehicle nodes.now k
+            × AsksJust meter.old meter.new k) }
         ensures early { IfSome result (λ r. IsEarly (table_of (tables registry.now) self.now) self.now vehicle nodes.now r.lo) }
         ensures small { IfSome result (λ r. r.hi ≤ 1000000000000) }
     {
@@ -357,7 +367,8 @@ impl Dimension {
         ensures bounds { IsTrue result ↔ IsInBounds (table_of (tables registry.now) self.now) self.now vehicle route.now }
         ensures asks { AsksAtMost meter.old meter.new (route_asks route.now) }
         ensures whole { OnTrue result (AsksJust meter.old meter.new (route_asks route.now)) }
-        ensures missed { OnFalse result ((k : ℕ) × IsFirstMiss (table_of (tables registry.now) self.now) self.now vehicle (route.now ++ 0 ∷ []) k × AsksJust meter.old meter.new k) }
+        ensures missed { OnFalse result ((k : ℕ) × IsFirstMiss (table_of (tables registry.now) self.now) self.now vehicle
+            (route.now ++ 0 ∷ []) k × AsksJust meter.old meter.new k) }
     {
         if route.is_empty() {
             return true;

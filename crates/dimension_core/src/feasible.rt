@@ -21,7 +21,8 @@ pub fn first_out(setup: &Setup, vehicle: u32, route: &[u32], meter: &mut Meter) 
     ensures first { MatchOption result (FitsAll (setting setup.now) vehicle route.now) (IsFirstOut (setting setup.now) vehicle route.now) }
     ensures asks { AsksAtMost meter.old meter.new (length (setting setup.now).dimensions * route_asks route.now) }
     ensures whole { IfNone result (AsksJust meter.old meter.new (length (setting setup.now).dimensions * route_asks route.now)) }
-    ensures missed { IfSome result (λ d. (k : ℕ) × IsFirstMissIn (setting setup.now) (d - 1) vehicle route.now k × AsksJust meter.old meter.new ((d - 1) * route_asks route.now + k)) }
+    ensures missed { IfSome result (λ d. (k : ℕ) × IsFirstMissIn (setting setup.now) (d - 1) vehicle route.now k
+        × AsksJust meter.old meter.new ((d - 1) * route_asks route.now + k)) }
     ensures sound { IsSetting (setting setup.now) }
 {
     for (k, dimension) in setup.dimensions().iter().enumerate() {
@@ -34,6 +35,7 @@ pub fn first_out(setup: &Setup, vehicle: u32, route: &[u32], meter: &mut Meter) 
 
 /// A law of the definitions: a route is first out of bounds in one dimension at most, and then not in bounds in all.
 pub fn first_out_is_alone()
-    ensures one { (s : Setting) (vehicle : ℕ) (route : List ℕ) (d e : ℕ) → IsFirstOut s vehicle route d → IsFirstOut s vehicle route e → d ≡ e }
+    ensures one { (s : Setting) (vehicle : ℕ) (route : List ℕ) (d e : ℕ) → IsFirstOut s vehicle route d → IsFirstOut s vehicle route e
+        → d ≡ e }
     ensures out { (s : Setting) (vehicle : ℕ) (route : List ℕ) (d : ℕ) → IsFirstOut s vehicle route d → ¬ FitsAll s vehicle route }
 {}

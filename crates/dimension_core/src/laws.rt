@@ -23,5 +23,6 @@ pub fn misses_are_found()
 
 /// A law of the definitions: cumuls by recursion, stop by stop, are cumuls by places.
 pub fn cumuls_are_by_place()
-    ensures { (t : Table) (d : Bounds) (vehicle : ℕ) (nodes cumuls : List ℕ) → AreCumuls t d vehicle nodes cumuls ↔ AreCumulsByPlace t d vehicle nodes cumuls }
+    ensures { (t : Table) (d : Bounds) (vehicle : ℕ) (nodes cumuls : List ℕ) → AreCumuls t d vehicle nodes cumuls
+        ↔ AreCumulsByPlace t d vehicle nodes cumuls }
 {}

@@ -18,7 +18,14 @@ pub struct Setup {
     dimensions: Vec<Dimension>,
     cost: TransitId,
     max_events: u32,
-    ghost sound: { IsSetting (record { customers = customers; vehicles = vehicles; tables = tables registry; dimensions = dimensions.items; cost = cost; max_events = max_events }) },
+    ghost sound: { IsSetting (record {
+      customers = customers;
+      vehicles = vehicles;
+      tables = tables registry;
+      dimensions = dimensions.items;
+      cost = cost;
+      max_events = max_events;
+    }) },
 }
 
 /// Whether each dimension is over this many customers and vehicles.
@@ -52,8 +59,22 @@ impl Setup {
         cost: TransitId,
         max_events: u32,
     ) -> Result<Setup, SetupFault>
-        ensures ok { IfOk result (λ setup. setting setup ≡ record { customers = customers; vehicles = vehicles; tables = tables registry; dimensions = dimensions.items; cost = cost; max_events = max_events }) }
-        ensures refused { result_err result ≡ setup_refusal (record { customers = customers; vehicles = vehicles; tables = tables registry; dimensions = dimensions.items; cost = cost; max_events = max_events }) }
+        ensures ok { IfOk result (λ setup. setting setup ≡ record {
+          customers = customers;
+          vehicles = vehicles;
+          tables = tables registry;
+          dimensions = dimensions.items;
+          cost = cost;
+          max_events = max_events;
+        }) }
+        ensures refused { result_err result ≡ setup_refusal (record {
+          customers = customers;
+          vehicles = vehicles;
+          tables = tables registry;
+          dimensions = dimensions.items;
+          cost = cost;
+          max_events = max_events;
+        }) }
     {
         let sized = 1 <= customers
             && customers <= 1000
@@ -110,7 +131,8 @@ impl Setup {
     /// The dimensions, in order: at most 8, and the callbacks serve each of them.
     pub fn dimensions(&self) -> &[Dimension]
         ensures value { result.now ≡ (setting self.now).dimensions }
-        ensures served { (k : ℕ) → k < length (setting self.now).dimensions → IsServed (setting self.now).tables (dimension_at (setting self.now) k) }
+        ensures served { (k : ℕ) → k < length (setting self.now).dimensions
+            → IsServed (setting self.now).tables (dimension_at (setting self.now) k) }
         ensures sound { IsSetting (setting self.now) }
     {
         self.dimensions.as_slice()

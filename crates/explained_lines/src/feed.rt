@@ -59,7 +59,8 @@ impl Feed {
 
     /// The first line of what was read, if it is whole or too long.
     fn first(&mut self, alloc: Global) -> Result<Option<Piece>, AllocError>
-        ensures { IfOk result (λ o. MatchOption o (IsUncut self.old.held.items self.new.held.items) (IsFirst self.old.held.items self.new.held.items)) }
+        ensures { IfOk result (λ o. MatchOption o (IsUncut self.old.held.items self.new.held.items)
+            (IsFirst self.old.held.items self.new.held.items)) }
     {
         let Some((line, rest)) = cut(alloc, self.held.as_slice())? else {
             if self.held.len() > MOST_BYTES {
@@ -76,7 +77,8 @@ impl Feed {
 
     /// Reads on. Whether there was anything to read.
     fn read_on<I: Read>(&mut self, reader: &mut I) -> Result<bool, RunFault>
-        ensures ok { IfOk result (λ more. AreRead more self.old.held.items self.new.held.items (I.remaining reader.old) (I.remaining reader.new)) }
+        ensures ok { IfOk result (λ more. AreRead more self.old.held.items self.new.held.items
+            (I.remaining reader.old) (I.remaining reader.new)) }
         ensures err { IfErr result (λ e. IsUnread e (I.remaining reader.old) (I.remaining reader.new)) }
     {
         let mut chunk = [0u8; CHUNK_BYTES];

@@ -128,8 +128,10 @@ pub(crate) fn propose<R, F: Front<R>>(
     requires ready { F.ready front.old }
     requires none { string_bytes text.old ≡ [] }
     ensures ready { F.ready front.new }
-    ensures ok { IfOk result (Tells F.step (F.seen front.old) (Command.Submit (Call.Propose session base mv)) (F.seen front.new) (string_bytes text.new)) }
-    ensures err { OnErr result (Loses F.step F.refuses (F.seen front.old) (Command.Submit (Call.Propose session base mv)) (F.seen front.new)) }
+    ensures ok { IfOk result (Tells F.step (F.seen front.old) (Command.Submit (Call.Propose session base mv))
+        (F.seen front.new) (string_bytes text.new)) }
+    ensures err { OnErr result (Loses F.step F.refuses (F.seen front.old)
+        (Command.Submit (Call.Propose session base mv)) (F.seen front.new)) }
 {
     match front.propose(rt, session, base, mv) {
         Ok(Ok(version)) => {
@@ -238,7 +240,8 @@ fn check<R, F: Front<R>>(
     requires ready { F.ready front.old }
     requires none { string_bytes text.old ≡ [] }
     ensures ready { F.ready front.new }
-    ensures ok { IfOk result (Tells F.step (F.seen front.old) (Command.Check session operation object) (F.seen front.new) (string_bytes text.new)) }
+    ensures ok { IfOk result (Tells F.step (F.seen front.old) (Command.Check session operation object)
+        (F.seen front.new) (string_bytes text.new)) }
     ensures err { OnErr result (Loses F.step F.refuses (F.seen front.old) (Command.Check session operation object) (F.seen front.new)) }
 {
     Ok(Mark::Checked(front.check(rt, session, operation, object)))

@@ -38,8 +38,10 @@ fn ask<R, F: Front<R>>(
 ) -> Result<Mark, OutOfMemory>
     requires ready { F.ready front.old }
     ensures ready { F.ready front.new }
-    ensures ok { IfOk result (Marks (λ outcome. Gives F.step (F.seen front.old) (after_word session word (map (λ w. w.now) arguments.now)) outcome (F.seen front.new)) (string_bytes text.new)) }
-    ensures err { OnErr result (Drops F.step F.refuses (F.seen front.old) (after_word session word (map (λ w. w.now) arguments.now)) (F.seen front.new)) }
+    ensures ok { IfOk result (Marks (λ outcome. Gives F.step (F.seen front.old) (after_word session word (map (λ w. w.now) arguments.now))
+        outcome (F.seen front.new)) (string_bytes text.new)) }
+    ensures err { OnErr result (Drops F.step F.refuses (F.seen front.old) (after_word session word (map (λ w. w.now) arguments.now))
+        (F.seen front.new)) }
 {
     text.clear();
     match read_command(alloc, session, word, arguments) {
@@ -61,8 +63,10 @@ fn ask_move<R, F: Front<R>>(
 ) -> Result<Mark, OutOfMemory>
     requires ready { F.ready front.old }
     ensures ready { F.ready front.new }
-    ensures ok { IfOk result (Marks (λ outcome. Gives F.step (F.seen front.old) (after_word session (Propose word) (map (λ w. w.now) arguments.now)) outcome (F.seen front.new)) (string_bytes text.new)) }
-    ensures err { OnErr result (Drops F.step F.refuses (F.seen front.old) (after_word session (Propose word) (map (λ w. w.now) arguments.now)) (F.seen front.new)) }
+    ensures ok { IfOk result (Marks (λ outcome. Gives F.step (F.seen front.old)
+        (after_word session (Propose word) (map (λ w. w.now) arguments.now)) outcome (F.seen front.new)) (string_bytes text.new)) }
+    ensures err { OnErr result (Drops F.step F.refuses (F.seen front.old)
+        (after_word session (Propose word) (map (λ w. w.now) arguments.now)) (F.seen front.new)) }
 {
     text.clear();
     match read_proposal(session, word, arguments) {
@@ -84,8 +88,10 @@ fn ask_order<R, F: Front<R>>(
 ) -> Result<Mark, OutOfMemory>
     requires ready { F.ready front.old }
     ensures ready { F.ready front.new }
-    ensures ok { IfOk result (Marks (λ outcome. Gives F.step (F.seen front.old) (after_word session (Manage word) (map (λ w. w.now) arguments.now)) outcome (F.seen front.new)) (string_bytes text.new)) }
-    ensures err { OnErr result (Drops F.step F.refuses (F.seen front.old) (after_word session (Manage word) (map (λ w. w.now) arguments.now)) (F.seen front.new)) }
+    ensures ok { IfOk result (Marks (λ outcome. Gives F.step (F.seen front.old)
+        (after_word session (Manage word) (map (λ w. w.now) arguments.now)) outcome (F.seen front.new)) (string_bytes text.new)) }
+    ensures err { OnErr result (Drops F.step F.refuses (F.seen front.old)
+        (after_word session (Manage word) (map (λ w. w.now) arguments.now)) (F.seen front.new)) }
 {
     text.clear();
     match read_order(session, word, arguments) {
@@ -107,7 +113,8 @@ fn answer_words<R, F: Front<R>>(
 ) -> Result<Mark, OutOfMemory>
     requires ready { F.ready front.old }
     ensures ready { F.ready front.new }
-    ensures ok { IfOk result (Marks (λ outcome. Gives F.step (F.seen front.old) (words_read (map (λ w. w.now) words.now)) outcome (F.seen front.new)) (string_bytes text.new)) }
+    ensures ok { IfOk result (Marks (λ outcome. Gives F.step (F.seen front.old) (words_read (map (λ w. w.now) words.now)) outcome
+        (F.seen front.new)) (string_bytes text.new)) }
     ensures err { OnErr result (Drops F.step F.refuses (F.seen front.old) (words_read (map (λ w. w.now) words.now)) (F.seen front.new)) }
 {
     match read_head(words) {
@@ -149,7 +156,8 @@ fn answer_returned<R, F: Front<R>>(
 ) -> Result<Mark, OutOfMemory>
     requires ready { F.ready front.old }
     ensures ready { F.ready front.new }
-    ensures ok { IfOk result (Marks (λ outcome. Gives F.step (F.seen front.old) (read_of line.now) outcome (F.seen front.new)) (string_bytes text.new)) }
+    ensures ok { IfOk result (Marks (λ outcome. Gives F.step (F.seen front.old) (read_of line.now) outcome (F.seen front.new))
+        (string_bytes text.new)) }
     ensures err { OnErr result (Drops F.step F.refuses (F.seen front.old) (read_of line.now) (F.seen front.new)) }
 {
     let mut words = Vec::new(alloc);
@@ -170,7 +178,8 @@ fn answer<R, F: Front<R>>(
     requires ready { F.ready front.old }
     requires words { map (λ w. w.now) words.now ≡ line_words line.now }
     ensures ready { F.ready front.new }
-    ensures ok { IfOk result (Marks (λ outcome. Gives F.step (F.seen front.old) (read_of (body line.now)) outcome (F.seen front.new)) (string_bytes text.new)) }
+    ensures ok { IfOk result (Marks (λ outcome. Gives F.step (F.seen front.old) (read_of (body line.now)) outcome (F.seen front.new))
+        (string_bytes text.new)) }
     ensures err { OnErr result (Drops F.step F.refuses (F.seen front.old) (read_of (body line.now)) (F.seen front.new)) }
 {
     match line.strip_suffix(b"\r".as_slice()) {
@@ -192,7 +201,8 @@ fn serve<R, F: Front<R>>(
     requires ready { F.ready front.old }
     requires words { map (λ w. w.now) words.now ≡ line_words line.now }
     ensures ready { F.ready front.new }
-    ensures ok { OnOk result (Grows outbox.old.held.items outbox.new.held.items (λ out. Served F.step (F.seen front.old) (F.seen front.new) out line.now
+    ensures ok { OnOk result (Grows outbox.old.held.items outbox.new.held.items
+        (λ out. Served F.step (F.seen front.old) (F.seen front.new) out line.now
         outbox.old.tally.seen outbox.new.tally.seen outbox.old.tally.lines outbox.new.tally.lines
         outbox.old.tally.refused outbox.new.tally.refused)) }
     ensures held { OnErr result (outbox.new.held.items ≡ outbox.old.held.items) }
@@ -217,7 +227,8 @@ fn serve_whole<R, F: Front<R>>(
     requires seen { outbox.old.tally.seen < 4294967296 }
     requires ready { F.ready front.old }
     ensures ready { F.ready front.new }
-    ensures ok { OnOk result (Grows outbox.old.held.items outbox.new.held.items (λ out. Served F.step (F.seen front.old) (F.seen front.new) out line.now
+    ensures ok { OnOk result (Grows outbox.old.held.items outbox.new.held.items
+        (λ out. Served F.step (F.seen front.old) (F.seen front.new) out line.now
         outbox.old.tally.seen outbox.new.tally.seen outbox.old.tally.lines outbox.new.tally.lines
         outbox.old.tally.refused outbox.new.tally.refused)) }
     ensures held { OnErr result (outbox.new.held.items ≡ outbox.old.held.items) }
@@ -238,7 +249,8 @@ fn keep(partial: &mut Vec<u8>, more: &[u8]) -> Result<(), RunFault>
     requires line { IsLine partial.old.items }
     requires plain { HasNoEnd more.now }
     ensures ok { OnOk result ((partial.new.items ≡ partial.old.items ++ more.now) × IsLine partial.new.items) }
-    ensures err { IfErr result (λ e. (e ≡ RunFault.NoMemory) ⊎ ((e ≡ RunFault.LongLine) × (4096 < length (partial.old.items ++ more.now)))) }
+    ensures err { IfErr result (λ e. (e ≡ RunFault.NoMemory)
+        ⊎ ((e ≡ RunFault.LongLine) × (4096 < length (partial.old.items ++ more.now)))) }
 {
     if more.len() > MOST_BYTES - partial.len() {
         return Err(RunFault::LongLine);
@@ -262,10 +274,12 @@ fn take_line<R, F: Front<R>>(
     requires ready { F.ready front.old }
     requires words { map (λ w. w.now) words.now ≡ line_words more.now }
     ensures ready { F.ready front.new }
-    ensures ok { OnOk result (Grows outbox.old.held.items outbox.new.held.items (λ out. Progress F.step (F.seen front.old) (F.seen front.new) out
+    ensures ok { OnOk result (Grows outbox.old.held.items outbox.new.held.items
+        (λ out. Progress F.step (F.seen front.old) (F.seen front.new) out
         (partial.old.items ++ (more.now ++ 10 ∷ [])) partial.new.items outbox.old.tally.seen outbox.new.tally.seen
         outbox.old.tally.lines outbox.new.tally.lines outbox.old.tally.refused outbox.new.tally.refused)) }
-    ensures err { IfErr result (λ e. Grows outbox.old.held.items outbox.new.held.items (λ out. Broken F.step F.refuses e (F.seen front.old) (F.seen front.new)
+    ensures err { IfErr result (λ e. Grows outbox.old.held.items outbox.new.held.items
+        (λ out. Broken F.step F.refuses e (F.seen front.old) (F.seen front.new)
         out outbox.old.tally.seen (partial.old.items ++ (more.now ++ 10 ∷ [])))) }
 {
     if outbox.tally.is_full() {
@@ -342,7 +356,8 @@ fn take_piece<R, F: Front<R>, W: Write>(
     requires ready { F.ready front.old }
     requires none { outbox.old.held.items ≡ [] }
     ensures ready { F.ready front.new }
-    ensures ok { OnOk result ((sent : List ℕ) × Appends (W.contents writer.old) (W.contents writer.new) sent × Progress F.step (F.seen front.old) (F.seen front.new)
+    ensures ok { OnOk result ((sent : List ℕ) × Appends (W.contents writer.old) (W.contents writer.new) sent
+        × Progress F.step (F.seen front.old) (F.seen front.new)
         (sent ++ outbox.new.held.items) (partial.old.items ++ piece.now) partial.new.items outbox.old.tally.seen outbox.new.tally.seen
         outbox.old.tally.lines outbox.new.tally.lines outbox.old.tally.refused outbox.new.tally.refused) }
     ensures err { IfErr result (λ e. (out : List ℕ) × Reaches e (W.contents writer.old) (W.contents writer.new) out
@@ -372,7 +387,8 @@ fn finish<R, F: Front<R>>(
     requires line { IsLine partial.now }
     requires ready { F.ready front.old }
     ensures ready { F.ready front.new }
-    ensures ok { OnOk result (Grows outbox.old.held.items outbox.new.held.items (λ out. Finished F.step (F.seen front.old) (F.seen front.new) out
+    ensures ok { OnOk result (Grows outbox.old.held.items outbox.new.held.items
+        (λ out. Finished F.step (F.seen front.old) (F.seen front.new) out
         partial.now outbox.old.tally.lines outbox.new.tally.lines outbox.old.tally.refused outbox.new.tally.refused)) }
     ensures few { OnOk result (outbox.old.tally.seen + length (last_line partial.now) ≤ 4294967296) }
     ensures held { OnErr result (outbox.new.held.items ≡ outbox.old.held.items) }

@@ -8,6 +8,7 @@ ghost use Rattle.line_engine.specs.TextLines.{lines_of};
 /// The lines of a text that is made of lines with their ends, and of what follows the last end, are these lines and, unless it is empty,
 /// what follows.
 pub fn texts_have_their_lines()
-    ensures parts { (lines : List (List ℕ)) (rest : List ℕ) → AllByRecursion IsLine lines → HasNoEnd rest → lines_of (flat_map ended lines ++ rest) ≡ lines ++ last_line rest }
+    ensures parts { (lines : List (List ℕ)) (rest : List ℕ) → AllByRecursion IsLine lines → HasNoEnd rest
+        → lines_of (flat_map ended lines ++ rest) ≡ lines ++ last_line rest }
     ensures whole { (lines : List (List ℕ)) → AllByRecursion IsLine lines → lines_of (flat_map ended lines) ≡ lines }
 {}

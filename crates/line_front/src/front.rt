@@ -47,7 +47,8 @@ pub trait Front<R> {
     ) -> Result<Result<u32, Denial>, Fault>
         requires { ready self.old }
         ensures ready { ready self.new }
-        ensures ok { IfOk result (λ verdict. step (seen self.old) (Command.Submit (Call.Propose session base mv)) (Replied (reply_by verdict)) (seen self.new)) }
+        ensures ok { IfOk result (λ verdict. step (seen self.old) (Command.Submit (Call.Propose session base mv))
+            (Replied (reply_by verdict)) (seen self.new)) }
         ensures err { IfErr result (λ fault. MayFault step refuses (seen self.old) (Call.Propose session base mv) fault (seen self.new)) };
 
     /// The rows that the session may view.

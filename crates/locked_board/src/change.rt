@@ -12,7 +12,8 @@ use std::alloc::AllocError;
 
 /// What a judged call changes of the copies that desks read.
 pub(crate) fn change_of(prepared: &Prepared) -> Result<Change, AllocError>
-    ensures { (s : Setting) → IsKept s prepared.now.of → Makes s prepared.now → IfOk result (IsChangeBy s (state_after s prepared.now.of.journal) prepared.now.entry) }
+    ensures { (s : Setting) → IsKept s prepared.now.of → Makes s prepared.now
+        → IfOk result (IsChangeBy s (state_after s prepared.now.of.journal) prepared.now.entry) }
 {
     let Difference {
         first,

@@ -94,7 +94,8 @@ impl<N: Naming, R: Wait + Drop> Held<N, R> {
         ensures rows { IfOk result (λ rows. IsListing N.opening.setting (state_after N.opening.setting eye.new.seen) session rows.items) }
         ensures asked { OnOk result (list_fault (state_after N.opening.setting eye.new.seen) session ≡ None) }
         ensures fault { IfErr result (MayAsk (list_fault (state_after N.opening.setting eye.new.seen) session)) }
-        ensures no_session { IsErrOf result AskFault.NoSession ↔ (list_fault (state_after N.opening.setting eye.new.seen) session ≡ Some AskFault.NoSession) }
+        ensures no_session { IsErrOf result AskFault.NoSession
+            ↔ (list_fault (state_after N.opening.setting eye.new.seen) session ≡ Some AskFault.NoSession) }
     {
         self.locked.catch_up(eye, number, own);
         self.locked.list(setup, session)

@@ -76,7 +76,8 @@ impl<N: Naming, R: Wait + Drop> Locked<N, R> {
     fn commit(&mut self, setup: &Setup, event: Event) -> Result<Reply, Fault>
         requires { setting setup.now ≡ N.opening.setting }
         ensures ok { IfOk result (λ r. IsCommitted N.opening self.old.journal (entry_of event r) self.new.journal) }
-        ensures err { IfErr result (λ f. (self.new.journal ≡ self.old.journal) × IsFault N.opening self.old.journal event.desk event.turn f) }
+        ensures err { IfErr result (λ f. (self.new.journal ≡ self.old.journal)
+            × IsFault N.opening self.old.journal event.desk event.turn f) }
     {
         let prepared = match judge::<N>(&mut self.core, setup, event) {
             Ok(prepared) => prepared,
@@ -103,7 +104,8 @@ impl<N: Naming, R: Wait + Drop> Locked<N, R> {
     fn commit_for(&mut self, setup: &Setup, eye: &mut Eye<N>, event: Event) -> Result<Reply, Fault>
         requires { setting setup.now ≡ N.opening.setting }
         ensures ok { IfOk result (λ r. IsCommitted N.opening self.old.journal (entry_of event r) self.new.journal) }
-        ensures err { IfErr result (λ f. (self.new.journal ≡ self.old.journal) × IsFault N.opening self.old.journal event.desk event.turn f) }
+        ensures err { IfErr result (λ f. (self.new.journal ≡ self.old.journal)
+            × IsFault N.opening self.old.journal event.desk event.turn f) }
         ensures seen { eye.new.seen ≡ self.new.journal }
         ensures viewed { eye.new.viewed ≡ eye.old.viewed }
     {
@@ -200,10 +202,12 @@ impl<N: Naming, R: Wait + Drop> Locked<N, R> {
     /// The rows that a session may read.
     pub(crate) fn list(&self, setup: &Setup, session: u32) -> Result<Vec<Row>, AskFault>
         requires { setting setup.now ≡ N.opening.setting }
-        ensures rows { IfOk result (λ rows. IsListing N.opening.setting (state_after N.opening.setting self.now.journal) session rows.items) }
+        ensures rows { IfOk result (λ rows. IsListing N.opening.setting
+            (state_after N.opening.setting self.now.journal) session rows.items) }
         ensures asked { OnOk result (list_fault (state_after N.opening.setting self.now.journal) session ≡ None) }
         ensures fault { IfErr result (MayAsk (list_fault (state_after N.opening.setting self.now.journal) session)) }
-        ensures no_session { IsErrOf result AskFault.NoSession ↔ (list_fault (state_after N.opening.setting self.now.journal) session ≡ Some AskFault.NoSession) }
+        ensures no_session { IsErrOf result AskFault.NoSession
+            ↔ (list_fault (state_after N.opening.setting self.now.journal) session ≡ Some AskFault.NoSession) }
     {
         self.core.list(setup, session)
     }
@@ -254,7 +258,8 @@ fn judge<N: Naming>(core: &mut Core, setup: &Setup, event: Event) -> Result<Prep
     ensures of { IfOk result (λ prepared. prepared.of ≡ core.new) }
     ensures entry { IfOk result (λ prepared. prepared.entry ≡ entry_of event prepared.entry.reply) }
     ensures makes { IfOk result (Makes N.opening.setting) }
-    ensures untried { MatchResult result (λ prepared. IsGivenUp prepared.judged.change core.new.held.policy) (λ _. core.new.held.policy.tried ≡ core.new.held.policy.now) }
+    ensures untried { MatchResult result (λ prepared. IsGivenUp prepared.judged.change core.new.held.policy)
+        (λ _. core.new.held.policy.tried ≡ core.new.held.policy.now) }
     ensures fault { IfErr result (λ f. IsFault N.opening core.old.journal event.desk event.turn f) }
 {
     let mut meter = Meter::new();

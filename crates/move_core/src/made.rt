@@ -24,7 +24,8 @@ impl Making<'_> {
         place: u32,
     ) -> Result<Changes, AllocError>
         requires { is_possible self.plan.now.customers self.plan.now.routes (Move.Insert customer vehicle place) ≡ true }
-        ensures { IfOk result (λ changes. changes_of changes.items ≡ changes_by self.entry.plan.now.routes (Move.Insert customer vehicle place)) }
+        ensures { IfOk result (λ changes. changes_of changes.items
+            ≡ changes_by self.entry.plan.now.routes (Move.Insert customer vehicle place)) }
     {
         let Making {
             mut room,
@@ -65,7 +66,8 @@ impl Making<'_> {
         at: u32,
     ) -> Result<Changes, AllocError>
         requires { is_possible self.plan.now.customers self.plan.now.routes (Move.Shift vehicle place count to at) ≡ true }
-        ensures { IfOk result (λ changes. changes_of changes.items ≡ changes_by self.entry.plan.now.routes (Move.Shift vehicle place count to at)) }
+        ensures { IfOk result (λ changes. changes_of changes.items
+            ≡ changes_by self.entry.plan.now.routes (Move.Shift vehicle place count to at)) }
     {
         let Making {
             mut room,
@@ -97,7 +99,8 @@ impl Making<'_> {
         at: u32,
     ) -> Result<Changes, AllocError>
         requires { is_possible self.plan.now.customers self.plan.now.routes (Move.Swap vehicle place other at) ≡ true }
-        ensures { IfOk result (λ changes. changes_of changes.items ≡ changes_by self.entry.plan.now.routes (Move.Swap vehicle place other at)) }
+        ensures { IfOk result (λ changes. changes_of changes.items
+            ≡ changes_by self.entry.plan.now.routes (Move.Swap vehicle place other at)) }
     {
         let Making {
             mut room,
@@ -123,7 +126,8 @@ impl Making<'_> {
         last: u32,
     ) -> Result<Changes, AllocError>
         requires { is_possible self.plan.now.customers self.plan.now.routes (Move.Reverse vehicle first last) ≡ true }
-        ensures { IfOk result (λ changes. changes_of changes.items ≡ changes_by self.entry.plan.now.routes (Move.Reverse vehicle first last)) }
+        ensures { IfOk result (λ changes. changes_of changes.items
+            ≡ changes_by self.entry.plan.now.routes (Move.Reverse vehicle first last)) }
     {
         let Making {
             mut room,
@@ -149,7 +153,8 @@ impl Making<'_> {
         keep_other: u32,
     ) -> Result<Changes, AllocError>
         requires { is_possible self.plan.now.customers self.plan.now.routes (Move.Cross vehicle keep other keep_other) ≡ true }
-        ensures { IfOk result (λ changes. changes_of changes.items ≡ changes_by self.entry.plan.now.routes (Move.Cross vehicle keep other keep_other)) }
+        ensures { IfOk result (λ changes. changes_of changes.items
+            ≡ changes_by self.entry.plan.now.routes (Move.Cross vehicle keep other keep_other)) }
     {
         let Making {
             mut room,

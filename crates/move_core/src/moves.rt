@@ -121,7 +121,8 @@ impl Move {
     /// for an inserted customer those where it will stand.
     pub fn touched(&self, alloc: Global, plan: &Plan) -> Result<Vec<Touch>, MoveFault>
         ensures ok { IfOk result (λ touched. touched.items ≡ touched_by plan.now.routes self.now) }
-        ensures possible { IfOk result (λ _. effect plan.now.customers plan.now.routes self.now ≡ Some (changes_by plan.now.routes self.now)) }
+        ensures possible { IfOk result (λ _. effect plan.now.customers plan.now.routes self.now
+            ≡ Some (changes_by plan.now.routes self.now)) }
         ensures bad_place { IsErrOf result MoveFault.BadPlace ↔ (effect plan.now.customers plan.now.routes self.now ≡ None) }
     {
         if !self.is_possible(plan) {

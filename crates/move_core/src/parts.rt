@@ -233,7 +233,8 @@ pub(crate) fn swapped_within(
     requires high { place ≤ length route.now }
     requires at_low { 1 ≤ at }
     requires at_high { at ≤ length route.now }
-    ensures { IfOk result (λ made. made.value ≡ with_customer (with_customer route.now place (customer_at route.now at)) at (customer_at route.now place)) }
+    ensures { IfOk result (λ made. made.value
+        ≡ with_customer (with_customer route.now place (customer_at route.now at)) at (customer_at route.now place)) }
 {
     let mut draft = copied(room, alloc, route)?;
     draft.customers[place as usize - 1] = route[at as usize - 1];

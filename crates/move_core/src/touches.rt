@@ -123,7 +123,8 @@ impl Touching<'_> {
         keep_other: u32,
     ) -> Result<Vec<Touch>, AllocError>
         requires { is_possible self.plan.now.customers self.plan.now.routes (Move.Cross vehicle keep other keep_other) ≡ true }
-        ensures { IfOk result (λ touched. touched.items ≡ touched_by self.entry.plan.now.routes (Move.Cross vehicle keep other keep_other)) }
+        ensures { IfOk result (λ touched. touched.items
+            ≡ touched_by self.entry.plan.now.routes (Move.Cross vehicle keep other keep_other)) }
     {
         let Touching { room, plan } = self;
         let tail = &plan.route(vehicle).customers()[keep as usize..];

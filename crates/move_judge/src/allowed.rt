@@ -82,7 +82,8 @@ pub fn may_leave(view: &View, setup: &Setup, v: u32, place: u32, count: u32) -> 
     requires v { (1 ≤ v) × (v ≤ length view.now.routes) }
     requires low { 1 ≤ place }
     requires high { place + count ≤ length (route_at view.now.routes v) + 1 }
-    ensures { IsTrue result ↔ (front_of (pins_of view.now) v < place) × AreLoose (pins_of view.now) (stretch (route_at view.now.routes v) place count) }
+    ensures { IsTrue result ↔ (front_of (pins_of view.now) v < place)
+        × AreLoose (pins_of view.now) (stretch (route_at view.now.routes v) place count) }
 {
     laws_below();
     if place < first_free(view, setup, v) {
@@ -101,7 +102,8 @@ pub fn loose_from(view: &View, setup: &Setup, v: u32, place: u32) -> u32
     ensures loose { 1 ≤ result → (place + result ≤ length (route_at view.now.routes v) + 1)
         × ((front_of (pins_of view.now) v < place) × AreLoose (pins_of view.now) (stretch (route_at view.now.routes v) place result)) }
     ensures most { (count : ℕ) → count ≤ 3 → place + count ≤ length (route_at view.now.routes v) + 1
-        → (front_of (pins_of view.now) v < place) × AreLoose (pins_of view.now) (stretch (route_at view.now.routes v) place count) → count ≤ result }
+        → (front_of (pins_of view.now) v < place) × AreLoose (pins_of view.now) (stretch (route_at view.now.routes v) place count)
+        → count ≤ result }
 {
     laws_below();
     if place < first_free(view, setup, v) {
@@ -127,7 +129,8 @@ pub fn must_keep(view: &View, setup: &Setup, v: u32) -> u32
     requires v { (1 ≤ v) × (v ≤ length view.now.routes) }
     ensures high { result ≤ length (route_at view.now.routes v) }
     ensures enough { (front_of (pins_of view.now) v ≤ result) × AreLoose (pins_of view.now) (drop result (route_at view.now.routes v)) }
-    ensures held { (k : ℕ) → k < result → (k < front_of (pins_of view.now) v) ⊎ ¬ AreLoose (pins_of view.now) (drop k (route_at view.now.routes v)) }
+    ensures held { (k : ℕ) → k < result → (k < front_of (pins_of view.now) v)
+        ⊎ ¬ AreLoose (pins_of view.now) (drop k (route_at view.now.routes v)) }
 {
     laws_below();
     let _customers = setup.customers();
@@ -478,7 +481,8 @@ fn may_part(view: &View, v: u32, keep: u32) -> bool
     requires view { (s : Setting) × IsViewOf s view.now }
     requires v { (1 ≤ v) × (v ≤ length view.now.routes) }
     requires keep { keep ≤ length (route_at view.now.routes v) }
-    ensures { IsTrue result ↔ (front_of (pins_of view.now) v < keep + 1) × AreLoose (pins_of view.now) (drop keep (route_at view.now.routes v)) }
+    ensures { IsTrue result ↔ (front_of (pins_of view.now) v < keep + 1)
+        × AreLoose (pins_of view.now) (drop keep (route_at view.now.routes v)) }
 {
     if keep < view.front(v) {
         return false;

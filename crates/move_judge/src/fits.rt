@@ -30,10 +30,12 @@ fn carry_back(
     requires known { All (λ node. node < length dimension.now.ranges) nodes.now }
     requires low { 1 ≤ vehicle }
     requires high { vehicle ≤ length dimension.now.caps }
-    ensures span { (done : List ℕ) → IsSpan (Some range) (Reaches (table_of (tables registry.now) dimension.now) dimension.now vehicle done) → from ≡ last_of 0 done
+    ensures span { (done : List ℕ) → IsSpan (Some range) (Reaches (table_of (tables registry.now) dimension.now) dimension.now vehicle done)
+        → from ≡ last_of 0 done
         → MatchOption result
         (IsSpan None (Reaches (table_of (tables registry.now) dimension.now) dimension.now vehicle (done ++ reverse nodes.now)))
-        (λ r. IsSpan (Some r.0) (Reaches (table_of (tables registry.now) dimension.now) dimension.now vehicle (done ++ reverse nodes.now)) × (r.1 ≡ last_of 0 (done ++ reverse nodes.now))) }
+        (λ r. IsSpan (Some r.0) (Reaches (table_of (tables registry.now) dimension.now) dimension.now vehicle (done ++ reverse nodes.now))
+        × (r.1 ≡ last_of 0 (done ++ reverse nodes.now))) }
     ensures filled { IfSome result (λ r. r.0.lo ≤ r.0.hi) }
     ensures small { IfSome result (λ r. r.0.hi ≤ 1000000000000) }
     ensures known { IfSome result (λ r. r.1 < length dimension.now.ranges) }
@@ -67,10 +69,12 @@ fn carry_on(
     requires known { All (λ node. node < length dimension.now.ranges) nodes.now }
     requires low { 1 ≤ vehicle }
     requires high { vehicle ≤ length dimension.now.caps }
-    ensures span { (done : List ℕ) → IsSpan (Some range) (Reaches (table_of (tables registry.now) dimension.now) dimension.now vehicle done) → from ≡ last_of 0 done
+    ensures span { (done : List ℕ) → IsSpan (Some range) (Reaches (table_of (tables registry.now) dimension.now) dimension.now vehicle done)
+        → from ≡ last_of 0 done
         → MatchOption result
         (IsSpan None (Reaches (table_of (tables registry.now) dimension.now) dimension.now vehicle (done ++ nodes.now)))
-        (λ r. IsSpan (Some r.0) (Reaches (table_of (tables registry.now) dimension.now) dimension.now vehicle (done ++ nodes.now)) × (r.1 ≡ last_of 0 (done ++ nodes.now))) }
+        (λ r. IsSpan (Some r.0) (Reaches (table_of (tables registry.now) dimension.now) dimension.now vehicle (done ++ nodes.now))
+        × (r.1 ≡ last_of 0 (done ++ nodes.now))) }
     ensures filled { IfSome result (λ r. r.0.lo ≤ r.0.hi) }
     ensures small { IfSome result (λ r. r.0.hi ≤ 1000000000000) }
     ensures known { IfSome result (λ r. r.1 < length dimension.now.ranges) }
@@ -104,10 +108,12 @@ fn carry_way(
     requires known { All (λ node. node < length dimension.now.ranges) nodes.now }
     requires low { 1 ≤ vehicle }
     requires high { vehicle ≤ length dimension.now.caps }
-    ensures span { (done : List ℕ) → IsSpan (Some range) (Reaches (table_of (tables registry.now) dimension.now) dimension.now vehicle done) → from ≡ last_of 0 done
+    ensures span { (done : List ℕ) → IsSpan (Some range) (Reaches (table_of (tables registry.now) dimension.now) dimension.now vehicle done)
+        → from ≡ last_of 0 done
         → MatchOption result
         (IsSpan None (Reaches (table_of (tables registry.now) dimension.now) dimension.now vehicle (done ++ way_of turned nodes.now)))
-        (λ r. IsSpan (Some r.0) (Reaches (table_of (tables registry.now) dimension.now) dimension.now vehicle (done ++ way_of turned nodes.now)) × (r.1 ≡ last_of 0 (done ++ way_of turned nodes.now))) }
+        (λ r. IsSpan (Some r.0) (Reaches (table_of (tables registry.now) dimension.now) dimension.now vehicle
+        (done ++ way_of turned nodes.now)) × (r.1 ≡ last_of 0 (done ++ way_of turned nodes.now))) }
     ensures filled { IfSome result (λ r. r.0.lo ≤ r.0.hi) }
     ensures small { IfSome result (λ r. r.0.hi ≤ 1000000000000) }
     ensures known { IfSome result (λ r. r.1 < length dimension.now.ranges) }
@@ -153,7 +159,8 @@ fn arrival(
     requires next { next < length dimension.now.ranges }
     requires low { 1 ≤ vehicle }
     requires high { vehicle ≤ length dimension.now.caps }
-    ensures { IsSpan result (Reaches (table_of (tables registry.now) dimension.now) dimension.now vehicle (begun_of parts.now ++ next ∷ [])) }
+    ensures { IsSpan result (Reaches (table_of (tables registry.now) dimension.now) dimension.now vehicle
+        (begun_of parts.now ++ next ∷ [])) }
 {
     let _nodes = dimension.nodes();
     dimension.spans_are_small();
@@ -185,7 +192,8 @@ fn joins(
     requires laws { Laws }
     requires served { IsServed (tables registry.now) dimension.now }
     requires here { IsSpan (Some here) (Reaches (table_of (tables registry.now) dimension.now) dimension.now vehicle parts.now.front.now) }
-    requires there { IsSpan (Some there) (GoesOn (table_of (tables registry.now) dimension.now) dimension.now vehicle (parts.now.back.now ++ 0 ∷ [])) }
+    requires there { IsSpan (Some there) (GoesOn (table_of (tables registry.now) dimension.now) dimension.now vehicle
+        (parts.now.back.now ++ 0 ∷ [])) }
     requires some { 0 < length (route_of parts.now) }
     requires known { All (λ node. node < length dimension.now.ranges) (route_of parts.now) }
     requires low { 1 ≤ vehicle }
@@ -212,7 +220,8 @@ fn meets(
     requires laws { Laws }
     requires served { IsServed (tables registry.now) dimension.now }
     requires ahead { IsSpan ahead (Reaches (table_of (tables registry.now) dimension.now) dimension.now vehicle parts.now.front.now) }
-    requires behind { IsSpan behind (GoesOn (table_of (tables registry.now) dimension.now) dimension.now vehicle (parts.now.back.now ++ 0 ∷ [])) }
+    requires behind { IsSpan behind (GoesOn (table_of (tables registry.now) dimension.now) dimension.now vehicle
+        (parts.now.back.now ++ 0 ∷ [])) }
     requires some { 0 < length (route_of parts.now) }
     requires known { All (λ node. node < length dimension.now.ranges) (route_of parts.now) }
     requires low { 1 ≤ vehicle }

@@ -99,7 +99,8 @@ fn span_after(
     requires node { node < length dimension.now.ranges }
     requires low { 1 ≤ vehicle }
     requires high { vehicle ≤ length dimension.now.caps }
-    ensures { (done : List ℕ) → IsSpan span (Reaches (table_of (tables registry.now) dimension.now) dimension.now vehicle done) → from ≡ last_of 0 done
+    ensures { (done : List ℕ) → IsSpan span (Reaches (table_of (tables registry.now) dimension.now) dimension.now vehicle done)
+        → from ≡ last_of 0 done
         → IsSpan result (Reaches (table_of (tables registry.now) dimension.now) dimension.now vehicle (done ++ node ∷ [])) }
 {
     match span {
@@ -161,7 +162,8 @@ fn fill_ahead(
     requires short { length route.now ≤ 1000 }
     requires low { 1 ≤ vehicle }
     requires high { vehicle ≤ (setting setup.now).vehicles }
-    ensures { IfOk result (λ _. AreAhead (setting setup.now) vehicle route.now (record { width = length route.now + 1; cells = cells.new.items })) }
+    ensures { IfOk result (λ _. AreAhead (setting setup.now) vehicle route.now
+        (record { width = length route.now + 1; cells = cells.new.items })) }
 {
     let width = route.len() + 1;
     cells.clear();
@@ -191,7 +193,8 @@ fn fill_behind(
     requires short { length route.now ≤ 1000 }
     requires low { 1 ≤ vehicle }
     requires high { vehicle ≤ (setting setup.now).vehicles }
-    ensures { IfOk result (λ _. AreBehind (setting setup.now) vehicle route.now (record { width = length route.now + 1; cells = cells.new.items })) }
+    ensures { IfOk result (λ _. AreBehind (setting setup.now) vehicle route.now
+        (record { width = length route.now + 1; cells = cells.new.items })) }
 {
     let width = route.len() + 1;
     cells.clear();

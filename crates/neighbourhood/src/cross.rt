@@ -73,7 +73,8 @@ fn cross_over(search: &Search, gathered: &Gathered, keep: u32, begin: u32, best:
     requires onto { (l : ℕ) → l < begin → ¬ CountsIn (searched search.now) (Cross search.now.v keep search.now.w l) }
     requires keep { keep + 1 < length gathered.now.from.now }
     requires best { IsBestSoFar (searched search.now) (4 ∷ search.now.v ∷ keep ∷ search.now.w ∷ 0 ∷ []) best.found }
-    ensures { IsBestSoFar (searched search.now) (4 ∷ search.now.v ∷ keep ∷ search.now.w ∷ (length gathered.now.to.now - 1) ∷ []) result.found }
+    ensures { IsBestSoFar (searched search.now)
+        (4 ∷ search.now.v ∷ keep ∷ search.now.w ∷ (length gathered.now.to.now - 1) ∷ []) result.found }
 {
     let (from_edges, width) = (gathered.from_edges, gathered.to.len());
     let index = keep as usize;

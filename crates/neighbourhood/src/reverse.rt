@@ -29,8 +29,10 @@ fn reverse_row(search: &Search, reverses: &Reverses, end: u32, best: Best) -> Be
     requires ways { IsReverseRow reverses.now.ways end }
     requires short { length reverses.now.ways.here.now ≤ 1002 }
     requires fixed { (reverses.now.lost < 2 ^ 50) × (reverses.now.gained < 2 ^ 50) }
-    requires possible { (last : ℕ) → reverses.now.first < last → last < end → IsPossible (searched search.now) (Reverse search.now.v reverses.now.first last) }
-    requires saving { (last : ℕ) → reverses.now.first < last → last < end → Saves (searched search.now) (Reverse search.now.v reverses.now.first last)
+    requires possible { (last : ℕ) → reverses.now.first < last → last < end
+        → IsPossible (searched search.now) (Reverse search.now.v reverses.now.first last) }
+    requires saving { (last : ℕ) → reverses.now.first < last → last < end
+        → Saves (searched search.now) (Reverse search.now.v reverses.now.first last)
         (reverses.now.lost + lost_by_reverse reverses.now.ways last) (reverses.now.gained + gained_by_reverse reverses.now.ways last) }
     requires best { IsBestSoFar (searched search.now) (3 ∷ search.now.v ∷ reverses.now.first ∷ (reverses.now.first + 1) ∷ []) best.found }
     ensures { IsBestSoFar (searched search.now) (3 ∷ search.now.v ∷ reverses.now.first ∷ end ∷ []) result.found }

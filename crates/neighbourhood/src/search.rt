@@ -74,7 +74,8 @@ fn holds_up(search: &Search, found: Option<(Move, u64)>) -> bool
     requires search { IsSearch (searched search.now) }
     requires unbounded { search.now.bounded ≡ false }
     requires found { MatchOption found (IsIdleOf (searched search.now)) (λ p. IsBestOf (searched search.now) p.0 p.1) }
-    ensures { IsTrue result → MatchOption found (IsIdle (setting search.now.setup.now) search.now.view.now search.now.skip.now search.now.v search.now.w)
+    ensures { IsTrue result → MatchOption found
+        (IsIdle (setting search.now.setup.now) search.now.view.now search.now.skip.now search.now.v search.now.w)
         (λ p. IsBest (setting search.now.setup.now) search.now.view.now search.now.skip.now search.now.v search.now.w p.0 p.1) }
 {
     let (view, setup, v, w) = (search.view, search.setup, search.v, search.w);
@@ -121,7 +122,8 @@ impl Searcher {
         requires laws { Laws }
         requires view { IsViewOf (setting setup.now) view.now }
         requires v { (1 ≤ v) × (v ≤ (setting setup.now).vehicles) }
-        ensures { IfOk result (λ best. MatchOption best (IsIdle (setting setup.now) view.now skip.now v v) (λ p. IsBest (setting setup.now) view.now skip.now v v p.0 p.1)) }
+        ensures { IfOk result (λ best. MatchOption best (IsIdle (setting setup.now) view.now skip.now v v)
+            (λ p. IsBest (setting setup.now) view.now skip.now v v p.0 p.1)) }
     {
         if are_empty(view, v, v) {
             return Ok(None);
@@ -186,7 +188,8 @@ impl Searcher {
         requires v { (1 ≤ v) × (v ≤ (setting setup.now).vehicles) }
         requires w { (1 ≤ w) × (w ≤ (setting setup.now).vehicles) }
         requires apart { v ≢ w }
-        ensures { IfOk result (λ best. MatchOption best (IsIdle (setting setup.now) view.now skip.now v w) (λ p. IsBest (setting setup.now) view.now skip.now v w p.0 p.1)) }
+        ensures { IfOk result (λ best. MatchOption best (IsIdle (setting setup.now) view.now skip.now v w)
+            (λ p. IsBest (setting setup.now) view.now skip.now v w p.0 p.1)) }
     {
         if are_empty(view, v, w) {
             return Ok(None);
@@ -251,7 +254,8 @@ impl Searcher {
         requires view { IsViewOf (setting setup.now) view.now }
         requires v { (1 ≤ v) × (v ≤ (setting setup.now).vehicles) }
         requires w { (1 ≤ w) × (w ≤ (setting setup.now).vehicles) }
-        ensures { IfOk result (λ best. MatchOption best (IsIdle (setting setup.now) view.now skip.now v w) (λ p. IsBest (setting setup.now) view.now skip.now v w p.0 p.1)) }
+        ensures { IfOk result (λ best. MatchOption best (IsIdle (setting setup.now) view.now skip.now v w)
+            (λ p. IsBest (setting setup.now) view.now skip.now v w p.0 p.1)) }
     {
         laws_below();
         if v == w {
@@ -278,7 +282,8 @@ pub fn best_move(
     requires view { IsViewOf (setting setup.now) view.now }
     requires v { (1 ≤ v) × (v ≤ (setting setup.now).vehicles) }
     requires w { (1 ≤ w) × (w ≤ (setting setup.now).vehicles) }
-    ensures { IfOk result (λ best. MatchOption best (IsIdle (setting setup.now) view.now skip.now v w) (λ p. IsBest (setting setup.now) view.now skip.now v w p.0 p.1)) }
+    ensures { IfOk result (λ best. MatchOption best (IsIdle (setting setup.now) view.now skip.now v w)
+        (λ p. IsBest (setting setup.now) view.now skip.now v w p.0 p.1)) }
 {
     Searcher::new(alloc).best_move(view, setup, v, w, skip)
 }

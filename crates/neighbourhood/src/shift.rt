@@ -47,11 +47,16 @@ fn shift_row(
     requires most { All (λ x. x ≤ shifts.now.ways.most) shifts.now.ways.edges.now }
     requires short { length shifts.now.ways.on.now ≤ 1002 }
     requires fixed { (shifts.now.lost < 2 ^ 34) × (shifts.now.gained < 2 ^ 34) }
-    requires possible { (at : ℕ) → first ≤ at → at < end → IsPossible (searched search.now) (Shift search.now.v shifts.now.place shifts.now.count search.now.w at) }
-    requires saving { (at : ℕ) → first ≤ at → at < end → Saves (searched search.now) (Shift search.now.v shifts.now.place shifts.now.count search.now.w at)
-        (shifts.now.lost + lost_by_cut shifts.now.ways (at + offset - 1)) (shifts.now.gained + gained_by_cut shifts.now.ways (at + offset - 1)) }
-    requires best { IsBestSoFar (searched search.now) (1 ∷ search.now.v ∷ shifts.now.place ∷ shifts.now.count ∷ search.now.w ∷ first ∷ []) best.found }
-    ensures { IsBestSoFar (searched search.now) (1 ∷ search.now.v ∷ shifts.now.place ∷ shifts.now.count ∷ search.now.w ∷ end ∷ []) result.found }
+    requires possible { (at : ℕ) → first ≤ at → at < end
+        → IsPossible (searched search.now) (Shift search.now.v shifts.now.place shifts.now.count search.now.w at) }
+    requires saving { (at : ℕ) → first ≤ at → at < end
+        → Saves (searched search.now) (Shift search.now.v shifts.now.place shifts.now.count search.now.w at)
+        (shifts.now.lost + lost_by_cut shifts.now.ways (at + offset - 1))
+        (shifts.now.gained + gained_by_cut shifts.now.ways (at + offset - 1)) }
+    requires best { IsBestSoFar (searched search.now)
+        (1 ∷ search.now.v ∷ shifts.now.place ∷ shifts.now.count ∷ search.now.w ∷ first ∷ []) best.found }
+    ensures { IsBestSoFar (searched search.now)
+        (1 ∷ search.now.v ∷ shifts.now.place ∷ shifts.now.count ∷ search.now.w ∷ end ∷ []) result.found }
 {
     if first == end {
         return best;
@@ -95,7 +100,8 @@ fn closing(search: &Search, gathered: &Gathered, before: usize, after: usize) ->
     requires gathered { IsGathered (searched search.now) gathered.now }
     requires order { before < after }
     requires after { after < length gathered.now.from.now }
-    ensures value { result ≡ hop (costs_of (searched search.now)) (slice_index gathered.now.from.now before) (slice_index gathered.now.from.now after) }
+    ensures value { result ≡ hop (costs_of (searched search.now))
+        (slice_index gathered.now.from.now before) (slice_index gathered.now.from.now after) }
     ensures small { result < 2 ^ 34 }
 {
     let (from, width) = (gathered.from, gathered.to.len());
@@ -130,7 +136,8 @@ fn shift_over(
     requires free { (front_of (pins_of search.now.view.now) search.now.v < place)
         × AreLoose (pins_of search.now.view.now) (stretch (route_at search.now.view.now.routes search.now.v) place count) → count ≤ free }
     requires best { IsBestSoFar (searched search.now) (1 ∷ search.now.v ∷ place ∷ count ∷ search.now.w ∷ 1 ∷ []) best.found }
-    ensures { IsBestSoFar (searched search.now) (1 ∷ search.now.v ∷ place ∷ count ∷ search.now.w ∷ length gathered.now.to.now ∷ []) result.found }
+    ensures { IsBestSoFar (searched search.now)
+        (1 ∷ search.now.v ∷ place ∷ count ∷ search.now.w ∷ length gathered.now.to.now ∷ []) result.found }
 {
     if free < count {
         return best;
@@ -177,7 +184,8 @@ fn shift_within(search: &Search, gathered: &Gathered, place: u32, count: u32, be
     requires count { (1 ≤ count) × (count ≤ 3) }
     requires place { (1 ≤ place) × (place + count < length gathered.now.from.now) }
     requires best { IsBestSoFar (searched search.now) (1 ∷ search.now.v ∷ place ∷ count ∷ search.now.w ∷ 1 ∷ []) best.found }
-    ensures { IsBestSoFar (searched search.now) (1 ∷ search.now.v ∷ place ∷ count ∷ search.now.w ∷ (length gathered.now.from.now - count) ∷ []) result.found }
+    ensures { IsBestSoFar (searched search.now)
+        (1 ∷ search.now.v ∷ place ∷ count ∷ search.now.w ∷ (length gathered.now.from.now - count) ∷ []) result.found }
 {
     let begin = first_free(search.view, search.setup, search.v);
     if place < begin {

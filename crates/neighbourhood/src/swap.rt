@@ -31,7 +31,8 @@ fn swap_row(search: &Search, swaps: &Swaps, first: u32, end: u32, best: Best) ->
     requires most { All (λ x. x ≤ swaps.now.ways.most) swaps.now.ways.edges.now }
     requires short { length swaps.now.ways.here.now ≤ 1002 }
     requires fixed { swaps.now.lost < 2 ^ 34 }
-    requires possible { (at : ℕ) → first ≤ at → at < end → IsPossible (searched search.now) (Swap search.now.v swaps.now.place search.now.w at) }
+    requires possible { (at : ℕ) → first ≤ at → at < end
+        → IsPossible (searched search.now) (Swap search.now.v swaps.now.place search.now.w at) }
     requires saving { (at : ℕ) → first ≤ at → at < end → Saves (searched search.now) (Swap search.now.v swaps.now.place search.now.w at)
         (swaps.now.lost + lost_by_swap swaps.now.ways at) (gained_by_swap swaps.now.ways at) }
     requires best { IsBestSoFar (searched search.now) (2 ∷ search.now.v ∷ swaps.now.place ∷ search.now.w ∷ first ∷ []) best.found }
@@ -76,7 +77,8 @@ fn swap_over(search: &Search, gathered: &Gathered, place: u32, best: Best) -> Be
     requires apart { search.now.v ≢ search.now.w }
     requires place { (1 ≤ place) × (place + 1 < length gathered.now.from.now) }
     requires best { IsBestSoFar (searched search.now) (2 ∷ search.now.v ∷ place ∷ search.now.w ∷ 1 ∷ []) best.found }
-    ensures { IsBestSoFar (searched search.now) (2 ∷ search.now.v ∷ place ∷ search.now.w ∷ (length gathered.now.to.now - 1) ∷ []) result.found }
+    ensures { IsBestSoFar (searched search.now)
+        (2 ∷ search.now.v ∷ place ∷ search.now.w ∷ (length gathered.now.to.now - 1) ∷ []) result.found }
 {
     if !may_leave(search.view, search.setup, search.v, place, 1) {
         return best;
@@ -146,7 +148,8 @@ fn swap_within(search: &Search, gathered: &Gathered, place: u32, best: Best) -> 
     requires inside { search.now.v ≡ search.now.w }
     requires place { (1 ≤ place) × (place + 1 < length gathered.now.from.now) }
     requires best { IsBestSoFar (searched search.now) (2 ∷ search.now.v ∷ place ∷ search.now.w ∷ (place + 1) ∷ []) best.found }
-    ensures { IsBestSoFar (searched search.now) (2 ∷ search.now.v ∷ place ∷ search.now.w ∷ (length gathered.now.from.now - 1) ∷ []) result.found }
+    ensures { IsBestSoFar (searched search.now)
+        (2 ∷ search.now.v ∷ place ∷ search.now.w ∷ (length gathered.now.from.now - 1) ∷ []) result.found }
 {
     let (edges, width) = (gathered.to_edges, gathered.from.len());
     let index = place as usize;

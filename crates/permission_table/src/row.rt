@@ -88,7 +88,8 @@ impl Row {
 fn add_words(words: &mut [u64; 32], other: &[u64; 32], places: (u32, u32))
     requires order { places.0 ≤ places.1 }
     requires small { places.1 ≤ 32 }
-    ensures inside { (k : ℕ) → places.0 ≤ k → k < places.1 → slice_index words.new k ≡ bit_or (slice_index words.old k) (slice_index other.now k) }
+    ensures inside { (k : ℕ) → places.0 ≤ k → k < places.1
+        → slice_index words.new k ≡ bit_or (slice_index words.old k) (slice_index other.now k) }
     ensures below { (k : ℕ) → k < places.0 → slice_index words.new k ≡ slice_index words.old k }
     ensures above { (k : ℕ) → places.1 ≤ k → slice_index words.new k ≡ slice_index words.old k }
 {

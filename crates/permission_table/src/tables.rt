@@ -222,7 +222,8 @@ impl Tables {
         object: Object,
         meter: &mut Meter,
     ) -> bool
-        ensures value { result ≡ allowed_by self.now.customers self.now.vehicles (option_map (λ rows. rows.now) found.entry) operation object }
+        ensures value { result ≡ allowed_by self.now.customers self.now.vehicles
+            (option_map (λ rows. rows.now) found.entry) operation object }
         ensures session { (session : ℕ) → option_map (λ rows. rows.now) found.entry ≡ rows_of self.now session →
             result ≡ allows self.now session operation object }
         ensures probe { meter.new ≡ after_probe meter.old }

@@ -31,8 +31,10 @@ impl Pins {
         requires touched { AreAllTouched plan.now.routes (with_routes (changes_of new_routes.now) plan.now.routes) touched.now }
         requires free { length free.now ≡ length touched.now }
         ensures { MatchResult result
-            (λ _. AreFreezesKept self.now plan.now.routes (with_routes (changes_of new_routes.now) plan.now.routes) × DoPinsPass self.now (with_routes (changes_of new_routes.now) plan.now.routes) touched.now free.now)
-            (IsFaultWith self.now plan.now.routes (with_routes (changes_of new_routes.now) plan.now.routes) (named_vehicles (changes_of new_routes.now)) touched.now free.now) }
+            (λ _. AreFreezesKept self.now plan.now.routes (with_routes (changes_of new_routes.now) plan.now.routes)
+            × DoPinsPass self.now (with_routes (changes_of new_routes.now) plan.now.routes) touched.now free.now)
+            (IsFaultWith self.now plan.now.routes (with_routes (changes_of new_routes.now) plan.now.routes)
+            (named_vehicles (changes_of new_routes.now)) touched.now free.now) }
     {
         if let Some(vehicle) = self.first_thawed(plan, new_routes) {
             return Err(PinFault::Frozen(vehicle));

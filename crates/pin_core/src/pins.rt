@@ -116,8 +116,10 @@ impl Pins {
         requires known { All (λ t. (1 ≤ t.customer) × (t.customer ≤ plan.now.customers)) touched.now }
         requires touched { AreAllTouched plan.now.routes (with_routes (changes_of new_routes.now) plan.now.routes) touched.now }
         ensures { MatchResult result
-            (λ _. AreFreezesKept self.now plan.now.routes (with_routes (changes_of new_routes.now) plan.now.routes) × DoPinsHold self.now (with_routes (changes_of new_routes.now) plan.now.routes))
-            (IsPinFault self.now plan.now.routes (with_routes (changes_of new_routes.now) plan.now.routes) (named_vehicles (changes_of new_routes.now)) touched.now) }
+            (λ _. AreFreezesKept self.now plan.now.routes (with_routes (changes_of new_routes.now) plan.now.routes)
+            × DoPinsHold self.now (with_routes (changes_of new_routes.now) plan.now.routes))
+            (IsPinFault self.now plan.now.routes (with_routes (changes_of new_routes.now) plan.now.routes)
+            (named_vehicles (changes_of new_routes.now)) touched.now) }
     {
         if let Some(vehicle) = self.first_thawed(plan, new_routes) {
             return Err(PinFault::Frozen(vehicle));
@@ -134,7 +136,8 @@ impl Pins {
         requires high { vehicle ≤ length plan.now.routes }
         requires vehicles { length self.now.fronts ≡ length plan.now.routes }
         requires fitting { DoFrontsFit self.now plan.now.routes }
-        ensures { IsTrue result ↔ (take (front_of self.now vehicle) route.now ≡ take (front_of self.now vehicle) (route_at plan.now.routes vehicle)) }
+        ensures { IsTrue result ↔ (take (front_of self.now vehicle) route.now
+            ≡ take (front_of self.now vehicle) (route_at plan.now.routes vehicle)) }
     {
         let frozen = self.frozen(vehicle) as usize;
         let old = plan.route(vehicle).customers();
@@ -147,7 +150,8 @@ impl Pins {
         requires fitting { DoFrontsFit self.now plan.now.routes }
         requires apart { AreApart (length plan.now.routes) (changes_of new_routes.now) }
         ensures { MatchOption result (AreFreezesKept self.now plan.now.routes (with_routes (changes_of new_routes.now) plan.now.routes))
-            (IsFirstThawed self.now plan.now.routes (with_routes (changes_of new_routes.now) plan.now.routes) (named_vehicles (changes_of new_routes.now))) }
+            (IsFirstThawed self.now plan.now.routes (with_routes (changes_of new_routes.now) plan.now.routes)
+            (named_vehicles (changes_of new_routes.now))) }
     {
         routes_replaced();
         for (vehicle, route) in new_routes {
@@ -166,7 +170,8 @@ impl Pins {
         requires high { customer ≤ length self.now.pins }
         requires holding { DoPinsHold self.now plan.now.routes }
         requires apart { AreApart (length plan.now.routes) (changes_of new_routes.now) }
-        ensures { MatchBool result (¬ IsHeld self.now (with_routes (changes_of new_routes.now) plan.now.routes) customer) (IsHeld self.now (with_routes (changes_of new_routes.now) plan.now.routes) customer) }
+        ensures { MatchBool result (¬ IsHeld self.now (with_routes (changes_of new_routes.now) plan.now.routes) customer)
+            (IsHeld self.now (with_routes (changes_of new_routes.now) plan.now.routes) customer) }
     {
         self.leaves_near(plan, new_routes, customer, &mut 0)
     }
@@ -184,7 +189,8 @@ impl Pins {
         requires high { customer ≤ length self.now.pins }
         requires holding { DoPinsHold self.now plan.now.routes }
         requires apart { AreApart (length plan.now.routes) (changes_of new_routes.now) }
-        ensures { MatchBool result (¬ IsHeld self.now (with_routes (changes_of new_routes.now) plan.now.routes) customer) (IsHeld self.now (with_routes (changes_of new_routes.now) plan.now.routes) customer) }
+        ensures { MatchBool result (¬ IsHeld self.now (with_routes (changes_of new_routes.now) plan.now.routes) customer)
+            (IsHeld self.now (with_routes (changes_of new_routes.now) plan.now.routes) customer) }
     {
         match self.pinned(customer) {
             None => false,
@@ -202,7 +208,8 @@ impl Pins {
         requires holding { DoPinsHold self.now plan.now.routes }
         requires apart { AreApart (length plan.now.routes) (changes_of new_routes.now) }
         requires known { All (λ t. (1 ≤ t.customer) × (t.customer ≤ length self.now.pins)) touched.now }
-        ensures { MatchOption result ((k : ℕ) (t : Touch) → slice_get touched.now k ≡ Some t → IsHeld self.now (with_routes (changes_of new_routes.now) plan.now.routes) t.customer)
+        ensures { MatchOption result ((k : ℕ) (t : Touch) → slice_get touched.now k ≡ Some t
+            → IsHeld self.now (with_routes (changes_of new_routes.now) plan.now.routes) t.customer)
             (IsFirstLoose self.now (with_routes (changes_of new_routes.now) plan.now.routes) touched.now) }
     {
         let mut near = 0;
@@ -236,7 +243,8 @@ fn would_stay(
 
 /// The new route of a vehicle, if it has one.
 fn new_route(new_routes: &[(u32, Arc<Route>)], vehicle: u32) -> Option<&Arc<Route>>
-    ensures { MatchOption result (¬ IsNamed (changes_of new_routes.now) vehicle) (λ route. (k : ℕ) × (slice_get (changes_of new_routes.now) k ≡ Some (vehicle, route.now.value))) }
+    ensures { MatchOption result (¬ IsNamed (changes_of new_routes.now) vehicle) (λ route. (k : ℕ)
+        × (slice_get (changes_of new_routes.now) k ≡ Some (vehicle, route.now.value))) }
 {
     for (named, route) in new_routes {
         if *named == vehicle {

@@ -27,7 +27,12 @@ impl Model for View {
 
     ghost Value = { ViewState };
 
-    ghost view = { λ a. record { routes = routes_of a.routes.items; pinned = a.pinned.items; frozen = a.frozen.items; version = a.version } };
+    ghost view = { λ a. record {
+      routes = routes_of a.routes.items;
+      pinned = a.pinned.items;
+      frozen = a.frozen.items;
+      version = a.version;
+    } };
 }
 
 impl View {

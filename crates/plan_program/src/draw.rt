@@ -47,8 +47,10 @@ fn hand_on_full<W: Write>(writer: &mut W, text: &mut String) -> Result<(), RunFa
 
 /// Writes marks, and holds the last of their text.
 fn write_marks<W: Write>(writer: &mut W, text: &mut String, marks: &[Mark]) -> Result<(), ViewStop>
-    ensures ok { OnOk result (IsHeld (W.contents writer.old) (W.contents writer.new) (string_bytes text.new) (string_bytes text.old ++ flat_map mark_text marks.now)) }
-    ensures part { OnErr result (AppendsPrefix (W.contents writer.old) (W.contents writer.new) (string_bytes text.old ++ flat_map mark_text marks.now)) }
+    ensures ok { OnOk result (IsHeld (W.contents writer.old) (W.contents writer.new) (string_bytes text.new)
+        (string_bytes text.old ++ flat_map mark_text marks.now)) }
+    ensures part { OnErr result (AppendsPrefix (W.contents writer.old) (W.contents writer.new)
+        (string_bytes text.old ++ flat_map mark_text marks.now)) }
     ensures err { IfErr result IsWriting }
 {
     for mark in marks {

@@ -25,7 +25,8 @@ impl Search {
     /// The search behind one more line, the one at a place.
     fn behind(self, k: usize, kind: Kind) -> Search
         requires { k + 1 < 2 ^ 64 }
-        ensures { (lines : List (List ℕ)) → k < length lines → IsSearched lines k self → kind ≡ kind_at lines k → IsSearched lines (k + 1) result }
+        ensures { (lines : List (List ℕ)) → k < length lines → IsSearched lines k self
+            → kind ≡ kind_at lines k → IsSearched lines (k + 1) result }
     {
         match kind {
             Kind::Row => self,

@@ -22,9 +22,19 @@ impl Model for Roads {
 
     ghost Value = { Places };
 
-    ghost view = { λ a. record { name = string_bytes a.instance.name; vehicles = a.instance.vehicles; capacity = a.instance.capacity; nodes = a.instance.nodes.items } };
+    ghost view = { λ a. record {
+      name = string_bytes a.instance.name;
+      vehicles = a.instance.vehicles;
+      capacity = a.instance.capacity;
+      nodes = a.instance.nodes.items;
+    } };
 
-    ghost invariant = { λ a. ArePlaces (record { name = string_bytes a.instance.name; vehicles = a.instance.vehicles; capacity = a.instance.capacity; nodes = a.instance.nodes.items }) };
+    ghost invariant = { λ a. ArePlaces (record {
+      name = string_bytes a.instance.name;
+      vehicles = a.instance.vehicles;
+      capacity = a.instance.capacity;
+      nodes = a.instance.nodes.items;
+    }) };
 }
 
 impl Roads {

@@ -135,7 +135,8 @@ fn push_if_last(
     requires tally { IsTallied roads.now rows.now (k + 1) tally }
     ensures ok { OnOk result (tours.new.items ≡ tours.old.items ++ tour_at roads.now rows.now k) }
     ensures few { length tours.new.items ≤ length tours.old.items + 1 }
-    ensures small { All (λ tour. tour.distance ≤ 1000141421342) tours.old.items → All (λ tour. tour.distance ≤ 1000141421342) tours.new.items }
+    ensures small { All (λ tour. tour.distance ≤ 1000141421342) tours.old.items
+        → All (λ tour. tour.distance ≤ 1000141421342) tours.new.items }
 {
     if !ends_tour(rows, k) {
         return Ok(());

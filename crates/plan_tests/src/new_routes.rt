@@ -55,7 +55,8 @@ pub(crate) fn plan_of(
 ) -> Result<Plan, AllocError>
     requires customers { customers ≤ 1000 }
     requires plan { is_plan customers (first.now ∷ second.now ∷ []) ≡ true }
-    ensures { IfOk result (λ plan. plan ≡ record { customers = customers; routes = first.now ∷ second.now ∷ []; version = 1; stamps = 1 ∷ 1 ∷ [] }) }
+    ensures { IfOk result (λ plan. plan
+        ≡ record { customers = customers; routes = first.now ∷ second.now ∷ []; version = 1; stamps = 1 ∷ 1 ∷ [] }) }
 {
     let mut plan = Plan::new(alloc, customers, 2)?;
     let changes = pair(alloc, 1, first, 2, second)?;

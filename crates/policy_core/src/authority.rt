@@ -17,7 +17,8 @@ use separation_core::Name;
 pub fn authority_is_by_chains(policy: &Policy)
     ensures below { (roles : ℕ) → AreBelow policy.now roles (closed policy.now.order roles) }
     ensures one { (roles below : ℕ) → AreBelow policy.now roles below → below ≡ closed policy.now.order roles }
-    ensures authorized { (user : List ℕ) (role : ℕ) → (has (authorized_for policy.now user) role ≡ true) ↔ IsAuthorized policy.now user role }
+    ensures authorized { (user : List ℕ) (role : ℕ)
+        → (has (authorized_for policy.now user) role ≡ true) ↔ IsAuthorized policy.now user role }
 {
     policy.is_policy();
 }
@@ -62,7 +63,8 @@ pub fn sessions_keep_authorized_roles(old: &Policy, new: &Policy)
 /// A law, for callers' proofs: of each SSD set fewer roles than its number are among those to which a role of a user is senior, and of each
 /// DSD set fewer than its number among those that are counted for a session.
 pub fn separation_is_by_chains(policy: &Policy)
-    ensures ssd { (user : List ℕ × ℕ) → Contains policy.now.users user → (given : ℕ) → AreBelow policy.now user.1 given → HoldsFor given policy.now.ssd }
+    ensures ssd { (user : List ℕ × ℕ) → Contains policy.now.users user → (given : ℕ)
+        → AreBelow policy.now user.1 given → HoldsFor given policy.now.ssd }
     ensures dsd { (session : ℕ × ASession) → Contains policy.now.sessions session → (given : ℕ) →
         AreCounted policy.now policy.now.counting session.1.active given → HoldsFor given policy.now.dsd }
 {

@@ -225,7 +225,8 @@ impl Policy {
 
     /// Why there may not be such a session: the first set that it would break.
     fn refusal_of_active(&self, active: RoleSet) -> Option<Refusal>
-        ensures { (number : ℕ) (user : List ℕ) → result ≡ broken_dsd (with_session self.now number (record { user = user; active = active })) }
+        ensures { (number : ℕ) (user : List ℕ)
+            → result ≡ broken_dsd (with_session self.now number (record { user = user; active = active })) }
     {
         match self
             .dsd

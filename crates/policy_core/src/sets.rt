@@ -103,8 +103,10 @@ impl Policy {
         roles: RoleSet,
         number: u32,
     ) -> Option<Refusal>
-        ensures created { result ≡ broken_by kind (with_sets kind self.now (with_set (sets_of kind self.now) name (record { roles = roles; number = number }))) }
-        ensures changed { (f : Limit → Limit) (limit : Limit) → limit_of (sets_of kind self.now) name ≡ Some limit → f limit ≡ record { roles = roles; number = number } →
+        ensures created { result ≡ broken_by kind
+            (with_sets kind self.now (with_set (sets_of kind self.now) name (record { roles = roles; number = number }))) }
+        ensures changed { (f : Limit → Limit) (limit : Limit) → limit_of (sets_of kind self.now) name ≡ Some limit
+            → f limit ≡ record { roles = roles; number = number } →
             result ≡ broken_by kind (with_sets kind self.now (changed (sets_of kind self.now) name f)) }
     {
         self.is_policy();
@@ -387,7 +389,8 @@ fn breaks_active(
     order: &Hierarchy,
     limit: Limit,
 ) -> bool
-    ensures { result ≡ list_any (λ session. is_broken (counted counting order.now session.active) limit) (map (λ e. e.1) sessions.now.entries) }
+    ensures { result ≡ list_any (λ session. is_broken (counted counting order.now session.active) limit)
+        (map (λ e. e.1) sessions.now.entries) }
 {
     sessions.values().any(|session| limit.is_broken_by(count(counting, order, session.active)))
 }

@@ -56,7 +56,8 @@ pub fn check_file<R: Files, W: Write, F: Write>(
     writer: &mut W,
     faults: &mut F,
 ) -> u8
-    ensures { ((W.contents writer.new ≡ W.contents writer.old) × IsUnreadable path.now (F.contents faults.old) (F.contents faults.new) result)
+    ensures { ((W.contents writer.new ≡ W.contents writer.old)
+        × IsUnreadable path.now (F.contents faults.old) (F.contents faults.new) result)
         ⊎ ((bytes : List ℕ) × IsChecked (read_of bytes)
         (streams_of (W.contents writer.old) (W.contents writer.new) (F.contents faults.old) (F.contents faults.new)) result) }
 {

@@ -40,7 +40,8 @@ pub fn read_path<R: Files>(rt: &R, alloc: Global, path: &str) -> io::Result<Vec<
 pub fn unread<F: Write>(faults: &mut F, path: &str, error: &io::Error) -> u8
     ensures unreadable { IsUnreadable path.now (F.contents faults.old) (F.contents faults.new) result }
     ensures memory { error_kind error.now ≡ OutOfMemory → AppendsPrefix (F.contents faults.old) (F.contents faults.new) (stop_line Open) }
-    ensures other { error_kind error.now ≢ OutOfMemory → AppendsPrefix (F.contents faults.old) (F.contents faults.new) (path_line path.now) }
+    ensures other { error_kind error.now ≢ OutOfMemory
+        → AppendsPrefix (F.contents faults.old) (F.contents faults.new) (path_line path.now) }
 {
     if error.kind() == ErrorKind::OutOfMemory {
         return stopped(faults, Stop::Open);

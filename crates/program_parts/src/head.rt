@@ -125,7 +125,8 @@ pub struct Parts {
 ///
 /// A read that fails before that line, more than 16,777,216 bytes before it, and 2^64 - 1 reads are the fault of reading.
 pub fn read_parts<I: Read>(alloc: Global, reader: &mut I) -> Result<Parts, Stop>
-    ensures parts { IfOk result (λ parts. AreRead (I.remaining reader.old) (I.remaining reader.new) parts.instance.items (drop parts.used parts.piece.items) parts.goes_on) }
+    ensures parts { IfOk result (λ parts. AreRead (I.remaining reader.old) (I.remaining reader.new) parts.instance.items
+        (drop parts.used parts.piece.items) parts.goes_on) }
     ensures within { IfOk result (λ parts. parts.used ≤ length parts.piece.items) }
     ensures short { IfOk result (λ parts. length parts.instance.items ≤ 16777216) }
     ensures fault { IfErr result IsUnread }

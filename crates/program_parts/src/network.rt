@@ -24,9 +24,15 @@ impl Model for Network {
 
     ghost Value = { Sites };
 
-    ghost view = { λ a. record { vehicles = a.instance.vehicles; capacity = a.instance.capacity; nodes = a.instance.nodes.items; travel = a.travel } };
+    ghost view = { λ a. record {
+      vehicles = a.instance.vehicles;
+      capacity = a.instance.capacity;
+      nodes = a.instance.nodes.items;
+      travel = a.travel;
+    } };
 
-    ghost invariant = { λ a. IsNetwork (record { vehicles = a.instance.vehicles; capacity = a.instance.capacity; nodes = a.instance.nodes.items; travel = a.travel }) };
+    ghost invariant = { λ a. IsNetwork (record
+        { vehicles = a.instance.vehicles; capacity = a.instance.capacity; nodes = a.instance.nodes.items; travel = a.travel }) };
 }
 
 impl Network {
@@ -102,7 +108,12 @@ impl Network {
 
     /// All travel, as the answers of a callback that are the same both ways. They are shared with the network.
     pub fn travel_matrix(&self) -> Result<Matrix, AllocError>
-        ensures { IfOk result (λ m. matrix_table m ≡ record { size = length self.now.nodes; paired = true; entries = pair_values (length self.now.nodes) (travel_at self.now.travel) }) }
+        ensures { IfOk result (λ m. matrix_table m ≡ record {
+          size = length self.now.nodes;
+          paired = true;
+          entries = pair_values
+              (length self.now.nodes) (travel_at self.now.travel);
+        }) }
     {
         let answers = self.travel.entries()?;
         travel_is_symmetric();

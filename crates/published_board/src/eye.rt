@@ -60,7 +60,8 @@ impl<N: Naming> Model for Eye<N> {
 
     ghost view = { λ e. record { seen = entries_in (option_and_then (λ r. place_view r.place) e.reader); viewed = viewed_in e.kept } };
 
-    ghost invariant = { λ e. let saw = option_and_then (λ r. place_view r.place) e.reader in IsOf N.opening N.book saw × AreKeptFor N.opening N.book (entries_in saw) e.kept × IfSome e.told (λ _. viewed_in e.kept ≡ Some (entries_in saw)) };
+    ghost invariant = { λ e. let saw = option_and_then (λ r. place_view r.place) e.reader in IsOf N.opening N.book saw
+        × AreKeptFor N.opening N.book (entries_in saw) e.kept × IfSome e.told (λ _. viewed_in e.kept ≡ Some (entries_in saw)) };
 }
 
 /// Why there is no snapshot. `Closed` is tried first.
@@ -74,7 +75,8 @@ pub enum SnapFault {
 
 /// The view of cells: a kept one that is brought up to them, or a new one, where there is none.
 fn brought(alloc: Global, kept: Option<Kept>, cells: &Cells) -> Result<View, AllocError>
-    ensures { (o : Opening) (book : Book) (seen es : List Entry) → AreKeptFor o book seen kept → IsLegal (record { opening = o; entries = es })
+    ensures { (o : Opening) (book : Book) (seen es : List Entry) → AreKeptFor o book seen kept
+        → IsLegal (record { opening = o; entries = es })
         → Shows o.setting es (cells_of cells.now) → IsPrefix seen es → IfOk result (λ v. v ≡ view_of (state_after o.setting es)) }
 {
     legal_histories_leave_good_states();
@@ -166,7 +168,8 @@ impl<N: Naming> Eye<N> {
 
     /// The view as it was brought up last, if there is one.
     pub fn view(&self) -> Option<&View>
-        ensures { MatchOption result (self.now.viewed ≡ None) (λ v. MatchOption self.now.viewed ⊥ (λ es. v.now ≡ view_of (state_after N.opening.setting es))) }
+        ensures { MatchOption result (self.now.viewed ≡ None)
+            (λ v. MatchOption self.now.viewed ⊥ (λ es. v.now ≡ view_of (state_after N.opening.setting es))) }
     {
         match &self.kept {
             Some(kept) => Some(&kept.view),
@@ -176,7 +179,8 @@ impl<N: Naming> Eye<N> {
 
     /// A law: the entries of which the view tells are the first of those that were seen, and a legal history. It does nothing.
     pub fn view_is_seen(&self)
-        ensures { MatchOption self.now.viewed (Unit {0}) (λ es. IsLegal (record { opening = N.opening; entries = es }) × IsPrefix es self.now.seen) }
+        ensures { MatchOption self.now.viewed (Unit {0}) (λ es. IsLegal (record { opening = N.opening; entries = es })
+            × IsPrefix es self.now.seen) }
     {
         let _kept = &self.kept;
     }

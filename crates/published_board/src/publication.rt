@@ -49,9 +49,15 @@ impl Model for Publication {
 
     ghost Value = { Published };
 
-    ghost view = { λ p. record { book = p.trail.book; opening = opening_of p.trail.pages; entries = entries_of p.trail.pages; shown = entries_of p.writer.desk.shown.value.base.pages } };
+    ghost view = { λ p. record {
+      book = p.trail.book;
+      opening = opening_of p.trail.pages;
+      entries = entries_of p.trail.pages;
+      shown = entries_of p.writer.desk.shown.value.base.pages;
+    } };
 
-    ghost invariant = { λ p. IsPublished p.head p.trail (picture_of p.writer.desk.shown.value) (drop p.writer.behind p.writer.log.items) (place_view p.writer.desk.place) };
+    ghost invariant = { λ p. IsPublished p.head p.trail (picture_of p.writer.desk.shown.value)
+        (drop p.writer.behind p.writer.log.items) (place_view p.writer.desk.place) };
 }
 
 /// Never returns.
@@ -143,7 +149,8 @@ impl Publication {
     ) -> Result<(), AllocError>
         requires shown { self.old.shown ≡ self.old.entries }
         requires next { IsNext self.old.opening self.old.entries (M.entry about.now) }
-        requires change { IsChangeBy self.old.opening.setting (state_after self.old.opening.setting self.old.entries) (M.entry about.now) change }
+        requires change { IsChangeBy self.old.opening.setting (state_after self.old.opening.setting self.old.entries)
+            (M.entry about.now) change }
         requires entries { entries ≡ length self.old.entries + 1 }
         ensures ok { OnOk result (self.new ≡ record self.old { entries = self.old.entries ++ M.entry about.now ∷ [] }) }
         ensures err { OnErr result (self.new ≡ self.old) }

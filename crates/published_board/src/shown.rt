@@ -300,7 +300,8 @@ impl Cells {
           frozen = written self.old.frozen.items (option_to_list change.now.front);
           version = change.now.version;
           entries = entries;
-          moved = since_after (since_after self.old.moved entries (option_to_list change.now.first)) entries (option_to_list change.now.second);
+          moved = since_after (since_after self.old.moved entries (option_to_list change.now.first)) entries
+              (option_to_list change.now.second);
           turned = since_after (since_after self.old.turned entries change.now.pins.items) entries (option_to_list change.now.front);
         } }
     {

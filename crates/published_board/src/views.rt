@@ -53,7 +53,8 @@ impl Cells {
 
     /// A view of what the cells show.
     pub(crate) fn view(&self, alloc: Global) -> Result<View, AllocError>
-        ensures { (s : Setting) (es : List Entry) → IsGood s (state_after s es) → Shows s es (cells_of self.now) → IfOk result (λ v. v ≡ view_of (state_after s es)) }
+        ensures { (s : Setting) (es : List Entry) → IsGood s (state_after s es) → Shows s es (cells_of self.now)
+            → IfOk result (λ v. v ≡ view_of (state_after s es)) }
     {
         Ok(View {
             routes: routes(alloc, self.lanes.as_slice())?,
@@ -65,8 +66,10 @@ impl Cells {
 
     /// Brings a view, which has so many entries, up to what the cells show, in the memory that it has.
     pub(crate) fn renew(&self, view: View, entries: u64) -> Result<View, AllocError>
-        ensures { (s : Setting) (es before : List Entry) → IsGood s (state_after s es) → IsGood s (state_after s before) → Shows s es (cells_of self.now)
-            → IsPrefix before es → entries ≡ length before → view ≡ view_of (state_after s before) → IfOk result (λ v. v ≡ view_of (state_after s es)) }
+        ensures { (s : Setting) (es before : List Entry) → IsGood s (state_after s es)
+            → IsGood s (state_after s before) → Shows s es (cells_of self.now)
+            → IsPrefix before es → entries ≡ length before → view ≡ view_of (state_after s before)
+            → IfOk result (λ v. v ≡ view_of (state_after s es)) }
     {
         let View {
             routes,
@@ -90,7 +93,8 @@ impl Cells {
         routes: Vec<Arc<Route>>,
         entries: u64,
     ) -> Result<Vec<Arc<Route>>, AllocError>
-        ensures { (s : Setting) (es before : List Entry) → IsGood s (state_after s es) → IsGood s (state_after s before) → Shows s es (cells_of self.now)
+        ensures { (s : Setting) (es before : List Entry) → IsGood s (state_after s es)
+            → IsGood s (state_after s before) → Shows s es (cells_of self.now)
             → IsPrefix before es → entries ≡ length before → routes_of routes.items ≡ (state_after s before).routes
             → IfOk result (λ v. routes_of v.items ≡ (state_after s es).routes) }
     {
@@ -109,8 +113,10 @@ impl Cells {
         frozen: Vec<u32>,
         entries: u64,
     ) -> (Vec<Option<u32>>, Vec<u32>)
-        ensures { (s : Setting) (es before : List Entry) → IsGood s (state_after s es) → IsGood s (state_after s before) → Shows s es (cells_of self.now)
-            → IsPrefix before es → entries ≡ length before → pinned.items ≡ (state_after s before).pins.pins → frozen.items ≡ (state_after s before).pins.fronts
+        ensures { (s : Setting) (es before : List Entry) → IsGood s (state_after s es)
+            → IsGood s (state_after s before) → Shows s es (cells_of self.now)
+            → IsPrefix before es → entries ≡ length before → pinned.items ≡ (state_after s before).pins.pins
+            → frozen.items ≡ (state_after s before).pins.fronts
             → (result.0.items ≡ (state_after s es).pins.pins) × (result.1.items ≡ (state_after s es).pins.fronts) }
     {
         if self.turned <= entries {

@@ -98,9 +98,12 @@ impl Cache {
         ensures fits { IfOk result (λ pending. AllFit (setting setup.now) (changes_of changes.now)) }
         ensures rows { IfOk result (λ pending. AreNewRows (setting setup.now) (changes_of changes.now) pending.rows) }
         ensures fault { IfErr result (IsJudgeFault (setting setup.now) (changes_of changes.now)) }
-        ensures asks { AsksAtMost meter.old meter.new (judge_asks (length (setting setup.now).dimensions) plan.now.routes (changes_of changes.now)) }
-        ensures whole { OnOk result (AsksJust meter.old meter.new (judge_asks (length (setting setup.now).dimensions) plan.now.routes (changes_of changes.now))) }
-        ensures least { IfErr result (λ f. Asks meter.old meter.new (fault_asks (length (setting setup.now).dimensions) plan.now.routes (changes_of changes.now) f)
+        ensures asks { AsksAtMost meter.old meter.new
+            (judge_asks (length (setting setup.now).dimensions) plan.now.routes (changes_of changes.now)) }
+        ensures whole { OnOk result (AsksJust meter.old meter.new
+            (judge_asks (length (setting setup.now).dimensions) plan.now.routes (changes_of changes.now))) }
+        ensures least { IfErr result (λ f. Asks meter.old meter.new
+            (fault_asks (length (setting setup.now).dimensions) plan.now.routes (changes_of changes.now) f)
             (judge_asks (length (setting setup.now).dimensions) plan.now.routes (changes_of changes.now))) }
         ensures missed { IfErr result (AsksToFault (setting setup.now) plan.now.routes (changes_of changes.now) meter.old meter.new) }
     {
@@ -125,9 +128,12 @@ impl Cache {
         ensures fits { IfOk result (λ pending. AllFit (setting setup.now) (changes_of changes.now)) }
         ensures rows { IfOk result (λ pending. AreNewRows (setting setup.now) (changes_of changes.now) pending.rows) }
         ensures fault { IfErr result (IsJudgeFault (setting setup.now) (changes_of changes.now)) }
-        ensures asks { AsksAtMost meter.old meter.new (judge_asks (length (setting setup.now).dimensions) plan.now.routes (changes_of changes.now)) }
-        ensures whole { OnOk result (AsksJust meter.old meter.new (judge_asks (length (setting setup.now).dimensions) plan.now.routes (changes_of changes.now))) }
-        ensures least { IfErr result (λ f. Asks meter.old meter.new (fault_asks (length (setting setup.now).dimensions) plan.now.routes (changes_of changes.now) f)
+        ensures asks { AsksAtMost meter.old meter.new
+            (judge_asks (length (setting setup.now).dimensions) plan.now.routes (changes_of changes.now)) }
+        ensures whole { OnOk result (AsksJust meter.old meter.new
+            (judge_asks (length (setting setup.now).dimensions) plan.now.routes (changes_of changes.now))) }
+        ensures least { IfErr result (λ f. Asks meter.old meter.new
+            (fault_asks (length (setting setup.now).dimensions) plan.now.routes (changes_of changes.now) f)
             (judge_asks (length (setting setup.now).dimensions) plan.now.routes (changes_of changes.now))) }
         ensures missed { IfErr result (AsksToFault (setting setup.now) plan.now.routes (changes_of changes.now) meter.old meter.new) }
     {
@@ -160,10 +166,14 @@ impl Cache {
         ensures fits { OnOk result (FitsAll (setting setup.now) vehicle route.now) }
         ensures row { OnOk result (IsRowOf (setting setup.now) vehicle route.now row.new) }
         ensures fault { IfErr result (IsRowFault (setting setup.now) vehicle route.now) }
-        ensures asks { AsksAtMost meter.old meter.new (length (setting setup.now).dimensions * walk_asks (route_at plan.now.routes vehicle) route.now) }
-        ensures whole { OnOk result (AsksJust meter.old meter.new (length (setting setup.now).dimensions * walk_asks (route_at plan.now.routes vehicle) route.now)) }
-        ensures least { IfErr result (λ f. Asks meter.old meter.new (row_asks (walk_asks (route_at plan.now.routes vehicle) route.now) f) (length (setting setup.now).dimensions * walk_asks (route_at plan.now.routes vehicle) route.now)) }
-        ensures missed { IfErr result (AsksToRowFault (setting setup.now) (route_at plan.now.routes vehicle) vehicle route.now meter.old meter.new) }
+        ensures asks { AsksAtMost meter.old meter.new
+            (length (setting setup.now).dimensions * walk_asks (route_at plan.now.routes vehicle) route.now) }
+        ensures whole { OnOk result (AsksJust meter.old meter.new
+            (length (setting setup.now).dimensions * walk_asks (route_at plan.now.routes vehicle) route.now)) }
+        ensures least { IfErr result (λ f. Asks meter.old meter.new (row_asks (walk_asks (route_at plan.now.routes vehicle) route.now) f)
+            (length (setting setup.now).dimensions * walk_asks (route_at plan.now.routes vehicle) route.now)) }
+        ensures missed { IfErr result (AsksToRowFault (setting setup.now)
+            (route_at plan.now.routes vehicle) vehicle route.now meter.old meter.new) }
     {
         let old = plan.route(vehicle).customers();
         let kept = &self.rows[vehicle as usize - 1];
@@ -176,7 +186,8 @@ impl Cache {
     pub fn take(&mut self, pending: Pending) -> Room
         requires { pending.of ≡ self.old }
         ensures rows { self.new ≡ record { rows = with_rows pending.rows self.old.rows } }
-        ensures cache { (s : Setting) (routes : List (List ℕ)) (changes : Changes) → IsCacheOf s routes self.old → AreNewRows s changes pending.rows → IsCacheOf s (with_routes changes routes) self.new }
+        ensures cache { (s : Setting) (routes : List (List ℕ)) (changes : Changes) → IsCacheOf s routes self.old
+            → AreNewRows s changes pending.rows → IsCacheOf s (with_routes changes routes) self.new }
     {
         let mut rows = pending.into_rows();
         for k in 0..rows.len() {
@@ -190,7 +201,9 @@ impl Cache {
     /// count from 1, and the cache must be that of routes in which that place is taken.
     pub fn early(&self, dimension: u32, vehicle: u32, place: u32) -> u64
         requires { (s : Setting) × ((routes : List (List ℕ)) × HasEarly s routes self.now dimension vehicle place) }
-        ensures { (s : Setting) (routes : List (List ℕ)) → HasEarly s routes self.now dimension vehicle place → IsEarly (table_of s.tables (dimension_at s (dimension - 1))) (dimension_at s (dimension - 1)) vehicle (take place (route_at routes vehicle)) result }
+        ensures { (s : Setting) (routes : List (List ℕ)) → HasEarly s routes self.now dimension vehicle place
+            → IsEarly (table_of s.tables (dimension_at s (dimension - 1))) (dimension_at s (dimension - 1)) vehicle
+            (take place (route_at routes vehicle)) result }
     {
         spans_go_on();
         self.rows[vehicle as usize - 1].early(dimension as usize - 1, place as usize - 1)
@@ -212,7 +225,8 @@ fn first_row(
     requires high { vehicle ≤ (setting setup.now).vehicles }
     ensures row { IfOk result (IsRowOf (setting setup.now) vehicle (route_at plan.now.routes vehicle)) }
     ensures asks { AsksAtMost meter.old meter.new (length (setting setup.now).dimensions * route_asks (route_at plan.now.routes vehicle)) }
-    ensures whole { OnOk result (AsksJust meter.old meter.new (length (setting setup.now).dimensions * route_asks (route_at plan.now.routes vehicle))) }
+    ensures whole { OnOk result (AsksJust meter.old meter.new
+        (length (setting setup.now).dimensions * route_asks (route_at plan.now.routes vehicle))) }
 {
     let route = plan.route(vehicle).customers();
     let none = Row::empty(alloc);

@@ -86,7 +86,8 @@ impl Row {
         ensures fault { IfErr result (IsRowFault (setting setup.now) vehicle new.now) }
         ensures asks { AsksAtMost meter.old meter.new (length (setting setup.now).dimensions * walk_asks old.now new.now) }
         ensures whole { OnOk result (AsksJust meter.old meter.new (length (setting setup.now).dimensions * walk_asks old.now new.now)) }
-        ensures least { IfErr result (λ f. Asks meter.old meter.new (row_asks (walk_asks old.now new.now) f) (length (setting setup.now).dimensions * walk_asks old.now new.now)) }
+        ensures least { IfErr result (λ f. Asks meter.old meter.new (row_asks (walk_asks old.now new.now) f)
+            (length (setting setup.now).dimensions * walk_asks old.now new.now)) }
         ensures missed { IfErr result (AsksToRowFault (setting setup.now) old.now vehicle new.now meter.old meter.new) }
     {
         let count = setup.dimensions().len();

@@ -28,7 +28,8 @@ fn begin(setup: &Setup, axis: Axis, route: &[u32], kept: &[Range]) -> Option<(Ra
     requires dimension { axis.dimension < length (setting setup.now).dimensions }
     requires known { All (λ c. c ≤ (setting setup.now).customers) route.now }
     requires kept { IsTrack (setting setup.now) axis.dimension axis.vehicle route.now kept.now }
-    ensures span { MatchOption result (IsSpanAt (setting setup.now) axis.dimension axis.vehicle [] None) (λ at. IsSpanOf (setting setup.now) axis.dimension axis.vehicle (take (length kept.now) route.now) at.0) }
+    ensures span { MatchOption result (IsSpanAt (setting setup.now) axis.dimension axis.vehicle [] None)
+        (λ at. IsSpanOf (setting setup.now) axis.dimension axis.vehicle (take (length kept.now) route.now) at.0) }
     ensures node { IfSome result (λ at. at.1 ≡ last_of 0 (take (length kept.now) route.now)) }
     ensures known { IfSome result (λ at. at.1 ≤ (setting setup.now).customers) }
     ensures small { IfSome result (λ at. at.0.hi ≤ 1000000000000) }
@@ -79,11 +80,13 @@ pub(crate) fn walk(
     requires kept { IsTrack (setting setup.now) axis.dimension axis.vehicle route.now kept.now }
     requires room { vec_len ranges.old + length route.now ≤ vec_capacity ranges.old }
     ensures bounds { IfOk result (λ is_in. IsTrue is_in ↔ FitsIn (setting setup.now) axis.dimension axis.vehicle route.now) }
-    ensures ranges { IfOk result (λ is_in. IsTrue is_in → (more : List Range) × (ranges.new.items ≡ ranges.old.items ++ more) × (length more ≡ length route.now) × IsTrack (setting setup.now) axis.dimension axis.vehicle route.now more) }
+    ensures ranges { IfOk result (λ is_in. IsTrue is_in → (more : List Range) × (ranges.new.items ≡ ranges.old.items ++ more)
+        × (length more ≡ length route.now) × IsTrack (setting setup.now) axis.dimension axis.vehicle route.now more) }
     ensures capacity { vec_capacity ranges.old ≤ vec_capacity ranges.new }
     ensures asks { AsksAtMost meter.old meter.new (length route.now + 1 - length kept.now) }
     ensures whole { IfOk result (λ is_in. IsTrue is_in → AsksJust meter.old meter.new (length route.now + 1 - length kept.now)) }
-    ensures missed { IfOk result (λ is_in. is_in ≡ false → (k : ℕ) × IsFirstMissIn (setting setup.now) axis.dimension axis.vehicle route.now k × AsksJust meter.old meter.new (k - length kept.now)) }
+    ensures missed { IfOk result (λ is_in. is_in ≡ false → (k : ℕ)
+        × IsFirstMissIn (setting setup.now) axis.dimension axis.vehicle route.now k × AsksJust meter.old meter.new (k - length kept.now)) }
 {
     spans_go_on();
     misses_are_found();

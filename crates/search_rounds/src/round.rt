@@ -47,7 +47,8 @@ fn look<N: Naming, R: Wait + Drop, W: Wait, G: Gate<W>>(
     ensures grows { IsPrefix seat.old.seen seat.new.seen }
     ensures version { skips.new.version ≤ (view_after N.opening seat.new.seen).version }
     ensures turned { OnOk result (skips.new.version ≡ (view_after N.opening seat.new.seen).version) }
-    ensures skipped { (done : List Round) → AreSkipped done skips.old.version skips.old.moves.items → AreSkipped done skips.new.version skips.new.moves.items }
+    ensures skipped { (done : List Round) → AreSkipped done skips.old.version skips.old.moves.items
+        → AreSkipped done skips.new.version skips.new.moves.items }
     ensures found { IfOk result (λ found. IsFound N.opening.setting (view_after N.opening seat.new.seen) skips.new.moves.items v w found) }
 {
     legal_histories_leave_good_states();
@@ -78,8 +79,10 @@ fn hand_in<N: Naming, R: Wait + Drop, W: Wait, G: Gate<W>>(
 ) -> Result<Reply, Fault>
     requires setup { setting setup.now ≡ N.opening.setting }
     ensures number { seat.new.number ≡ seat.old.number }
-    ensures ok { IfOk result (λ r. Submitted N.opening seat.old.number seat.old.own (Call.Propose session found.version found.mv) r seat.old.seen seat.new.seen × (seat.new.own ≡ seat.old.own + 1)) }
-    ensures err { IfErr result (λ f. Faulted N.opening seat.old.number seat.old.own f seat.old.seen seat.new.seen × (seat.new.own ≡ seat.old.own)) }
+    ensures ok { IfOk result (λ r. Submitted N.opening seat.old.number seat.old.own
+        (Call.Propose session found.version found.mv) r seat.old.seen seat.new.seen × (seat.new.own ≡ seat.old.own + 1)) }
+    ensures err { IfErr result (λ f. Faulted N.opening seat.old.number seat.old.own f seat.old.seen seat.new.seen
+        × (seat.new.own ≡ seat.old.own)) }
 {
     gate.pass(rt, place.worker, place.round, Point::Before);
     let call = Call::Propose {
@@ -109,7 +112,8 @@ fn propose<N: Naming, R: Wait + Drop, W: Wait, G: Gate<W>>(
     ensures version { skips.new.version ≤ (view_after N.opening seat.new.seen).version }
     ensures done { (done : List Round) → AreSkipped done skips.old.version skips.old.moves.items
         → IsBestIn (job_of N.opening seat.old.number order.session order.seed) done seat.old.seen found.mv found.gain
-        → IsDone (job_of N.opening seat.old.number order.session order.seed) done seat.old seat.new skips.new.version skips.new.moves.items result }
+        → IsDone (job_of N.opening seat.old.number order.session order.seed) done seat.old seat.new
+        skips.new.version skips.new.moves.items result }
 {
     laws_below();
     let Ok(()) = skips.make_room() else {
@@ -142,7 +146,8 @@ pub(crate) fn one_round<N: Naming, R: Wait + Drop, W: Wait, G: Gate<W>>(
     requires version { skips.old.version ≤ (view_after N.opening seat.old.seen).version }
     ensures version { skips.new.version ≤ (view_after N.opening seat.new.seen).version }
     ensures done { (done : List Round) → number_after done ≡ place.round → AreSkipped done skips.old.version skips.old.moves.items
-        → IsDone (job_of N.opening seat.old.number order.session order.seed) done seat.old seat.new skips.new.version skips.new.moves.items result }
+        → IsDone (job_of N.opening seat.old.number order.session order.seed) done seat.old seat.new
+        skips.new.version skips.new.moves.items result }
 {
     match look(rt, seat, setup, skips, finder, v, w, gate, place) {
         Err(_) => Outcome::Refused,

@@ -38,7 +38,8 @@ impl Skips {
     pub fn turn_to(&mut self, version: u32)
         requires { self.old.version ≤ version }
         ensures version { self.new.version ≡ version }
-        ensures skipped { (done : List Round) → AreSkipped done self.old.version self.old.moves.items → AreSkipped done version self.new.moves.items }
+        ensures skipped { (done : List Round) → AreSkipped done self.old.version self.old.moves.items
+            → AreSkipped done version self.new.moves.items }
     {
         if version == self.version {
             return;

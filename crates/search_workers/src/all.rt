@@ -81,7 +81,8 @@ impl<'g, N: Naming, R: Wait + Drop, W: Wait, G: Gate<W>> Task<
 
     ghost may = { λ setup worker. setting setup.value ≡ N.opening.setting };
 
-    ghost makes = { λ worker work. Worked N.opening worker.order.session worker.order.seed worker.order.rounds worker.seat work.seat work.tally };
+    ghost makes = { λ worker work. Worked N.opening worker.order.session worker.order.seed
+        worker.order.rounds worker.seat work.seat work.tally };
 
     fn run(self, rt: &W, first: Arc<Setup>, second: Worker<N, R>) -> Work<N, R> {
         work_at(rt, self.alloc, &first, second, self.gate)
@@ -141,7 +142,8 @@ fn start_all<
     requires setups { All (λ d. setting d.setup.value ≡ N.opening.setting) desks.items }
     requires few { length desks.items ≤ 63 }
     requires lengths { (length sessions.items ≡ length desks.items) × (length seeds.items ≡ length desks.items) }
-    ensures { IfOk result (λ v. AllWorked N.opening rounds sessions.items seeds.items (map (λ d. d.seat) desks.items) (map (λ s. s.desk.seat) v.items) (map (λ s. s.tally) v.items) × All (λ s. setting s.desk.setup.value ≡ N.opening.setting) v.items) }
+    ensures { IfOk result (λ v. AllWorked N.opening rounds sessions.items seeds.items (map (λ d. d.seat) desks.items)
+        (map (λ s. s.desk.seat) v.items) (map (λ s. s.tally) v.items) × All (λ s. setting s.desk.setup.value ≡ N.opening.setting) v.items) }
 {
     let mut desks = desks;
     let mut sessions = sessions;
@@ -203,15 +205,19 @@ pub fn work_all<
     requires setups { All (λ d. setting d.setup.value ≡ N.opening.setting) desks.items }
     requires few { length desks.items ≤ 63 }
     requires lengths { (length sessions.items ≡ length desks.items) × (length seeds.items ≡ length desks.items) }
-    ensures worked { IfOk result (λ v. AllWorked N.opening rounds sessions.items seeds.items (map (λ d. d.seat) desks.items) (map (λ s. s.desk.seat) v.items) (map (λ s. s.tally) v.items)) }
+    ensures worked { IfOk result (λ v. AllWorked N.opening rounds sessions.items seeds.items (map (λ d. d.seat) desks.items)
+        (map (λ s. s.desk.seat) v.items) (map (λ s. s.tally) v.items)) }
     ensures setups { IfOk result (λ v. All (λ s. setting s.desk.setup.value ≡ N.opening.setting) v.items) }
 {
     thread::scope(
         thread::scope_env(),
         rt,
         move |scope| -> Result<Vec<Share<N, R>>, WorkFault>
-            requires { All (λ d. setting d.setup.value ≡ N.opening.setting) desks.items × (length desks.items ≤ 63) × (length sessions.items ≡ length desks.items) × (length seeds.items ≡ length desks.items) }
-            ensures { IfOk result (λ v. AllWorked N.opening rounds sessions.items seeds.items (map (λ d. d.seat) desks.items) (map (λ s. s.desk.seat) v.items) (map (λ s. s.tally) v.items) × All (λ s. setting s.desk.setup.value ≡ N.opening.setting) v.items) }
+            requires { All (λ d. setting d.setup.value ≡ N.opening.setting) desks.items × (length desks.items ≤ 63)
+                × (length sessions.items ≡ length desks.items) × (length seeds.items ≡ length desks.items) }
+            ensures { IfOk result (λ v. AllWorked N.opening rounds sessions.items seeds.items (map (λ d. d.seat) desks.items)
+                (map (λ s. s.desk.seat) v.items) (map (λ s. s.tally) v.items)
+                × All (λ s. setting s.desk.setup.value ≡ N.opening.setting) v.items) }
         { start_all(rt, scope, alloc, desks, sessions, seeds, rounds, gate) },
     )
 }

@@ -21,7 +21,8 @@ pub(crate) struct WorkOf<N: Naming, R: Wait + Drop> {
 impl<N: Naming, R: Wait + Drop> Promise<Work<N, R>> for WorkOf<N, R> {
     ghost use Rattle.search_rounds.specs.Works.{Worked};
 
-    ghost kept_by = { λ p w. Worked N.opening p.worker.value.order.session p.worker.value.order.seed p.worker.value.order.rounds p.worker.value.seat w.seat w.tally };
+    ghost kept_by = { λ p w. Worked N.opening p.worker.value.order.session p.worker.value.order.seed
+        p.worker.value.order.rounds p.worker.value.seat w.seat w.tally };
 }
 
 /// Why workers gave nothing back.

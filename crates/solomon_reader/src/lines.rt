@@ -46,7 +46,8 @@ impl<'a> Lines<'a> {
         requires { 0 < most }
         ensures line { IfOk result (λ o. MatchOption o
             ((full_left self.old.number self.old.rest.now ≡ []) × (self.new.number ≡ number_after self.old.number self.old.rest.now))
-            (λ line. (full_left self.old.number self.old.rest.now ≡ numbered line.number line.text.now ∷ full_left self.new.number self.new.rest.now)
+            (λ line. (full_left self.old.number self.old.rest.now
+            ≡ numbered line.number line.text.now ∷ full_left self.new.number self.new.rest.now)
             × (map (λ w. w.now) kept.new.items ≡ take most (words line.text.now))
             × (number_after self.new.number self.new.rest.now ≡ number_after self.old.number self.old.rest.now))) }
     {

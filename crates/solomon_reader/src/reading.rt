@@ -43,7 +43,8 @@ fn name<'a>(
     lines: &mut Lines<'a>,
     words: &mut Words<'a>,
 ) -> Result<String, ReadFault>
-    ensures read { Gives (λ name. string_bytes name) result (name_read (number_after lines.old.number lines.old.rest.now) (full_left lines.old.number lines.old.rest.now)) }
+    ensures read { Gives (λ name. string_bytes name) result
+        (name_read (number_after lines.old.number lines.old.rest.now) (full_left lines.old.number lines.old.rest.now)) }
     ensures rest { OnOk result (full_left lines.new.number lines.new.rest.now ≡ tail (full_left lines.old.number lines.old.rest.now)) }
     ensures count { OnOk result (number_after lines.new.number lines.new.rest.now ≡ number_after lines.old.number lines.old.rest.now) }
 {
@@ -90,7 +91,8 @@ fn fleet_fields(number: usize, words: &[&[u8]]) -> Result<(u32, u32), ReadFault>
 }
 
 fn fleet<'a>(lines: &mut Lines<'a>, words: &mut Words<'a>) -> Result<(u32, u32), ReadFault>
-    ensures read { Gives (λ pair. (pair.0, pair.1)) result (fleet_read (number_after lines.old.number lines.old.rest.now) (full_left lines.old.number lines.old.rest.now)) }
+    ensures read { Gives (λ pair. (pair.0, pair.1)) result
+        (fleet_read (number_after lines.old.number lines.old.rest.now) (full_left lines.old.number lines.old.rest.now)) }
     ensures rest { OnOk result (full_left lines.new.number lines.new.rest.now ≡ tail (full_left lines.old.number lines.old.rest.now)) }
     ensures count { OnOk result (number_after lines.new.number lines.new.rest.now ≡ number_after lines.old.number lines.old.rest.now) }
 {
@@ -146,7 +148,8 @@ fn rows<'a>(
     lines: &mut Lines<'a>,
     words: &mut Words<'a>,
 ) -> Result<Vec<Node>, ReadFault>
-    ensures { Gives (λ nodes. nodes.items) result (rows_read (number_after lines.old.number lines.old.rest.now) 0 (full_left lines.old.number lines.old.rest.now)) }
+    ensures { Gives (λ nodes. nodes.items) result
+        (rows_read (number_after lines.old.number lines.old.rest.now) 0 (full_left lines.old.number lines.old.rest.now)) }
 {
     let mut nodes = Vec::new(alloc);
     'rows: while let Some(line) = lines.next_full(words, ROW_FIELDS + 1)? {
@@ -197,7 +200,8 @@ pub fn read(alloc: Global, text: &[u8]) -> Result<Instance, ReadFault>
     // A fault is that of the first check of the file that fails, on its line.
     ensures fault { IfErr result (λ e. IsFault text.now e) }
     // The first check that fails is answered, unless memory runs out.
-    ensures fault_only { (kind : Kind) (line : ℕ) → IsFirstFailedCheck (checks (number_after 1 text.now) (full_left 1 text.now)) kind line → Gives view result (fault kind line) }
+    ensures fault_only { (kind : Kind) (line : ℕ) → IsFirstFailedCheck (checks (number_after 1 text.now) (full_left 1 text.now)) kind line
+        → Gives view result (fault kind line) }
 
     // What every instance keeps.
     ensures sound { IfOk result (λ i. IsSound (view i)) }

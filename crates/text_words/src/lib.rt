@@ -98,7 +98,8 @@ fn keep_part<'a>(
 ) -> Result<(), AllocError>
     requires from { from ≤ to }
     requires to { to ≤ length text.now }
-    ensures part { OnOk result (map (λ w. w.now) kept.new.items ≡ map (λ w. w.now) kept.old.items ++ full_parts (take (to - from) (drop from text.now) ∷ [])) }
+    ensures part { OnOk result (map (λ w. w.now) kept.new.items
+        ≡ map (λ w. w.now) kept.old.items ++ full_parts (take (to - from) (drop from text.now) ∷ [])) }
     ensures left { OnErr result (kept.new.items ≡ kept.old.items) }
 {
     if from < to {
@@ -114,7 +115,8 @@ fn keep_part<'a>(
 pub fn keep_line<'a>(kept: &mut Vec<&'a [u8]>, text: &'a [u8]) -> Result<Option<usize>, AllocError>
     ensures end { IfOk result (λ end. MatchOption end (HasNoLineFeed text.now) (IsLineEnd text.now)) }
     ensures words { IfOk result (λ end. IfSome end (λ i. map (λ w. w.now) kept.new.items ≡ words (take i text.now))) }
-    ensures none { IfOk result (λ end. end ≡ None → (i : ℕ) × HasNoGap text.now i (length text.now) × AreWordsUpTo text.now i (map (λ w. w.now) kept.new.items)) }
+    ensures none { IfOk result (λ end. end ≡ None → (i : ℕ) × HasNoGap text.now i (length text.now)
+        × AreWordsUpTo text.now i (map (λ w. w.now) kept.new.items)) }
     ensures left { OnErr result ((i : ℕ) × AreWordsUpTo text.now i (map (λ w. w.now) kept.new.items)) }
 {
     kept.clear();

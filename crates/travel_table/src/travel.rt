@@ -137,10 +137,12 @@ impl Travel {
 
 /// A law of the definitions: a table has the travel between any two of its nodes.
 pub fn tables_have_the_travel()
-    ensures { (nodes : List Node) (d : Distances) (i j : ℕ) → IsTravelOf nodes d → i < length nodes → j < length nodes → travel_at d i j ≡ travel_between (node_at nodes i) (node_at nodes j) }
+    ensures { (nodes : List Node) (d : Distances) (i j : ℕ) → IsTravelOf nodes d → i < length nodes → j < length nodes
+        → travel_at d i j ≡ travel_between (node_at nodes i) (node_at nodes j) }
 {}
 
 /// A law of the definitions: travel is the same both ways.
 pub fn travel_is_symmetric()
-    ensures { (nodes : List Node) (d : Distances) (i j : ℕ) → IsTravelOf nodes d → i < length nodes → j < length nodes → travel_at d i j ≡ travel_at d j i }
+    ensures { (nodes : List Node) (d : Distances) (i j : ℕ) → IsTravelOf nodes d → i < length nodes
+        → j < length nodes → travel_at d i j ≡ travel_at d j i }
 {}

@@ -98,7 +98,8 @@ pub fn parts_of<'a>(
     requires stops { (others : List ℕ) × (stops.now ≡ stops_of_both (route_at view.now.routes v) others) }
     requires edges { AreEdges (table_at (setting setup.now).tables (setting setup.now).cost) stops.now edges.now }
     ensures from { AreStops (setting setup.now).customers view.now.routes v result.0.now }
-    ensures to { (w : ℕ) → 1 ≤ w → w ≤ (setting setup.now).vehicles → stops.now ≡ stops_of_both (route_at view.now.routes v) (route_at view.now.routes w)
+    ensures to { (w : ℕ) → 1 ≤ w → w ≤ (setting setup.now).vehicles
+        → stops.now ≡ stops_of_both (route_at view.now.routes v) (route_at view.now.routes w)
         → AreStops (setting setup.now).customers view.now.routes w result.1.now }
     ensures from_edges { AreEdges (table_at (setting setup.now).tables (setting setup.now).cost) result.0.now result.2.now }
     ensures to_edges { AreEdges (table_at (setting setup.now).tables (setting setup.now).cost) result.1.now result.3.now }
@@ -134,7 +135,8 @@ impl Ways {
         requires to { All (λ c. c ≤ (setting setup.now).customers) to.now }
         requires some { (1 ≤ length from.now) × (1 ≤ length to.now) }
         requires short { (length from.now ≤ 1002) × (length to.now ≤ 1002) }
-        ensures ways { IfOk result (λ _. AreWaysBetween (table_at (setting setup.now).tables (setting setup.now).cost) from.now to.now self.new) }
+        ensures ways { IfOk result (λ _. AreWaysBetween
+            (table_at (setting setup.now).tables (setting setup.now).cost) from.now to.now self.new) }
         ensures floors { IfOk result (λ _. AreFloored from.now to.now self.new) }
     {
         fill_ways(setup, true, false, from, to, &mut self.out)?;
@@ -146,7 +148,8 @@ impl Ways {
         requires known { All (λ c. c ≤ (setting setup.now).customers) stops.now }
         requires some { 1 ≤ length stops.now }
         requires short { length stops.now ≤ 1002 }
-        ensures { IfOk result (λ _. AreWaysBetween (table_at (setting setup.now).tables (setting setup.now).cost) stops.now stops.now self.new) }
+        ensures { IfOk result (λ _. AreWaysBetween
+            (table_at (setting setup.now).tables (setting setup.now).cost) stops.now stops.now self.new) }
     {
         fill_ways(setup, false, false, stops, stops, &mut self.out)?;
         fill_turned(stops, &self.out, &mut self.into)
@@ -171,7 +174,8 @@ impl Along {
         requires long { 2 ≤ length stops.old.items }
         requires short { length stops.old.items ≤ 1002 }
         ensures { IfOk result (λ _. (edges : List ℕ) × (stops.new.items ≡ stops.old.items ++ edges)
-            × ((t : Table) → AreHopsFrom false t stops.old.items stops.old.items 0 1 cells.now → IsAlong t stops.old.items edges self.new)) }
+            × ((t : Table) → AreHopsFrom false t stops.old.items stops.old.items 0 1 cells.now
+            → IsAlong t stops.old.items edges self.new)) }
     {
         fill_sums(stops, cells, &mut self.sums)?;
         let count = stops.len();

@@ -18,7 +18,8 @@ fn ask_ways(setup: &Setup, turned: bool, stop: u32, to: &[u32], row: &mut [u32])
     requires to { All (λ c. c ≤ (setting setup.now).customers) to.now }
     requires room { length row.old ≡ length to.now }
     ensures sized { length row.new ≡ length to.now }
-    ensures answers { (k : ℕ) → k < length to.now → slice_index row.new k ≡ entry_by turned (table_at (setting setup.now).tables (setting setup.now).cost) stop (slice_index to.now k) }
+    ensures answers { (k : ℕ) → k < length to.now → slice_index row.new k
+        ≡ entry_by turned (table_at (setting setup.now).tables (setting setup.now).cost) stop (slice_index to.now k) }
 {
     if turned {
         setup
@@ -51,7 +52,8 @@ fn ask_together(setup: &Setup, turned: bool, stop: u32, to: &[u32], row: &mut [u
     requires to { All (λ c. c ≤ (setting setup.now).customers) to.now }
     requires room { length row.old ≡ length to.now }
     ensures sized { length row.new ≡ length to.now }
-    ensures ways { (k : ℕ) → k < length to.now → slice_index row.new k ≡ hop_by turned (table_at (setting setup.now).tables (setting setup.now).cost) stop (slice_index to.now k) }
+    ensures ways { (k : ℕ) → k < length to.now
+        → slice_index row.new k ≡ hop_by turned (table_at (setting setup.now).tables (setting setup.now).cost) stop (slice_index to.now k) }
 {
     ask_ways(setup, turned, stop, to, row);
     if stop == 0 {
@@ -85,7 +87,8 @@ fn ask_out(setup: &Setup, stop: u32, to: &[u32], row: &mut [u32]) -> u32
     requires to { All (λ c. c ≤ (setting setup.now).customers) to.now }
     requires room { length row.old ≡ length to.now }
     ensures sized { length row.new ≡ length to.now }
-    ensures ways { (k : ℕ) → k < length to.now → slice_index row.new k ≡ hop_by false (table_at (setting setup.now).tables (setting setup.now).cost) stop (slice_index to.now k) }
+    ensures ways { (k : ℕ) → k < length to.now
+        → slice_index row.new k ≡ hop_by false (table_at (setting setup.now).tables (setting setup.now).cost) stop (slice_index to.now k) }
     ensures least { All (λ x. result ≤ x) row.new }
 {
     let mut least = NONE;
@@ -107,7 +110,8 @@ fn ask_back(setup: &Setup, stop: u32, to: &[u32], row: &mut [u32]) -> u32
     requires to { All (λ c. c ≤ (setting setup.now).customers) to.now }
     requires room { length row.old ≡ length to.now }
     ensures sized { length row.new ≡ length to.now }
-    ensures ways { (k : ℕ) → k < length to.now → slice_index row.new k ≡ hop_by true (table_at (setting setup.now).tables (setting setup.now).cost) stop (slice_index to.now k) }
+    ensures ways { (k : ℕ) → k < length to.now
+        → slice_index row.new k ≡ hop_by true (table_at (setting setup.now).tables (setting setup.now).cost) stop (slice_index to.now k) }
     ensures least { All (λ x. result ≤ x) row.new }
 {
     let mut least = NONE;
@@ -137,7 +141,8 @@ fn read_row(
     requires to { All (λ c. c ≤ (setting setup.now).customers) to.now }
     requires room { length row.old ≡ length to.now }
     ensures sized { length row.new ≡ length to.now }
-    ensures ways { (k : ℕ) → k < length to.now → slice_index row.new k ≡ hop_by turned (table_at (setting setup.now).tables (setting setup.now).cost) stop (slice_index to.now k) }
+    ensures ways { (k : ℕ) → k < length to.now
+        → slice_index row.new k ≡ hop_by turned (table_at (setting setup.now).tables (setting setup.now).cost) stop (slice_index to.now k) }
     ensures least { All (λ x. result ≤ x) row.new }
 {
     let mut least = NONE;
@@ -158,7 +163,8 @@ fn fill_row(setup: &Setup, asking: &Asking, stop: u32, to: &[u32], row: &mut [u3
     requires to { All (λ c. c ≤ (setting setup.now).customers) to.now }
     requires room { length row.old ≡ length to.now }
     ensures sized { length row.new ≡ length to.now }
-    ensures ways { (k : ℕ) → k < length to.now → slice_index row.new k ≡ hop_by asking.now.turned (table_at (setting setup.now).tables (setting setup.now).cost) stop (slice_index to.now k) }
+    ensures ways { (k : ℕ) → k < length to.now → slice_index row.new k
+        ≡ hop_by asking.now.turned (table_at (setting setup.now).tables (setting setup.now).cost) stop (slice_index to.now k) }
     ensures least { All (λ x. result ≤ x) row.new }
 {
     let (floored, turned) = (asking.floored, asking.turned);
@@ -192,7 +198,8 @@ fn fill_at(
     requires to { All (λ c. c ≤ (setting setup.now).customers) to.now }
     requires room { at + length to.now ≤ length cells.old }
     ensures sized { length cells.new ≡ length cells.old }
-    ensures ways { (k : ℕ) → k < length to.now → slice_index cells.new (at + k) ≡ hop_by asking.now.turned (table_at (setting setup.now).tables (setting setup.now).cost) stop (slice_index to.now k) }
+    ensures ways { (k : ℕ) → k < length to.now → slice_index cells.new (at + k)
+        ≡ hop_by asking.now.turned (table_at (setting setup.now).tables (setting setup.now).cost) stop (slice_index to.now k) }
     ensures kept { (k : ℕ) → k < at → slice_index cells.new k ≡ slice_index cells.old k }
     ensures least { (k : ℕ) → k < length to.now → result ≤ slice_index cells.new (at + k) }
 {
@@ -256,7 +263,8 @@ pub(crate) fn fill_ways(
     requires to { All (λ c. c ≤ (setting setup.now).customers) to.now }
     requires some { (1 ≤ length from.now) × (1 ≤ length to.now) }
     requires short { (length from.now ≤ 1002) × (length to.now ≤ 1002) }
-    ensures hops { IfOk result (λ _. AreHopsFrom turned (table_at (setting setup.now).tables (setting setup.now).cost) from.now to.now (if turned then 1 else 0) (if turned then 0 else 1) cells.new.items) }
+    ensures hops { IfOk result (λ _. AreHopsFrom turned (table_at (setting setup.now).tables (setting setup.now).cost) from.now to.now
+        (if turned then 1 else 0) (if turned then 0 else 1) cells.new.items) }
     ensures floors { IfOk result (λ _. AreFloors from.now to.now (if turned then 1 else 0) (if turned then 0 else 1) cells.new.items) }
 {
     let width = to.len();
@@ -402,7 +410,8 @@ pub(crate) fn fill_turned(
 pub(crate) fn add_edges(stops: &mut Vec<u32>, cells: &[u32]) -> Result<(), AllocError>
     requires sized { length cells.now ≡ length stops.old.items * length stops.old.items }
     requires some { 1 ≤ length stops.old.items }
-    ensures { IfOk result (λ _. (edges : List ℕ) × (stops.new.items ≡ stops.old.items ++ edges) × ArePicked (length stops.old.items) (length stops.old.items - 1) cells.now edges) }
+    ensures { IfOk result (λ _. (edges : List ℕ) × (stops.new.items ≡ stops.old.items ++ edges)
+        × ArePicked (length stops.old.items) (length stops.old.items - 1) cells.now edges) }
 {
     let width = stops.len();
     stops.reserve(width - 1)?;
@@ -416,7 +425,8 @@ pub(crate) fn add_edges(stops: &mut Vec<u32>, cells: &[u32]) -> Result<(), Alloc
 fn step(cells: &[u32], width: usize, turned: bool, from: usize) -> u32
     requires sized { length cells.now ≡ width * width }
     requires from { from + 1 < width }
-    ensures value { result ≡ (if turned then slice_index cells.now ((from + 1) * width + from) else slice_index cells.now (from * width + (from + 1))) }
+    ensures value { result ≡ (if turned then slice_index cells.now ((from + 1) * width + from) else slice_index cells.now
+        (from * width + (from + 1))) }
     ensures small { result < 2 ^ 32 }
 {
     if turned {
@@ -459,7 +469,8 @@ pub(crate) fn fill_sums(stops: &[u32], cells: &[u32], sums: &mut Vec<u64>) -> Re
     requires depot { (rest : List ℕ) × (stops.now ≡ 0 ∷ rest) }
     requires long { 2 ≤ length stops.now }
     requires short { length stops.now ≤ 1002 }
-    ensures { IfOk result (λ _. (t : Table) → AreHopsFrom false t stops.now stops.now 0 1 cells.now → AreBothSums t stops.now sums.new.items) }
+    ensures { IfOk result (λ _. (t : Table) → AreHopsFrom false t stops.now stops.now 0 1 cells.now
+        → AreBothSums t stops.now sums.new.items) }
 {
     sums.clear();
     sums.reserve(2 * stops.len())?;

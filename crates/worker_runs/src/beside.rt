@@ -43,7 +43,8 @@ pub(crate) fn beside<
     requires few { length others.items ≤ 63 }
     ensures ok { IfOk result.0 (λ counts. IsHeld N.opening front.old.seat front.new.seat (I.remaining live.old) (I.remaining live.new)
         (O.contents writer.old) (O.contents writer.new) counts.lines counts.refused) }
-    ensures err { IfErr result.0 (λ fault. IsHeldAtStop N.opening fault front.old.seat front.new.seat (I.remaining live.old) (I.remaining live.new)
+    ensures err { IfErr result.0 (λ fault. IsHeldAtStop N.opening fault front.old.seat front.new.seat
+        (I.remaining live.old) (I.remaining live.new)
         (O.contents writer.old) (O.contents writer.new)) }
     ensures searched { IfSome result.1 (λ s. AllSearched N.opening orders others.items s.seats.items s.tallies.items) }
 {

@@ -65,7 +65,8 @@ fn write_closing<O: Write>(
     writer: &mut O,
 ) -> Result<(), RunFault>
     ensures ok { OnOk result (Appends (O.contents writer.old) (O.contents writer.new) (closing_text tallies.now version)) }
-    ensures err { IfErr result (λ fault. IsWrittenShort fault (O.contents writer.old) (O.contents writer.new) (closing_text tallies.now version)) }
+    ensures err { IfErr result (λ fault. IsWrittenShort fault (O.contents writer.old)
+        (O.contents writer.new) (closing_text tallies.now version)) }
 {
     let text = closing_lines(alloc, tallies, version)?;
     write_whole(writer, text.as_bytes())?;
@@ -83,8 +84,10 @@ pub(crate) fn close<N: Naming, D: Wait + Drop, W: Wait, O: Write>(
     searched: Searched<N, D>,
     writer: &mut O,
 ) -> Result<(), Stop>
-    ensures ok { OnOk result ((text : List ℕ) × IsClosing N.opening (seat.old ∷ searched.seats.items) searched.tallies.items text × Appends (O.contents writer.old) (O.contents writer.new) text) }
-    ensures err { IfErr result (λ stop. IsClosedShort N.opening (seat.old ∷ searched.seats.items) searched.tallies.items (O.contents writer.old) (O.contents writer.new) stop) }
+    ensures ok { OnOk result ((text : List ℕ) × IsClosing N.opening (seat.old ∷ searched.seats.items) searched.tallies.items text
+        × Appends (O.contents writer.old) (O.contents writer.new) text) }
+    ensures err { IfErr result (λ stop. IsClosedShort N.opening (seat.old ∷ searched.seats.items) searched.tallies.items
+        (O.contents writer.old) (O.contents writer.new) stop) }
 {
     let Searched { seats, tallies } = searched;
     let Some(version) = version_of(rt, seat, seats) else {

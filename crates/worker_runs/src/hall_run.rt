@@ -75,7 +75,8 @@ fn ended<N: Naming, D: Wait + Drop, W: Wait, O: Write>(
     searched: Option<Searched<N, D>>,
     writer: &mut O,
 ) -> Result<u64, Stop>
-    ensures { IsEnd N.opening seat.old answered (option_map (λ s. (s.seats.items, s.tallies.items)) searched) (O.contents writer.old) (O.contents writer.new) result }
+    ensures { IsEnd N.opening seat.old answered (option_map (λ s. (s.seats.items, s.tallies.items)) searched)
+        (O.contents writer.old) (O.contents writer.new) result }
 {
     match answered {
         Ok(counts) => {
@@ -128,8 +129,10 @@ pub(crate) fn hall_run<
     requires lines { S.setting_of lines ≡ room.opening.setting }
     requires desks { N.opening.desks ≡ orders.workers + 1 }
     ensures { MatchResult result
-        (IsHallRun N.opening orders room.entries (I.remaining live.old) (I.remaining live.new) (O.contents writer.old) (O.contents writer.new))
-        (IsHallShort N.opening orders room.entries (I.remaining live.old) (I.remaining live.new) (O.contents writer.old) (O.contents writer.new)) }
+        (IsHallRun N.opening orders room.entries (I.remaining live.old) (I.remaining live.new)
+        (O.contents writer.old) (O.contents writer.new))
+        (IsHallShort N.opening orders room.entries (I.remaining live.old) (I.remaining live.new)
+        (O.contents writer.old) (O.contents writer.new)) }
 {
     let Ok((seat, others)) = seats_of::<N, W>(alloc, room) else {
         return Err(Stop::Open);

@@ -42,7 +42,8 @@ fn answered<
     ensures status { (result ≡ 0) ⊎ (result ≡ 1) ⊎ (result ≡ 3) }
     ensures reported { AgreesWithStatus (F.contents faults.old) (F.contents faults.new) result }
     ensures run { IsRunOfBytes (Ok (view job.instance)) job.orders (flow_of (I.remaining script.old) (I.remaining script.new)
-        (L.remaining live.old) (L.remaining live.new) (O.contents writer.old) (O.contents writer.new)) (F.contents faults.old) (F.contents faults.new) result }
+        (L.remaining live.old) (L.remaining live.new) (O.contents writer.old) (O.contents writer.new))
+        (F.contents faults.old) (F.contents faults.new) result }
 {
     match run_with(rt, alloc, job, script, live, writer, notes) {
         Ok(refused) => u8::from(refused),
@@ -79,7 +80,8 @@ pub fn scripted<
     ensures status { (result ≡ 0) ⊎ (result ≡ 1) ⊎ (result ≡ 3) }
     ensures reported { AgreesWithStatus (F.contents faults.old) (F.contents faults.new) result }
     ensures run { IsRunOfBytes (read_of instance.now) orders (flow_of (I.remaining script.old) (I.remaining script.new)
-        (L.remaining live.old) (L.remaining live.new) (O.contents writer.old) (O.contents writer.new)) (F.contents faults.old) (F.contents faults.new) result }
+        (L.remaining live.old) (L.remaining live.new) (O.contents writer.old) (O.contents writer.new))
+        (F.contents faults.old) (F.contents faults.new) result }
 {
     match read(alloc, instance) {
         Ok(instance) => {

@@ -74,8 +74,10 @@ pub(crate) fn run_with<
 ) -> Result<bool, Stop>
     requires { IsSound (view job.instance) }
     ensures { MatchResult result
-        (IsRunOf (view job.instance) job.orders (flow_of (I.remaining script.old) (I.remaining script.new) (L.remaining live.old) (L.remaining live.new) (O.contents writer.old) (O.contents writer.new)))
-        (IsUnrun (view job.instance) job.orders (flow_of (I.remaining script.old) (I.remaining script.new) (L.remaining live.old) (L.remaining live.new) (O.contents writer.old) (O.contents writer.new))) }
+        (IsRunOf (view job.instance) job.orders (flow_of (I.remaining script.old) (I.remaining script.new) (L.remaining live.old)
+        (L.remaining live.new) (O.contents writer.old) (O.contents writer.new)))
+        (IsUnrun (view job.instance) job.orders (flow_of (I.remaining script.old) (I.remaining script.new) (L.remaining live.old)
+        (L.remaining live.new) (O.contents writer.old) (O.contents writer.new))) }
 {
     let Job { instance, orders } = job;
     let first = Snapshot::of(&instance);

@@ -84,7 +84,8 @@ struct WorkOf<N: Naming, D: Wait + Drop> {
 impl<N: Naming, D: Wait + Drop> Promise<WorkerResult<N, D>> for WorkOf<N, D> {
     ghost use Rattle.worker_runs.specs.Halls.{IsDone, post};
 
-    ghost kept_by = { λ p done. IsDone N.opening (post p.assignment.value.worker p.assignment.value.orders p.assignment.value.seat) done.seat done.tally };
+    ghost kept_by = { λ p done. IsDone N.opening
+        (post p.assignment.value.worker p.assignment.value.orders p.assignment.value.seat) done.seat done.tally };
 }
 
 /// A worker's thread.
@@ -214,7 +215,8 @@ fn start_all<
 ) -> Crew<N, D>
     requires setup { setting setup.now.value ≡ N.opening.setting }
     requires few { length seats.items ≤ 63 }
-    ensures { result.whole ≡ true → map (λ h. post h.promise.assignment.value.worker h.promise.assignment.value.orders h.promise.assignment.value.seat) result.threads.items ≡ posts orders 0 seats.items }
+    ensures { result.whole ≡ true → map (λ h. post h.promise.assignment.value.worker h.promise.assignment.value.orders
+        h.promise.assignment.value.seat) result.threads.items ≡ posts orders 0 seats.items }
 {
     let mut seats = seats;
     let Some(seat) = seats.pop() else {
@@ -246,7 +248,8 @@ pub(crate) fn start_crew<
 >(rt: W, alloc: Global, setup: &Arc<Setup>, seats: Vec<Seat<N, D>>, orders: Orders) -> Crew<N, D>
     requires setup { setting setup.now.value ≡ N.opening.setting }
     requires few { length seats.items ≤ 63 }
-    ensures { result.whole ≡ true → map (λ h. post h.promise.assignment.value.worker h.promise.assignment.value.orders h.promise.assignment.value.seat) result.threads.items ≡ posts orders 0 seats.items }
+    ensures { result.whole ≡ true → map (λ h. post h.promise.assignment.value.worker h.promise.assignment.value.orders
+        h.promise.assignment.value.seat) result.threads.items ≡ posts orders 0 seats.items }
 {
     if !orders.progress {
         return start_all(rt, alloc, setup, seats, orders, &Quiet);
@@ -288,7 +291,8 @@ fn join_threads<N: Naming, D: Wait + Drop, W: Threads>(
     alloc: Global,
     threads: Vec<Thread<N, D>>,
 ) -> Option<Searched<N, D>>
-    ensures { IfSome result (λ s. AreDone N.opening (map (λ h. post h.promise.assignment.value.worker h.promise.assignment.value.orders h.promise.assignment.value.seat) threads.items) s.seats.items s.tallies.items) }
+    ensures { IfSome result (λ s. AreDone N.opening (map (λ h. post h.promise.assignment.value.worker h.promise.assignment.value.orders
+        h.promise.assignment.value.seat) threads.items) s.seats.items s.tallies.items) }
 {
     let mut threads = threads;
     let Some(last) = threads.pop() else {
@@ -315,7 +319,8 @@ pub(crate) fn join_all<N: Naming, D: Wait + Drop, W: Threads>(
     crew: Crew<N, D>,
 ) -> Option<Searched<N, D>>
     ensures { IfSome result (λ s. (crew.whole ≡ true)
-        × AreDone N.opening (map (λ h. post h.promise.assignment.value.worker h.promise.assignment.value.orders h.promise.assignment.value.seat) crew.threads.items) s.seats.items s.tallies.items) }
+        × AreDone N.opening (map (λ h. post h.promise.assignment.value.worker h.promise.assignment.value.orders
+        h.promise.assignment.value.seat) crew.threads.items) s.seats.items s.tallies.items) }
 {
     let Crew { threads, whole } = crew;
     let searched = join_threads(rt, alloc, threads);

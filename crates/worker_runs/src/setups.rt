@@ -40,7 +40,8 @@ pub trait Setups {
     ) -> Result<Vec<Row>, AskFault>
         requires { setting_of self.now ≡ N.opening.setting }
         ensures ok { IfOk result (λ rows. IsDeskStep N.opening seat.old (commands.List session) (Listed rows.items) seat.new) }
-        ensures err { IfErr result (λ fault. MayRefuse (IsDeskStep N.opening) (DeskLacksMemory N.opening) seat.old (commands.List session) fault seat.new) };
+        ensures err { IfErr result (λ fault. MayRefuse (IsDeskStep N.opening)
+            (DeskLacksMemory N.opening) seat.old (commands.List session) fault seat.new) };
 }
 
 impl Setups for Arc<Setup> {
