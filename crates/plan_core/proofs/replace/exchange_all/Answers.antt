@@ -39,7 +39,7 @@ loop-k-preserved c =
     let kept = subst (λ (xs : List (ℕ × Arc (List ℕ) Global)). IsExchanging final target c.args.version (changes_of xs) (routes_of c.loop-k.routes) c.loop-k.stamps c.loop-k.homes)
     next c.loop-k.invariant.kept in
     let gone = subst (λ (xs : List (ℕ × Arc (List ℕ) Global)). changes_of (take at c.loop-k.changes) ++ former (routes_of c.loop-k.routes) (changes_of xs)
-        ≡ former (routes_of c.args.routes.now) (changes_of c.args.changes.now)) next c.loop-k.invariant.gone in
+    ≡ former (routes_of c.args.routes.now) (changes_of c.args.changes.now)) next c.loop-k.invariant.gone in
     let says = c.settle.ensures in
     let after : ℕ × Arc (List ℕ) Global = (change.0, c.swap.new.y) in
     let high : change.0 ≤ length c.loop-k.routes = subst (λ (n : ℕ). change.0 ≤ n) (length-map c.loop-k.routes (λ r. r.value)) kept.apart.1 in
