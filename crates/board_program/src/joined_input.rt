@@ -14,8 +14,7 @@ use std::alloc::Global;
 use std::io::{Read, Write};
 
 /// Reads the instance, opens its board, and answers the script behind it.
-fn run_joined<R, I: Read, W: Write>(
-    rt: &R,
+fn run_joined<I: Read, W: Write>(
     alloc: Global,
     reader: &mut I,
     writer: &mut W,
@@ -32,24 +31,10 @@ fn run_joined<R, I: Read, W: Write>(
     let instance = read(alloc, instance.as_slice())?;
     if goes_on {
         let mut script = (&piece[used..]).chain(reader);
-        run_board(
-            rt,
-            alloc,
-            instance,
-            &mut script,
-            writer,
-            None::<&mut Vec<u8>>,
-        )
+        run_board(alloc, instance, &mut script, writer, None::<&mut Vec<u8>>)
     } else {
         let mut script = &piece[used..];
-        run_board(
-            rt,
-            alloc,
-            instance,
-            &mut script,
-            writer,
-            None::<&mut Vec<u8>>,
-        )
+        run_board(alloc, instance, &mut script, writer, None::<&mut Vec<u8>>)
     }
 }
 
@@ -61,8 +46,7 @@ fn run_joined<R, I: Read, W: Write>(
 /// then has one line, which begins with `dispatch: `: `instance fault KIND line N`; `open fault`, where memory ran out
 /// before the script; or `run fault KIND`, where `read` also stands for a read that fails before the line `%%`, and for
 /// more than 16,777,216 bytes before it.
-pub fn joined<R, I: Read, W: Write, F: Write>(
-    rt: &R,
+pub fn joined<I: Read, W: Write, F: Write>(
     alloc: Global,
     reader: &mut I,
     writer: &mut W,
@@ -75,5 +59,5 @@ pub fn joined<R, I: Read, W: Write, F: Write>(
     ensures ran { (h : Halves) × IsOfHalves h
         (streams_of (W.contents writer.old) (W.contents writer.new) (F.contents faults.old) (F.contents faults.new)) result }
 {
-    ended(faults, run_joined(rt, alloc, reader, writer))
+    ended(faults, run_joined(alloc, reader, writer))
 }

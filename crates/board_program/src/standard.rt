@@ -23,8 +23,7 @@ const MAX_EVENTS: u32 = 1_000_000;
 /// Opens the board of an instance, and answers the lines of a script on its desk 1, with notes where there is a stream for them.
 ///
 /// Its callbacks answer from the instance; they are made here, and nothing that holds them leaves.
-pub(crate) fn run_board<R, I: Read, W: Write, E: Write>(
-    rt: &R,
+pub(crate) fn run_board<I: Read, W: Write, E: Write>(
     alloc: Global,
     instance: Instance,
     script: &mut I,
@@ -84,5 +83,5 @@ pub(crate) fn run_board<R, I: Read, W: Write, E: Write>(
         desk: 1,
         turn: 1,
     };
-    Ok(run_noted_lines(rt, alloc, &mut front, script, writer, notes)?)
+    Ok(run_noted_lines(&(), alloc, &mut front, script, writer, notes)?)
 }

@@ -15,8 +15,7 @@ use std::io::{Read, Write};
 use std::rt::Files;
 
 /// Answers a script on the board of an instance, with the status and the fault line that `scripted` has.
-fn answered<R, I: Read, W: Write, F: Write, E: Write>(
-    rt: &R,
+fn answered<I: Read, W: Write, F: Write, E: Write>(
     alloc: Global,
     instance: Instance,
     script: &mut I,
@@ -31,10 +30,7 @@ fn answered<R, I: Read, W: Write, F: Write, E: Write>(
     ensures ran { (bytes : List ℕ) × Says (Ok (view instance)) bytes
         (streams_of (W.contents writer.old) (W.contents writer.new) (F.contents faults.old) (F.contents faults.new)) result }
 {
-    ended(
-        faults,
-        run_board(rt, alloc, instance, script, writer, notes),
-    )
+    ended(faults, run_board(alloc, instance, script, writer, notes))
 }
 
 /// The program over two inputs: the bytes of an instance in Solomon's format, and a script of lines for desk 1. The replies
@@ -43,8 +39,7 @@ fn answered<R, I: Read, W: Write, F: Write, E: Write>(
 /// The status is 0 where each line was done, 1 where a line counted as refused, and 3 where the run ended early. `faults`
 /// then has one line, which begins with `dispatch: `: `instance fault KIND line N`; `open fault`, where memory ran out
 /// before the script; or `run fault KIND`.
-pub fn scripted<R, I: Read, W: Write, F: Write>(
-    rt: &R,
+pub fn scripted<I: Read, W: Write, F: Write>(
     alloc: Global,
     instance: &[u8],
     script: &mut I,
@@ -59,7 +54,6 @@ pub fn scripted<R, I: Read, W: Write, F: Write>(
 {
     match read(alloc, instance) {
         Ok(instance) => answered(
-            rt,
             alloc,
             instance,
             script,
@@ -75,9 +69,8 @@ pub fn scripted<R, I: Read, W: Write, F: Write>(
 /// and an instance's file that fails while it is read or has more than 16,777,216 bytes, give `dispatch: cannot read PATH`
 /// and status 3; else it is as `scripted` has it. Where there is a stream of notes, it gets one behind the reply of each line
 /// that counts as refused, as `run_explained_lines` has it.
-pub fn run_files<R: Files, W: Write, F: Write, E: Write>(
+pub fn run_files<R: Files + AllocGlobal, W: Write, F: Write, E: Write>(
     rt: &R,
-    alloc: Global,
     instance: &str,
     script: &str,
     writer: &mut W,
@@ -88,6 +81,7 @@ pub fn run_files<R: Files, W: Write, F: Write, E: Write>(
     ensures files { IsOfFiles instance.now script.now
         (streams_of (W.contents writer.old) (W.contents writer.new) (F.contents faults.old) (F.contents faults.new)) result }
 {
+    let alloc = rt.alloc();
     let text = match read_path(rt, alloc, instance) {
         Ok(text) => text,
         Err(error) => return unread(faults, instance, &error),
@@ -97,7 +91,7 @@ pub fn run_files<R: Files, W: Write, F: Write, E: Write>(
         Err(fault) => return stopped(faults, Stop::from(fault)),
     };
     match fs::open(rt, script) {
-        Ok(mut file) => answered(rt, alloc, judged, &mut file, writer, faults, notes),
+        Ok(mut file) => answered(alloc, judged, &mut file, writer, faults, notes),
         Err(error) => unread(faults, script, &error),
     }
 }

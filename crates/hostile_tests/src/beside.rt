@@ -6,7 +6,7 @@ use std::str;
 use std::sync::Wait;
 use std::thread::Threads;
 use std::time::Clock;
-use worker_runs::{Orders, scripted};
+use worker_runs::{Orders, Task, scripted};
 
 /// Three customers in a line, and one vehicle.
 pub(crate) const B: &str =
@@ -137,11 +137,12 @@ fn run<H: Threads + Wait + Clock + Eprint + AllocGlobal + Copy + Drop + Send + S
     faults.clear();
     scripted(
         rt,
-        rt.alloc(),
-        B.as_bytes(),
+        Task {
+            instance: B.as_bytes(),
+            orders: ONE_WORKER,
+        },
         &mut SCRIPT.as_bytes(),
         &mut LIVE.as_bytes(),
-        ONE_WORKER,
         written,
         faults,
     )

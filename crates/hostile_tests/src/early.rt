@@ -11,7 +11,7 @@ use std::str;
 use std::sync::Wait;
 use std::thread::Threads;
 use std::time::Clock;
-use worker_runs::{Orders, scripted};
+use worker_runs::{Orders, Task, scripted};
 
 /// Questions and calls that leave the version as it is, and the replies to them.
 const LIVE: &str = "1 check move vehicle 1\n1 add-user ann\n1 grant root audit board\n1 audit\n";
@@ -113,11 +113,12 @@ fn judged_with<
     };
     let status = scripted(
         rt,
-        rt.alloc(),
-        B.as_bytes(),
+        Task {
+            instance: B.as_bytes(),
+            orders: TWO_WORKERS,
+        },
         &mut SCRIPT.as_bytes(),
         &mut live,
-        TWO_WORKERS,
         &mut written,
         &mut faults,
     );

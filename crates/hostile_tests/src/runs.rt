@@ -62,8 +62,8 @@ impl Run {
         let (written, faults) = (&mut self.written, &mut self.faults);
         match self.kind {
             Kind::Check => check_bytes(self.alloc, input, written, faults),
-            Kind::Joined => joined(&(), self.alloc, &mut input, written, faults),
-            Kind::Scripted => scripted(&(), self.alloc, A.as_bytes(), &mut input, written, faults),
+            Kind::Joined => joined(self.alloc, &mut input, written, faults),
+            Kind::Scripted => scripted(self.alloc, A.as_bytes(), &mut input, written, faults),
         }
     }
 }

@@ -24,9 +24,8 @@ struct Tally {
 }
 
 /// Compares the first answers near two vehicles, each move skipped once it was the answer.
-fn compare_near(
-    rt: &impl Abort,
-    alloc: Global,
+fn compare_near<R: Abort + AllocGlobal>(
+    rt: &R,
     setup: &Setup,
     plan: &Plan,
     view: &View,
@@ -37,6 +36,7 @@ fn compare_near(
     requires v { (1 ≤ near.0) × (near.0 ≤ (setting setup.now).vehicles) }
     requires w { (1 ≤ near.1) × (near.1 ≤ (setting setup.now).vehicles) }
 {
+    let alloc = rt.alloc();
     let (v, w) = near;
     let mut skip = Vec::new(alloc);
     for _ in 0..4 {
@@ -67,8 +67,8 @@ fn compare_near(
 }
 
 /// Compares the answers near all vehicles of a random view of three vehicles.
-fn compare_view(
-    rt: &impl Abort,
+fn compare_view<R: Abort + AllocGlobal>(
+    rt: &R,
     alloc: Global,
     setup: &Setup,
     customers: u32,
@@ -84,15 +84,15 @@ fn compare_view(
     if is_view(setup, &plan, &view) {
         for v in 1..4u32 {
             for w in 1..4u32 {
-                compare_near(rt, alloc, setup, &plan, &view, (v, w), tally);
+                compare_near(rt, setup, &plan, &view, (v, w), tally);
             }
         }
     }
 }
 
 /// Compares the answers on some views of a random setup of `rooms` times seven customers, whose callbacks are not the same both ways.
-fn compare_setup(
-    rt: &impl Abort,
+fn compare_setup<R: Abort + AllocGlobal>(
+    rt: &R,
     alloc: Global,
     rooms: u32,
     views: u32,
@@ -128,7 +128,7 @@ fn compare_setup(
     let cost = registry.register(ways).expect(rt, "room");
     let time = registry.register(drives).expect(rt, "room");
     let load = registry.register_unary(wants).expect(rt, "room");
-    let dimensions = some_dimensions(rt, alloc, &registry, load, time, rooms, rng);
+    let dimensions = some_dimensions(rt, alloc, &registry, (load, time), rooms, rng);
     let setup = Setup::new(customers, 3, registry, dimensions, cost, 9).expect(rt, "setup");
     for _ in 0..views {
         compare_view(rt, alloc, &setup, customers, rng, tally);

@@ -15,31 +15,30 @@ use std::process::Abort;
 use std::test::Fail;
 
 /// A dimension of one vehicle, whose cumuls are at most its capacity at each of four nodes.
-fn dimension(
-    rt: &impl Abort,
-    alloc: Global,
+fn dimension<R: Abort + AllocGlobal>(
+    rt: &R,
     registry: &Registry,
     id: TransitId,
     slack: u64,
     cap: u64,
     fixed: bool,
 ) -> Dimension {
+    let alloc = rt.alloc();
     let caps = vec![in alloc; cap; 1].expect(rt, "memory");
     let ranges = vec![in alloc; Range { lo: 0, hi: cap }; 4].expect(rt, "memory");
     Dimension::new(registry, id, slack, caps, fixed, ranges).expect(rt, "bounds")
 }
 
 /// The loads, of which ten fit, and the times: a day of 10,000, through which the vehicle may wait.
-fn loads_and_times(
-    rt: &impl Abort,
-    alloc: Global,
+fn loads_and_times<R: Abort + AllocGlobal>(
+    rt: &R,
     registry: &Registry,
     load: TransitId,
     time: TransitId,
 ) -> Vec<Dimension> {
-    let loads = dimension(rt, alloc, registry, load, 0, 10, true);
-    let times = dimension(rt, alloc, registry, time, 10_000, 10_000, false);
-    vec![in alloc; loads, times].expect(rt, "memory")
+    let loads = dimension(rt, registry, load, 0, 10, true);
+    let times = dimension(rt, registry, time, 10_000, 10_000, false);
+    vec![in rt.alloc(); loads, times].expect(rt, "memory")
 }
 
 /// A plan that serves the customers in an order.
@@ -172,7 +171,7 @@ fn the_best_moves_of_three_customers(rt: HostRuntime) -> Result<(), Fail> {
     let mut registry = Registry::new(rt.alloc());
     let time = registry.register(drives).expect(&rt, "room");
     let load = registry.register_unary(wants).expect(&rt, "room");
-    let dimensions = loads_and_times(&rt, rt.alloc(), &registry, load, time);
+    let dimensions = loads_and_times(&rt, &registry, load, time);
     let setup = Setup::new(3, 1, registry, dimensions, time, 9).expect(&rt, "setup");
     ask_in_both_orders(&rt, rt.alloc(), &setup);
     Ok(())

@@ -60,18 +60,18 @@ fn ranges(
     ranges
 }
 
-/// A dimension of loads and one of times, in which there is room for `rooms` times seven customers.
+/// A dimension of loads and one of times, by the transits of these numbers, in which there is room for `rooms` times seven customers.
 pub(crate) fn some_dimensions(
     rt: &impl Abort,
     alloc: Global,
     registry: &Registry,
-    load: TransitId,
-    time: TransitId,
+    ids: (TransitId, TransitId),
     rooms: u32,
     rng: &mut Lcg64Xsh32,
 ) -> Vec<Dimension>
     requires { (1 ≤ rooms) × (rooms ≤ 140) }
 {
+    let (load, time) = ids;
     let customers = 7 * rooms;
     let parts = ranges(rt, alloc, customers, 1, 900, rng);
     let room = caps(rt, alloc, 8 * rooms, rng);

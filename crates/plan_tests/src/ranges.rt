@@ -1,4 +1,4 @@
-ghost use Rattle.std.specs.Prelude.{◌≡◌, ◌+◌, ◌*◌, ◌<◌, ◌≤◌, [], ◌∷◌, length, slice_index, All, IfOk, IfSome, OnOk, OnErr};
+ghost use Rattle.std.specs.Prelude.{◌≡◌, ◌+◌, ◌*◌, ◌<◌, ◌≤◌, [], ◌∷◌, length, replicate, slice_index, All, IfOk, IfSome, OnOk, OnErr};
 ghost use Rattle.dimension_core.specs.NewRoutes.{AllKnown};
 ghost use Rattle.dimension_core.specs.Setup.{setting};
 ghost use Rattle.plan_core.specs.Plan.{IsPlan, changes_of, replaced, with_routes};
@@ -15,34 +15,54 @@ use std::sync::Arc;
 use std::sync::atomic::{AtomicU64, Ordering};
 use std::test::Fail;
 
-/// Gives a vehicle a new route where it is in bounds, in the cache and in the plan, with the ranges in the memory of earlier ones. It gives
-/// back that of the ranges that were replaced.
+/// A plan with its ranges, and the memory of ranges that were replaced.
+#[derive(Drop)]
+struct Held {
+    plan: Plan,
+    cache: Cache,
+    room: Room,
+}
+
+/// An empty plan of four customers and two vehicles.
+fn empty(rt: &impl Abort, alloc: Global, setup: &Setup) -> Held
+    requires customers { (setting setup.now).customers ≡ 4 }
+    requires vehicles { (setting setup.now).vehicles ≡ 2 }
+    ensures plan { result.plan ≡ record { customers = 4; routes = replicate 2 []; version = 0; stamps = replicate 2 0 } }
+    ensures cache { IsCacheOf (setting setup.now) result.plan.routes result.cache }
+{
+    Held {
+        plan: Plan::new(alloc, 4, 2).expect(rt, "memory"),
+        cache: Cache::new(alloc, setup).expect(rt, "memory"),
+        room: Room::new(alloc),
+    }
+}
+
+/// Gives a vehicle a new route where it is in bounds, in the ranges and in the plan. New ranges are made in the memory of earlier ones.
 fn commit(
     alloc: Global,
     setup: &Setup,
-    cache: &mut Cache,
-    plan: &mut Plan,
-    mut room: Room,
+    held: &mut Held,
     vehicle: u32,
     customers: &[u32],
     meter: &mut Meter,
-) -> Result<Room, JudgeFault>
-    requires cache { IsCacheOf (setting setup.now) plan.old.routes cache.old }
+) -> Result<(), JudgeFault>
+    requires cache { IsCacheOf (setting setup.now) held.old.plan.routes held.old.cache }
     requires low { 1 ≤ vehicle }
     requires high { vehicle ≤ (setting setup.now).vehicles }
     requires known { All (λ c. c ≤ (setting setup.now).customers) customers.now }
     requires short { length customers.now ≤ 1000 }
-    requires plan { IsPlan plan.old.customers (with_routes ((vehicle, customers.now) ∷ []) plan.old.routes) }
-    requires room { plan.old.version < 16777216 }
-    ensures cache { IsCacheOf (setting setup.now) plan.new.routes cache.new }
-    ensures ok { OnOk result (plan.new ≡ replaced ((vehicle, customers.now) ∷ []) plan.old) }
-    ensures err { OnErr result (plan.new ≡ plan.old) }
+    requires plan { IsPlan held.old.plan.customers (with_routes ((vehicle, customers.now) ∷ []) held.old.plan.routes) }
+    requires room { held.old.plan.version < 16777216 }
+    ensures cache { IsCacheOf (setting setup.now) held.new.plan.routes held.new.cache }
+    ensures ok { OnOk result (held.new.plan ≡ replaced ((vehicle, customers.now) ∷ []) held.old.plan) }
+    ensures err { OnErr result (held.new.plan ≡ held.old.plan) }
 {
+    let Held { plan, cache, room } = held;
     let changes = one_change(alloc, vehicle, customers)?;
-    let pending = cache.judge_in(&mut room, setup, plan, &changes, meter)?;
-    let room = cache.take(pending);
+    let pending = cache.judge_in(room, setup, plan, &changes, meter)?;
+    *room = cache.take(pending);
     plan.replace(changes);
-    Ok(room)
+    Ok(())
 }
 
 /// The early values of a vehicle's route, dimension by dimension.
@@ -160,28 +180,22 @@ fn inserts(rt: &impl Abort, alloc: Global, setup: &Setup, meter: &mut Meter)
     requires vehicles { (setting setup.now).vehicles ≡ 2 }
 {
     plans_are_tested();
-    let mut plan = Plan::new(alloc, 4, 2).expect(rt, "memory");
-    let mut cache = Cache::new(alloc, setup).expect(rt, "memory");
+    let mut held = empty(rt, alloc, setup);
     let begun = meter.asks;
-    let room = Room::new(alloc);
-    let room = commit(alloc, setup, &mut cache, &mut plan, room, 1, &[1], meter).expect(rt, "one");
+    commit(alloc, setup, &mut held, 1, &[1], meter).expect(rt, "one");
     asked(rt, meter.asks.wrapping_sub(begun), 4);
-    let two = commit(alloc, setup, &mut cache, &mut plan, room, 1, &[1, 2], meter);
-    let room = two.expect(rt, "two");
+    commit(alloc, setup, &mut held, 1, &[1, 2], meter).expect(rt, "two");
     asked(rt, meter.asks.wrapping_sub(begun), 8);
-    let three = commit(
+    commit(alloc, setup, &mut held, 1, &[1, 2, 3], meter).expect(rt, "three");
+    asked(rt, meter.asks.wrapping_sub(begun), 12);
+    compare_earlies(
+        rt,
         alloc,
         setup,
-        &mut cache,
-        &mut plan,
-        room,
-        1,
-        &[1, 2, 3],
-        meter,
+        &held.cache,
+        &held.plan,
+        &[0, 4, 7, 28, 84, 140],
     );
-    three.expect(rt, "three");
-    asked(rt, meter.asks.wrapping_sub(begun), 12);
-    compare_earlies(rt, alloc, setup, &cache, &plan, &[0, 4, 7, 28, 84, 140]);
 }
 
 /// The cache of the whole plan, made at once.
@@ -205,33 +219,19 @@ fn removals(rt: &impl Abort, alloc: Global, setup: &Setup, meter: &mut Meter)
     requires vehicles { (setting setup.now).vehicles ≡ 2 }
 {
     plans_are_tested();
-    let mut plan = Plan::new(alloc, 4, 2).expect(rt, "memory");
-    let mut cache = Cache::new(alloc, setup).expect(rt, "memory");
-    let room = Room::new(alloc);
-    let all = commit(
-        alloc,
-        setup,
-        &mut cache,
-        &mut plan,
-        room,
-        1,
-        &[1, 2, 3],
-        meter,
-    );
-    let room = all.expect(rt, "all");
+    let mut held = empty(rt, alloc, setup);
+    commit(alloc, setup, &mut held, 1, &[1, 2, 3], meter).expect(rt, "all");
     let begun = meter.asks;
     let late = one_change(alloc, 1, &[1, 3]).expect(rt, "memory");
-    let answer = fault_of(setup, &cache, &plan, &late, meter);
+    let answer = fault_of(setup, &held.cache, &held.plan, &late, meter);
     compare_fault(rt, answer, Some(JudgeFault::Bound(1, 2)));
     asked(rt, meter.asks.wrapping_sub(begun), 3);
-    let two = commit(alloc, setup, &mut cache, &mut plan, room, 1, &[2, 3], meter);
-    let room = two.expect(rt, "two");
+    commit(alloc, setup, &mut held, 1, &[2, 3], meter).expect(rt, "two");
     asked(rt, meter.asks.wrapping_sub(begun), 9);
-    compare_earlies(rt, alloc, setup, &cache, &plan, &[0, 3, 84, 140]);
-    let none = commit(alloc, setup, &mut cache, &mut plan, room, 1, &[], meter);
-    none.expect(rt, "none");
+    compare_earlies(rt, alloc, setup, &held.cache, &held.plan, &[0, 3, 84, 140]);
+    commit(alloc, setup, &mut held, 1, &[], meter).expect(rt, "none");
     asked(rt, meter.asks.wrapping_sub(begun), 9);
-    compare_earlies(rt, alloc, setup, &cache, &plan, &[]);
+    compare_earlies(rt, alloc, setup, &held.cache, &held.plan, &[]);
 }
 
 /// Two new routes, of which the first is in bounds and the second is too heavy.

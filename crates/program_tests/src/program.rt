@@ -53,7 +53,7 @@ fn make_faults<H: AllocGlobal>(rt: &H) -> Narrow {
 fn joined_gives<H: AllocGlobal + Abort, I: Read>(rt: &H, reader: &mut I, wanted: Wanted<'_>) {
     let mut output = Vec::new(rt.alloc());
     let mut faults = make_faults(rt);
-    let status = joined(rt, rt.alloc(), reader, &mut output, &mut faults);
+    let status = joined(rt.alloc(), reader, &mut output, &mut faults);
     compare(rt, output.as_slice(), &faults.taken, status, wanted);
 }
 
@@ -67,14 +67,7 @@ fn gives<H: AllocGlobal + Abort>(rt: &H, instance: &str, behind: &str, wanted: W
 fn scripted_gives<H: AllocGlobal + Abort, I: Read>(rt: &H, script: &mut I, wanted: Wanted<'_>) {
     let mut output = Vec::new(rt.alloc());
     let mut faults = Vec::new(rt.alloc());
-    let status = scripted(
-        rt,
-        rt.alloc(),
-        A.as_bytes(),
-        script,
-        &mut output,
-        &mut faults,
-    );
+    let status = scripted(rt.alloc(), A.as_bytes(), script, &mut output, &mut faults);
     compare(rt, output.as_slice(), faults.as_slice(), status, wanted);
 }
 
@@ -141,7 +134,7 @@ fn a_byte_at_a_time(rt: HostRuntime) {
     let mut reader = make_drip(input.as_bytes(), 1, usize::MAX);
     let mut output = make_narrow(Vec::new(rt.alloc()), 1, usize::MAX, usize::MAX);
     let mut faults = Vec::new(rt.alloc());
-    let status = joined(&rt, rt.alloc(), &mut reader, &mut output, &mut faults);
+    let status = joined(rt.alloc(), &mut reader, &mut output, &mut faults);
     let wanted = (replies.as_str(), "", 0);
     compare(
         &rt,
@@ -164,7 +157,6 @@ fn reads_fail<H: AllocGlobal + Abort>(
     let mut output = Vec::new(rt.alloc());
     let mut faults = Vec::new(rt.alloc());
     let status = scripted(
-        rt,
         rt.alloc(),
         A.as_bytes(),
         &mut reader,
@@ -203,7 +195,6 @@ fn writes_fail<H: AllocGlobal + Abort>(
     let mut output = make_narrow(Vec::new(rt.alloc()), usize::MAX, writes, flushes);
     let mut faults = Vec::new(rt.alloc());
     let status = scripted(
-        rt,
         rt.alloc(),
         A.as_bytes(),
         &mut reader,
@@ -550,7 +541,6 @@ fn run_gives<H: AllocGlobal + Abort + Files>(
     let mut faults = make_faults(rt);
     let status = run_files(
         rt,
-        rt.alloc(),
         instance,
         script,
         &mut output,
@@ -666,7 +656,6 @@ fn notes_give<H: AllocGlobal + Abort + Files>(
     let mut heard = Vec::new(rt.alloc());
     let status = run_files(
         rt,
-        rt.alloc(),
         NOTED_INSTANCE_FILE,
         NOTED_SCRIPT_FILE,
         &mut output,
@@ -814,7 +803,6 @@ fn stepped<H: AllocGlobal + Abort + Files>(rt: &H, output: &mut Narrow) -> (u8, 
     let mut heard = Vec::new(rt.alloc());
     let status = run_files(
         rt,
-        rt.alloc(),
         STEPPED_INSTANCE_FILE,
         STEPPED_SCRIPT_FILE,
         output,

@@ -7,7 +7,6 @@ ghost use Rattle.program_words.specs.Performed.{IsPerformed};
 use board_program::{check_file, joined};
 use command_line::{Options, options, told};
 use plan_program::{draw_files, sums_files};
-use std::alloc::Global;
 use std::convert::AsStr;
 use std::io::{Eprint, Read, Write};
 use std::rt::Files;
@@ -23,26 +22,19 @@ use worker_runs::{Orders, Paths, run_paths};
 /// The status is 3 also where memory runs out while the words are read.
 #[tactic(auto, using(crate::proofs::Said::done, crate::proofs::Said::ran))]
 pub fn perform<
-    W: Threads + Wait + Files + Clock + Eprint + Copy + Drop + Send + Sync + 'static,
+    W: Threads + Wait + Files + Clock + Eprint + AllocGlobal + Copy + Drop + Send + Sync + 'static,
     S: AsStr,
     I: Read,
     O: Write,
     F: Write,
     E: Write,
->(
-    rt: W,
-    alloc: Global,
-    words: &[S],
-    input: &mut I,
-    output: &mut O,
-    faults: &mut F,
-    notes: &mut E,
-) -> u8
+>(rt: W, words: &[S], input: &mut I, output: &mut O, faults: &mut F, notes: &mut E) -> u8
     ensures { IsPerformed (map S.text words.now) (I.remaining input.old)
         (streams_of (O.contents output.old) (O.contents output.new) (F.contents faults.old) (F.contents faults.new)) result }
 {
+    let alloc = rt.alloc();
     match options(alloc, words) {
-        Ok(Options::Joined) => joined(&rt, alloc, input, output, faults),
+        Ok(Options::Joined) => joined(alloc, input, output, faults),
         Ok(Options::Check { instance }) => check_file(&rt, alloc, instance, output, faults),
         Ok(Options::Draw { instance, rows }) => draw_files(
             &rt, alloc, instance, rows, output, faults,
@@ -74,7 +66,7 @@ pub fn perform<
                 progress,
             };
             let notes = if explain { Some(notes) } else { None };
-            run_paths(rt, alloc, paths, orders, output, faults, notes)
+            run_paths(rt, paths, orders, output, faults, notes)
         }
         Err(fault) => told(&fault, output, faults),
     }

@@ -6,7 +6,7 @@ use crate::torn::devices::{Torn, make_source};
 use std::alloc::Global;
 use std::process::Abort;
 use std::str;
-use worker_runs::{Orders, scripted};
+use worker_runs::{Orders, Task, scripted};
 
 /// Live lines, and whether they can be read; how many workers do how many rounds, whether they say how far they are, and how many such
 /// texts each waits for; whether the clock can be read; what is written and said, which fault is reported, and the status.
@@ -234,11 +234,12 @@ fn workers_beside_live_lines(rt: HostRuntime) {
         let mut faults = Vec::new(alloc);
         let status = scripted(
             heard.again(),
-            alloc,
-            B.as_bytes(),
+            Task {
+                instance: B.as_bytes(),
+                orders,
+            },
             &mut GRANTED.as_bytes(),
             &mut live,
-            orders,
             &mut page,
             &mut faults,
         );

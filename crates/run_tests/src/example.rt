@@ -8,7 +8,7 @@ use std::str;
 use std::sync::Wait;
 use std::thread::Threads;
 use std::time::Clock;
-use worker_runs::{Orders, scripted};
+use worker_runs::{Orders, Task, scripted};
 
 /// `docs/examples/workers-instance.txt`, `workers-script.txt` and `workers-live.txt`, word for word.
 const INSTANCE: &str = "Two lines
@@ -201,11 +201,12 @@ fn run<H: Threads + Wait + Clock + Eprint + AllocGlobal + Copy + Drop + Send + S
     let mut faults = Vec::new(alloc);
     let status = scripted(
         rt,
-        alloc,
-        instance,
+        Task {
+            instance,
+            orders: ORDERS,
+        },
         &mut SCRIPT.as_bytes(),
         &mut LIVE.as_bytes(),
-        ORDERS,
         &mut written,
         &mut faults,
     );
@@ -213,7 +214,6 @@ fn run<H: Threads + Wait + Clock + Eprint + AllocGlobal + Copy + Drop + Send + S
     let (script, replies) = journal(alloc, text).ok()?;
     let mut judged = Vec::new(alloc);
     let _refused = judge(
-        &rt,
         alloc,
         instance,
         &mut script.as_bytes(),

@@ -1,7 +1,7 @@
 //! A runtime that a test hears: its threads are those of the test, what is said on standard error is kept with what is written, and its clock
 //! goes on by a quarter of a second each time that it is read.
 
-use std::alloc::Global;
+use std::alloc::{Alloc, Global};
 use std::fmt::Display;
 use std::io::{self, Eprint, ErrorKind, Read, Write};
 use std::str;
@@ -105,6 +105,14 @@ impl<'a, R: Wait> Heard<'a, R> {
 impl<R: Wait> Wait for Heard<'_, R> {}
 
 impl<R: Threads> Threads for Heard<'_, R> {}
+
+impl<R: AllocGlobal> Alloc for Heard<'_, R> {
+    type A = Global;
+
+    fn alloc(&self) -> Global {
+        self.log.host.alloc()
+    }
+}
 
 impl<R> Clock for Heard<'_, R> {
     fn monotonic(&self) -> io::Result<Duration> {

@@ -12,7 +12,7 @@ use std::sync::Wait;
 use std::thread::Threads;
 use std::time::Clock;
 use std::{fs, str};
-use worker_runs::{Orders, Paths, run_paths, scripted};
+use worker_runs::{Orders, Paths, Task, run_paths, scripted};
 
 /// Compares what was written and said, and the status.
 fn compare(rt: &impl Abort, written: &[u8], faults: &[u8], status: u8, wanted: (&str, &str, u8)) {
@@ -52,11 +52,12 @@ fn run<
     let mut faults = Vec::new(rt.alloc());
     let status = scripted(
         rt,
-        rt.alloc(),
-        instance.as_bytes(),
+        Task {
+            instance: instance.as_bytes(),
+            orders,
+        },
         script,
         live,
-        orders,
         &mut written,
         &mut faults,
     );
@@ -122,11 +123,12 @@ fn flush_gives<
     let mut faults = Vec::new(rt.alloc());
     let status = scripted(
         rt,
-        rt.alloc(),
-        A.as_bytes(),
+        Task {
+            instance: A.as_bytes(),
+            orders,
+        },
         &mut b"1 fly\n".as_slice(),
         &mut b"".as_slice(),
-        orders,
         &mut writer,
         &mut faults,
     );
@@ -187,11 +189,12 @@ fn a_writer_that_fails(rt: HostRuntime) {
         let mut faults = Vec::new(rt.alloc());
         let status = scripted(
             rt,
-            rt.alloc(),
-            A.as_bytes(),
+            Task {
+                instance: A.as_bytes(),
+                orders,
+            },
             &mut b"1 fly\n".as_slice(),
             &mut b"1 fly\n".as_slice(),
-            orders,
             &mut writer,
             &mut faults,
         );
@@ -231,7 +234,6 @@ fn paths_give<
     let mut faults = Vec::new(rt.alloc());
     let status = run_paths(
         rt,
-        rt.alloc(),
         paths,
         orders,
         &mut written,
@@ -302,11 +304,12 @@ fn a_full_journal(rt: HostRuntime) {
     let mut faults = Vec::new(rt.alloc());
     let status = scripted(
         rt,
-        rt.alloc(),
-        A.as_bytes(),
+        Task {
+            instance: A.as_bytes(),
+            orders,
+        },
         &mut b"".as_slice(),
         &mut live,
-        orders,
         &mut written,
         &mut faults,
     );
@@ -356,11 +359,12 @@ fn a_million_denied_calls(rt: HostRuntime) {
     let orders = orders(&rt, (0, 0, 1));
     let status = scripted(
         rt,
-        rt.alloc(),
-        A.as_bytes(),
+        Task {
+            instance: A.as_bytes(),
+            orders,
+        },
         &mut script,
         &mut b"".as_slice(),
-        orders,
         &mut written,
         &mut faults,
     );

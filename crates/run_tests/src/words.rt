@@ -76,7 +76,6 @@ fn performed<
     let mut notes = Vec::new(rt.alloc());
     let status = perform(
         rt,
-        rt.alloc(),
         words,
         &mut b"".as_slice(),
         &mut written,
@@ -147,7 +146,6 @@ fn words_that_cannot_be_read(rt: HostRuntime) {
         let mut notes = Vec::new(rt.alloc());
         let found = run_words(
             rt,
-            rt.alloc(),
             Err(io::Error::from(*kind)),
             &mut b"".as_slice(),
             &mut written,
@@ -170,7 +168,6 @@ fn words_that_cannot_be_read(rt: HostRuntime) {
 fn the_words_of_the_process(rt: HostRuntime) {
     let status = run(
         rt,
-        rt.alloc(),
         &mut rt.stdin(),
         &mut rt.stdout(),
         &mut rt.stderr(),
@@ -250,7 +247,6 @@ fn notes<
     let mut notes = Vec::new(rt.alloc());
     let status = perform(
         rt,
-        rt.alloc(),
         words.as_slice(),
         &mut b"".as_slice(),
         &mut written,

@@ -4,16 +4,14 @@ ghost use Rattle.dimension_core.specs.Setup.{setting};
 ghost use Rattle.desk_text.specs.DeskRuns.{IsHeld, IsHeldAtStop};
 ghost use Rattle.worker_runs.specs.Halls.{AllSearched};
 
-use crate::orders::Orders;
-use crate::search::{Searched, join_all, start_crew};
+use crate::search::{Searched, Waiting, join_all, start_crew};
 use crate::setups::{SetupOf, Setups};
-use board_lock::{Naming, Seat};
+use board_lock::Naming;
 use desk_text::{Seated, run_desk_lines};
-use dimension_core::Setup;
 use line_engine::{Counts, RunFault};
 use std::alloc::Global;
 use std::io::{Eprint, Read, Write};
-use std::sync::{Arc, Wait};
+use std::sync::Wait;
 use std::thread::Threads;
 use std::time::Clock;
 
@@ -31,24 +29,22 @@ pub(crate) fn beside<
 >(
     rt: W,
     alloc: Global,
-    setup: &Arc<Setup>,
+    workers: Waiting<N, D>,
     front: &mut Seated<N, D, SetupOf<S>>,
-    others: Vec<Seat<N, D>>,
-    orders: Orders,
     live: &mut I,
     writer: &mut O,
 ) -> Both<N, D>
-    requires setup { setting setup.now.value ≡ N.opening.setting }
+    requires setup { setting workers.setup.value ≡ N.opening.setting }
     requires hall { S.setting_of front.old.setup.setup ≡ N.opening.setting }
-    requires few { length others.items ≤ 63 }
+    requires few { length workers.seats.items ≤ 63 }
     ensures ok { IfOk result.0 (λ counts. IsHeld N.opening front.old.seat front.new.seat (I.remaining live.old) (I.remaining live.new)
         (O.contents writer.old) (O.contents writer.new) counts.lines counts.refused) }
     ensures err { IfErr result.0 (λ fault. IsHeldAtStop N.opening fault front.old.seat front.new.seat
         (I.remaining live.old) (I.remaining live.new)
         (O.contents writer.old) (O.contents writer.new)) }
-    ensures searched { IfSome result.1 (λ s. AllSearched N.opening orders others.items s.seats.items s.tallies.items) }
+    ensures searched { IfSome result.1 (λ s. AllSearched N.opening workers.orders workers.seats.items s.seats.items s.tallies.items) }
 {
-    let crew = start_crew(rt, alloc, setup, others, orders);
+    let crew = start_crew(rt, alloc, workers);
     let answered = run_desk_lines(&rt, alloc, front, live, writer);
     let searched = join_all(&rt, alloc, crew);
     (answered, searched)

@@ -10,16 +10,15 @@ ghost use Rattle.worker_runs.specs.Halls.{IsClosing, IsEnd, IsHallRun, IsHallSho
 use crate::beside::beside;
 use crate::closing::close;
 use crate::orders::Orders;
-use crate::search::Searched;
+use crate::search::{Searched, Waiting};
 use crate::setups::{SetupOf, Setups};
-use board_lock::{Anteroom, Naming, Seat, open_seats};
+use board_lock::{Anteroom, Foyer, Naming, Seat, open_seats};
 use desk_text::{Seated, run_desk_lines};
-use dimension_core::Setup;
 use line_engine::{Counts, RunFault};
 use program_parts::Stop;
 use std::alloc::Global;
 use std::io::{Eprint, Read, Write};
-use std::sync::{Arc, Wait};
+use std::sync::Wait;
 use std::thread::Threads;
 use std::time::Clock;
 
@@ -110,30 +109,30 @@ fn counted(answered: Result<Counts, RunFault>) -> Result<u64, Stop>
 pub(crate) fn hall_run<
     N: Naming + Send + Sync + 'static,
     S: Setups + Drop,
-    W: Threads + Wait + Clock + Eprint + Copy + Drop + Send + Sync + 'static,
+    W: Threads + Wait + Clock + Eprint + AllocGlobal + Copy + Drop + Send + Sync + 'static,
     I: Read,
     O: Write,
 >(
     rt: W,
-    alloc: Global,
-    setup: Arc<Setup>,
+    foyer: Foyer<W>,
     lines: S,
-    room: Anteroom<W>,
     orders: Orders,
     live: &mut I,
     writer: &mut O,
 ) -> Result<u64, Stop>
-    requires opening { room.opening ≡ N.opening }
-    requires book { room.book ≡ N.book }
-    requires setup { setting setup.value ≡ room.opening.setting }
-    requires lines { S.setting_of lines ≡ room.opening.setting }
+    requires opening { foyer.room.opening ≡ N.opening }
+    requires book { foyer.room.book ≡ N.book }
+    requires setup { setting foyer.setup.value ≡ foyer.room.opening.setting }
+    requires lines { S.setting_of lines ≡ foyer.room.opening.setting }
     requires desks { N.opening.desks ≡ orders.workers + 1 }
     ensures { MatchResult result
-        (IsHallRun N.opening orders room.entries (I.remaining live.old) (I.remaining live.new)
+        (IsHallRun N.opening orders foyer.room.entries (I.remaining live.old) (I.remaining live.new)
         (O.contents writer.old) (O.contents writer.new))
-        (IsHallShort N.opening orders room.entries (I.remaining live.old) (I.remaining live.new)
+        (IsHallShort N.opening orders foyer.room.entries (I.remaining live.old) (I.remaining live.new)
         (O.contents writer.old) (O.contents writer.new)) }
 {
+    let alloc = rt.alloc();
+    let Foyer { setup, room } = foyer;
     let Ok((seat, others)) = seats_of::<N, W>(alloc, room) else {
         return Err(Stop::Open);
     };
@@ -144,6 +143,11 @@ pub(crate) fn hall_run<
     if orders.workers == 0 {
         return counted(run_desk_lines(&rt, alloc, &mut front, live, writer));
     }
-    let (answered, searched) = beside(rt, alloc, &setup, &mut front, others, orders, live, writer);
+    let workers = Waiting {
+        setup,
+        seats: others,
+        orders,
+    };
+    let (answered, searched) = beside(rt, alloc, workers, &mut front, live, writer);
     ended(&rt, alloc, &mut front.seat, answered, searched, writer)
 }

@@ -12,7 +12,6 @@ use crate::orders::Orders;
 use board_program::run_files;
 use program_parts::{Stop, read_path, stopped, unread};
 use solomon_reader::{Instance, read};
-use std::alloc::Global;
 use std::fs;
 use std::io::{Eprint, Read, Write};
 use std::rt::Files;
@@ -22,16 +21,14 @@ use std::time::Clock;
 
 /// Runs on the board of an instance, and reports how that ended.
 fn answered<
-    W: Threads + Wait + Clock + Eprint + Copy + Drop + Send + Sync + 'static,
+    W: Threads + Wait + Clock + Eprint + AllocGlobal + Copy + Drop + Send + Sync + 'static,
     I: Read,
     L: Read,
     O: Write,
     F: Write,
     E: Write,
 >(
-    rt: W,
-    alloc: Global,
-    job: Job,
+    job: Job<W>,
     script: &mut I,
     live: &mut L,
     writer: &mut O,
@@ -45,10 +42,17 @@ fn answered<
         (L.remaining live.old) (L.remaining live.new) (O.contents writer.old) (O.contents writer.new))
         (F.contents faults.old) (F.contents faults.new) result }
 {
-    match run_with(rt, alloc, job, script, live, writer, notes) {
+    match run_with(job, script, live, writer, notes) {
         Ok(refused) => u8::from(refused),
         Err(stop) => stopped(faults, stop),
     }
+}
+
+/// What a run is to do: the bytes of an instance in Solomon's format, and what the workers on its board do.
+#[derive(Clone, Copy)]
+pub struct Task<'a> {
+    pub instance: &'a [u8],
+    pub orders: Orders,
 }
 
 /// The program over three inputs: the bytes of an instance in Solomon's format, a script of lines for desk 1, which it answers alone, and a
@@ -62,40 +66,26 @@ fn answered<
 /// of the live script the lines of the workers and of the version are written, but not where the writer failed, a worker was not started or
 /// memory ran out.
 pub fn scripted<
-    W: Threads + Wait + Clock + Eprint + Copy + Drop + Send + Sync + 'static,
+    W: Threads + Wait + Clock + Eprint + AllocGlobal + Copy + Drop + Send + Sync + 'static,
     I: Read,
     L: Read,
     O: Write,
     F: Write,
->(
-    rt: W,
-    alloc: Global,
-    instance: &[u8],
-    script: &mut I,
-    live: &mut L,
-    orders: Orders,
-    writer: &mut O,
-    faults: &mut F,
-) -> u8
+>(rt: W, task: Task<'_>, script: &mut I, live: &mut L, writer: &mut O, faults: &mut F) -> u8
     ensures status { (result ≡ 0) ⊎ (result ≡ 1) ⊎ (result ≡ 3) }
     ensures reported { AgreesWithStatus (F.contents faults.old) (F.contents faults.new) result }
-    ensures run { IsRunOfBytes (read_of instance.now) orders (flow_of (I.remaining script.old) (I.remaining script.new)
+    ensures run { IsRunOfBytes (read_of task.entry.instance.now) task.entry.orders (flow_of (I.remaining script.old) (I.remaining script.new)
         (L.remaining live.old) (L.remaining live.new) (O.contents writer.old) (O.contents writer.new))
         (F.contents faults.old) (F.contents faults.new) result }
 {
-    match read(alloc, instance) {
+    match read(rt.alloc(), task.instance) {
         Ok(instance) => {
-            let job = Job { instance, orders };
-            answered(
+            let job = Job {
                 rt,
-                alloc,
-                job,
-                script,
-                live,
-                writer,
-                faults,
-                None::<&mut Vec<u8>>,
-            )
+                instance,
+                orders: task.orders,
+            };
+            answered(job, script, live, writer, faults, None::<&mut Vec<u8>>)
         }
         Err(fault) => stopped(faults, Stop::from(fault)),
     }
@@ -115,13 +105,12 @@ pub struct Paths<'a> {
 /// thread. Where there is a stream of notes, it gets one behind the reply of each line of the script that counts as refused, as
 /// `run_explained_lines` has it.
 pub fn run_paths<
-    W: Threads + Wait + Files + Clock + Eprint + Copy + Drop + Send + Sync + 'static,
+    W: Threads + Wait + Files + Clock + Eprint + AllocGlobal + Copy + Drop + Send + Sync + 'static,
     O: Write,
     F: Write,
     E: Write,
 >(
     rt: W,
-    alloc: Global,
     paths: Paths<'_>,
     orders: Orders,
     writer: &mut O,
@@ -133,16 +122,9 @@ pub fn run_paths<
         (streams_of (O.contents writer.old) (O.contents writer.new) (F.contents faults.old) (F.contents faults.new)) result }
 {
     if orders.workers == 0 && paths.live.is_none() {
-        return run_files(
-            &rt,
-            alloc,
-            paths.instance,
-            paths.script,
-            writer,
-            faults,
-            notes,
-        );
+        return run_files(&rt, paths.instance, paths.script, writer, faults, notes);
     }
+    let alloc = rt.alloc();
     let text = match read_path(&rt, alloc, paths.instance) {
         Ok(text) => text,
         Err(error) => return unread(faults, paths.instance, &error),
@@ -156,33 +138,16 @@ pub fn run_paths<
         Err(error) => return unread(faults, paths.script, &error),
     };
     let job = Job {
+        rt,
         instance: judged,
         orders,
     };
     let Some(path) = paths.live else {
         let mut nothing = b"".as_slice();
-        return answered(
-            rt,
-            alloc,
-            job,
-            &mut script,
-            &mut nothing,
-            writer,
-            faults,
-            notes,
-        );
+        return answered(job, &mut script, &mut nothing, writer, faults, notes);
     };
     match fs::open(&rt, path) {
-        Ok(mut live) => answered(
-            rt,
-            alloc,
-            job,
-            &mut script,
-            &mut live,
-            writer,
-            faults,
-            notes,
-        ),
+        Ok(mut live) => answered(job, &mut script, &mut live, writer, faults, notes),
         Err(error) => unread(faults, path, &error),
     }
 }

@@ -13,5 +13,5 @@ mod set_up;
 mod setups;
 mod tallies;
 
-pub use inputs::{Paths, run_paths, scripted};
+pub use inputs::{Paths, Task, run_paths, scripted};
 pub use orders::Orders;

@@ -11,14 +11,13 @@ use crate::hall_run::hall_run;
 use crate::orders::Orders;
 use crate::set_up::set_up;
 use board_core::Board;
-use board_lock::{Foyer, make_foyer};
+use board_lock::make_foyer;
 use board_text::BoardFront;
 use callback_store::{Registry, Transit, Unary};
 use dimension_core::Setup;
 use explained_lines::run_noted_lines;
 use program_parts::{Network, Stop, standard_pair};
 use solomon_reader::Instance;
-use std::alloc::Global;
 use std::io::{Eprint, Read, Write};
 use std::marker::Brand;
 use std::snapshot::Snapshot;
@@ -39,9 +38,10 @@ fn either(first: u64, hall: Result<u64, Stop>) -> Result<bool, Stop>
     }
 }
 
-/// A board that is to be opened, and what its workers are to do.
+/// A board that is to be opened, what its workers are to do, and what all of it runs on.
 #[derive(Drop)]
-pub(crate) struct Job {
+pub(crate) struct Job<W> {
+    pub rt: W,
     pub instance: Instance,
     pub orders: Orders,
 }
@@ -58,15 +58,13 @@ fn opened_for(board: &Board, instance: &Snapshot<Instance>, orders: Orders)
 ///
 /// Its callbacks answer from the instance; they are made here, and nothing that holds them leaves.
 pub(crate) fn run_with<
-    W: Threads + Wait + Clock + Eprint + Copy + Drop + Send + Sync + 'static,
+    W: Threads + Wait + Clock + Eprint + AllocGlobal + Copy + Drop + Send + Sync + 'static,
     I: Read,
     L: Read,
     O: Write,
     E: Write,
 >(
-    rt: W,
-    alloc: Global,
-    job: Job,
+    job: Job<W>,
     script: &mut I,
     live: &mut L,
     writer: &mut O,
@@ -79,7 +77,12 @@ pub(crate) fn run_with<
         (IsUnrun (view job.instance) job.orders (flow_of (I.remaining script.old) (I.remaining script.new) (L.remaining live.old)
         (L.remaining live.new) (O.contents writer.old) (O.contents writer.new))) }
 {
-    let Job { instance, orders } = job;
+    let Job {
+        rt,
+        instance,
+        orders,
+    } = job;
+    let alloc = rt.alloc();
     let first = Snapshot::of(&instance);
     let network = Arc::new(alloc, Network::new(alloc, instance)?)?;
     let size = network.size();
@@ -137,9 +140,8 @@ pub(crate) fn run_with<
     let Ok(foyer) = make_foyer(rt, alloc, board) else {
         return Err(Stop::Open);
     };
-    let Foyer { setup, room } = foyer;
     either(
         counts.refused,
-        hall_run::<Brand, Arc<Setup>, W, L, O>(rt, alloc, setup, lines, room, orders, live, writer),
+        hall_run::<Brand, Arc<Setup>, W, L, O>(rt, foyer, lines, orders, live, writer),
     )
 }

@@ -239,23 +239,36 @@ fn start_all<
     with_one(&rt, crew, thread)
 }
 
+/// Workers that are to be started: the setup by which they search, their seats, and what they are to do.
+#[derive(Drop)]
+pub(crate) struct Waiting<N: Naming, D: Wait + Drop> {
+    pub setup: Arc<Setup>,
+    pub seats: Vec<Seat<N, D>>,
+    pub orders: Orders,
+}
+
 /// Starts the workers, who report how far they are if they are told to. Reports that there is no memory for are as workers that cannot be
 /// started.
 pub(crate) fn start_crew<
     N: Naming + Send + Sync + 'static,
     D: Wait + Drop + Send + Sync + 'static,
     W: Threads + Wait + Clock + Eprint + Copy + Send + Sync + 'static,
->(rt: W, alloc: Global, setup: &Arc<Setup>, seats: Vec<Seat<N, D>>, orders: Orders) -> Crew<N, D>
-    requires setup { setting setup.now.value ≡ N.opening.setting }
-    requires few { length seats.items ≤ 63 }
+>(rt: W, alloc: Global, workers: Waiting<N, D>) -> Crew<N, D>
+    requires setup { setting workers.setup.value ≡ N.opening.setting }
+    requires few { length workers.seats.items ≤ 63 }
     ensures { result.whole ≡ true → map (λ h. post h.promise.assignment.value.worker h.promise.assignment.value.orders
-        h.promise.assignment.value.seat) result.threads.items ≡ posts orders 0 seats.items }
+        h.promise.assignment.value.seat) result.threads.items ≡ posts workers.orders 0 workers.seats.items }
 {
+    let Waiting {
+        setup,
+        seats,
+        orders,
+    } = workers;
     if !orders.progress {
-        return start_all(rt, alloc, setup, seats, orders, &Quiet);
+        return start_all(rt, alloc, &setup, seats, orders, &Quiet);
     }
     match Report::new(&rt, alloc, orders) {
-        Ok(report) => start_all(rt, alloc, setup, seats, orders, &report),
+        Ok(report) => start_all(rt, alloc, &setup, seats, orders, &report),
         Err(_) => Crew {
             threads: Vec::new(alloc),
             whole: false,

@@ -180,7 +180,6 @@ fn line_gives(rt: &impl Abort, alloc: Global, line: &str, reply: &str) {
     let mut written = Vec::new(alloc);
     let mut faults = Vec::new(alloc);
     let status = scripted(
-        &(),
         alloc,
         A.as_bytes(),
         &mut script.as_bytes(),

@@ -10,7 +10,7 @@ use std::process::Abort;
 use std::sync::Wait;
 use std::thread::Threads;
 use std::time::Clock;
-use worker_runs::{Orders, scripted as run_beside};
+use worker_runs::{Orders, Task, scripted as run_beside};
 
 /// Lines and the replies to them.
 const ROWS: [(&str, &str); 9] = [
@@ -74,12 +74,16 @@ fn run<H: Threads + Wait + Clock + Eprint + AllocGlobal + Copy + Drop + Send + S
 ) -> u8 {
     let alloc = rt.alloc();
     let instance = A.as_bytes();
+    let task = Task {
+        instance,
+        orders: NOBODY,
+    };
     let mut none = b"".as_slice();
     match way {
-        Way::Alone => scripted(&rt, alloc, instance, source, sink, faults),
-        Way::Behind => joined(&rt, alloc, source, sink, faults),
-        Way::First => run_beside(rt, alloc, instance, source, &mut none, NOBODY, sink, faults),
-        Way::Live => run_beside(rt, alloc, instance, &mut none, source, NOBODY, sink, faults),
+        Way::Alone => scripted(alloc, instance, source, sink, faults),
+        Way::Behind => joined(alloc, source, sink, faults),
+        Way::First => run_beside(rt, task, source, &mut none, sink, faults),
+        Way::Live => run_beside(rt, task, &mut none, source, sink, faults),
     }
 }
 

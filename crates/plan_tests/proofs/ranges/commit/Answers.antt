@@ -1,4 +1,4 @@
-use Rattle.std.proofs.Common.{◌≡◌, ℕ, List, subst, sym, ap, Global}
+use Rattle.std.proofs.Common.{ℕ, List, subst, sym, ap, Global}
 use Rattle.std.specs.declared.sync.Arc.{Arc}
 use Rattle.dimension_core.specs.Setup.{setting}
 use Rattle.plan_core.specs.Plan.{PlanState, changes_of}
@@ -11,5 +11,5 @@ returns-clause-cache g c =
     let s = setting c.args.setup.now in
     let changes = changes_of c.in_ok-changes.changes.items in
     let rows = subst (λ (xs : List (ℕ × Arc (List ℕ) Global)). AreNewRows s (changes_of xs) c.in_ok-pending.pending.rows) c.deref.ensures.value c.in_ok-pending.ensures.rows in
-    subst (λ (rs : List (List ℕ)). IsCacheOf s rs c.take-room.new.self) (sym (ap (λ (p : PlanState). p.routes) c.replace.ensures.plan))
-    (c.take-room.ensures.cache s c.args.plan.now.routes changes c.requires.cache rows)
+    subst (λ (rs : List (List ℕ)). IsCacheOf s rs c.take.new.self) (sym (ap (λ (p : PlanState). p.routes) c.replace.ensures.plan))
+    (c.take.ensures.cache s c.args.held.now.plan.routes changes c.requires.cache rows)
