@@ -1,5 +1,5 @@
 //! Scripts through a desk: alone, and while another desk commits. What the audit then tells is judged again by a board of one thread.
-ghost use Rattle.std.specs.Prelude.{◌≡◌};
+ghost use Rattle.std.specs.Prelude.{◌≡◌, IfSome};
 ghost use Rattle.dimension_core.specs.Setup.{setting};
 
 use crate::calls::last;
@@ -240,6 +240,20 @@ pub(crate) fn compare_replay(rt: &impl Abort, found: Option<(u32, u32)>) {
     assert_eq!(rt; found, Some((815, 0)));
 }
 
+/// A script that says a text so many times, with a share of the setup.
+fn script_with(
+    alloc: Global,
+    setup: &Arc<Setup>,
+    text: &str,
+    times: u32,
+) -> Option<(Script, Arc<Setup>)>
+    ensures { IfSome result (λ p. p.1.value ≡ setup.now.value) }
+{
+    let script = repeated(alloc, text, times).ok()?;
+    let setup = Arc::try_clone(setup).ok()?;
+    Some((script, setup))
+}
+
 /// A desk reads a script. It gives the seat back with what was written and counted, where there is memory.
 fn reads<N: Naming, R: Wait + Drop, W: Wait>(
     rt: &W,
@@ -250,9 +264,18 @@ fn reads<N: Naming, R: Wait + Drop, W: Wait>(
 ) -> Option<Ran<N, R>>
     requires { setting setup.now.value ≡ N.opening.setting }
 {
-    let setup = Arc::try_clone(setup).ok()?;
-    let script = repeated(alloc, text, 1).ok()?;
+    let (script, setup) = script_with(alloc, setup, text, 1)?;
     Some(script.run(rt, setup, seat))
+}
+
+/// The script of desk 1, and a share of the setup for each desk.
+fn both_with(alloc: Global, setup: &Arc<Setup>) -> Option<(Arc<Setup>, Arc<Setup>, Script)>
+    ensures first { IfSome result (λ p. p.0.value ≡ setup.now.value) }
+    ensures second { IfSome result (λ p. p.1.value ≡ setup.now.value) }
+{
+    let (script, second) = script_with(alloc, setup, CALLS, 200)?;
+    let first = Arc::try_clone(setup).ok()?;
+    Some((first, second, script))
 }
 
 /// Desk 1 reads a script while desk 2 commits two thousand times.
@@ -263,9 +286,7 @@ fn reads_and_commits<
 >(rt: &W, alloc: Global, setup: &Arc<Setup>, one: Seat<N, R>, two: Seat<N, R>) -> Option<Seat<N, R>>
     requires { setting setup.now.value ≡ N.opening.setting }
 {
-    let first = Arc::try_clone(setup).ok()?;
-    let second = Arc::try_clone(setup).ok()?;
-    let script = repeated(alloc, CALLS, 200).ok()?;
+    let (first, second, script) = both_with(alloc, setup)?;
     let commit = Commit {
         from: 5,
         commits: 2000,

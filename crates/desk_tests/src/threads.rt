@@ -156,6 +156,16 @@ fn compare_looks(rt: &impl Abort, version: u32, looks: (bool, u32)) {
     assert_eq!(rt; looks, (true, 10002u32));
 }
 
+/// Two more shares of a setup. Who has seats takes them at once, so that the seats are given up in one place alone.
+pub(crate) fn shared(setup: &Arc<Setup>) -> Option<(Arc<Setup>, Arc<Setup>)>
+    ensures first { IfSome result (λ p. p.0.value ≡ setup.now.value) }
+    ensures second { IfSome result (λ p. p.1.value ≡ setup.now.value) }
+{
+    let first = Arc::try_clone(setup).ok()?;
+    let second = Arc::try_clone(setup).ok()?;
+    Some((first, second))
+}
+
 /// Two calls at once, and what came of each.
 fn race<N: Naming + Send + Sync, R: Wait + Drop + Send + Sync, W: Threads + Wait + Abort + Sync>(
     rt: &W,
@@ -166,8 +176,7 @@ fn race<N: Naming + Send + Sync, R: Wait + Drop + Send + Sync, W: Threads + Wait
 ) -> Option<(Seat<N, R>, Seat<N, R>)>
     requires { setting setup.now.value ≡ N.opening.setting }
 {
-    let first = Arc::try_clone(setup).ok()?;
-    let second = Arc::try_clone(setup).ok()?;
+    let (first, second) = shared(setup)?;
     let (one, two) = beside(
         rt,
         Submit(calls.0),
@@ -189,8 +198,7 @@ fn look_on<N: Naming + Send + Sync, R: Wait + Drop + Send + Sync, W: Threads + W
 ) -> Option<u32>
     requires { setting setup.now.value ≡ N.opening.setting }
 {
-    let first = Arc::try_clone(setup).ok()?;
-    let second = Arc::try_clone(setup).ok()?;
+    let (first, second) = shared(setup)?;
     let commit = Commit {
         from: 2,
         commits: 10000,

@@ -1,5 +1,6 @@
 //! Runs with a worker and a live script, where memory runs out.
 use crate::scarce::{Hoard, Outcome};
+use std::alloc::Global;
 use std::io::Eprint;
 use std::process::Abort;
 use std::str;
@@ -80,8 +81,8 @@ const ONE_WORKER: Orders = Orders {
 
 /// What stands before the last lines, if one of these closes a text.
 fn before_end(text: &str) -> Option<&str> {
-    for end in ENDS {
-        if let Some(front) = text.strip_suffix(end) {
+    for end in &ENDS {
+        if let Some(front) = text.strip_suffix(*end) {
             return Some(front);
         }
     }
@@ -100,13 +101,13 @@ fn is_early(text: &str) -> bool {
 
 /// Whether a run ended as it may where memory lacks.
 fn is_documented(text: &str, faults: &str, status: u8) -> bool {
-    if faults == "dispatch: open fault\n" {
-        return status == 3 && (text.is_empty() || text == FIRST || text == REPLIES);
-    }
-    if faults == "dispatch: run fault no-memory\n" {
-        return status == 3 && is_early(text);
-    }
-    status == 0 && faults.is_empty() && before_end(text) == Some(REPLIES)
+    let (ends, fits) = match faults {
+        "" => (0, before_end(text) == Some(REPLIES)),
+        "dispatch: open fault\n" => (3, ["", FIRST, REPLIES].contains(&text)),
+        "dispatch: run fault no-memory\n" => (3, is_early(text)),
+        _ => (0, false),
+    };
+    fits && status == ends
 }
 
 /// Whether a run ended as it may; none where it was not answered so far.
@@ -190,21 +191,25 @@ fn compare(rt: &impl Abort, outcome: Outcome, hoard: &Hoard, least: u32) {
     assert!(rt; hoard.is_enough(outcome.refused, least), "{outcome:?}");
 }
 
+/// Room for what is written, and for faults.
+fn pages(alloc: Global) -> Option<(Vec<u8>, Vec<u8>)> {
+    let written = Vec::with_capacity(alloc, 4096).ok()?;
+    let faults = Vec::with_capacity(alloc, 4096).ok()?;
+    Some((written, faults))
+}
+
 /// A run with a worker gets through, and then once more: the thread of the second run has the stack of the first one's, so that there
 /// memory lacks for little things too.
 pub(crate) fn runs_beside<
     H: Threads + Wait + Clock + Eprint + AllocGlobal + Abort + Copy + Drop + Send + Sync + 'static,
 >(rt: H, hoard: &mut Hoard) {
-    let Ok(mut written) = Vec::with_capacity(rt.alloc(), 4096) else {
-        return;
-    };
-    let Ok(mut faults) = Vec::with_capacity(rt.alloc(), 4096) else {
+    let Some((mut written, mut faults)) = pages(rt.alloc()) else {
         return;
     };
     let rough = runs_until(rt, hoard, &mut written, &mut faults, "done\n", 0);
     compare(&rt, rough, hoard, 100);
-    let first = runs_until(rt, hoard, &mut written, &mut faults, WHOLE, rough.lacked);
-    compare(&rt, first, hoard, 100);
-    let again = runs_until(rt, hoard, &mut written, &mut faults, WHOLE, rough.lacked);
-    compare(&rt, again, hoard, 100);
+    for _ in 0..2 {
+        let whole = runs_until(rt, hoard, &mut written, &mut faults, WHOLE, rough.lacked);
+        compare(&rt, whole, hoard, 100);
+    }
 }

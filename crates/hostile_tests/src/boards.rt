@@ -163,8 +163,8 @@ fn all_go_through<A: Attempt>(rt: &impl Abort, alloc: Global, hoard: &mut Hoard,
 }
 
 /// A new board of one desk.
-pub(crate) fn on_board(alloc: Global, setup: Arc<Setup>) -> Option<OnBoard> {
-    let board = Board::new(alloc, setup, 1).ok()?;
+pub(crate) fn on_board(alloc: Global, setup: &Arc<Setup>) -> Option<OnBoard> {
+    let board = Board::new(alloc, Arc::try_clone(setup).ok()?, 1).ok()?;
     let written = Vec::with_capacity(alloc, 65536).ok()?;
     let front = BoardFront {
         board,
@@ -183,13 +183,12 @@ pub(crate) fn boards_go_through(
     rt: &impl Abort,
     alloc: Global,
     hoard: &mut Hoard,
-    setup: Arc<Setup>,
-    again: Arc<Setup>,
+    setup: &Arc<Setup>,
 ) {
     if let Some(mut attempt) = on_board(alloc, setup) {
         all_go_through(rt, alloc, hoard, &mut attempt);
     }
-    if let Some(on) = on_board(alloc, again) {
+    if let Some(on) = on_board(alloc, setup) {
         let mut attempt = GivesUp { on };
         all_go_through(rt, alloc, hoard, &mut attempt);
     }

@@ -156,8 +156,8 @@ fn migration() -> Event {
 }
 
 /// Whether a new board takes a command that it gave up before.
-fn is_taken_then(alloc: Global, setup: Arc<Setup>) -> Option<bool> {
-    let mut board = Board::new(alloc, setup, 1).ok()?;
+fn is_taken_then(alloc: Global, setup: &Arc<Setup>) -> Option<bool> {
+    let mut board = Board::new(alloc, Arc::try_clone(setup).ok()?, 1).ok()?;
     let mut meter = Meter::new();
     let is_judged = board.prepare(migration(), &mut meter).is_ok();
     board.give_up();
@@ -170,16 +170,10 @@ fn compare_taken(rt: &impl Abort, is_taken: Option<bool>) {
 }
 
 /// A board goes on after commands that it gave up, with no memory for a copy of its policy.
-pub(crate) fn go_on(
-    rt: &impl Abort,
-    alloc: Global,
-    hoard: &mut Hoard,
-    setup: Arc<Setup>,
-    again: Arc<Setup>,
-) {
+pub(crate) fn go_on(rt: &impl Abort, alloc: Global, hoard: &mut Hoard, setup: &Arc<Setup>) {
     let is_taken = is_taken_then(alloc, setup);
     compare_taken(rt, is_taken);
-    let Some(mut on) = on_board(alloc, again) else {
+    let Some(mut on) = on_board(alloc, setup) else {
         return compare_taken(rt, None);
     };
     fill(rt, alloc, &mut on);

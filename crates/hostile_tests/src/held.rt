@@ -1,6 +1,6 @@
 //! One worker that has found a move, and before it proposes it another desk changes what the worker's session may do: the session is closed
 //! and another one opened, the user, a role's pairs or all administrators go, sessions migrate, and pins and their override come and go.
-ghost use Rattle.std.specs.Prelude.{◌≡◌};
+ghost use Rattle.std.specs.Prelude.{◌≡◌, IfSome};
 ghost use Rattle.dimension_core.specs.Setup.{setting};
 
 use crate::desks::{audit, open_two, play, text_of};
@@ -281,6 +281,20 @@ fn tasks_of(alloc: Global, turn: &Turn) -> Option<(OneRound, OneTurn)> {
     Some((round, call))
 }
 
+/// The round and what another desk does in a turn, each with a setup of its own.
+type Ready = ((OneRound, Arc<Setup>), (OneTurn, Arc<Setup>));
+
+/// All that a turn needs but the seats, which so are at stake in none of its failures.
+fn ready(alloc: Global, setup: &Arc<Setup>, turn: &Turn) -> Option<Ready>
+    ensures round { IfSome result (λ r. r.0.1.value ≡ setup.now.value) }
+    ensures call { IfSome result (λ r. r.1.1.value ≡ setup.now.value) }
+{
+    let first = Arc::try_clone(setup).ok()?;
+    let second = Arc::try_clone(setup).ok()?;
+    let (round, call) = tasks_of(alloc, turn)?;
+    Some(((round, second), (call, first)))
+}
+
 /// A turn of one seat, and a round of the other. It gives the seats back with its tally.
 fn one_turn<N: Naming + Send + Sync, R: Wait + Drop + Send + Sync, W: Threads + Wait + Sync>(
     rt: &W,
@@ -291,9 +305,7 @@ fn one_turn<N: Naming + Send + Sync, R: Wait + Drop + Send + Sync, W: Threads + 
 ) -> Option<((Seat<N, R>, Seat<N, R>), Tally)>
     requires { setting setup.now.value ≡ N.opening.setting }
 {
-    let (round, call) = tasks_of(alloc, turn)?;
-    let first = Arc::try_clone(setup).ok()?;
-    let second = Arc::try_clone(setup).ok()?;
+    let ((round, second), (call, first)) = ready(alloc, setup, turn)?;
     let (mut own, other) = seats;
     play(rt, alloc, setup, &mut own, turn.first);
     let ((other, tally), own) = beside(rt, round, second, other, call, first, own);
@@ -324,6 +336,16 @@ fn all_turns<N: Naming + Send + Sync, R: Wait + Drop + Send + Sync, W: Threads +
 /// How many rounds were committed and denied, and the journal.
 pub(crate) type Ended = ((u32, u32), Journal);
 
+/// The counts, with the journal that session 5 may read.
+fn audited<N: Naming, R: Wait + Drop, W: Wait>(
+    rt: &W,
+    own: &mut Seat<N, R>,
+    counts: (u32, u32),
+) -> Option<Ended> {
+    let journal = audit(rt, own, 5)?;
+    Some((counts, journal))
+}
+
 /// The worker's rounds, each held while the other desk changes what its session may do.
 pub(crate) fn works_held<
     N: Naming + Send + Sync,
@@ -337,10 +359,10 @@ pub(crate) fn works_held<
     let DeskOf { setup, seat } = other;
     let mut own = seat;
     play(rt, alloc, &setup, &mut own, LAID_OUT);
-    let (own, counts) = all_turns(rt, alloc, &setup, (own, worker.seat))?;
-    let mut own = own;
-    let journal = audit(rt, &mut own, 5)?;
-    Some((counts, journal))
+    match all_turns(rt, alloc, &setup, (own, worker.seat)) {
+        None => None,
+        Some((mut own, counts)) => audited(rt, &mut own, counts),
+    }
 }
 
 fn compare_text(rt: &impl Abort, text: &str) {

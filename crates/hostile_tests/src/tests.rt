@@ -27,9 +27,8 @@ use std::thread::Threads;
 
 /// All scripts, by boards of one thread and by a desk.
 fn lines_over<W: Wait + Abort>(rt: &W, alloc: Global, setup: Arc<Setup>) -> Result<(), Fail> {
-    let (one, another) = (Arc::try_clone(&setup)?, Arc::try_clone(&setup)?);
     let mut hoard = Hoard::new(alloc, ALONE).ok_or("memory")?;
-    boards_go_through(rt, alloc, &mut hoard, one, another);
+    boards_go_through(rt, alloc, &mut hoard, &setup);
     let foyer = foyer_of(rt, alloc, setup, 1).ok_or("a foyer")?;
     desks_go_through::<Brand, _, _>(rt, alloc, &mut hoard, foyer);
     Ok(())
@@ -154,9 +153,8 @@ fn a_board_as_large_as_may_be(rt: HostRuntime) -> Result<(), Fail> {
 
 /// Commands that are given up.
 fn commands_given_up(rt: &impl Abort, alloc: Global, setup: Arc<Setup>) -> Result<(), Fail> {
-    let again = Arc::try_clone(&setup)?;
     let mut hoard = Hoard::new(alloc, ALONE).ok_or("memory")?;
-    go_on(rt, alloc, &mut hoard, setup, again);
+    go_on(rt, alloc, &mut hoard, &setup);
     Ok(())
 }
 

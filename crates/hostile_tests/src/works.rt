@@ -1,5 +1,5 @@
 //! Workers that are started while memory runs out.
-ghost use Rattle.std.specs.Prelude.{◌≡◌, ◌≤◌, ◌<◌};
+ghost use Rattle.std.specs.Prelude.{◌≡◌, ◌≤◌, ◌<◌, IfSome, length};
 
 use crate::scarce::Hoard;
 use crate::setups::foyer_of;
@@ -11,6 +11,15 @@ use std::marker::Brand;
 use std::process::Abort;
 use std::sync::{Arc, Wait};
 use std::thread::Threads;
+
+/// So many sessions and seeds, each of them 1.
+fn ones(alloc: Global, count: usize) -> Option<(Vec<u32>, Vec<u64>)>
+    ensures { IfSome result (λ p. (length p.0.items ≡ count) × (length p.1.items ≡ count)) }
+{
+    let sessions = Vec::from_elem(alloc, 1u32, count).ok()?;
+    let seeds = Vec::from_elem(alloc, 1u64, count).ok()?;
+    Some((sessions, seeds))
+}
 
 /// How many shares come of the workers of a hall, each without rounds, that are started with so many bytes, or why none do; nothing where
 /// the hall was not opened.
@@ -30,8 +39,7 @@ fn shares_of<N: Naming + Send + Sync, R: Wait + Drop + Send + Sync, W: Threads +
     if desks.len() > 63 {
         return None;
     }
-    let sessions = Vec::from_elem(alloc, 1u32, desks.len()).ok()?;
-    let seeds = Vec::from_elem(alloc, 1u64, desks.len()).ok()?;
+    let (sessions, seeds) = ones(alloc, desks.len())?;
     hoard.leave(bytes);
     let worked = work_all(rt, alloc, desks, sessions, seeds, 0, &OpenGate);
     hoard.give_back();

@@ -1,6 +1,6 @@
 //! One worker that has found a move, and before it proposes it another desk takes something away: its session, a role of its user, a
 //! permission, or the freedom of the vehicle's front. Last, one that has looked where no move counts, while another desk makes one count again.
-ghost use Rattle.std.specs.Prelude.{◌≡◌};
+ghost use Rattle.std.specs.Prelude.{◌≡◌, IfSome};
 ghost use Rattle.dimension_core.specs.Setup.{setting};
 
 use crate::alone::LAID_OUT;
@@ -211,26 +211,22 @@ impl<N: Naming, R: Wait + Drop, W: Wait> Task<W, Arc<Setup>, Seat<N, R>, Seat<N,
     }
 }
 
-/// A turn of one seat, and the rounds of the other. It gives the seats back with what `Rounds` gives.
-fn one_turn<N: Naming + Send + Sync, R: Wait + Drop + Send + Sync, W: Threads + Wait + Sync>(
-    rt: &W,
-    alloc: Global,
-    setup: &Arc<Setup>,
-    seats: (Seat<N, R>, Seat<N, R>),
-    turn: Turn,
-) -> Option<((Seat<N, R>, Seat<N, R>), (u32, u64))>
-    requires { setting setup.now.value ≡ N.opening.setting }
+/// The rounds and what another desk does in a turn, each with a setup of its own.
+type Ready = ((Rounds, Arc<Setup>), (OneTurn, Arc<Setup>));
+
+/// All that a turn needs but the seats, which so are at stake in none of its failures.
+fn ready(alloc: Global, setup: &Arc<Setup>, turn: Turn) -> Option<Ready>
+    ensures rounds { IfSome result (λ r. r.0.1.value ≡ setup.now.value) }
+    ensures call { IfSome result (λ r. r.1.1.value ≡ setup.now.value) }
 {
+    let first = Arc::try_clone(setup).ok()?;
+    let second = Arc::try_clone(setup).ok()?;
     let words = Words::new(alloc)?;
     let gate = Latch {
         point: turn.point,
         words: words.share()?,
         idle: AtomicU64::new(0),
     };
-    let first = Arc::try_clone(setup).ok()?;
-    let second = Arc::try_clone(setup).ok()?;
-    let (mut own, other) = seats;
-    play(rt, alloc, setup, &mut own, turn.first);
     let rounds = Rounds {
         alloc,
         session: turn.session,
@@ -242,6 +238,22 @@ fn one_turn<N: Naming + Send + Sync, R: Wait + Drop + Send + Sync, W: Threads + 
         lines: turn.held,
         words,
     };
+    Some(((rounds, second), (call, first)))
+}
+
+/// A turn of one seat, and the rounds of the other. It gives the seats back with what `Rounds` gives.
+fn one_turn<N: Naming + Send + Sync, R: Wait + Drop + Send + Sync, W: Threads + Wait + Sync>(
+    rt: &W,
+    alloc: Global,
+    setup: &Arc<Setup>,
+    seats: (Seat<N, R>, Seat<N, R>),
+    turn: Turn,
+) -> Option<((Seat<N, R>, Seat<N, R>), (u32, u64))>
+    requires { setting setup.now.value ≡ N.opening.setting }
+{
+    let ((rounds, second), (call, first)) = ready(alloc, setup, turn)?;
+    let (mut own, other) = seats;
+    play(rt, alloc, setup, &mut own, turn.first);
     let ((other, ends), own) = beside(rt, rounds, second, other, call, first, own);
     Some(((own, other), ends))
 }
