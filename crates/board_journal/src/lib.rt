@@ -21,6 +21,3 @@ pub use entries::Entries;
 pub use journal::Journal;
 pub use kept::Kept;
 pub use proposal::Proposal;
-
-#[cfg(test)]
-mod tests;

@@ -1,50 +1,75 @@
-//! Boards of the tests.
+//! The setups of the tests, and foyers over them. Each function gives up as soon as it lacks memory, so that a test has one way out for a
+//! whole setup.
 ghost use Rattle.std.specs.Prelude.{◌<◌};
 
 use board_core::Board;
+use board_lock::{Foyer, make_foyer};
 use callback_store::{Registry, Transit, TransitId};
 use dimension_core::{Dimension, Range, Setup};
 use std::alloc::Global;
-use std::sync::Arc;
-use std::test::Fail;
+use std::sync::{Arc, Wait};
 
-/// Load of at most 10 with the start at 0, and time without bounds but the windows.
-pub(crate) fn load_and_time(
+/// The load is at most 10 everywhere.
+const LOADS: &[Range] = &[
+    Range { lo: 0, hi: 10 },
+    Range { lo: 0, hi: 10 },
+    Range { lo: 0, hi: 10 },
+    Range { lo: 0, hi: 10 },
+    Range { lo: 0, hi: 10 },
+];
+
+/// The time has no bounds but the windows.
+const WINDOWS: &[Range] = &[
+    Range { lo: 0, hi: 1000 },
+    Range { lo: 0, hi: 500 },
+    Range { lo: 0, hi: 500 },
+    Range { lo: 0, hi: 140 },
+    Range { lo: 0, hi: 500 },
+];
+
+/// Load with the start at 0, and time.
+fn load_and_time(
     alloc: Global,
     registry: &Registry,
     load: TransitId,
     time: TransitId,
-) -> Result<Vec<Dimension>, Fail> {
-    let caps = vec![in alloc; 10u64, 10]?;
-    let ranges = vec![in alloc; Range { lo: 0, hi: 10 }; 5]?;
-    let loads = Dimension::new(registry, load, 0, caps, true, ranges).map_err(|_| "bounds")?;
-    let caps = vec![in alloc; 1000u64, 1000]?;
-    let ranges = vec![in alloc;
-        Range { lo: 0, hi: 1000 },
-        Range { lo: 0, hi: 500 },
-        Range { lo: 0, hi: 500 },
-        Range { lo: 0, hi: 140 },
-        Range { lo: 0, hi: 500 },
-    ]?;
-    let times = Dimension::new(registry, time, 1000, caps, false, ranges).map_err(|_| "bounds")?;
-    let mut dimensions = Vec::new(alloc);
-    dimensions.push(loads).map_err(|_| "memory")?;
-    dimensions.push(times).map_err(|_| "memory")?;
-    Ok(dimensions)
+) -> Option<Vec<Dimension>> {
+    let mut dimensions = Vec::with_capacity(alloc, 2).ok()?;
+    let caps = Vec::from_slice(alloc, &[10, 10]).ok()?;
+    let ranges = Vec::from_slice(alloc, LOADS).ok()?;
+    let loads = Dimension::new(registry, load, 0, caps, true, ranges).ok()?;
+    dimensions.push(loads).ok()?;
+    let caps = Vec::from_slice(alloc, &[1000, 1000]).ok()?;
+    let ranges = Vec::from_slice(alloc, WINDOWS).ok()?;
+    let times = Dimension::new(registry, time, 1000, caps, false, ranges).ok()?;
+    dimensions.push(times).ok()?;
+    Some(dimensions)
 }
 
-/// A board of five customers and three vehicles without bounds, with one travel as its cost.
-pub(crate) fn free_board(
+/// Four customers and two vehicles, with these demands and travels, of which the travel is the cost.
+pub(crate) fn bounded(alloc: Global, demand: Transit, travel: Transit) -> Option<Arc<Setup>> {
+    let mut registry = Registry::new(alloc);
+    let load = registry.register(demand).ok()?;
+    let time = registry.register(travel).ok()?;
+    let dimensions = load_and_time(alloc, &registry, load, time)?;
+    let setup = Setup::new(4, 2, registry, dimensions, time, 20000).ok()?;
+    Arc::new(alloc, setup).ok()
+}
+
+/// The foyer of a board of five customers and three vehicles without bounds, with one travel as its cost.
+pub(crate) fn free_foyer<R: Wait + Drop>(
+    rt: R,
     alloc: Global,
     transit: Transit,
     desks: u32,
-    max_events: u32,
-) -> Result<Board, Fail>
+    events: u32,
+) -> Option<Foyer<R>>
     requires { (0 < desks) × (desks < 65) }
 {
     let mut registry = Registry::new(alloc);
-    let cost = registry.register(transit).map_err(|_| "room")?;
-    let setup = Setup::new(5, 3, registry, Vec::new(alloc), cost, max_events).map_err(|_| "setup")?;
-    let setup = Arc::new(alloc, setup).map_err(|_| "memory")?;
-    Ok(Board::new(alloc, setup, desks)?)
+    let cost = registry.register(transit).ok()?;
+    let setup = Setup::new(5, 3, registry, Vec::new(alloc), cost, events).ok()?;
+    let setup = Arc::new(alloc, setup).ok()?;
+    let board = Board::new(alloc, setup, desks).ok()?;
+    make_foyer(rt, alloc, board).ok()
 }

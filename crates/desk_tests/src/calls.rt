@@ -3,11 +3,12 @@
 ghost use Rattle.std.specs.Prelude.{◌≡◌, All, IfSome};
 ghost use Rattle.dimension_core.specs.Setup.{setting};
 
-use board_lock::{Desk, Naming, SnapFault, View};
+use board_lock::{Desk, Foyer, Naming, SnapFault, View, open_hall};
 use board_rules::{AskFault, Call, Fault, Reply};
 use move_core::Move;
 use rbac_core::{Command, ObjectRange, Operation};
 use separation_core::Name;
+use std::alloc::Global;
 use std::process::Abort;
 use std::sync::Wait;
 
@@ -105,9 +106,7 @@ pub(crate) fn sees<N: Naming, R: Wait + Drop, W: Wait + Abort>(
 }
 
 /// The last desk, and the others.
-pub(crate) fn last<N: Naming, R: Wait + Drop>(
-    desks: Vec<Desk<N, R>>,
-) -> Option<(Vec<Desk<N, R>>, Desk<N, R>)>
+fn last<N: Naming, R: Wait + Drop>(desks: Vec<Desk<N, R>>) -> Option<(Vec<Desk<N, R>>, Desk<N, R>)>
     requires { All (λ d. setting d.setup.value ≡ N.opening.setting) desks.items }
     ensures others { IfSome result (λ t. All (λ d. setting d.setup.value ≡ N.opening.setting) t.0.items) }
     ensures last { IfSome result (λ t. setting t.1.setup.value ≡ N.opening.setting) }
@@ -117,4 +116,35 @@ pub(crate) fn last<N: Naming, R: Wait + Drop>(
         return None;
     };
     Some((desks, desk))
+}
+
+/// The last desk of a new hall, and the others.
+pub(crate) fn open_last<N: Naming, R: Wait + Drop>(
+    alloc: Global,
+    foyer: Foyer<R>,
+) -> Option<(Vec<Desk<N, R>>, Desk<N, R>)>
+    requires opening { foyer.room.opening ≡ N.opening }
+    requires book { foyer.room.book ≡ N.book }
+    ensures others { IfSome result (λ t. All (λ d. setting d.setup.value ≡ N.opening.setting) t.0.items) }
+    ensures last { IfSome result (λ t. setting t.1.setup.value ≡ N.opening.setting) }
+{
+    match open_hall::<N, R>(alloc, foyer) {
+        Ok(desks) => last(desks),
+        Err(_) => None,
+    }
+}
+
+/// The two desks of a new hall.
+pub(crate) fn open_two<N: Naming, R: Wait + Drop>(
+    alloc: Global,
+    foyer: Foyer<R>,
+) -> Option<(Desk<N, R>, Desk<N, R>)>
+    requires opening { foyer.room.opening ≡ N.opening }
+    requires book { foyer.room.book ≡ N.book }
+    ensures first { IfSome result (λ t. setting t.0.setup.value ≡ N.opening.setting) }
+    ensures second { IfSome result (λ t. setting t.1.setup.value ≡ N.opening.setting) }
+{
+    let (desks, two) = open_last::<N, R>(alloc, foyer)?;
+    let (_desks, one) = last(desks)?;
+    Some((one, two))
 }

@@ -1,8 +1,8 @@
 //! As many desks as a board may have.
 ghost use Rattle.std.specs.Prelude.{◌≡◌};
 
-use crate::calls::{grant, last, sees, submits};
-use board_lock::{Foyer, Naming, open_hall};
+use crate::calls::{grant, open_last, sees, submits};
+use board_lock::{Foyer, Naming};
 use board_rules::Reply;
 use rbac_core::{ObjectRange, Operation};
 use std::alloc::Global;
@@ -22,10 +22,7 @@ pub(crate) fn calls<N: Naming, R: Wait + Drop, W: Wait + Abort>(
     requires opening { foyer.room.opening ≡ N.opening }
     requires book { foyer.room.book ≡ N.book }
 {
-    let Ok(desks) = open_hall::<N, R>(alloc, foyer) else {
-        return assert!(rt; false);
-    };
-    let Some((others, mut desk)) = last(desks) else {
+    let Some((others, mut desk)) = open_last::<N, R>(alloc, foyer) else {
         return assert!(rt; false);
     };
     compare(rt, others.len(), 63);

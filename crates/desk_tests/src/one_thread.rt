@@ -2,11 +2,11 @@
 ghost use Rattle.std.specs.Prelude.{◌≡◌};
 ghost use Rattle.dimension_core.specs.Setup.{setting};
 
-use crate::calls::{compare_count, compare_reply, grant, insert, last, remove, sees, submits};
+use crate::calls::{compare_count, compare_reply, grant, insert, open_two, remove, sees, submits};
 use crate::questions::{compare_grant, shows};
 use board_core::Board;
 use board_journal::Journal;
-use board_lock::{Desk, Foyer, Naming, commits_stay_in_views, open_hall};
+use board_lock::{Desk, Foyer, Naming, commits_stay_in_views};
 use board_rules::{AskFault, Call, Event, Reply, Review, Row};
 use callback_store::Meter;
 use rbac_core::{Object, ObjectRange, Operation};
@@ -173,13 +173,7 @@ pub(crate) fn opens<N: Naming, R: Wait + Drop, W: Wait + Abort>(
     requires opening { foyer.room.opening ≡ N.opening }
     requires book { foyer.room.book ≡ N.book }
 {
-    let Ok(desks) = open_hall::<N, R>(alloc, foyer) else {
-        return assert!(rt; false);
-    };
-    let Some((desks, mut two)) = last(desks) else {
-        return assert!(rt; false);
-    };
-    let Some((_desks, mut one)) = last(desks) else {
+    let Some((mut one, mut two)) = open_two::<N, R>(alloc, foyer) else {
         return assert!(rt; false);
     };
     share(rt, &mut one, &mut two);

@@ -2,9 +2,9 @@
 ghost use Rattle.std.specs.Prelude.{◌≡◌};
 ghost use Rattle.dimension_core.specs.Setup.{setting};
 
-use crate::calls::{compare_count, grant, insert, last, submits};
+use crate::calls::{compare_count, grant, insert, open_last, submits};
 use board_journal::{Journal, Kept};
-use board_lock::{Desk, Foyer, Naming, open_hall};
+use board_lock::{Desk, Foyer, Naming};
 use board_rules::{AskFault, Call, Denial, Reply, Review};
 use move_core::Move;
 use rbac_core::{Command, ObjectRange, Operation};
@@ -148,10 +148,7 @@ pub(crate) fn asks<N: Naming, R: Wait + Drop, W: Wait + Abort>(
     requires opening { foyer.room.opening ≡ N.opening }
     requires book { foyer.room.book ≡ N.book }
 {
-    let Ok(desks) = open_hall::<N, R>(alloc, foyer) else {
-        return assert!(rt; false);
-    };
-    let Some((_desks, mut desk)) = last(desks) else {
+    let Some((_others, mut desk)) = open_last::<N, R>(alloc, foyer) else {
         return assert!(rt; false);
     };
     let call = grant(rt, Operation::Audit, ObjectRange::Board);

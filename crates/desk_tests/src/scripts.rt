@@ -2,10 +2,10 @@
 ghost use Rattle.std.specs.Prelude.{◌≡◌, IfSome};
 ghost use Rattle.dimension_core.specs.Setup.{setting};
 
-use crate::calls::last;
+use crate::calls::{open_last, open_two};
 use crate::threads::{Commit, Task, beside};
 use board_core::Board;
-use board_lock::{DeskOf, Foyer, Naming, Seat, open_hall};
+use board_lock::{DeskOf, Foyer, Naming, Seat};
 use board_rules::{Event, Fault, Reply};
 use board_text::{Command, read_line, reply_text};
 use callback_store::Meter;
@@ -154,6 +154,23 @@ fn compare_run(rt: &impl Abort, written: &[u8], counts: Result<Counts, RunFault>
     assert!(rt; counts == Ok(wanted));
 }
 
+/// What the last desk of a hall wrote for a script, and what it counted.
+fn ran<N: Naming, R: Wait + Drop, W: Wait>(
+    rt: &W,
+    alloc: Global,
+    foyer: Foyer<R>,
+    script: &str,
+) -> Option<(Vec<u8>, Result<Counts, RunFault>)>
+    requires opening { foyer.room.opening ≡ N.opening }
+    requires book { foyer.room.book ≡ N.book }
+{
+    let (_others, desk) = open_last::<N, R>(alloc, foyer)?;
+    let script = repeated(alloc, script, 1).ok()?;
+    let DeskOf { setup, seat } = desk;
+    let (_seat, written, counts) = script.run(rt, setup, seat);
+    Some((written, counts))
+}
+
 /// Runs a script on the last desk of a hall.
 pub(crate) fn runs<N: Naming, R: Wait + Drop, W: Wait + Abort>(
     rt: &W,
@@ -164,18 +181,10 @@ pub(crate) fn runs<N: Naming, R: Wait + Drop, W: Wait + Abort>(
     requires opening { foyer.room.opening ≡ N.opening }
     requires book { foyer.room.book ≡ N.book }
 {
-    let Ok(desks) = open_hall::<N, R>(alloc, foyer) else {
-        return assert!(rt; false);
-    };
-    let Some((_desks, desk)) = last(desks) else {
-        return assert!(rt; false);
-    };
-    let DeskOf { setup, seat } = desk;
-    let Ok(script) = repeated(alloc, case.script, 1) else {
-        return assert!(rt; false);
-    };
-    let (_seat, written, counts) = script.run(rt, setup, seat);
-    compare_run(rt, &written, counts, case);
+    match ran::<N, R, W>(rt, alloc, foyer, case.script) {
+        Some((written, counts)) => compare_run(rt, &written, counts, case),
+        None => assert!(rt; false),
+    }
 }
 
 // ---- beside another desk
@@ -319,19 +328,7 @@ pub(crate) fn reads_beside<
     requires opening { foyer.room.opening ≡ N.opening }
     requires book { foyer.room.book ≡ N.book }
 {
-    let Ok(desks) = open_hall::<N, R>(alloc, foyer) else {
-        return None;
-    };
-    let Some((desks, two)) = last(desks) else {
-        return None;
-    };
-    let Some((_desks, one)) = last(desks) else {
-        return None;
-    };
+    let (one, two) = open_two::<N, R>(alloc, foyer)?;
     let DeskOf { setup, seat } = one;
-    let DeskOf {
-        setup: _,
-        seat: other,
-    } = two;
-    reads_on(rt, alloc, &setup, (seat, other))
+    reads_on(rt, alloc, &setup, (seat, two.seat))
 }

@@ -5,8 +5,8 @@
 ghost use Rattle.std.specs.Prelude.{◌≡◌, IfSome};
 ghost use Rattle.dimension_core.specs.Setup.{setting};
 
-use crate::calls::{grant, insert, last, remove, submits};
-use board_lock::{DeskOf, Foyer, Naming, Seat, open_hall};
+use crate::calls::{grant, insert, open_two, remove, submits};
+use board_lock::{DeskOf, Foyer, Naming, Seat};
 use board_rules::{Call, Denial, Reply};
 use dimension_core::Setup;
 use rbac_core::{ObjectRange, Operation};
@@ -254,15 +254,7 @@ fn granted<N: Naming, R: Wait + Drop, W: Wait + Abort>(
     requires book { foyer.room.book ≡ N.book }
     ensures { IfSome result (λ t. setting t.0.value ≡ N.opening.setting) }
 {
-    let Ok(desks) = open_hall::<N, R>(alloc, foyer) else {
-        return None;
-    };
-    let Some((desks, two)) = last(desks) else {
-        return None;
-    };
-    let Some((_desks, mut one)) = last(desks) else {
-        return None;
-    };
+    let (mut one, two) = open_two::<N, R>(alloc, foyer)?;
     submits(
         rt,
         &mut one,
@@ -276,11 +268,7 @@ fn granted<N: Naming, R: Wait + Drop, W: Wait + Abort>(
         Reply::Done,
     );
     let DeskOf { setup, seat } = one;
-    let DeskOf {
-        setup: _,
-        seat: other,
-    } = two;
-    Some((setup, (seat, other)))
+    Some((setup, (seat, two.seat)))
 }
 
 /// The two desks of a new hall call for one vehicle at once.

@@ -1,5 +1,4 @@
-//! Tests of hostile use: memory that runs out at each place of a call, rights that change under running workers, and a board as large as
-//! it may be.
+//! Tests of hostile use: memory that runs out at each place of a call, and a board as large as it may be.
 #![tactic(auto)]
 
 #[cfg(test)]
@@ -15,11 +14,7 @@ mod full;
 #[cfg(test)]
 mod given_up;
 #[cfg(test)]
-mod held;
-#[cfg(test)]
 mod openings;
-#[cfg(test)]
-mod replay;
 #[cfg(test)]
 mod rounds;
 #[cfg(test)]
@@ -32,7 +27,5 @@ mod scarce;
 mod setups;
 #[cfg(test)]
 mod tests;
-#[cfg(test)]
-mod threads;
 #[cfg(test)]
 mod works;

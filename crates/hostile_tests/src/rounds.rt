@@ -3,13 +3,32 @@ ghost use Rattle.std.specs.Prelude.{◌≡◌};
 ghost use Rattle.dimension_core.specs.Setup.{setting};
 
 use crate::desks::{audit, open_two, play, text_of};
-use crate::held::{LAID_OUT, SEED};
 use crate::scarce::Hoard;
 use board_lock::{Desk, Foyer, Naming};
 use search_workers::{OpenGate, Share, Tally, work};
 use std::alloc::Global;
 use std::process::Abort;
 use std::sync::Wait;
+
+/// By this seed the first round draws the vehicles 2 and 1.
+const SEED: u64 = 7;
+
+/// Customers 1 and 3 on vehicle 1, and customer 2, who lies between them, on vehicle 2. User and role `worker` may move all.
+const LAID_OUT: &[&str] = &[
+    "1 grant root audit board",
+    "1 grant root move vehicle 1 2",
+    "1 grant root move customer 1 3",
+    "1 grant root pin customer 1 3",
+    "1 insert 1 1 1 0",
+    "1 insert 3 1 2 1",
+    "1 insert 2 2 1 2",
+    "1 add-user worker",
+    "1 add-role worker",
+    "1 grant worker move vehicle 1 2",
+    "1 grant worker move customer 1 3",
+    "1 assign worker worker",
+    "1 open worker worker",
+];
 
 /// A round of session 2, which is left so many bytes.
 fn one_round<N: Naming, R: Wait + Drop, W: Wait>(

@@ -7,7 +7,6 @@ use crate::boards::{boards_go_through, desks_go_through};
 use crate::early::breaks_off;
 use crate::full::fills;
 use crate::given_up::go_on;
-use crate::held::{compare_held, works_held};
 use crate::openings::{compare_opened, opens_until};
 use crate::rounds::{compare_rounds, works_on};
 use crate::runs::runs_go_through;
@@ -98,19 +97,6 @@ fn live_lines_that_lack_memory(rt: HostRuntime) {
     }
 }
 
-/// Held rounds of a worker, and the journal of its board judged again.
-fn rights_change<W: Threads + Wait + Abort + Sync>(
-    rt: &W,
-    alloc: Global,
-    setup: Arc<Setup>,
-) -> Result<(), Fail> {
-    let again = Arc::try_clone(&setup)?;
-    let foyer = foyer_of(rt, alloc, setup, 2).ok_or("a foyer")?;
-    let ended = works_held::<Brand, _, _>(rt, alloc, foyer);
-    compare_held(rt, alloc, again, ended);
-    Ok(())
-}
-
 /// Rounds of a worker, openings of halls, and then starts of workers, that lack memory.
 fn memory_lacks<W: Threads + Wait + Abort + Sync>(
     rt: &W,
@@ -161,7 +147,6 @@ fn commands_given_up(rt: &impl Abort, alloc: Global, setup: Arc<Setup>) -> Resul
 /// What is tried with three customers on a line.
 #[derive(Clone, Copy, Drop)]
 enum Kind {
-    RightsChange,
     MemoryLacks,
     GivenUp,
 }
@@ -181,15 +166,9 @@ fn on_a_line<W: Threads + Wait + Abort + Sync>(
     let drives = Transit::new(4, drive);
     let setup = free(alloc, drives).ok_or("a setup")?;
     match kind {
-        Kind::RightsChange => rights_change(rt, alloc, setup),
         Kind::MemoryLacks => memory_lacks(rt, alloc, setup),
         Kind::GivenUp => commands_given_up(rt, alloc, setup),
     }
-}
-
-#[test]
-fn workers_whose_rights_change(rt: HostRuntime) -> Result<(), Fail> {
-    on_a_line(&rt, rt.alloc(), Kind::RightsChange)
 }
 
 #[test]

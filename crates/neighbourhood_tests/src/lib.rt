@@ -2,6 +2,8 @@
 #![tactic(auto)]
 
 #[cfg(test)]
+mod draw;
+#[cfg(test)]
 mod plain;
 #[cfg(test)]
 mod tests;

@@ -1,4 +1,4 @@
-ghost use Rattle.std.specs.Prelude.{◌≡◌, ◌==◌, ◌-◌, ◌≤◌, ℕ, List, length, slice_get, Some, MatchOption, Contains};
+ghost use Rattle.std.specs.Prelude.{◌≡◌, ◌==◌, ◌-◌, ◌≤◌, ℕ, List, length, [], slice_get, Some, MatchOption, Contains};
 
 use std::marker::Model;
 use std::mem::replace;
@@ -40,7 +40,8 @@ impl Route {
 
     /// The list of the customers, with its memory. The route has none until it is given others.
     pub fn take_customers(&mut self) -> Vec<u32>
-        ensures { result.items ≡ self.old }
+        ensures taken { result.items ≡ self.old }
+        ensures none { self.new ≡ [] }
     {
         let none = Vec::new(*self.customers.allocator());
         replace(&mut self.customers, none)

@@ -7,7 +7,7 @@ use crate::comparing::{compare_text, compare_written};
 use crate::rows::cut;
 use board_core::{AskFault, Board, Call, Denial, Event, Fault, Reply, Review};
 use board_lines::{Command, read_line};
-use callback_store::{Meter, Registry, Transit, TransitId};
+use callback_store::{Meter, Registry, Transit};
 use dimension_core::{Dimension, Range, Setup};
 use plan_core::Route;
 use range_cache::JudgeFault;
@@ -221,12 +221,12 @@ fn compare_probes(rt: &impl Abort, alloc: Global, board: &mut Board, row: &str) 
 }
 
 /// A board of five customers, two vehicles and two desks without bounds, with one travel as its cost.
-fn free_board(rt: &impl Abort, alloc: Global, transit: Transit) -> Board {
+fn free_board(alloc: Global, transit: Transit) -> Option<Board> {
     let mut registry = Registry::new(alloc);
-    let cost = registry.register(transit).expect(rt, "room");
-    let setup = Setup::new(5, 2, registry, Vec::new(alloc), cost, 100).expect(rt, "setup");
-    let setup = Arc::new(alloc, setup).expect(rt, "memory");
-    Board::new(alloc, setup, 2).expect(rt, "memory")
+    let cost = registry.register(transit).ok()?;
+    let setup = Setup::new(5, 2, registry, Vec::new(alloc), cost, 100).ok()?;
+    let setup = Arc::new(alloc, setup).ok()?;
+    Board::new(alloc, setup, 2).ok()
 }
 
 #[test]
@@ -239,7 +239,7 @@ fn what_calls_make_different(rt: HostRuntime) {
     )
     .expect(&rt, "memory");
     let transit = Transit::new(6, near);
-    let mut board = free_board(&rt, rt.alloc(), transit);
+    let mut board = free_board(rt.alloc(), transit).expect(&rt, "a board");
     twice(&rt, rt.alloc(), &mut board, "1 grant root move vehicle 1 2");
     differences(&rt, rt.alloc(), &mut board, DIFFERENCES);
     compare_board(&rt, &board);
@@ -271,21 +271,17 @@ fn apply(rt: &impl Abort, alloc: Global, board: &mut Board, line: &str) -> Reply
 
 /// A board of one customer and one vehicle, with no slack, capacity 1,000 and the depot's range 0 to 100. The customer has a range of its
 /// own.
-fn one_customer_board(
-    rt: &impl Abort,
-    alloc: Global,
-    registry: Registry,
-    id: TransitId,
-    fixed: bool,
-    range: Range,
-) -> Board {
-    let caps = vec![in alloc; 1000u64].expect(rt, "memory");
-    let ranges = vec![in alloc; Range { lo: 0, hi: 100 }, range].expect(rt, "memory");
-    let time = Dimension::new(&registry, id, 0, caps, fixed, ranges).expect(rt, "bounds");
-    let dimensions = vec![in alloc; time].expect(rt, "memory");
-    let setup = Setup::new(1, 1, registry, dimensions, id, 10).expect(rt, "setup");
-    let setup = Arc::new(alloc, setup).expect(rt, "memory");
-    Board::new(alloc, setup, 1).expect(rt, "memory")
+fn one_customer_board(alloc: Global, transit: Transit, fixed: bool, range: Range) -> Option<Board> {
+    let mut registry = Registry::new(alloc);
+    let id = registry.register(transit).ok()?;
+    let caps = Vec::from_slice(alloc, &[1000]).ok()?;
+    let ranges = Vec::from_slice(alloc, &[Range { lo: 0, hi: 100 }, range]).ok()?;
+    let time = Dimension::new(&registry, id, 0, caps, fixed, ranges).ok()?;
+    let mut dimensions = Vec::with_capacity(alloc, 1).ok()?;
+    dimensions.push(time).ok()?;
+    let setup = Setup::new(1, 1, registry, dimensions, id, 10).ok()?;
+    let setup = Arc::new(alloc, setup).ok()?;
+    Board::new(alloc, setup, 1).ok()
 }
 
 /// The reply to the insert of the customer.
@@ -315,10 +311,9 @@ fn the_earliest_cumul_alone_does_not_decide(rt: HostRuntime) {
         )
         .expect(&rt, "memory");
         let tens = Transit::new(2, call);
-        let mut registry = Registry::new(rt.alloc());
-        let id = registry.register(tens).expect(&rt, "room");
         let range = Range { lo, hi };
-        let mut board = one_customer_board(&rt, rt.alloc(), registry, id, fixed, range);
+        let board = one_customer_board(rt.alloc(), tens, fixed, range);
+        let mut board = board.expect(&rt, "a board");
         compare_reply(&rt, inserted(&rt, rt.alloc(), &mut board), wanted);
     }
 }

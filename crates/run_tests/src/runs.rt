@@ -290,6 +290,13 @@ fn files_are_opened_in_order(rt: HostRuntime) {
     fs::remove_file(&rt, INSTANCE_FILE).expect(&rt, "a file");
 }
 
+/// All was written as wanted up to its end, nothing was said of faults, and something was refused.
+fn compare_tail(rt: &impl Abort, written: &[u8], end: &[u8], faults: &[u8], status: u8) {
+    assert!(rt; written.ends_with(end));
+    assert!(rt; faults.is_empty());
+    assert_eq!(rt; status, 1);
+}
+
 /// A live script that fills the journal, of which the set-up took four entries: the next call is a fault, and the workers' lines are written.
 #[test]
 fn a_full_journal(rt: HostRuntime) {
@@ -315,10 +322,13 @@ fn a_full_journal(rt: HostRuntime) {
     );
     let end =
         b"denied access vehicle 1\nfault full\nworker 1 tried 0 committed 0 denied 0 refused 0\nversion 0\n";
-    let full = written.bytes.ends_with(end);
-    assert!(rt; full);
-    assert!(rt; faults.is_empty());
-    assert_eq!(rt; status, 1);
+    compare_tail(
+        &rt,
+        written.bytes.as_slice(),
+        end,
+        faults.as_slice(),
+        status,
+    );
 }
 
 /// The number behind a word, in a line of its own.
@@ -369,8 +379,12 @@ fn a_million_denied_calls(rt: HostRuntime) {
         &mut faults,
     );
     compare_memory(&rt, memory(&rt, "VmHWM:").saturating_sub(before));
-    let denied = written.bytes.ends_with(b"denied access vehicle 1\n");
-    assert!(rt; denied);
-    assert!(rt; faults.is_empty());
-    assert_eq!(rt; status, 1);
+    let end = b"denied access vehicle 1\n";
+    compare_tail(
+        &rt,
+        written.bytes.as_slice(),
+        end,
+        faults.as_slice(),
+        status,
+    );
 }

@@ -214,8 +214,9 @@ const NOTED: [(&[&str], &str, &str); 6] = [
     (&["--live", LIVE_FILE], "bad word\nend\n", ""),
 ];
 
-/// Compares what was written on three streams.
-fn compare(rt: &impl Abort, found: (&[u8], &[u8], &[u8]), wanted: (&str, &str)) {
+/// Compares what was written on three streams by a run in which something was refused.
+fn compare(rt: &impl Abort, found: (&[u8], &[u8], &[u8]), status: u8, wanted: (&str, &str)) {
+    assert_eq!(rt; status, 1);
     assert_eq!(rt; str::from_utf8(found.0).expect(rt, "text"), wanted.0);
     assert!(rt; found.1.is_empty());
     assert_eq!(rt; str::from_utf8(found.2).expect(rt, "text"), wanted.1);
@@ -256,9 +257,9 @@ fn notes<
     compare(
         &rt,
         (written.as_slice(), faults.as_slice(), notes.as_slice()),
+        status,
         wanted,
     );
-    assert_eq!(rt; status, 1);
 }
 
 /// Lines of the script have notes where they are asked for, and lines of the live script never.

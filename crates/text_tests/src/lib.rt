@@ -9,6 +9,8 @@ mod engine;
 #[cfg(test)]
 mod instances;
 #[cfg(test)]
+mod journal;
+#[cfg(test)]
 mod lines;
 #[cfg(test)]
 mod replies;

@@ -19,6 +19,3 @@ pub fn draw<R: Rng>(rng: &mut R, k: u32) -> (u32, u32)
     let w = rng.next_u32() % k + 1;
     (v, w)
 }
-
-#[cfg(test)]
-mod tests;

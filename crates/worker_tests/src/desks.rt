@@ -89,7 +89,7 @@ pub(crate) fn play<N: Naming, R: Wait + Drop, W: Wait>(
 }
 
 /// The journal as the text of an audit.
-fn text_of(alloc: Global, journal: &Journal) -> Option<String> {
+pub(crate) fn text_of(alloc: Global, journal: &Journal) -> Option<String> {
     let mut text = String::new(alloc);
     push_audit(&mut text, journal).ok()?;
     Some(text)

@@ -5,8 +5,9 @@ ghost use Rattle.dimension_core.specs.Setup.{setting};
 
 use crate::alone::LAID_OUT;
 use crate::crossed::{say, wait_for};
-use crate::desks::{audit, open_two, play};
+use crate::desks::{open_two, play, text_of};
 use crate::threads::{Task, beside};
+use board_journal::Journal;
 use board_lock::{DeskOf, Foyer, Naming, Seat};
 use dimension_core::Setup;
 use search_workers::{Gate, Outcome, Point, Share, work};
@@ -18,24 +19,38 @@ use std::thread::Threads;
 
 /// What another desk submits before the rounds of a session, and what while the worker is held at a point.
 #[derive(Clone, Copy, Drop)]
-struct Turn {
-    session: u32,
-    rounds: u32,
-    point: Point,
-    first: &'static [&'static str],
-    held: &'static [&'static str],
+pub(crate) struct Turn {
+    pub(crate) session: u32,
+    pub(crate) rounds: u32,
+    pub(crate) point: Point,
+    pub(crate) first: &'static [&'static str],
+    pub(crate) held: &'static [&'static str],
+}
+
+/// How a plan is laid out and a worker hired, the turns after that, and the session that reads the journal in the end.
+#[derive(Clone, Copy, Drop)]
+pub(crate) struct Story {
+    pub(crate) laid_out: &'static [&'static str],
+    pub(crate) hired: &'static [&'static str],
+    pub(crate) turns: &'static [Turn],
+    pub(crate) reader: u32,
 }
 
 /// User and role `worker` may move the vehicle and the customers, and session 1 may freeze.
-const HIRED: &[&str] = &[
-    "1 grant root freeze vehicle 1 1",
-    "1 add-user worker",
-    "1 add-role worker",
-    "1 grant worker move vehicle 1 1",
-    "1 grant worker move customer 1 3",
-];
+pub(crate) const STORY: Story = Story {
+    laid_out: LAID_OUT,
+    hired: &[
+        "1 grant root freeze vehicle 1 1",
+        "1 add-user worker",
+        "1 add-role worker",
+        "1 grant worker move vehicle 1 1",
+        "1 grant worker move customer 1 3",
+    ],
+    turns: TURNS,
+    reader: 1,
+};
 
-const TURNS: [Turn; 5] = [
+const TURNS: &[Turn] = &[
     Turn {
         session: 2,
         rounds: 1,
@@ -152,8 +167,10 @@ impl<W: Wait> Gate<W> for Latch {
     }
 }
 
-/// The rounds of a worker, which is held at a point. It gives the seat back with the number of proposals that were denied, and what the
-/// numbers of the rounds that found nothing add up to.
+/// How many rounds were committed and denied, and what the numbers of those that found nothing add up to.
+type Ends = (u32, u32, u64);
+
+/// The rounds of a worker, which is held at a point. It gives the seat back with how they ended.
 #[derive(Drop)]
 struct Rounds {
     alloc: Global,
@@ -162,13 +179,13 @@ struct Rounds {
     gate: Latch,
 }
 
-impl<N: Naming, R: Wait + Drop, W: Wait> Task<W, Arc<Setup>, Seat<N, R>, (Seat<N, R>, (u32, u64))>
+impl<N: Naming, R: Wait + Drop, W: Wait> Task<W, Arc<Setup>, Seat<N, R>, (Seat<N, R>, Ends)>
     for Rounds {
     ghost use Rattle.dimension_core.specs.Setup.{setting};
 
     ghost may = { λ setup seat. setting setup.value ≡ N.opening.setting };
 
-    fn run(self, rt: &W, first: Arc<Setup>, second: Seat<N, R>) -> (Seat<N, R>, (u32, u64)) {
+    fn run(self, rt: &W, first: Arc<Setup>, second: Seat<N, R>) -> (Seat<N, R>, Ends) {
         let desk = DeskOf {
             setup: first,
             seat: second,
@@ -184,7 +201,11 @@ impl<N: Naming, R: Wait + Drop, W: Wait> Task<W, Arc<Setup>, Seat<N, R>, (Seat<N
         );
         (
             desk.seat,
-            (tally.denied, self.gate.idle.load(Ordering::SeqCst)),
+            (
+                tally.committed,
+                tally.denied,
+                self.gate.idle.load(Ordering::SeqCst),
+            ),
         )
     }
 }
@@ -215,7 +236,7 @@ impl<N: Naming, R: Wait + Drop, W: Wait> Task<W, Arc<Setup>, Seat<N, R>, Seat<N,
 type Ready = ((Rounds, Arc<Setup>), (OneTurn, Arc<Setup>));
 
 /// All that a turn needs but the seats, which so are at stake in none of its failures.
-fn ready(alloc: Global, setup: &Arc<Setup>, turn: Turn) -> Option<Ready>
+fn ready(alloc: Global, setup: &Arc<Setup>, turn: &Turn) -> Option<Ready>
     ensures rounds { IfSome result (λ r. r.0.1.value ≡ setup.now.value) }
     ensures call { IfSome result (λ r. r.1.1.value ≡ setup.now.value) }
 {
@@ -247,8 +268,8 @@ fn one_turn<N: Naming + Send + Sync, R: Wait + Drop + Send + Sync, W: Threads + 
     alloc: Global,
     setup: &Arc<Setup>,
     seats: (Seat<N, R>, Seat<N, R>),
-    turn: Turn,
-) -> Option<((Seat<N, R>, Seat<N, R>), (u32, u64))>
+    turn: &Turn,
+) -> Option<((Seat<N, R>, Seat<N, R>), Ends)>
     requires { setting setup.now.value ≡ N.opening.setting }
 {
     let ((rounds, second), (call, first)) = ready(alloc, setup, turn)?;
@@ -258,35 +279,70 @@ fn one_turn<N: Naming + Send + Sync, R: Wait + Drop + Send + Sync, W: Threads + 
     Some(((own, other), ends))
 }
 
-/// How many rounds were denied, what the numbers of those that found nothing add up to, and the journal.
+/// All turns, one after another. It gives the other desk's seat back with how the rounds ended.
+fn all_turns<N: Naming + Send + Sync, R: Wait + Drop + Send + Sync, W: Threads + Wait + Sync>(
+    rt: &W,
+    alloc: Global,
+    setup: &Arc<Setup>,
+    seats: (Seat<N, R>, Seat<N, R>),
+    turns: &[Turn],
+) -> Option<(Seat<N, R>, Ends)>
+    requires { setting setup.now.value ≡ N.opening.setting }
+{
+    let mut seats = seats;
+    let mut ends = (0u32, 0u32, 0u64);
+    for turn in turns {
+        let (next, more) = one_turn(rt, alloc, setup, seats, turn)?;
+        seats = next;
+        ends.0 = ends.0.wrapping_add(more.0);
+        ends.1 = ends.1.wrapping_add(more.1);
+        ends.2 = ends.2.wrapping_add(more.2);
+    }
+    let (own, _worker) = seats;
+    Some((own, ends))
+}
+
+/// How the rounds ended, with the setup and the journal.
+#[derive(Drop)]
+pub(crate) struct Ended {
+    pub(crate) ends: Ends,
+    pub(crate) setup: Arc<Setup>,
+    pub(crate) journal: Journal,
+}
+
+/// A worker's rounds, each held while another desk takes its turn.
 pub(crate) fn works_held<
     N: Naming + Send + Sync,
     R: Wait + Drop + Send + Sync,
     W: Threads + Wait + Sync,
->(rt: &W, alloc: Global, foyer: Foyer<R>) -> Option<((u32, u64), Option<String>)>
+>(rt: &W, alloc: Global, foyer: Foyer<R>, story: &Story) -> Option<Ended>
     requires opening { foyer.room.opening ≡ N.opening }
     requires book { foyer.room.book ≡ N.book }
 {
     let (worker, setup, mut own) = open_two::<N, R>(alloc, foyer)?;
-    play(rt, alloc, &setup, &mut own, LAID_OUT);
-    play(rt, alloc, &setup, &mut own, HIRED);
-    let mut seats = (own, worker.seat);
-    let mut denied = 0u32;
-    let mut idle = 0u64;
-    for turn in TURNS {
-        let (next, more) = one_turn(rt, alloc, &setup, seats, turn)?;
-        seats = next;
-        denied = denied.wrapping_add(more.0);
-        idle = idle.wrapping_add(more.1);
+    play(rt, alloc, &setup, &mut own, story.laid_out);
+    play(rt, alloc, &setup, &mut own, story.hired);
+    let (mut own, ends) = all_turns(rt, alloc, &setup, (own, worker.seat), story.turns)?;
+    match own.audit(rt, story.reader) {
+        Ok(journal) => Some(Ended {
+            ends,
+            setup,
+            journal,
+        }),
+        Err(_) => None,
     }
-    Some(((denied, idle), audit(rt, alloc, &mut seats.0)))
 }
 
-/// Four rounds were denied, and of the last two the first one found nothing.
-pub(crate) fn compare_held(rt: &impl Abort, ended: &Option<((u32, u64), Option<String>)>) {
-    let Some((ends, Some(journal))) = ended else {
-        return assert!(rt; false);
+fn compare_text(rt: &impl Abort, text: &str) {
+    assert_eq!(rt; text, JOURNAL);
+}
+
+/// Four rounds were denied, and of the last two the first one found nothing and the second one was committed.
+pub(crate) fn compare_held(rt: &impl Abort, alloc: Global, ended: Option<Ended>) {
+    let Some(Ended { ends, journal, .. }) = ended else {
+        return compare_text(rt, "no journal");
     };
-    assert_eq!(rt; journal.as_str(), JOURNAL);
-    assert_eq!(rt; *ends, (4u32, 1u64));
+    let text = text_of(alloc, &journal);
+    compare_text(rt, text.as_deref().unwrap_or("no text"));
+    assert_eq!(rt; ends, (1u32, 4u32, 1u64));
 }

@@ -21,6 +21,8 @@ mod noted;
 #[cfg(test)]
 mod replay;
 #[cfg(test)]
+mod rights;
+#[cfg(test)]
 mod tests;
 #[cfg(test)]
 mod threads;

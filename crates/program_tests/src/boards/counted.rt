@@ -42,9 +42,9 @@ fn answer(rt: &impl Abort, alloc: Global, board: &mut Board, meter: &mut Meter, 
 }
 
 /// A board with one desk over a shared setup.
-fn opened(rt: &impl Abort, alloc: Global, setup: &Arc<Setup>) -> Board {
-    let setup = Arc::try_clone(setup).expect(rt, "memory");
-    Board::new(alloc, setup, 1).expect(rt, "memory")
+fn opened(alloc: Global, setup: &Arc<Setup>) -> Option<Board> {
+    let setup = Arc::try_clone(setup).ok()?;
+    Board::new(alloc, setup, 1).ok()
 }
 
 /// Applies the calls of a script to a board, and gives how many there are.
@@ -63,31 +63,51 @@ fn answers(
     board.events() as u64
 }
 
-/// Load of at most 10 with the start at 0, and time without bounds but the windows.
+/// The load is at most 10 everywhere.
+const LOADS: &[Range] = &[
+    Range { lo: 0, hi: 10 },
+    Range { lo: 0, hi: 10 },
+    Range { lo: 0, hi: 10 },
+    Range { lo: 0, hi: 10 },
+    Range { lo: 0, hi: 10 },
+];
+
+/// The time has no bounds but the windows.
+const WINDOWS: &[Range] = &[
+    Range { lo: 0, hi: 1000 },
+    Range { lo: 0, hi: 500 },
+    Range { lo: 0, hi: 500 },
+    Range { lo: 0, hi: 140 },
+    Range { lo: 0, hi: 500 },
+];
+
+/// Load with the start at 0, and time.
 fn load_and_time(
-    rt: &impl Abort,
     alloc: Global,
     registry: &Registry,
     load: TransitId,
     time: TransitId,
-) -> Vec<Dimension> {
-    let caps = vec![in alloc; 10u64, 10].expect(rt, "memory");
-    let ranges = vec![in alloc; Range { lo: 0, hi: 10 }; 5].expect(rt, "memory");
-    let loads = Dimension::new(registry, load, 0, caps, true, ranges).expect(rt, "bounds");
-    let caps = vec![in alloc; 1000u64, 1000].expect(rt, "memory");
-    let ranges = vec![in alloc;
-        Range { lo: 0, hi: 1000 },
-        Range { lo: 0, hi: 500 },
-        Range { lo: 0, hi: 500 },
-        Range { lo: 0, hi: 140 },
-        Range { lo: 0, hi: 500 },
-    ]
-    .expect(rt, "memory");
-    let times = Dimension::new(registry, time, 1000, caps, false, ranges).expect(rt, "bounds");
-    let mut dimensions = Vec::new(alloc);
-    dimensions.push(loads).expect(rt, "memory");
-    dimensions.push(times).expect(rt, "memory");
-    dimensions
+) -> Option<Vec<Dimension>> {
+    let mut dimensions = Vec::with_capacity(alloc, 2).ok()?;
+    let caps = Vec::from_slice(alloc, &[10, 10]).ok()?;
+    let ranges = Vec::from_slice(alloc, LOADS).ok()?;
+    let loads = Dimension::new(registry, load, 0, caps, true, ranges).ok()?;
+    dimensions.push(loads).ok()?;
+    let caps = Vec::from_slice(alloc, &[1000, 1000]).ok()?;
+    let ranges = Vec::from_slice(alloc, WINDOWS).ok()?;
+    let times = Dimension::new(registry, time, 1000, caps, false, ranges).ok()?;
+    dimensions.push(times).ok()?;
+    Some(dimensions)
+}
+
+/// Four customers and two vehicles, with these demands and travels, of which the travel is the cost.
+fn bounded(alloc: Global, demand: Unary, travel: Transit) -> Option<Arc<Setup>> {
+    let mut registry = Registry::new(alloc);
+    let load = registry.register_unary(demand).ok()?;
+    let time = registry.register(travel).ok()?;
+    let dimensions = load_and_time(alloc, &registry, load, time)?;
+    let setup = Setup::new(4, 2, registry, dimensions, time, 100).ok()?;
+    Arc::new(alloc, setup).ok()
 }
 
 /// The calls of all scripts.
@@ -108,9 +128,9 @@ fn four_customers(rt: HostRuntime) -> Result<(), Fail> {
         0u64, 28, 84, 141, 50, 28, 0, 56, 113, 22, 84, 56, 0, 56, 36, 141, 113, 56, 0, 92, 50, 22,
         36, 92, 0,
     ]?;
-    let calls = Arc::new(rt.alloc(), AtomicU64::new(0)).expect(&rt, "memory");
-    let of_demands = Arc::try_clone(&calls).expect(&rt, "memory");
-    let of_travels = Arc::try_clone(&calls).expect(&rt, "memory");
+    let calls = Arc::new(rt.alloc(), AtomicU64::new(0))?;
+    let of_demands = Arc::try_clone(&calls)?;
+    let of_travels = Arc::try_clone(&calls)?;
     let demand = Box::new(
         rt.alloc(),
         move |i: u32| -> u64
@@ -120,8 +140,7 @@ fn four_customers(rt: HostRuntime) -> Result<(), Fail> {
             of_demands.fetch_add(1, Ordering::SeqCst);
             demands[i as usize]
         },
-    )
-    .expect(&rt, "memory");
+    )?;
     let travel = Box::new(
         rt.alloc(),
         move |i: u32, j: u32| -> u64
@@ -131,21 +150,15 @@ fn four_customers(rt: HostRuntime) -> Result<(), Fail> {
             of_travels.fetch_add(1, Ordering::SeqCst);
             travels[i as usize * 5 + j as usize]
         },
-    )
-    .expect(&rt, "memory");
+    )?;
     let demand = Unary::new(5, demand);
     let travel = Transit::new(5, travel);
+    let setup = bounded(rt.alloc(), demand, travel).ok_or("a setup")?;
     let alloc = rt.alloc();
-    let mut registry = Registry::new(alloc);
-    let load = registry.register_unary(demand).expect(&rt, "room");
-    let time = registry.register(travel).expect(&rt, "room");
-    let dimensions = load_and_time(&rt, alloc, &registry, load, time);
-    let setup = Setup::new(4, 2, registry, dimensions, time, 100).expect(&rt, "setup");
-    let setup = Arc::new(alloc, setup).expect(&rt, "memory");
     let mut meter = Meter::new();
     let mut events = 0u64;
     for (parts, _) in CASES {
-        let mut board = opened(&rt, alloc, &setup);
+        let mut board = opened(alloc, &setup).expect(&rt, "memory");
         events = events.wrapping_add(answers(&rt, alloc, &mut board, &mut meter, parts));
     }
     compare_count(&rt, events, CALLS, "calls");

@@ -1,4 +1,4 @@
-use Rattle.desk_tests.proofs.tests.two_desks_call_at_once.Given as goal
+use Rattle.desk_tests.proofs.tests.at_once.Given as goal
 
 -- the foyer that was just made
 abbrev pub ghosts-call_for_one_vehicle : goal.ghosts-call_for_one_vehicle

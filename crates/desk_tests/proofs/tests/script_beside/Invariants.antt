@@ -1,4 +1,4 @@
-use Rattle.desk_tests.proofs.tests.a_desk_reads_a_script_while_another_commits.Given as goal
+use Rattle.desk_tests.proofs.tests.script_beside.Given as goal
 
 -- the foyer that was just made
 abbrev pub ghosts-reads_beside : goal.ghosts-reads_beside

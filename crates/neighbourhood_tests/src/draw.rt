@@ -1,7 +1,7 @@
-use crate::draw;
 use rand_core::Rng;
 use rand_pcg::Lcg64Xsh32;
 use std::test::Fail;
+use vehicle_draw::draw;
 
 /// The generator's first words are 2,707,161,783 and 2,068,313,097, and its fifth is 0xbfa4784b.
 #[test]

@@ -3,8 +3,8 @@ use borrow.Pointer.Called.{post_made}
 use Rattle.callback_store.specs.Boxed.{post_of_closure}
 use Rattle.callback_store.specs.Closures.{pairs_of_function}
 use Rattle.worker_tests.specs.Ways.{way}
-use Rattle.worker_tests.proofs.tests.two_workers_cross.OwnLists.{own-1, at-1-1}
-use Rattle.worker_tests.proofs.tests.two_workers_cross.Goals as goal
+use Rattle.worker_tests.proofs.tests.on_a_line.OwnLists.{own-1, at-1-1}
+use Rattle.worker_tests.proofs.tests.on_a_line.Goals as goal
 
 pub new-drives-requires-clause-table : goal.new-drives-requires-clause-table
 new-drives-requires-clause-table g c =

@@ -1,5 +1,5 @@
 //! Entries of each kind, read again, and the ends of pages.
-use crate::{Journal, Kept};
+use board_journal::{Journal, Kept};
 use board_rules::{Call, Denial, Entry, Event, Hold, Refusal, Reply};
 use move_core::Move;
 use std::alloc::AllocError;

@@ -2,11 +2,11 @@ use Rattle.std.proofs.Common.{rules, refl, arith}
 use borrow.Pointer.Called.{post_made}
 use Rattle.callback_store.specs.Closures.{pairs_of_function}
 use Rattle.callback_store.specs.Boxed.{post_of_closure}
-use Rattle.desk_tests.proofs.tests.sixty_four_desks.OwnLists.{own-1, at-1-1}
-use Rattle.desk_tests.proofs.tests.sixty_four_desks.Goals as goal
+use Rattle.desk_tests.proofs.tests.with_near.OwnLists.{own-1, at-1-1}
+use Rattle.desk_tests.proofs.tests.with_near.Goals as goal
 
-pub new-transit-requires-clause-table : goal.new-transit-requires-clause-table
-new-transit-requires-clause-table g c =
+pub new-near-requires-clause-table : goal.new-near-requires-clause-table
+new-near-requires-clause-table g c =
     let m = c.into_dyn_box.ensures.1 in (
       _,
       pairs_of_function _ _ (λ i j. 1)

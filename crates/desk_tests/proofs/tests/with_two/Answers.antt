@@ -2,8 +2,8 @@ use Rattle.std.proofs.Common.{rules, ◌+◌, ◌*◌, [], ◌∷◌, refl}
 use borrow.Pointer.Called.{post_made}
 use Rattle.callback_store.specs.Boxed.{post_of_closure}
 use Rattle.callback_store.specs.Closures.{small_at}
-use Rattle.desk_tests.proofs.tests.two_desks_call_at_once.OwnLists.{own-1, at-1-1, at-1-2}
-use Rattle.desk_tests.proofs.tests.two_desks_call_at_once.Goals as goal
+use Rattle.desk_tests.proofs.tests.with_two.OwnLists.{own-1, at-1-1, at-1-2}
+use Rattle.desk_tests.proofs.tests.with_two.Goals as goal
 
 pub new-demand-requires-clause-table : goal.new-demand-requires-clause-table
 new-demand-requires-clause-table g c =

@@ -1,4 +1,4 @@
-use Rattle.desk_tests.proofs.tests.two_desks_share_one_history.Given as goal
+use Rattle.desk_tests.proofs.tests.one_history.Given as goal
 
 -- the foyer that was just made
 abbrev pub ghosts-opens : goal.ghosts-opens
