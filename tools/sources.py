@@ -120,6 +120,10 @@ class Crate:
     def edits(self):
         return sorted(it.stem for it in self.folder.glob("must-fail/*.edit"))
 
+    def mutants(self):
+        """The edits that the gate leaves out."""
+        return sorted(it.stem for it in self.folder.glob("mutants/*.edit"))
+
 
 def workspace(root):
     """The names of the crates in the order of the layers, each with the libraries that it uses."""

@@ -113,7 +113,21 @@ const LONG_LINE: &str = "dispatch: run fault long-line\n";
 /// A line of 4,097 bytes is made of this at the end of a script, since no word of a table is so long.
 pub(crate) const LONG: &str = "LONG";
 
-pub(crate) const CASES: [Case; 16] = [
+/// The customers of the line in the order 2, 1, 3 on the last of four vehicles, which workers may move.
+const ON_THE_LAST: &str = "\
+1 grant root move vehicle 4 4\n\
+1 grant root move customer 1 3\n\
+1 grant worker move vehicle 4 4\n\
+1 grant worker move customer 1 3\n\
+1 insert 2 4 1 0\n\
+1 insert 1 4 2 1\n\
+1 insert 3 4 3 2\n";
+
+/// Three customers in a line, and four vehicles.
+const OF_FOUR: &str =
+    "B\nVEHICLE\nNUMBER CAPACITY\n4 10\nCUSTOMER\nCUST NO.\n0 0 0 0 0 1000 0\n1 3 0 1 0 1000 0\n2 6 0 1 0 1000 0\n3 9 0 1 0 1000 0\n";
+
+pub(crate) const CASES: [Case; 17] = [
     Case {
         instance: A,
         script: "",
@@ -180,6 +194,18 @@ pub(crate) const CASES: [Case; 16] = [
         orders: (2, 1, 1),
         wanted: (
             "done\ndone\ndone\ndone\ndone\ncommitted 1\ncommitted 2\ncommitted 3\ncommitted 4\ncommitted 5\nworker 1 tried 1 committed 0 denied 1 refused 0\nworker 2 tried 1 committed 1 denied 0 refused 0\nversion 6\n",
+            "",
+            0,
+        ),
+    },
+    // The generator of seed 2 draws vehicles 1 and 2, that of seed 3 vehicle 4 twice.
+    Case {
+        instance: OF_FOUR,
+        script: ON_THE_LAST,
+        live: "",
+        orders: (2, 1, 1),
+        wanted: (
+            "done\ndone\ndone\ndone\ncommitted 1\ncommitted 2\ncommitted 3\nworker 1 tried 0 committed 0 denied 0 refused 0\nworker 2 tried 1 committed 1 denied 0 refused 0\nversion 4\n",
             "",
             0,
         ),

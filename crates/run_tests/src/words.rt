@@ -1,6 +1,6 @@
 //! What words ask for, and which of them names which file.
 
-use crate::cases::A;
+use crate::cases::{A, B, GRANTED};
 use program_words::{perform, run, run_words};
 use std::io::{self, Eprint, ErrorKind};
 use std::process::Abort;
@@ -275,3 +275,43 @@ fn notes_where_they_are_asked_for(rt: HostRuntime) {
     fs::remove_file(&rt, SCRIPT_FILE).expect(&rt, "a file");
     fs::remove_file(&rt, INSTANCE_FILE).expect(&rt, "a file");
 }
+
+/// The numbers of rounds and of the seed are not one another's: without rounds a worker proposes nothing.
+#[test]
+fn rounds_and_a_seed(rt: HostRuntime) {
+    let instance = "worker_run_tests_seed_instance";
+    let script = "worker_run_tests_seed_script";
+    fs::write(&rt, instance, B).expect(&rt, "a file");
+    fs::write(&rt, script, GRANTED).expect(&rt, "a file");
+    let words = [
+        "dispatch",
+        "run",
+        instance,
+        script,
+        "--workers=1",
+        "--rounds=0",
+        "--seed=5",
+    ];
+    let found = performed(rt, &words);
+    compare_said(
+        &rt,
+        found.0.as_slice(),
+        found.1.as_slice(),
+        found.2,
+        (UNCHANGED, "", 0),
+    );
+    fs::remove_file(&rt, script).expect(&rt, "a file");
+    fs::remove_file(&rt, instance).expect(&rt, "a file");
+}
+
+/// The replies to the script, and the lines of a worker who did nothing.
+const UNCHANGED: &str = "\
+done\n\
+done\n\
+done\n\
+done\n\
+committed 1\n\
+committed 2\n\
+committed 3\n\
+worker 1 tried 0 committed 0 denied 0 refused 0\n\
+version 3\n";
