@@ -219,3 +219,10 @@ module _ (law : Laws) where
   -- the routes of a view
   pub view_known : (s : Setting) (view : ViewState) (v : ℕ) → IsViewOf s view → 1 ≤ v → v ≤ length view.routes → AreKnown s.customers (route_at view.routes v)
   view_known s view v sound low high = law.known.known s.customers view.routes v sound.plan
+
+  -- a customer who stands on a route of a view
+  pub standing_known : (s : Setting) (view : ViewState) (v i : ℕ) (xs : List ℕ) → IsViewOf s view → 1 ≤ v → v ≤ length view.routes → xs ≡ route_at view.routes v → i < length xs
+      → (1 ≤ slice_index xs i) × (slice_index xs i ≤ length view.pinned)
+  standing_known s view v i xs sound low high e h =
+      let known : AreKnown s.customers xs = subst (λ (ys : List ℕ). AreKnown s.customers ys) (sym e) (view_known s view v sound low high) in
+      known_within s.customers (length view.pinned) xs (sym sound.pinned) known i 0 h

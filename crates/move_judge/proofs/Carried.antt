@@ -63,6 +63,10 @@ module _ (law : Laws) where
   empty_from [] b e t = refl
   empty_from (x ∷ r) b e t = let n : length (x ∷ r) ≡ 0 = eqb-true (length (x ∷ r)) 0 (sym e ∙ t) in absurd (omega arith)
 
+  pub some_from : (r : List ℕ) (b : Bool) → b ≡ (length r == 0) → b ≡ false → 0 < length r
+  some_from [] b e f = let both : false ≡ true = sym f ∙ e in absurd cc
+  some_from (x ∷ r) b e f = omega arith
+
   -- an empty route is in bounds
   pub nothing_fits : (s : Setting) (v : ℕ) (route : List ℕ) → route ≡ [] → FitsAll s v route
   nothing_fits s v route e k h = ∣ inl e ∣₁

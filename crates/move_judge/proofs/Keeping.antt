@@ -1,5 +1,5 @@
 -- Spans kept along a route, from both ends.
-use Rattle.std.proofs.Common.{◌≡◌, ◌∙◌, ℕ, ◌+◌, ◌-◌, ◌*◌, ◌<◌, Fits, w32, ◌≤◌, suc, inl, inr, refl, sym, ap, subst, arith, List, [], ◌∷◌, ◌++◌, length, take, drop, slice_index, slice_index_or, Option, None, All}
+use Rattle.std.proofs.Common.{◌≡◌, ◌∙◌, ℕ, ◌+◌, ◌-◌, ◌*◌, ◌<◌, Fits, w32, w64, ◌≤◌, suc, inl, inr, refl, sym, ap, subst, arith, List, [], ◌∷◌, ◌++◌, length, take, drop, slice_index, slice_index_or, Option, None, All, Result, Ok, Err, IfOk, mul-le-mul}
 use Rattle.std.proofs.lemmas.Bool.{cases_lt}
 use Rattle.std.proofs.lemmas.List.{get_or_push, get_or_append_left, length-append, length-take-le, length-drop, take_more, drop_more, get_or_default}
 use Rattle.std.proofs.lemmas.Nat.{same_from_place, mul-add-lt}
@@ -163,6 +163,9 @@ short_of law s view v xs is few e = subst (λ (ys : List ℕ). length ys ≤ 100
 pub in_place : (k : ℕ) (xs ys : List Bounds) → xs ≡ ys → k < length xs → k < length ys
 in_place k xs ys e h = subst (λ (zs : List Bounds). k < length zs) e h
 
+pub below_end : (k m : ℕ) (xs ys : List Bounds) → xs ≡ ys → length xs ≤ m → k < length ys → k < m
+below_end k m xs ys e h less = let same = ap length e in omega arith
+
 pub none_below : (n : ℕ) → 0 ≤ n
 none_below n = omega arith
 
@@ -171,6 +174,17 @@ place_fits k m n h l few = omega arith
 
 pub stretch_fits : (k m n : ℕ) → k ≤ m + 1 → m ≤ n → n ≤ 1000 → Fits w32 k
 stretch_fits k m n h l few = omega arith
+
+pub width_fits : (n : ℕ) → n ≤ 1000 → Fits w64 (n + 1)
+width_fits n few = omega arith
+
+pub cells_fit : (n : ℕ) (xs ys : List Bounds) → xs ≡ ys → length ys ≤ 8 → n ≤ 1000 → Fits w64 (length xs * (n + 1))
+cells_fit n xs ys e most few =
+    let same = ap length e in
+    let high : length xs ≤ 8 = omega arith in
+    let wide : n + 1 ≤ 1001 = omega arith in
+    let all : length xs * (n + 1) ≤ 8 * 1001 = mul-le-mul {n₁ = length xs} {m₁ = n + 1} {n₂ = 8} {m₂ = 1001} high wide in
+    omega arith
 
 pub from_end : (k n : ℕ) → k < n → n - 1 - k < n
 from_end k n h = omega arith
@@ -244,3 +258,31 @@ tail_on ts us d v r i next span o et h tail on =
 
 pub kept_as : (s : Setting) (routes : List (List ℕ)) (v w : ℕ) (kept opened : KeptSpans) → opened ≡ kept → AreKept s routes v w kept → AreKept s routes v w opened
 kept_as s routes v w kept opened e all = subst (λ (x : KeptSpans). AreKept s routes v w x) (sym e) all
+
+-- what is kept of both ends of a route, and of the end of another
+pub kept_both : (s : Setting) (routes : List (List ℕ)) (v w : ℕ) (own other : List ℕ) (ahead behind over : SpanTable) → own ≡ route_at routes v → other ≡ route_at routes w
+    → AreAhead s v own ahead → AreBehind s v own behind → AreBehind s v other over → AreKept s routes v w (record { ahead = ahead; behind = behind; over = over })
+kept_both s routes v w own other ahead behind over e f a b o = record {
+  ahead = λ _. subst (λ (r : List ℕ). AreAhead s v r ahead) e a;
+  behind = λ _. subst (λ (r : List ℕ). AreBehind s v r behind) e b;
+  over = λ _ _. subst (λ (r : List ℕ). AreBehind s v r over) f o;
+}
+
+pub kept_alone : (s : Setting) (routes : List (List ℕ)) (v : ℕ) (own : List ℕ) (ahead behind over : SpanTable) → own ≡ route_at routes v
+    → AreAhead s v own ahead → AreBehind s v own behind → AreKept s routes v v (record { ahead = ahead; behind = behind; over = over })
+kept_alone s routes v own ahead behind over e a b = record {
+  ahead = λ _. subst (λ (r : List ℕ). AreAhead s v r ahead) e a;
+  behind = λ _. subst (λ (r : List ℕ). AreBehind s v r behind) e b;
+  over = λ apart _. absurd (apart refl);
+}
+
+pub ahead_some : (s : Setting) (v : ℕ) (r : List ℕ) (spans : SpanTable) → AreAhead s v r spans → 0 < spans.width
+ahead_some s v r spans a = let wide = a.width in omega arith
+
+pub behind_some : (s : Setting) (v : ℕ) (r : List ℕ) (spans : SpanTable) → AreBehind s v r spans → 0 < spans.width
+behind_some s v r spans b = let wide = b.width in omega arith
+
+-- what follows where a result is a success
+pub ok_then : {A E : Type 0} (r : Result A E) (P Q : Type 0) → (P → Q) → IfOk r (λ _. P) → IfOk r (λ _. Q)
+ok_then (Ok x) P Q f h = f h
+ok_then (Err e) P Q f h = tt

@@ -4,6 +4,7 @@ pub mod Keeping
 pub mod Meeting
 pub mod Allowing
 pub mod Stretches
+pub mod Places
 pub mod Between
 pub mod Inside
 pub mod Still

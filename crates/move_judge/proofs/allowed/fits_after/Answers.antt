@@ -1,70 +1,82 @@
-use Rattle.std.proofs.Common.{◌∙◌, ℕ, subst, sym}
+use Rattle.std.proofs.Common.{inl, inr, ◌∙◌, ℕ, subst, sym}
 use Rattle.dimension_core.specs.Setup.{setting}
 use Rattle.move_judge.specs.Kept.{AreKept}
 use Rattle.move_judge.proofs.allowed.fits_after.Goals as goal
 
-pub shift_inside_fits-requires-clause-kept : goal.shift_inside_fits-requires-clause-kept
-shift_inside_fits-requires-clause-kept g c =
+pub shift_inside_fits-requires : goal.shift_inside_fits-requires
+shift_inside_fits-requires g c =
     let near = rw c.in-Shift.is at c.requires.near in
     let s = setting c.args.setup.now in
     let routes = c.args.view.now.routes in
-    subst (λ (x : ℕ). AreKept s routes c.in-Shift.vehicle x c.args.v_kept.now) (sym near.1 ∙ sym c.if-vehicle-to.true)
-    (subst (λ (x : ℕ). AreKept s routes x c.args.w c.args.v_kept.now) (sym near.0) c.requires.v_kept)
+    record {
+      laws = c.laws_below.ensures;
+      kept = subst (λ (x : ℕ). AreKept s routes c.in-Shift.vehicle x c.args.v_kept.now) (sym near.1 ∙ sym c.if-vehicle-to.true)
+          (subst (λ (x : ℕ). AreKept s routes x c.args.w c.args.v_kept.now) (sym near.0) c.requires.v_kept);
+      view = c.requires.view;
+      possible = rw (sym c.if-vehicle-to.true) at (rw c.in-Shift.is at c.requires.possible);
+    }
 
-pub shift_inside_fits-requires-clause-possible : goal.shift_inside_fits-requires-clause-possible
-shift_inside_fits-requires-clause-possible g c = rw (sym c.if-vehicle-to.true) at (rw c.in-Shift.is at c.requires.possible)
-
-pub shift_fits-requires-clause-possible : goal.shift_fits-requires-clause-possible
-shift_fits-requires-clause-possible g c =
+pub shift_fits-requires : goal.shift_fits-requires
+shift_fits-requires g c =
     let near = rw c.in-Shift.is at c.requires.near in
-    rw (near.0, near.1) at (rw c.in-Shift.is at c.requires.possible)
+    record {
+      laws = c.laws_below.ensures;
+      v_kept = c.requires.v_kept;
+      w_kept = c.requires.w_kept;
+      view = c.requires.view;
+      possible = rw (near.0, near.1) at (rw c.in-Shift.is at c.requires.possible);
+      apart = λ e. c.if-vehicle-to.false (near.0 ∙ e ∙ sym near.1);
+    }
 
-pub shift_fits-requires-clause-apart : goal.shift_fits-requires-clause-apart
-shift_fits-requires-clause-apart g c =
-    let near = rw c.in-Shift.is at c.requires.near in
-    λ e. c.if-vehicle-to.false (near.0 ∙ e ∙ sym near.1)
-
-pub swap_inside_fits-requires-clause-kept : goal.swap_inside_fits-requires-clause-kept
-swap_inside_fits-requires-clause-kept g c =
+pub swap_inside_fits-requires : goal.swap_inside_fits-requires
+swap_inside_fits-requires g c =
     let near = rw c.in-Swap.is at c.requires.near in
     let s = setting c.args.setup.now in
     let routes = c.args.view.now.routes in
-    subst (λ (x : ℕ). AreKept s routes c.in-Swap.vehicle x c.args.v_kept.now) (sym near.1 ∙ sym c.if-vehicle-other.true)
-    (subst (λ (x : ℕ). AreKept s routes x c.args.w c.args.v_kept.now) (sym near.0) c.requires.v_kept)
+    record {
+      laws = c.laws_below.ensures;
+      kept = subst (λ (x : ℕ). AreKept s routes c.in-Swap.vehicle x c.args.v_kept.now) (sym near.1 ∙ sym c.if-vehicle-other.true)
+          (subst (λ (x : ℕ). AreKept s routes x c.args.w c.args.v_kept.now) (sym near.0) c.requires.v_kept);
+      view = c.requires.view;
+      possible = rw (sym c.if-vehicle-other.true) at (rw c.in-Swap.is at c.requires.possible);
+      order = near.2 (sym near.0 ∙ c.if-vehicle-other.true ∙ near.1);
+    }
 
-pub swap_inside_fits-requires-clause-possible : goal.swap_inside_fits-requires-clause-possible
-swap_inside_fits-requires-clause-possible g c = rw (sym c.if-vehicle-other.true) at (rw c.in-Swap.is at c.requires.possible)
-
-pub swap_inside_fits-requires-clause-order : goal.swap_inside_fits-requires-clause-order
-swap_inside_fits-requires-clause-order g c =
+pub swap_fits-requires : goal.swap_fits-requires
+swap_fits-requires g c =
     let near = rw c.in-Swap.is at c.requires.near in
-    near.2 (sym near.0 ∙ c.if-vehicle-other.true ∙ near.1)
+    record {
+      laws = c.laws_below.ensures;
+      v_kept = c.requires.v_kept;
+      w_kept = c.requires.w_kept;
+      view = c.requires.view;
+      possible = rw (near.0, near.1) at (rw c.in-Swap.is at c.requires.possible);
+      apart = λ e. c.if-vehicle-other.false (near.0 ∙ e ∙ sym near.1);
+    }
 
-pub swap_fits-requires-clause-possible : goal.swap_fits-requires-clause-possible
-swap_fits-requires-clause-possible g c =
-    let near = rw c.in-Swap.is at c.requires.near in
-    rw (near.0, near.1) at (rw c.in-Swap.is at c.requires.possible)
-
-pub swap_fits-requires-clause-apart : goal.swap_fits-requires-clause-apart
-swap_fits-requires-clause-apart g c =
-    let near = rw c.in-Swap.is at c.requires.near in
-    λ e. c.if-vehicle-other.false (near.0 ∙ e ∙ sym near.1)
-
-pub reverse_fits-requires-clause-kept : goal.reverse_fits-requires-clause-kept
-reverse_fits-requires-clause-kept g c =
+pub reverse_fits-requires : goal.reverse_fits-requires
+reverse_fits-requires g c =
     let near = rw c.in-Reverse.is at c.requires.near in
     let s = setting c.args.setup.now in
     let routes = c.args.view.now.routes in
-    subst (λ (x : ℕ). AreKept s routes c.in-Reverse.vehicle x c.args.v_kept.now) (sym near.1 ∙ sym near.0)
-    (subst (λ (x : ℕ). AreKept s routes x c.args.w c.args.v_kept.now) (sym near.0) c.requires.v_kept)
+    record {
+      laws = c.laws_below.ensures;
+      kept = subst (λ (x : ℕ). AreKept s routes c.in-Reverse.vehicle x c.args.v_kept.now) (sym near.1 ∙ sym near.0)
+          (subst (λ (x : ℕ). AreKept s routes x c.args.w c.args.v_kept.now) (sym near.0) c.requires.v_kept);
+      view = c.requires.view;
+      possible = rw c.in-Reverse.is at c.requires.possible;
+    }
 
-pub reverse_fits-requires-clause-possible : goal.reverse_fits-requires-clause-possible
-reverse_fits-requires-clause-possible g c = rw c.in-Reverse.is at c.requires.possible
-
-pub cross_fits-requires-clause-possible : goal.cross_fits-requires-clause-possible
-cross_fits-requires-clause-possible g c =
+pub cross_fits-requires : goal.cross_fits-requires
+cross_fits-requires g c =
     let near = rw c.in-Cross.is at c.requires.near in
-    rw (near.0, near.1) at (rw c.in-Cross.is at c.requires.possible)
+    record {
+      laws = c.laws_below.ensures;
+      v_kept = c.requires.v_kept;
+      w_kept = c.requires.w_kept;
+      view = c.requires.view;
+      possible = rw (near.0, near.1) at (rw c.in-Cross.is at c.requires.possible);
+    }
 
 pub returns-then-vehicle-to : goal.returns-then-vehicle-to
 returns-then-vehicle-to g c = rw (c.in-Shift.is, sym c.if-vehicle-to.true) c.shift_inside_fits.ensures
@@ -89,3 +101,11 @@ pub returns-in-Cross : goal.returns-in-Cross
 returns-in-Cross g c =
     let near = rw c.in-Cross.is at c.requires.near in
     rw (c.in-Cross.is, near.0, near.1) c.cross_fits.ensures
+
+pub returns-in-Insert : goal.returns-in-Insert
+returns-in-Insert g c =
+    let near = c.requires.near in
+    elim c.in-Insert.is [
+      | inl insert ↦ absurd (rw insert.3 at near)
+      | inr remove ↦ absurd (rw remove.2 at near)
+    ]

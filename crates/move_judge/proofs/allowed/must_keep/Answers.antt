@@ -1,11 +1,45 @@
-use Rattle.std.proofs.Common.{◌≡◌, ℕ, ◌<◌, ◌⊎◌, inl, inr, refl, subst, arith, List, None, drop, slice_index}
+use Rattle.std.proofs.Common.{◌≡◌, ◌∙◌, ℕ, ◌<◌, ◌≤◌, ◌⊎◌, inl, inr, refl, sym, subst, arith, length, List, None, drop, slice_index}
 use Rattle.std.proofs.lemmas.Bool.{cases_lt}
+use Rattle.dimension_core.specs.Setup.{setting}
 use Rattle.pin_core.specs.Pins.{front_of, pin_of}
 use Rattle.pin_core.specs.View.{pins_of}
 use Rattle.move_judge.specs.Allowed.{AreLoose}
-use Rattle.move_judge.proofs.Allowing.{loose_behind, loose_one, not_loose_from}
+use Rattle.move_judge.proofs.Allowing.{loose_behind, loose_one, not_loose_from, standing_known}
+use Rattle.move_judge.proofs.Keeping.{short_of}
+use Rattle.move_judge.proofs.Places.{at_most_as, no_more, none_less, less_as, nearer_end, counted_fits, count_fits}
 use Rattle.move_judge.proofs.allowed.must_keep.Goals.{then-is_pinned, else-is_pinned}
 use Rattle.move_judge.proofs.allowed.must_keep.Goals as goal
+
+pub customers-route-requires : goal.customers-route-requires
+customers-route-requires g c = record { low = c.requires.v.0; high = c.requires.v.1 }
+
+pub front-keep-requires : goal.front-keep-requires
+front-keep-requires g c = record { low = c.requires.v.0; high = at_most_as _ _ _ (c.requires.view.vehicles ∙ sym c.requires.view.frozen) c.requires.v.1 }
+
+pub overflow_cast-place-end : goal.overflow_cast-place-end
+overflow_cast-place-end g c = count_fits _ (short_of c.laws_below.ensures (setting c.args.setup.now) c.args.view.now c.args.v _ c.requires.view c.customers-customers.ensures.sound.few_customers c.customers-route.ensures)
+
+pub loop-place-init : goal.loop-place-init
+loop-place-init g c = record {
+  high = rw (c.front-keep.ensures, c.customers-route.ensures) (c.requires.view.fitting c.args.v c.requires.v.0 c.requires.v.1);
+  front = no_more _ _ c.front-keep.ensures;
+  rest = λ i h l. absurd (none_less i h);
+  held = λ k h. inl (less_as k _ _ c.front-keep.ensures h);
+}
+
+pub bounds-route-place : goal.bounds-route-place
+bounds-route-place g c = c.loop-place-test.true
+
+pub is_pinned-requires : goal.is_pinned-requires
+is_pinned-requires g c =
+    let known = standing_known c.laws_below.ensures (setting c.args.setup.now) c.args.view.now c.args.v c.loop-place.place _ c.requires.view c.requires.v.0 c.requires.v.1 c.customers-route.ensures c.loop-place-test.true in
+    record { low = known.0; high = known.1 }
+
+pub overflow_add-place : goal.overflow_add-place
+overflow_add-place g c = counted_fits _ _ c.loop-place-test.true (short_of c.laws_below.ensures (setting c.args.setup.now) c.args.view.now c.args.v _ c.requires.view c.customers-customers.ensures.sound.few_customers c.customers-route.ensures)
+
+pub loop-place-smaller : goal.loop-place-smaller
+loop-place-smaller g c = nearer_end _ _ c.loop-place-test.true
 
 pub loop-place-preserved : goal.loop-place-preserved
 loop-place-preserved g c =
@@ -20,7 +54,7 @@ loop-place-preserved g c =
           record {
             high = omega arith;
             front = omega arith;
-            rest = λ i h l. absurd (omega arith);
+            rest = λ i h l. absurd {A = pin_of (pins_of c.args.view.now) (slice_index c.customers-route.result.now i) ≡ None} (omega arith);
             held = λ k h. elim (cases_lt k c.loop-place.keep) [
               | inl low ↦ so_far.held k low
               | inr high ↦
@@ -58,3 +92,6 @@ pub returns-clause-held : goal.returns-clause-held
 returns-clause-held g c =
     subst (λ (r : List ℕ). (k : ℕ) → k < c.loop-place.keep → (k < front_of (pins_of c.args.view.now) c.args.v) ⊎ ¬ AreLoose (pins_of c.args.view.now) (drop k r))
     c.customers-route.ensures c.loop-place.invariant.held
+
+pub returns-clause-high : goal.returns-clause-high
+returns-clause-high g c = subst (λ (r : List ℕ). c.loop-place.keep ≤ length r) c.customers-route.ensures c.loop-place.invariant.high

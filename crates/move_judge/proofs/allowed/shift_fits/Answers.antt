@@ -1,162 +1,119 @@
-use Rattle.std.proofs.Common.{◌≡◌, ◌+◌, ◌-◌, arith, refl, ◌∙◌, ap, List, ℕ, take, drop, length, sym}
+use Rattle.std.proofs.Common.{◌+◌, ◌-◌, ◌∙◌, refl, sym}
 use Rattle.std.proofs.lemmas.Bool.{false≢true}
 use Rattle.dimension_core.specs.Setup.{setting}
 use Rattle.move_judge.proofs.Between.{first_known, first_misfits, fits_changed, second_known, shift_between}
 use Rattle.move_judge.proofs.Keeping.{kept_as, kept_front, kept_back, stretch_fits}
+use Rattle.move_judge.proofs.Places.{at_most_as, begins_within, ends_within, before_end, end_within, below_sum, rest_fits, front_of_old, back_of_old, stretch_of_old, two_parts, three_parts}
 use Rattle.move_judge.proofs.allowed.shift_fits.Goals as goal
 
-pub fits-requires-clause-known : goal.fits-requires-clause-known
-fits-requires-clause-known g c =
+pub fits-requires : goal.fits-requires
+fits-requires g c =
     let p = c.args.pair.now in
+    let s = setting c.args.setup.now in
     let law = c.requires.laws in
-    first_known law (setting c.args.setup.now) c.args.view.now _ _ _ _ _ _ _ _ _ _ c.requires.view c.requires.possible
-    (shift_between law (setting c.args.setup.now).customers c.args.view.now.routes p.v c.args.place c.args.length p.w c.args.at c.requires.possible c.requires.apart)
-    (rw (c.front_of-front.ensures, c.back_of-rest.ensures, c.customers-route.ensures) refl)
+    let f = (law.possible.shift s.customers c.args.view.now.routes p.v c.args.place c.args.length p.w c.args.at).0 c.requires.possible in
+    let kept = kept_as _ _ _ _ _ _ c.v_kept.view_is c.requires.v_kept in
+    let front = front_of_old _ _ _ _ c.front_of-front.ensures c.customers-route.ensures in
+    let rest = back_of_old _ _ _ _ c.back_of-rest.ensures c.customers-route.ensures in
+    record {
+      laws = law;
+      known = first_known law s c.args.view.now _ _ _ _ _ _ _ _ _ _ c.requires.view c.requires.possible
+          (shift_between law s.customers c.args.view.now.routes p.v c.args.place c.args.length p.w c.args.at c.requires.possible c.requires.apart)
+          (two_parts _ _ _ _ front rest);
+      low = f.from.vehicle.low;
+      high = at_most_as _ _ _ c.requires.view.vehicles f.from.vehicle.high;
+      ahead = λ wide. kept_front s _ _ _ _ (c.args.place - 1) (kept.ahead wide) (before_end _ _ _ refl (begins_within _ _ _ _ refl f.from.high)) front;
+      behind = λ wide. kept_back s _ _ _ _ (c.args.place - 1 + c.args.length) (kept.behind wide) (ends_within _ _ _ _ refl f.from.low f.from.high) rest;
+    }
 
-pub fits-requires-2-clause-known : goal.fits-requires-2-clause-known
-fits-requires-2-clause-known g c =
+pub fits-requires-2 : goal.fits-requires-2
+fits-requires-2 g c =
     let p = c.args.pair.now in
+    let s = setting c.args.setup.now in
     let law = c.requires.laws in
-    let e : c.args.place + c.args.length - c.args.place ≡ c.args.length = omega arith in
-    second_known law (setting c.args.setup.now) c.args.view.now _ _ _ _ _ _ _ _ _ _ c.requires.view c.requires.possible
-    (shift_between law (setting c.args.setup.now).customers c.args.view.now.routes p.v c.args.place c.args.length p.w c.args.at c.requires.possible c.requires.apart)
-    (rw (c.front_of-before.ensures, c.part-stretch.ensures, c.back_of-after.ensures, c.customers-route.ensures, c.customers-other.ensures, e) refl)
+    let f = (law.possible.shift s.customers c.args.view.now.routes p.v c.args.place c.args.length p.w c.args.at).0 c.requires.possible in
+    let kept = kept_as _ _ _ _ _ _ c.w_kept.view_is c.requires.w_kept in
+    let before = front_of_old _ _ _ _ c.front_of-before.ensures c.customers-other.ensures in
+    let after = back_of_old _ _ _ _ c.back_of-after.ensures c.customers-other.ensures in
+    record {
+      laws = law;
+      known = second_known law s c.args.view.now _ _ _ _ _ _ _ _ _ _ c.requires.view c.requires.possible
+          (shift_between law s.customers c.args.view.now.routes p.v c.args.place c.args.length p.w c.args.at c.requires.possible c.requires.apart)
+          (three_parts _ _ _ _ _ _ before (stretch_of_old c.args.place c.args.length _ _ _ c.part-stretch.ensures c.customers-route.ensures) after);
+      low = f.onto.vehicle.low;
+      high = at_most_as _ _ _ c.requires.view.vehicles f.onto.vehicle.high;
+      ahead = λ wide. kept_front s _ _ _ _ (c.args.at - 1) (kept.ahead wide) (before_end _ _ _ refl (f.onto.outside c.requires.apart)) before;
+      behind = λ wide. kept_back s _ _ _ _ (c.args.at - 1) (kept.behind wide) (before_end _ _ _ refl (f.onto.outside c.requires.apart)) after;
+    }
 
 pub returns-then-not-fits : goal.returns-then-not-fits
 returns-then-not-fits g c =
     let p = c.args.pair.now in
+    let s = setting c.args.setup.now in
     let law = c.requires.laws in
-    first_misfits law (setting c.args.setup.now) c.args.view.now.routes _ _ _ _ _ _ _ _ _ _
-    (shift_between law (setting c.args.setup.now).customers c.args.view.now.routes p.v c.args.place c.args.length p.w c.args.at c.requires.possible c.requires.apart)
-    (rw (c.front_of-front.ensures, c.back_of-rest.ensures, c.customers-route.ensures) refl)
+    let front = front_of_old _ _ _ _ c.front_of-front.ensures c.customers-route.ensures in
+    let rest = back_of_old _ _ _ _ c.back_of-rest.ensures c.customers-route.ensures in
+    first_misfits law s c.args.view.now.routes _ _ _ _ _ _ _ _ _ _
+    (shift_between law s.customers c.args.view.now.routes p.v c.args.place c.args.length p.w c.args.at c.requires.possible c.requires.apart)
+    (two_parts _ _ _ _ front rest)
     (λ all. false≢true (sym c.if-not-fits.true ∙ c.fits.ensures.1 all))
 
 pub returns : goal.returns
 returns g c =
     let p = c.args.pair.now in
+    let s = setting c.args.setup.now in
     let law = c.requires.laws in
-    let e : c.args.place + c.args.length - c.args.place ≡ c.args.length = omega arith in
-    fits_changed law (setting c.args.setup.now) c.args.view.now.routes _ _ _ _ _ _ _ _ _ _ _ _
-    (shift_between law (setting c.args.setup.now).customers c.args.view.now.routes p.v c.args.place c.args.length p.w c.args.at c.requires.possible c.requires.apart)
-    (rw (c.front_of-front.ensures, c.back_of-rest.ensures, c.customers-route.ensures) refl)
-    (rw (c.front_of-before.ensures, c.part-stretch.ensures, c.back_of-after.ensures, c.customers-route.ensures, c.customers-other.ensures, e) refl)
+    let front = front_of_old _ _ _ _ c.front_of-front.ensures c.customers-route.ensures in
+    let rest = back_of_old _ _ _ _ c.back_of-rest.ensures c.customers-route.ensures in
+    let before = front_of_old _ _ _ _ c.front_of-before.ensures c.customers-other.ensures in
+    let after = back_of_old _ _ _ _ c.back_of-after.ensures c.customers-other.ensures in
+    fits_changed law s c.args.view.now.routes _ _ _ _ _ _ _ _ _ _ _ _
+    (shift_between law s.customers c.args.view.now.routes p.v c.args.place c.args.length p.w c.args.at c.requires.possible c.requires.apart)
+    (two_parts _ _ _ _ front rest)
+    (three_parts _ _ _ _ _ _ before (stretch_of_old c.args.place c.args.length _ _ _ c.part-stretch.ensures c.customers-route.ensures) after)
     (c.fits.ensures.0 c.if-not-fits.false) c.fits-2.ensures
 
-pub fits-requires-clause-low : goal.fits-requires-clause-low
-fits-requires-clause-low g c =
+pub customers-route-requires : goal.customers-route-requires
+customers-route-requires g c =
     let p = c.args.pair.now in
     let f = (c.requires.laws.possible.shift (setting c.args.setup.now).customers c.args.view.now.routes p.v c.args.place c.args.length p.w c.args.at).0 c.requires.possible in
-    f.from.vehicle.low
+    record { low = f.from.vehicle.low; high = f.from.vehicle.high }
 
-pub fits-requires-clause-high : goal.fits-requires-clause-high
-fits-requires-clause-high g c =
+pub customers-other-requires : goal.customers-other-requires
+customers-other-requires g c =
     let p = c.args.pair.now in
     let f = (c.requires.laws.possible.shift (setting c.args.setup.now).customers c.args.view.now.routes p.v c.args.place c.args.length p.w c.args.at).0 c.requires.possible in
-    let high = f.from.vehicle.high in
-    let same = c.requires.view.vehicles in
-    omega arith
+    record { low = f.onto.vehicle.low; high = f.onto.vehicle.high }
 
-pub fits-requires-2-clause-low : goal.fits-requires-2-clause-low
-fits-requires-2-clause-low g c =
+pub front_of-front-requires : goal.front_of-front-requires
+front_of-front-requires g c =
     let p = c.args.pair.now in
     let f = (c.requires.laws.possible.shift (setting c.args.setup.now).customers c.args.view.now.routes p.v c.args.place c.args.length p.w c.args.at).0 c.requires.possible in
-    f.onto.vehicle.low
+    record { low = f.from.low; high = begins_within _ _ _ _ c.customers-route.ensures f.from.high }
 
-pub fits-requires-2-clause-high : goal.fits-requires-2-clause-high
-fits-requires-2-clause-high g c =
+pub back_of-rest-requires : goal.back_of-rest-requires
+back_of-rest-requires g c =
     let p = c.args.pair.now in
     let f = (c.requires.laws.possible.shift (setting c.args.setup.now).customers c.args.view.now.routes p.v c.args.place c.args.length p.w c.args.at).0 c.requires.possible in
-    let high = f.onto.vehicle.high in
-    let same = c.requires.view.vehicles in
-    omega arith
+    ends_within _ _ _ _ c.customers-route.ensures f.from.low f.from.high
 
-pub fits-requires-clause-ahead : goal.fits-requires-clause-ahead
-fits-requires-clause-ahead g c =
+pub part-stretch-requires : goal.part-stretch-requires
+part-stretch-requires g c =
     let p = c.args.pair.now in
     let f = (c.requires.laws.possible.shift (setting c.args.setup.now).customers c.args.view.now.routes p.v c.args.place c.args.length p.w c.args.at).0 c.requires.possible in
-    let low = f.from.low in
-    let high = f.from.high in
-    let at = f.onto.low in
-    let end = f.onto.outside c.requires.apart in
-    λ wide. kept_front (setting c.args.setup.now) _ _ _ _ (c.args.place - 1) ((kept_as _ _ _ _ _ _ c.v_kept.view_is c.requires.v_kept).ahead wide) (omega arith) (c.front_of-front.ensures ∙ ap (λ (xs : List ℕ). take (c.args.place - 1) xs) c.customers-route.ensures)
+    record { low = f.from.low; order = below_sum _ _; high = end_within _ _ _ c.customers-route.ensures f.from.high }
 
-pub fits-requires-clause-behind : goal.fits-requires-clause-behind
-fits-requires-clause-behind g c =
+pub front_of-before-requires : goal.front_of-before-requires
+front_of-before-requires g c =
     let p = c.args.pair.now in
     let f = (c.requires.laws.possible.shift (setting c.args.setup.now).customers c.args.view.now.routes p.v c.args.place c.args.length p.w c.args.at).0 c.requires.possible in
-    let low = f.from.low in
-    let high = f.from.high in
-    let at = f.onto.low in
-    let end = f.onto.outside c.requires.apart in
-    λ wide. kept_back (setting c.args.setup.now) _ _ _ _ (c.args.place - 1 + c.args.length) ((kept_as _ _ _ _ _ _ c.v_kept.view_is c.requires.v_kept).behind wide) (omega arith) (c.back_of-rest.ensures ∙ ap (λ (xs : List ℕ). drop (c.args.place - 1 + c.args.length) xs) c.customers-route.ensures)
+    record { low = f.onto.low; high = end_within _ _ _ c.customers-other.ensures (f.onto.outside c.requires.apart) }
 
-pub fits-requires-2-clause-ahead : goal.fits-requires-2-clause-ahead
-fits-requires-2-clause-ahead g c =
+pub back_of-after-requires : goal.back_of-after-requires
+back_of-after-requires g c =
     let p = c.args.pair.now in
     let f = (c.requires.laws.possible.shift (setting c.args.setup.now).customers c.args.view.now.routes p.v c.args.place c.args.length p.w c.args.at).0 c.requires.possible in
-    let low = f.from.low in
-    let high = f.from.high in
-    let at = f.onto.low in
-    let end = f.onto.outside c.requires.apart in
-    λ wide. kept_front (setting c.args.setup.now) _ _ _ _ (c.args.at - 1) ((kept_as _ _ _ _ _ _ c.w_kept.view_is c.requires.w_kept).ahead wide) (omega arith) (c.front_of-before.ensures ∙ ap (λ (xs : List ℕ). take (c.args.at - 1) xs) c.customers-other.ensures)
-
-pub fits-requires-2-clause-behind : goal.fits-requires-2-clause-behind
-fits-requires-2-clause-behind g c =
-    let p = c.args.pair.now in
-    let f = (c.requires.laws.possible.shift (setting c.args.setup.now).customers c.args.view.now.routes p.v c.args.place c.args.length p.w c.args.at).0 c.requires.possible in
-    let low = f.from.low in
-    let high = f.from.high in
-    let at = f.onto.low in
-    let end = f.onto.outside c.requires.apart in
-    λ wide. kept_back (setting c.args.setup.now) _ _ _ _ (c.args.at - 1) ((kept_as _ _ _ _ _ _ c.w_kept.view_is c.requires.w_kept).behind wide) (omega arith) (c.back_of-after.ensures ∙ ap (λ (xs : List ℕ). drop (c.args.at - 1) xs) c.customers-other.ensures)
-
-pub customers-route-requires-clause-low : goal.customers-route-requires-clause-low
-customers-route-requires-clause-low g c =
-    let p = c.args.pair.now in
-    let f = (c.requires.laws.possible.shift (setting c.args.setup.now).customers c.args.view.now.routes p.v c.args.place c.args.length p.w c.args.at).0 c.requires.possible in
-    f.from.vehicle.low
-
-pub customers-route-requires-clause-high : goal.customers-route-requires-clause-high
-customers-route-requires-clause-high g c =
-    let p = c.args.pair.now in
-    let f = (c.requires.laws.possible.shift (setting c.args.setup.now).customers c.args.view.now.routes p.v c.args.place c.args.length p.w c.args.at).0 c.requires.possible in
-    f.from.vehicle.high
-
-pub front_of-front-requires-clause-low : goal.front_of-front-requires-clause-low
-front_of-front-requires-clause-low g c =
-    let p = c.args.pair.now in
-    let f = (c.requires.laws.possible.shift (setting c.args.setup.now).customers c.args.view.now.routes p.v c.args.place c.args.length p.w c.args.at).0 c.requires.possible in
-    f.from.low
-
-pub front_of-front-requires-clause-high : goal.front_of-front-requires-clause-high
-front_of-front-requires-clause-high g c =
-    let p = c.args.pair.now in
-    let f = (c.requires.laws.possible.shift (setting c.args.setup.now).customers c.args.view.now.routes p.v c.args.place c.args.length p.w c.args.at).0 c.requires.possible in
-    let low = f.from.low in
-    let high = f.from.high in
-    let some = f.from.some in
-    let long = ap length c.customers-route.ensures in
-    omega arith
-
-pub part-stretch-requires-clause-low : goal.part-stretch-requires-clause-low
-part-stretch-requires-clause-low g c =
-    let p = c.args.pair.now in
-    let f = (c.requires.laws.possible.shift (setting c.args.setup.now).customers c.args.view.now.routes p.v c.args.place c.args.length p.w c.args.at).0 c.requires.possible in
-    f.from.low
-
-pub part-stretch-requires-clause-order : goal.part-stretch-requires-clause-order
-part-stretch-requires-clause-order g c =
-    omega arith
-
-pub part-stretch-requires-clause-high : goal.part-stretch-requires-clause-high
-part-stretch-requires-clause-high g c =
-    let p = c.args.pair.now in
-    let f = (c.requires.laws.possible.shift (setting c.args.setup.now).customers c.args.view.now.routes p.v c.args.place c.args.length p.w c.args.at).0 c.requires.possible in
-    let low = f.from.low in
-    let high = f.from.high in
-    let some = f.from.some in
-    let long = ap length c.customers-route.ensures in
-    omega arith
+    before_end _ _ _ c.customers-other.ensures (f.onto.outside c.requires.apart)
 
 pub overflow_sub-place : goal.overflow_sub-place
 overflow_sub-place g c =
@@ -164,57 +121,17 @@ overflow_sub-place g c =
     let f = (c.requires.laws.possible.shift (setting c.args.setup.now).customers c.args.view.now.routes p.v c.args.place c.args.length p.w c.args.at).0 c.requires.possible in
     f.from.low
 
-pub back_of-rest-requires : goal.back_of-rest-requires
-back_of-rest-requires g c =
+pub overflow_add-place : goal.overflow_add-place
+overflow_add-place g c =
     let p = c.args.pair.now in
     let f = (c.requires.laws.possible.shift (setting c.args.setup.now).customers c.args.view.now.routes p.v c.args.place c.args.length p.w c.args.at).0 c.requires.possible in
-    let low = f.from.low in
-    let high = f.from.high in
-    let some = f.from.some in
-    let long = ap length c.customers-route.ensures in
-    omega arith
-
-pub customers-other-requires-clause-low : goal.customers-other-requires-clause-low
-customers-other-requires-clause-low g c =
-    let p = c.args.pair.now in
-    let f = (c.requires.laws.possible.shift (setting c.args.setup.now).customers c.args.view.now.routes p.v c.args.place c.args.length p.w c.args.at).0 c.requires.possible in
-    f.onto.vehicle.low
-
-pub customers-other-requires-clause-high : goal.customers-other-requires-clause-high
-customers-other-requires-clause-high g c =
-    let p = c.args.pair.now in
-    let f = (c.requires.laws.possible.shift (setting c.args.setup.now).customers c.args.view.now.routes p.v c.args.place c.args.length p.w c.args.at).0 c.requires.possible in
-    f.onto.vehicle.high
-
-pub front_of-before-requires-clause-low : goal.front_of-before-requires-clause-low
-front_of-before-requires-clause-low g c =
-    let p = c.args.pair.now in
-    let f = (c.requires.laws.possible.shift (setting c.args.setup.now).customers c.args.view.now.routes p.v c.args.place c.args.length p.w c.args.at).0 c.requires.possible in
-    f.onto.low
-
-pub front_of-before-requires-clause-high : goal.front_of-before-requires-clause-high
-front_of-before-requires-clause-high g c =
-    let p = c.args.pair.now in
-    let f = (c.requires.laws.possible.shift (setting c.args.setup.now).customers c.args.view.now.routes p.v c.args.place c.args.length p.w c.args.at).0 c.requires.possible in
-    let at = f.onto.low in
-    let end = f.onto.outside c.requires.apart in
-    let wide = ap length c.customers-other.ensures in
-    omega arith
+    rest_fits c.args.place c.args.length _ _ f.from.high (c.requires.laws.known.short _ _ p.v c.requires.view.plan) c.args.setup.now.sound.few_customers
 
 pub overflow_sub-at : goal.overflow_sub-at
 overflow_sub-at g c =
     let p = c.args.pair.now in
     let f = (c.requires.laws.possible.shift (setting c.args.setup.now).customers c.args.view.now.routes p.v c.args.place c.args.length p.w c.args.at).0 c.requires.possible in
     f.onto.low
-
-pub back_of-after-requires : goal.back_of-after-requires
-back_of-after-requires g c =
-    let p = c.args.pair.now in
-    let f = (c.requires.laws.possible.shift (setting c.args.setup.now).customers c.args.view.now.routes p.v c.args.place c.args.length p.w c.args.at).0 c.requires.possible in
-    let at = f.onto.low in
-    let end = f.onto.outside c.requires.apart in
-    let wide = ap length c.customers-other.ensures in
-    omega arith
 
 pub overflow_add-place-2 : goal.overflow_add-place-2
 overflow_add-place-2 g c =

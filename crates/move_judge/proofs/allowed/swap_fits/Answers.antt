@@ -1,241 +1,122 @@
-use Rattle.std.proofs.Common.{◌≡◌, ◌+◌, ◌-◌, arith, refl, ◌∙◌, ap, List, ℕ, take, drop, length, sym}
+use Rattle.std.proofs.Common.{◌-◌, ◌∙◌, sym}
 use Rattle.std.proofs.lemmas.Bool.{false≢true}
 use Rattle.dimension_core.specs.Setup.{setting}
 use Rattle.move_judge.proofs.Between.{first_known, first_misfits, fits_changed, second_known, swap_between}
 use Rattle.move_judge.proofs.Keeping.{kept_as, kept_front, kept_back, place_fits}
+use Rattle.move_judge.proofs.Places.{at_most_as, before_within, no_later, next_within, below_next, as_long, front_of_old, back_of_old, one_of_old, rest_of_old, three_parts}
 use Rattle.move_judge.proofs.allowed.swap_fits.Goals as goal
 
-pub fits-requires-clause-known : goal.fits-requires-clause-known
-fits-requires-clause-known g c =
+pub fits-requires : goal.fits-requires
+fits-requires g c =
     let p = c.args.pair.now in
+    let s = setting c.args.setup.now in
     let law = c.requires.laws in
-    let f = (law.possible.swap (setting c.args.setup.now).customers c.args.view.now.routes p.v c.args.place p.w c.args.at).0 c.requires.possible in
-    let lp = f.place.low in
-    let e2 : c.args.at + 1 - c.args.at ≡ 1 = omega arith in
-    let e3 : c.args.place - 1 + 1 ≡ c.args.place = omega arith in
-    first_known law (setting c.args.setup.now) c.args.view.now _ _ _ _ _ _ _ _ _ _ c.requires.view c.requires.possible
-    (swap_between law (setting c.args.setup.now).customers c.args.view.now.routes p.v c.args.place p.w c.args.at c.requires.possible c.requires.apart)
-    (rw (c.front_of-front.ensures, c.part-there.ensures, c.back_of-rest.ensures, c.customers-route.ensures, c.customers-other.ensures, e2, e3) refl)
+    let f = (law.possible.swap s.customers c.args.view.now.routes p.v c.args.place p.w c.args.at).0 c.requires.possible in
+    let kept = kept_as _ _ _ _ _ _ c.v_kept.view_is c.requires.v_kept in
+    let front = front_of_old _ _ _ _ c.front_of-front.ensures c.customers-route.ensures in
+    record {
+      laws = law;
+      known = first_known law s c.args.view.now _ _ _ _ _ _ _ _ _ _ c.requires.view c.requires.possible
+          (swap_between law s.customers c.args.view.now.routes p.v c.args.place p.w c.args.at c.requires.possible c.requires.apart)
+          (three_parts _ _ _ _ _ _ front (one_of_old c.args.at _ _ _ c.part-there.ensures c.customers-other.ensures) (rest_of_old c.args.place _ _ _ f.place.low c.back_of-rest.ensures c.customers-route.ensures));
+      low = f.vehicle.low;
+      high = at_most_as _ _ _ c.requires.view.vehicles f.vehicle.high;
+      ahead = λ wide. kept_front s _ _ _ _ (c.args.place - 1) (kept.ahead wide) (before_within _ _ f.place.high) front;
+      behind = λ wide. kept_back s _ _ _ _ c.args.place (kept.behind wide) f.place.high (back_of_old _ _ _ _ c.back_of-rest.ensures c.customers-route.ensures);
+    }
 
-pub fits-requires-2-clause-known : goal.fits-requires-2-clause-known
-fits-requires-2-clause-known g c =
+pub fits-requires-2 : goal.fits-requires-2
+fits-requires-2 g c =
     let p = c.args.pair.now in
+    let s = setting c.args.setup.now in
     let law = c.requires.laws in
-    let f = (law.possible.swap (setting c.args.setup.now).customers c.args.view.now.routes p.v c.args.place p.w c.args.at).0 c.requires.possible in
-    let la = f.at.low in
-    let e1 : c.args.place + 1 - c.args.place ≡ 1 = omega arith in
-    let e4 : c.args.at - 1 + 1 ≡ c.args.at = omega arith in
-    second_known law (setting c.args.setup.now) c.args.view.now _ _ _ _ _ _ _ _ _ _ c.requires.view c.requires.possible
-    (swap_between law (setting c.args.setup.now).customers c.args.view.now.routes p.v c.args.place p.w c.args.at c.requires.possible c.requires.apart)
-    (rw (c.front_of-before.ensures, c.part-here.ensures, c.back_of-after.ensures, c.customers-route.ensures, c.customers-other.ensures, e1, e4) refl)
+    let f = (law.possible.swap s.customers c.args.view.now.routes p.v c.args.place p.w c.args.at).0 c.requires.possible in
+    let kept = kept_as _ _ _ _ _ _ c.w_kept.view_is c.requires.w_kept in
+    let before = front_of_old _ _ _ _ c.front_of-before.ensures c.customers-other.ensures in
+    record {
+      laws = law;
+      known = second_known law s c.args.view.now _ _ _ _ _ _ _ _ _ _ c.requires.view c.requires.possible
+          (swap_between law s.customers c.args.view.now.routes p.v c.args.place p.w c.args.at c.requires.possible c.requires.apart)
+          (three_parts _ _ _ _ _ _ before (one_of_old c.args.place _ _ _ c.part-here.ensures c.customers-route.ensures) (rest_of_old c.args.at _ _ _ f.at.low c.back_of-after.ensures c.customers-other.ensures));
+      low = f.other.low;
+      high = at_most_as _ _ _ c.requires.view.vehicles f.other.high;
+      ahead = λ wide. kept_front s _ _ _ _ (c.args.at - 1) (kept.ahead wide) (before_within _ _ f.at.high) before;
+      behind = λ wide. kept_back s _ _ _ _ c.args.at (kept.behind wide) f.at.high (back_of_old _ _ _ _ c.back_of-after.ensures c.customers-other.ensures);
+    }
 
 pub returns-then-not-fits : goal.returns-then-not-fits
 returns-then-not-fits g c =
     let p = c.args.pair.now in
+    let s = setting c.args.setup.now in
     let law = c.requires.laws in
-    let f = (law.possible.swap (setting c.args.setup.now).customers c.args.view.now.routes p.v c.args.place p.w c.args.at).0 c.requires.possible in
-    let lp = f.place.low in
-    let e2 : c.args.at + 1 - c.args.at ≡ 1 = omega arith in
-    let e3 : c.args.place - 1 + 1 ≡ c.args.place = omega arith in
-    first_misfits law (setting c.args.setup.now) c.args.view.now.routes _ _ _ _ _ _ _ _ _ _
-    (swap_between law (setting c.args.setup.now).customers c.args.view.now.routes p.v c.args.place p.w c.args.at c.requires.possible c.requires.apart)
-    (rw (c.front_of-front.ensures, c.part-there.ensures, c.back_of-rest.ensures, c.customers-route.ensures, c.customers-other.ensures, e2, e3) refl)
+    let f = (law.possible.swap s.customers c.args.view.now.routes p.v c.args.place p.w c.args.at).0 c.requires.possible in
+    let front = front_of_old _ _ _ _ c.front_of-front.ensures c.customers-route.ensures in
+    first_misfits law s c.args.view.now.routes _ _ _ _ _ _ _ _ _ _
+    (swap_between law s.customers c.args.view.now.routes p.v c.args.place p.w c.args.at c.requires.possible c.requires.apart)
+    (three_parts _ _ _ _ _ _ front (one_of_old c.args.at _ _ _ c.part-there.ensures c.customers-other.ensures) (rest_of_old c.args.place _ _ _ f.place.low c.back_of-rest.ensures c.customers-route.ensures))
     (λ all. false≢true (sym c.if-not-fits.true ∙ c.fits.ensures.1 all))
 
 pub returns : goal.returns
 returns g c =
     let p = c.args.pair.now in
+    let s = setting c.args.setup.now in
     let law = c.requires.laws in
-    let f = (law.possible.swap (setting c.args.setup.now).customers c.args.view.now.routes p.v c.args.place p.w c.args.at).0 c.requires.possible in
-    let lp = f.place.low in
-    let la = f.at.low in
-    let e1 : c.args.place + 1 - c.args.place ≡ 1 = omega arith in
-    let e2 : c.args.at + 1 - c.args.at ≡ 1 = omega arith in
-    let e3 : c.args.place - 1 + 1 ≡ c.args.place = omega arith in
-    let e4 : c.args.at - 1 + 1 ≡ c.args.at = omega arith in
-    fits_changed law (setting c.args.setup.now) c.args.view.now.routes _ _ _ _ _ _ _ _ _ _ _ _
-    (swap_between law (setting c.args.setup.now).customers c.args.view.now.routes p.v c.args.place p.w c.args.at c.requires.possible c.requires.apart)
-    (rw (c.front_of-front.ensures, c.part-there.ensures, c.back_of-rest.ensures, c.customers-route.ensures, c.customers-other.ensures, e2, e3) refl)
-    (rw (c.front_of-before.ensures, c.part-here.ensures, c.back_of-after.ensures, c.customers-route.ensures, c.customers-other.ensures, e1, e4) refl)
+    let f = (law.possible.swap s.customers c.args.view.now.routes p.v c.args.place p.w c.args.at).0 c.requires.possible in
+    let front = front_of_old _ _ _ _ c.front_of-front.ensures c.customers-route.ensures in
+    let before = front_of_old _ _ _ _ c.front_of-before.ensures c.customers-other.ensures in
+    fits_changed law s c.args.view.now.routes _ _ _ _ _ _ _ _ _ _ _ _
+    (swap_between law s.customers c.args.view.now.routes p.v c.args.place p.w c.args.at c.requires.possible c.requires.apart)
+    (three_parts _ _ _ _ _ _ front (one_of_old c.args.at _ _ _ c.part-there.ensures c.customers-other.ensures) (rest_of_old c.args.place _ _ _ f.place.low c.back_of-rest.ensures c.customers-route.ensures))
+    (three_parts _ _ _ _ _ _ before (one_of_old c.args.place _ _ _ c.part-here.ensures c.customers-route.ensures) (rest_of_old c.args.at _ _ _ f.at.low c.back_of-after.ensures c.customers-other.ensures))
     (c.fits.ensures.0 c.if-not-fits.false) c.fits-2.ensures
 
-pub fits-requires-clause-low : goal.fits-requires-clause-low
-fits-requires-clause-low g c =
+pub customers-route-requires : goal.customers-route-requires
+customers-route-requires g c =
     let p = c.args.pair.now in
     let f = (c.requires.laws.possible.swap (setting c.args.setup.now).customers c.args.view.now.routes p.v c.args.place p.w c.args.at).0 c.requires.possible in
-    f.vehicle.low
+    record { low = f.vehicle.low; high = f.vehicle.high }
 
-pub fits-requires-clause-high : goal.fits-requires-clause-high
-fits-requires-clause-high g c =
+pub customers-other-requires : goal.customers-other-requires
+customers-other-requires g c =
     let p = c.args.pair.now in
     let f = (c.requires.laws.possible.swap (setting c.args.setup.now).customers c.args.view.now.routes p.v c.args.place p.w c.args.at).0 c.requires.possible in
-    let high = f.vehicle.high in
-    let same = c.requires.view.vehicles in
-    omega arith
+    record { low = f.other.low; high = f.other.high }
 
-pub fits-requires-2-clause-low : goal.fits-requires-2-clause-low
-fits-requires-2-clause-low g c =
+pub front_of-front-requires : goal.front_of-front-requires
+front_of-front-requires g c =
     let p = c.args.pair.now in
     let f = (c.requires.laws.possible.swap (setting c.args.setup.now).customers c.args.view.now.routes p.v c.args.place p.w c.args.at).0 c.requires.possible in
-    f.other.low
+    record { low = f.place.low; high = no_later _ _ _ c.customers-route.ensures f.place.high }
 
-pub fits-requires-2-clause-high : goal.fits-requires-2-clause-high
-fits-requires-2-clause-high g c =
+pub front_of-before-requires : goal.front_of-before-requires
+front_of-before-requires g c =
     let p = c.args.pair.now in
     let f = (c.requires.laws.possible.swap (setting c.args.setup.now).customers c.args.view.now.routes p.v c.args.place p.w c.args.at).0 c.requires.possible in
-    let high = f.other.high in
-    let same = c.requires.view.vehicles in
-    omega arith
+    record { low = f.at.low; high = no_later _ _ _ c.customers-other.ensures f.at.high }
 
-pub fits-requires-clause-ahead : goal.fits-requires-clause-ahead
-fits-requires-clause-ahead g c =
+pub part-here-requires : goal.part-here-requires
+part-here-requires g c =
     let p = c.args.pair.now in
     let f = (c.requires.laws.possible.swap (setting c.args.setup.now).customers c.args.view.now.routes p.v c.args.place p.w c.args.at).0 c.requires.possible in
-    let low = f.place.low in
-    let high = f.place.high in
-    let at = f.at.low in
-    let end = f.at.high in
-    λ wide. kept_front (setting c.args.setup.now) _ _ _ _ (c.args.place - 1) ((kept_as _ _ _ _ _ _ c.v_kept.view_is c.requires.v_kept).ahead wide) (omega arith) (c.front_of-front.ensures ∙ ap (λ (xs : List ℕ). take (c.args.place - 1) xs) c.customers-route.ensures)
+    record { low = f.place.low; order = below_next _; high = next_within _ _ _ c.customers-route.ensures f.place.high }
 
-pub fits-requires-clause-behind : goal.fits-requires-clause-behind
-fits-requires-clause-behind g c =
+pub part-there-requires : goal.part-there-requires
+part-there-requires g c =
     let p = c.args.pair.now in
     let f = (c.requires.laws.possible.swap (setting c.args.setup.now).customers c.args.view.now.routes p.v c.args.place p.w c.args.at).0 c.requires.possible in
-    let low = f.place.low in
-    let high = f.place.high in
-    let at = f.at.low in
-    let end = f.at.high in
-    λ wide. kept_back (setting c.args.setup.now) _ _ _ _ (c.args.place) ((kept_as _ _ _ _ _ _ c.v_kept.view_is c.requires.v_kept).behind wide) (omega arith) (c.back_of-rest.ensures ∙ ap (λ (xs : List ℕ). drop (c.args.place) xs) c.customers-route.ensures)
-
-pub fits-requires-2-clause-ahead : goal.fits-requires-2-clause-ahead
-fits-requires-2-clause-ahead g c =
-    let p = c.args.pair.now in
-    let f = (c.requires.laws.possible.swap (setting c.args.setup.now).customers c.args.view.now.routes p.v c.args.place p.w c.args.at).0 c.requires.possible in
-    let low = f.place.low in
-    let high = f.place.high in
-    let at = f.at.low in
-    let end = f.at.high in
-    λ wide. kept_front (setting c.args.setup.now) _ _ _ _ (c.args.at - 1) ((kept_as _ _ _ _ _ _ c.w_kept.view_is c.requires.w_kept).ahead wide) (omega arith) (c.front_of-before.ensures ∙ ap (λ (xs : List ℕ). take (c.args.at - 1) xs) c.customers-other.ensures)
-
-pub fits-requires-2-clause-behind : goal.fits-requires-2-clause-behind
-fits-requires-2-clause-behind g c =
-    let p = c.args.pair.now in
-    let f = (c.requires.laws.possible.swap (setting c.args.setup.now).customers c.args.view.now.routes p.v c.args.place p.w c.args.at).0 c.requires.possible in
-    let low = f.place.low in
-    let high = f.place.high in
-    let at = f.at.low in
-    let end = f.at.high in
-    λ wide. kept_back (setting c.args.setup.now) _ _ _ _ (c.args.at) ((kept_as _ _ _ _ _ _ c.w_kept.view_is c.requires.w_kept).behind wide) (omega arith) (c.back_of-after.ensures ∙ ap (λ (xs : List ℕ). drop (c.args.at) xs) c.customers-other.ensures)
-
-pub customers-route-requires-clause-low : goal.customers-route-requires-clause-low
-customers-route-requires-clause-low g c =
-    let p = c.args.pair.now in
-    let f = (c.requires.laws.possible.swap (setting c.args.setup.now).customers c.args.view.now.routes p.v c.args.place p.w c.args.at).0 c.requires.possible in
-    f.vehicle.low
-
-pub customers-route-requires-clause-high : goal.customers-route-requires-clause-high
-customers-route-requires-clause-high g c =
-    let p = c.args.pair.now in
-    let f = (c.requires.laws.possible.swap (setting c.args.setup.now).customers c.args.view.now.routes p.v c.args.place p.w c.args.at).0 c.requires.possible in
-    f.vehicle.high
-
-pub front_of-front-requires-clause-low : goal.front_of-front-requires-clause-low
-front_of-front-requires-clause-low g c =
-    let p = c.args.pair.now in
-    let f = (c.requires.laws.possible.swap (setting c.args.setup.now).customers c.args.view.now.routes p.v c.args.place p.w c.args.at).0 c.requires.possible in
-    f.place.low
-
-pub front_of-front-requires-clause-high : goal.front_of-front-requires-clause-high
-front_of-front-requires-clause-high g c =
-    let p = c.args.pair.now in
-    let f = (c.requires.laws.possible.swap (setting c.args.setup.now).customers c.args.view.now.routes p.v c.args.place p.w c.args.at).0 c.requires.possible in
-    let low = f.place.low in
-    let high = f.place.high in
-    let long = ap length c.customers-route.ensures in
-    omega arith
-
-pub part-here-requires-clause-low : goal.part-here-requires-clause-low
-part-here-requires-clause-low g c =
-    let p = c.args.pair.now in
-    let f = (c.requires.laws.possible.swap (setting c.args.setup.now).customers c.args.view.now.routes p.v c.args.place p.w c.args.at).0 c.requires.possible in
-    f.place.low
-
-pub part-here-requires-clause-order : goal.part-here-requires-clause-order
-part-here-requires-clause-order g c =
-    omega arith
-
-pub part-here-requires-clause-high : goal.part-here-requires-clause-high
-part-here-requires-clause-high g c =
-    let p = c.args.pair.now in
-    let f = (c.requires.laws.possible.swap (setting c.args.setup.now).customers c.args.view.now.routes p.v c.args.place p.w c.args.at).0 c.requires.possible in
-    let low = f.place.low in
-    let high = f.place.high in
-    let long = ap length c.customers-route.ensures in
-    omega arith
+    record { low = f.at.low; order = below_next _; high = next_within _ _ _ c.customers-other.ensures f.at.high }
 
 pub back_of-rest-requires : goal.back_of-rest-requires
 back_of-rest-requires g c =
     let p = c.args.pair.now in
     let f = (c.requires.laws.possible.swap (setting c.args.setup.now).customers c.args.view.now.routes p.v c.args.place p.w c.args.at).0 c.requires.possible in
-    let low = f.place.low in
-    let high = f.place.high in
-    let long = ap length c.customers-route.ensures in
-    omega arith
-
-pub customers-other-requires-clause-low : goal.customers-other-requires-clause-low
-customers-other-requires-clause-low g c =
-    let p = c.args.pair.now in
-    let f = (c.requires.laws.possible.swap (setting c.args.setup.now).customers c.args.view.now.routes p.v c.args.place p.w c.args.at).0 c.requires.possible in
-    f.other.low
-
-pub customers-other-requires-clause-high : goal.customers-other-requires-clause-high
-customers-other-requires-clause-high g c =
-    let p = c.args.pair.now in
-    let f = (c.requires.laws.possible.swap (setting c.args.setup.now).customers c.args.view.now.routes p.v c.args.place p.w c.args.at).0 c.requires.possible in
-    f.other.high
-
-pub front_of-before-requires-clause-low : goal.front_of-before-requires-clause-low
-front_of-before-requires-clause-low g c =
-    let p = c.args.pair.now in
-    let f = (c.requires.laws.possible.swap (setting c.args.setup.now).customers c.args.view.now.routes p.v c.args.place p.w c.args.at).0 c.requires.possible in
-    f.at.low
-
-pub front_of-before-requires-clause-high : goal.front_of-before-requires-clause-high
-front_of-before-requires-clause-high g c =
-    let p = c.args.pair.now in
-    let f = (c.requires.laws.possible.swap (setting c.args.setup.now).customers c.args.view.now.routes p.v c.args.place p.w c.args.at).0 c.requires.possible in
-    let at = f.at.low in
-    let end = f.at.high in
-    let wide = ap length c.customers-other.ensures in
-    omega arith
-
-pub part-there-requires-clause-low : goal.part-there-requires-clause-low
-part-there-requires-clause-low g c =
-    let p = c.args.pair.now in
-    let f = (c.requires.laws.possible.swap (setting c.args.setup.now).customers c.args.view.now.routes p.v c.args.place p.w c.args.at).0 c.requires.possible in
-    f.at.low
-
-pub part-there-requires-clause-order : goal.part-there-requires-clause-order
-part-there-requires-clause-order g c =
-    omega arith
-
-pub part-there-requires-clause-high : goal.part-there-requires-clause-high
-part-there-requires-clause-high g c =
-    let p = c.args.pair.now in
-    let f = (c.requires.laws.possible.swap (setting c.args.setup.now).customers c.args.view.now.routes p.v c.args.place p.w c.args.at).0 c.requires.possible in
-    let at = f.at.low in
-    let end = f.at.high in
-    let wide = ap length c.customers-other.ensures in
-    omega arith
+    as_long _ _ _ c.customers-route.ensures f.place.high
 
 pub back_of-after-requires : goal.back_of-after-requires
 back_of-after-requires g c =
     let p = c.args.pair.now in
     let f = (c.requires.laws.possible.swap (setting c.args.setup.now).customers c.args.view.now.routes p.v c.args.place p.w c.args.at).0 c.requires.possible in
-    let at = f.at.low in
-    let end = f.at.high in
-    let wide = ap length c.customers-other.ensures in
-    omega arith
+    as_long _ _ _ c.customers-other.ensures f.at.high
 
 pub overflow_add-at : goal.overflow_add-at
 overflow_add-at g c =

@@ -44,44 +44,74 @@ returns g c =
     (append_assoc (p.front.now ++ way_of p.turned p.first.now) p.second.now p.third.now ∙ append_assoc p.front.now (way_of p.turned p.first.now) (p.second.now ++ p.third.now))
     s3.0 s3.1 (after_at _ _ _ _ _ _ _ _ _ c.after.ensures.span c.id.ensures c.ask-way.ensures.answer)
 
-pub carry_way-requires-clause-known : goal.carry_way-requires-clause-known
-carry_way-requires-clause-known g c =
+pub carry_way-requires : goal.carry_way-requires
+carry_way-requires g c =
     let p = c.args.parts.now in
-    all_way c.requires.laws (λ n. n < length c.args.dimension.now.ranges) p.turned p.first.now
-    (all_left c.requires.laws (λ n. n < length c.args.dimension.now.ranges) (way_of p.turned p.first.now) (p.second.now ++ p.third.now)
-    (all_right c.requires.laws (λ n. n < length c.args.dimension.now.ranges) p.front.now (way_of p.turned p.first.now ++ (p.second.now ++ p.third.now)) c.requires.known))
+    let some = c.nodes-nodes.ensures.low in
+    let nodes = c.nodes-nodes.ensures.value in
+    let last = last_known (λ n. n < length c.args.dimension.now.ranges) 0 p.front.now (omega arith)
+    (all_left c.requires.laws (λ n. n < length c.args.dimension.now.ranges) p.front.now (way_of p.turned p.first.now ++ (p.second.now ++ p.third.now)) c.requires.known) in
+    record {
+      laws = c.requires.laws;
+      served = c.requires.served;
+      filled = c.requires.here.filled;
+      small = c.spans_are_small.ensures _ _ _ _ c.requires.here last;
+      from = subst (λ (n : ℕ). n < length c.args.dimension.now.ranges) (sym c.last_stop-from.ensures) last;
+      known =
+          all_way c.requires.laws (λ n. n < length c.args.dimension.now.ranges) p.turned p.first.now
+          (all_left c.requires.laws (λ n. n < length c.args.dimension.now.ranges) (way_of p.turned p.first.now) (p.second.now ++ p.third.now)
+          (all_right c.requires.laws (λ n. n < length c.args.dimension.now.ranges) p.front.now (way_of p.turned p.first.now ++ (p.second.now ++ p.third.now)) c.requires.known));
+      low = c.requires.low;
+      high = c.requires.high;
+    }
 
-pub carry_on-requires-clause-known : goal.carry_on-requires-clause-known
-carry_on-requires-clause-known g c =
+pub carry_on-requires : goal.carry_on-requires
+carry_on-requires g c =
     let p = c.args.parts.now in
-    all_left c.requires.laws (λ n. n < length c.args.dimension.now.ranges) p.second.now p.third.now
-    (all_right c.requires.laws (λ n. n < length c.args.dimension.now.ranges) (way_of p.turned p.first.now) (p.second.now ++ p.third.now)
-    (all_right c.requires.laws (λ n. n < length c.args.dimension.now.ranges) p.front.now (way_of p.turned p.first.now ++ (p.second.now ++ p.third.now)) c.requires.known))
+    record {
+      laws = c.requires.laws;
+      served = c.requires.served;
+      filled = c.in_ok-range.ensures.filled;
+      small = c.in_ok-range.ensures.small;
+      from = c.in_ok-range.ensures.known;
+      known =
+          all_left c.requires.laws (λ n. n < length c.args.dimension.now.ranges) p.second.now p.third.now
+          (all_right c.requires.laws (λ n. n < length c.args.dimension.now.ranges) (way_of p.turned p.first.now) (p.second.now ++ p.third.now)
+          (all_right c.requires.laws (λ n. n < length c.args.dimension.now.ranges) p.front.now (way_of p.turned p.first.now ++ (p.second.now ++ p.third.now)) c.requires.known));
+      low = c.requires.low;
+      high = c.requires.high;
+    }
 
-pub carry_on-requires-2-clause-known : goal.carry_on-requires-2-clause-known
-carry_on-requires-2-clause-known g c =
+pub carry_on-requires-2 : goal.carry_on-requires-2
+carry_on-requires-2 g c =
     let p = c.args.parts.now in
-    all_right c.requires.laws (λ n. n < length c.args.dimension.now.ranges) p.second.now p.third.now
-    (all_right c.requires.laws (λ n. n < length c.args.dimension.now.ranges) (way_of p.turned p.first.now) (p.second.now ++ p.third.now)
-    (all_right c.requires.laws (λ n. n < length c.args.dimension.now.ranges) p.front.now (way_of p.turned p.first.now ++ (p.second.now ++ p.third.now)) c.requires.known))
+    record {
+      laws = c.requires.laws;
+      served = c.requires.served;
+      filled = c.in_ok-range-2.ensures.filled;
+      small = c.in_ok-range-2.ensures.small;
+      from = c.in_ok-range-2.ensures.known;
+      known =
+          all_right c.requires.laws (λ n. n < length c.args.dimension.now.ranges) p.second.now p.third.now
+          (all_right c.requires.laws (λ n. n < length c.args.dimension.now.ranges) (way_of p.turned p.first.now) (p.second.now ++ p.third.now)
+          (all_right c.requires.laws (λ n. n < length c.args.dimension.now.ranges) p.front.now (way_of p.turned p.first.now ++ (p.second.now ++ p.third.now)) c.requires.known));
+      low = c.requires.low;
+      high = c.requires.high;
+    }
 
-pub carry_way-requires-clause-from : goal.carry_way-requires-clause-from
-carry_way-requires-clause-from g c =
-    let p = c.args.parts.now in
-    let nodes = c.nodes-nodes.ensures.low in
-    let is = c.nodes-nodes.ensures.value in
-    subst (λ (n : ℕ). n < length c.args.dimension.now.ranges) (sym c.last_stop-from.ensures)
-    (last_known (λ n. n < length c.args.dimension.now.ranges) 0 p.front.now (omega arith)
-    (all_left c.requires.laws (λ n. n < length c.args.dimension.now.ranges) p.front.now (way_of p.turned p.first.now ++ (p.second.now ++ p.third.now)) c.requires.known))
+pub ask-way-requires : goal.ask-way-requires
+ask-way-requires g c = record {
+  registered = rw c.id.ensures c.requires.served.registered;
+  from = rw c.requires.served.sized c.in_ok-range-3.ensures.known;
+  to = rw c.requires.served.sized c.requires.next;
+}
 
-pub carry_way-requires-clause-small : goal.carry_way-requires-clause-small
-carry_way-requires-clause-small g c =
-    let p = c.args.parts.now in
-    let nodes = c.nodes-nodes.ensures.low in
-    let is = c.nodes-nodes.ensures.value in
-    c.spans_are_small.ensures _ _ _ _ c.requires.here
-    (last_known (λ n. n < length c.args.dimension.now.ranges) 0 p.front.now (omega arith)
-    (all_left c.requires.laws (λ n. n < length c.args.dimension.now.ranges) p.front.now (way_of p.turned p.first.now ++ (p.second.now ++ p.third.now)) c.requires.known))
-
-pub carry_way-requires-clause-filled : goal.carry_way-requires-clause-filled
-carry_way-requires-clause-filled g c = c.requires.here.filled
+pub after-requires : goal.after-requires
+after-requires g c = record {
+  filled = c.in_ok-range-3.ensures.filled;
+  range = c.in_ok-range-3.ensures.small;
+  way = c.ask-way.ensures.small;
+  to = c.requires.next;
+  low = c.requires.low;
+  high = c.requires.high;
+}

@@ -1,13 +1,44 @@
 use Rattle.std.proofs.Common.{arith}
-use Rattle.move_judge.proofs.Carried.{after_at, carry_more, carry_last, carry_none, carry_end}
+use Rattle.move_judge.proofs.Carried.{after_at, append_nil, carry_more, carry_last, carry_none, carry_end}
+use Rattle.move_judge.proofs.Places.{nearer_end}
 use Rattle.move_judge.proofs.fits.carry_on.Goals as goal
 
-pub returns-in_err-range-clause-span : goal.returns-in_err-range-clause-span
-returns-in_err-range-clause-span g c = λ done s e.
-    let i = c.loop-node.invariant.span done s e in
-    let n = after_at _ _ _ _ _ _ _ _ _ c.in_err-range.ensures.span c.id.ensures c.ask-way.ensures.answer in
-    rw c.from_residual.ensures
-    (carry_none c.requires.laws _ _ _ done c.args.nodes.now _ (carry_more c.requires.laws _ _ _ done c.args.nodes.now c.loop-node.node-index _ _ _ c.loop-node-test.true i.0 i.1 n))
+pub loop-node-init : goal.loop-node-init
+loop-node-init g c = record {
+  span = λ done s e. rw (append_nil c.requires.laws done) (s, e);
+  known = c.requires.from;
+  filled = c.requires.filled;
+  small = c.requires.small;
+}
+
+pub ask-way-requires : goal.ask-way-requires
+ask-way-requires g c = record {
+  registered = rw c.id.ensures c.requires.served.registered;
+  from = rw c.requires.served.sized c.loop-node.invariant.known;
+  to = rw c.requires.served.sized (c.requires.known c.loop-node.node-index 0 c.loop-node-test.true);
+}
+
+pub after-requires : goal.after-requires
+after-requires g c = record {
+  filled = c.loop-node.invariant.filled;
+  range = c.loop-node.invariant.small;
+  way = c.ask-way.ensures.small;
+  to = c.requires.known c.loop-node.node-index 0 c.loop-node-test.true;
+  low = c.requires.low;
+  high = c.requires.high;
+}
+
+pub returns-in_err-range : goal.returns-in_err-range
+returns-in_err-range g c = record {
+  span = λ done s e.
+      let i = c.loop-node.invariant.span done s e in
+      let n = after_at _ _ _ _ _ _ _ _ _ c.in_err-range.ensures.span c.id.ensures c.ask-way.ensures.answer in
+      rw c.from_residual.ensures
+      (carry_none c.requires.laws _ _ _ done c.args.nodes.now _ (carry_more c.requires.laws _ _ _ done c.args.nodes.now c.loop-node.node-index _ _ _ c.loop-node-test.true i.0 i.1 n));
+  filled = rw c.from_residual.ensures tt;
+  small = rw c.from_residual.ensures tt;
+  known = rw c.from_residual.ensures tt;
+}
 
 pub loop-node-preserved : goal.loop-node-preserved
 loop-node-preserved g c = record {
@@ -22,8 +53,19 @@ loop-node-preserved g c = record {
   small = c.in_ok-range.ensures.small;
 }
 
-pub returns-clause-span : goal.returns-clause-span
-returns-clause-span g c = λ done s e.
-    let i = c.loop-node.invariant.span done s e in
-    let t = c.loop-node-test.false in
-    carry_end c.requires.laws done c.args.nodes.now c.loop-node.node-index (omega arith) _ _ _ _ _ i.0 i.1
+pub returns : goal.returns
+returns g c = record {
+  span = λ done s e.
+      let i = c.loop-node.invariant.span done s e in
+      let t = c.loop-node-test.false in
+      carry_end c.requires.laws done c.args.nodes.now c.loop-node.node-index (omega arith) _ _ _ _ _ i.0 i.1;
+  filled = c.loop-node.invariant.filled;
+  small = c.loop-node.invariant.small;
+  known = c.loop-node.invariant.known;
+}
+
+pub bounds-nodes-node-index : goal.bounds-nodes-node-index
+bounds-nodes-node-index g c = c.loop-node-test.true
+
+pub loop-node-smaller : goal.loop-node-smaller
+loop-node-smaller g c = nearer_end _ _ c.loop-node-test.true

@@ -6,14 +6,25 @@ use Rattle.move_judge.specs.Parts.{route_of}
 use Rattle.move_judge.proofs.Meeting.{no_ahead}
 use Rattle.move_judge.proofs.fits.comes_home.Goals as goal
 
+pub start-requires : goal.start-requires
+start-requires g c = record { low = c.requires.low; high = c.requires.high }
+
+pub homecoming-home-requires : goal.homecoming-home-requires
+homecoming-home-requires g c = record {
+  laws = c.requires.laws;
+  served = c.requires.served;
+  here = c.requires.laws.spans.start (table_of (tables c.args.registry.now) c.args.dimension.now) c.args.dimension.now c.args.vehicle _ c.in-Some.ensures.span;
+  small = c.in-Some.ensures.small;
+  known = c.requires.known;
+  low = c.requires.low;
+  high = c.requires.high;
+}
+
 pub returns-in-None : goal.returns-in-None
 returns-in-None g c = let p = c.args.parts.now in (
   λ never. absurd (false≢true never),
   λ inside. absurd (no_ahead c.requires.laws (table_of (tables c.args.registry.now) c.args.dimension.now) c.args.dimension.now c.args.vehicle [] (route_of p) c.requires.some (c.requires.laws.spans.start (table_of (tables c.args.registry.now) c.args.dimension.now) c.args.dimension.now c.args.vehicle _ c.in-None.ensures.span) inside),
 )
-
-pub homecoming-home-requires-clause-here : goal.homecoming-home-requires-clause-here
-homecoming-home-requires-clause-here g c = c.requires.laws.spans.start (table_of (tables c.args.registry.now) c.args.dimension.now) c.args.dimension.now c.args.vehicle _ c.in-Some.ensures.span
 
 pub returns-in-Some : goal.returns-in-Some
 returns-in-Some g c =

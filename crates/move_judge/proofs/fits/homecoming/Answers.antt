@@ -1,4 +1,4 @@
-use Rattle.std.proofs.Common.{[], append_assoc, ◌++◌, ◌∙◌, ◌<◌, refl, length}
+use Rattle.std.proofs.Common.{arith, [], append_assoc, ◌++◌, ◌∙◌, ◌<◌, refl, length}
 use Rattle.move_judge.specs.Parts.{way_of}
 use Rattle.move_judge.proofs.Carried.{after_at, append_nil, stop_none, stop_found, all_left, all_right, all_way}
 use Rattle.move_judge.proofs.fits.homecoming.Goals as goal
@@ -58,31 +58,101 @@ returns g c =
     let s4 = c.in_ok-range-5.ensures.span (((p.front.now ++ way_of p.turned p.first.now) ++ p.second.now) ++ p.third.now) s3.0 s3.1 in
     stop_found law _ _ _ _ _ _ _ _ _ (append_assoc ((p.front.now ++ way_of p.turned p.first.now) ++ p.second.now) p.third.now p.back.now ∙ append_assoc (p.front.now ++ way_of p.turned p.first.now) p.second.now (p.third.now ++ p.back.now) ∙ append_assoc p.front.now (way_of p.turned p.first.now) (p.second.now ++ (p.third.now ++ p.back.now))) s4.0 s4.1 (after_at _ _ _ _ _ _ _ _ _ c.after.ensures.span c.id.ensures c.ask-way.ensures.answer)
 
-pub carry_on-requires-clause-known : goal.carry_on-requires-clause-known
-carry_on-requires-clause-known g c =
+pub carry_on-requires : goal.carry_on-requires
+carry_on-requires g c =
     let p = c.args.parts.now in
-    all_left c.requires.laws (λ n. n < length c.args.dimension.now.ranges) p.front.now (way_of p.turned p.first.now ++ (p.second.now ++ (p.third.now ++ p.back.now))) c.requires.known
+    record {
+      laws = c.requires.laws;
+      served = c.requires.served;
+      filled = c.requires.here.filled;
+      small = c.requires.small;
+      from = let low = c.nodes-nodes.ensures.low in let same = c.nodes-nodes.ensures.value in omega arith;
+      known =
+          all_left c.requires.laws (λ n. n < length c.args.dimension.now.ranges) p.front.now (way_of p.turned p.first.now ++ (p.second.now ++ (p.third.now ++ p.back.now))) c.requires.known;
+      low = c.requires.low;
+      high = c.requires.high;
+    }
 
-pub carry_way-requires-clause-known : goal.carry_way-requires-clause-known
-carry_way-requires-clause-known g c =
+pub carry_way-requires : goal.carry_way-requires
+carry_way-requires g c =
     let p = c.args.parts.now in
-    all_way c.requires.laws (λ n. n < length c.args.dimension.now.ranges) p.turned p.first.now
-    (all_left c.requires.laws (λ n. n < length c.args.dimension.now.ranges) (way_of p.turned p.first.now) (p.second.now ++ (p.third.now ++ p.back.now)) (all_right c.requires.laws (λ n. n < length c.args.dimension.now.ranges) p.front.now (way_of p.turned p.first.now ++ (p.second.now ++ (p.third.now ++ p.back.now))) c.requires.known))
+    record {
+      laws = c.requires.laws;
+      served = c.requires.served;
+      filled = c.in_ok-range.ensures.filled;
+      small = c.in_ok-range.ensures.small;
+      from = c.in_ok-range.ensures.known;
+      known =
+          all_way c.requires.laws (λ n. n < length c.args.dimension.now.ranges) p.turned p.first.now
+          (all_left c.requires.laws (λ n. n < length c.args.dimension.now.ranges) (way_of p.turned p.first.now) (p.second.now ++ (p.third.now ++ p.back.now)) (all_right c.requires.laws (λ n. n < length c.args.dimension.now.ranges) p.front.now (way_of p.turned p.first.now ++ (p.second.now ++ (p.third.now ++ p.back.now))) c.requires.known));
+      low = c.requires.low;
+      high = c.requires.high;
+    }
 
-pub carry_on-requires-2-clause-known : goal.carry_on-requires-2-clause-known
-carry_on-requires-2-clause-known g c =
+pub carry_on-requires-2 : goal.carry_on-requires-2
+carry_on-requires-2 g c =
     let p = c.args.parts.now in
-    all_left c.requires.laws (λ n. n < length c.args.dimension.now.ranges) p.second.now (p.third.now ++ p.back.now) (all_right c.requires.laws (λ n. n < length c.args.dimension.now.ranges) (way_of p.turned p.first.now) (p.second.now ++ (p.third.now ++ p.back.now)) (all_right c.requires.laws (λ n. n < length c.args.dimension.now.ranges) p.front.now (way_of p.turned p.first.now ++ (p.second.now ++ (p.third.now ++ p.back.now))) c.requires.known))
+    record {
+      laws = c.requires.laws;
+      served = c.requires.served;
+      filled = c.in_ok-range-2.ensures.filled;
+      small = c.in_ok-range-2.ensures.small;
+      from = c.in_ok-range-2.ensures.known;
+      known =
+          all_left c.requires.laws (λ n. n < length c.args.dimension.now.ranges) p.second.now (p.third.now ++ p.back.now) (all_right c.requires.laws (λ n. n < length c.args.dimension.now.ranges) (way_of p.turned p.first.now) (p.second.now ++ (p.third.now ++ p.back.now)) (all_right c.requires.laws (λ n. n < length c.args.dimension.now.ranges) p.front.now (way_of p.turned p.first.now ++ (p.second.now ++ (p.third.now ++ p.back.now))) c.requires.known));
+      low = c.requires.low;
+      high = c.requires.high;
+    }
 
-pub carry_on-requires-3-clause-known : goal.carry_on-requires-3-clause-known
-carry_on-requires-3-clause-known g c =
+pub carry_on-requires-3 : goal.carry_on-requires-3
+carry_on-requires-3 g c =
     let p = c.args.parts.now in
-    all_left c.requires.laws (λ n. n < length c.args.dimension.now.ranges) p.third.now p.back.now (all_right c.requires.laws (λ n. n < length c.args.dimension.now.ranges) p.second.now (p.third.now ++ p.back.now) (all_right c.requires.laws (λ n. n < length c.args.dimension.now.ranges) (way_of p.turned p.first.now) (p.second.now ++ (p.third.now ++ p.back.now)) (all_right c.requires.laws (λ n. n < length c.args.dimension.now.ranges) p.front.now (way_of p.turned p.first.now ++ (p.second.now ++ (p.third.now ++ p.back.now))) c.requires.known)))
+    record {
+      laws = c.requires.laws;
+      served = c.requires.served;
+      filled = c.in_ok-range-3.ensures.filled;
+      small = c.in_ok-range-3.ensures.small;
+      from = c.in_ok-range-3.ensures.known;
+      known =
+          all_left c.requires.laws (λ n. n < length c.args.dimension.now.ranges) p.third.now p.back.now (all_right c.requires.laws (λ n. n < length c.args.dimension.now.ranges) p.second.now (p.third.now ++ p.back.now) (all_right c.requires.laws (λ n. n < length c.args.dimension.now.ranges) (way_of p.turned p.first.now) (p.second.now ++ (p.third.now ++ p.back.now)) (all_right c.requires.laws (λ n. n < length c.args.dimension.now.ranges) p.front.now (way_of p.turned p.first.now ++ (p.second.now ++ (p.third.now ++ p.back.now))) c.requires.known)));
+      low = c.requires.low;
+      high = c.requires.high;
+    }
 
-pub carry_on-requires-4-clause-known : goal.carry_on-requires-4-clause-known
-carry_on-requires-4-clause-known g c =
+pub carry_on-requires-4 : goal.carry_on-requires-4
+carry_on-requires-4 g c =
     let p = c.args.parts.now in
-    all_right c.requires.laws (λ n. n < length c.args.dimension.now.ranges) p.third.now p.back.now (all_right c.requires.laws (λ n. n < length c.args.dimension.now.ranges) p.second.now (p.third.now ++ p.back.now) (all_right c.requires.laws (λ n. n < length c.args.dimension.now.ranges) (way_of p.turned p.first.now) (p.second.now ++ (p.third.now ++ p.back.now)) (all_right c.requires.laws (λ n. n < length c.args.dimension.now.ranges) p.front.now (way_of p.turned p.first.now ++ (p.second.now ++ (p.third.now ++ p.back.now))) c.requires.known)))
+    record {
+      laws = c.requires.laws;
+      served = c.requires.served;
+      filled = c.in_ok-range-4.ensures.filled;
+      small = c.in_ok-range-4.ensures.small;
+      from = c.in_ok-range-4.ensures.known;
+      known =
+          all_right c.requires.laws (λ n. n < length c.args.dimension.now.ranges) p.third.now p.back.now (all_right c.requires.laws (λ n. n < length c.args.dimension.now.ranges) p.second.now (p.third.now ++ p.back.now) (all_right c.requires.laws (λ n. n < length c.args.dimension.now.ranges) (way_of p.turned p.first.now) (p.second.now ++ (p.third.now ++ p.back.now)) (all_right c.requires.laws (λ n. n < length c.args.dimension.now.ranges) p.front.now (way_of p.turned p.first.now ++ (p.second.now ++ (p.third.now ++ p.back.now))) c.requires.known)));
+      low = c.requires.low;
+      high = c.requires.high;
+    }
 
-pub carry_on-requires-clause-filled : goal.carry_on-requires-clause-filled
-carry_on-requires-clause-filled g c = c.requires.here.filled
+pub ask-way-requires : goal.ask-way-requires
+ask-way-requires g c =
+    let low = c.nodes-nodes.ensures.low in
+    let same = c.nodes-nodes.ensures.value in
+    record {
+      registered = rw c.id.ensures c.requires.served.registered;
+      from = rw c.requires.served.sized c.in_ok-range-5.ensures.known;
+      to = rw c.requires.served.sized (omega arith);
+    }
+
+pub after-requires : goal.after-requires
+after-requires g c =
+    let low = c.nodes-nodes.ensures.low in
+    let same = c.nodes-nodes.ensures.value in
+    record {
+      filled = c.in_ok-range-5.ensures.filled;
+      range = c.in_ok-range-5.ensures.small;
+      way = c.ask-way.ensures.small;
+      to = omega arith;
+      low = c.requires.low;
+      high = c.requires.high;
+    }

@@ -5,22 +5,23 @@ use Rattle.move_judge.proofs.Carried.{all_left, all_right}
 use Rattle.move_judge.proofs.Meeting.{five_parts, next_known, no_arrival, meeting}
 use Rattle.move_judge.proofs.fits.joins.Goals as goal
 
-pub arrival-requires-clause-known : goal.arrival-requires-clause-known
-arrival-requires-clause-known g c =
+pub arrival-requires : goal.arrival-requires
+arrival-requires g c =
     let p = c.args.parts.now in
     let whole = five_parts p.front.now (way_of p.turned p.first.now) p.second.now p.third.now p.back.now in
-    all_left c.requires.laws (λ n. n < length c.args.dimension.now.ranges) (begun_of p) p.back.now
-    (subst (λ (xs : List ℕ). All (λ n. n < length c.args.dimension.now.ranges) xs) (sym whole) c.requires.known)
-
-pub arrival-requires-clause-next : goal.arrival-requires-clause-next
-arrival-requires-clause-next g c =
-    let p = c.args.parts.now in
-    let whole = five_parts p.front.now (way_of p.turned p.first.now) p.second.now p.third.now p.back.now in
-    let all = all_right c.requires.laws (λ n. n < length c.args.dimension.now.ranges) (begun_of p) p.back.now
-    (subst (λ (xs : List ℕ). All (λ n. n < length c.args.dimension.now.ranges) xs) (sym whole) c.requires.known) in
+    let all = subst (λ (xs : List ℕ). All (λ n. n < length c.args.dimension.now.ranges) xs) (sym whole) c.requires.known in
+    let last = all_right c.requires.laws (λ n. n < length c.args.dimension.now.ranges) (begun_of p) p.back.now all in
     let nodes = c.nodes-nodes.ensures.low in
     let is = c.nodes-nodes.ensures.value in
-    next_known (λ n. n < length c.args.dimension.now.ranges) p.back.now c.next_stop-next.result c.next_stop-next.ensures.0 c.next_stop-next.ensures.1 (omega arith) (λ k h. all k 0 h)
+    record {
+      laws = c.requires.laws;
+      served = c.requires.served;
+      here = c.requires.here;
+      known = all_left c.requires.laws (λ n. n < length c.args.dimension.now.ranges) (begun_of p) p.back.now all;
+      next = next_known (λ n. n < length c.args.dimension.now.ranges) p.back.now c.next_stop-next.result c.next_stop-next.ensures.0 c.next_stop-next.ensures.1 (omega arith) (λ k h. last k 0 h);
+      low = c.requires.low;
+      high = c.requires.high;
+    }
 
 pub returns-in-None : goal.returns-in-None
 returns-in-None g c =

@@ -18,5 +18,17 @@ returns-in-None-behind g c =
       λ inside. absurd (no_behind c.requires.laws _ _ _ _ p.back.now _ whole c.requires.some (rw c.in-None-behind.is at c.requires.behind) inside),
     )
 
-pub joins-requires-clause-there : goal.joins-requires-clause-there
-joins-requires-clause-there g c = rw c.in-Some-behind.is at c.requires.behind
+pub joins-requires : goal.joins-requires
+joins-requires g c = record {
+  laws = c.requires.laws;
+  served = c.requires.served;
+  here = rw c.in-Some.is at c.requires.ahead;
+  there = rw c.in-Some-behind.is at c.requires.behind;
+  some = c.requires.some;
+  known = c.requires.known;
+  low = c.requires.low;
+  high = c.requires.high;
+}
+
+pub returns-in-Some-behind : goal.returns-in-Some-behind
+returns-in-Some-behind g c = c.joins.ensures

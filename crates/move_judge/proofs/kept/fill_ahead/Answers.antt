@@ -1,10 +1,53 @@
-use Rattle.std.proofs.Common.{◌≡◌, ℕ, ◌+◌, ◌*◌, ◌++◌, [], ◌∷◌, refl, sym, subst, arith, length, List, Option, ap, take}
+use Rattle.std.proofs.Common.{◌≡◌, ℕ, ◌+◌, ◌*◌, ◌++◌, ◌∙◌, [], ◌∷◌, refl, sym, subst, arith, length, List, Option, ap, take}
+use Rattle.std.proofs.lemmas.Result.{err_from_is_err_and}
 use Rattle.dimension_core.specs.declared.range.Range.{Range}
 use Rattle.dimension_core.specs.Cumuls.{table_of}
 use Rattle.dimension_core.specs.Setup.{setting}
 use Rattle.move_judge.specs.Kept.{IsAhead}
-use Rattle.move_judge.proofs.Keeping.{cells_at, cells_row, at_place, node_known, vehicle_known, served_here, AheadCells, ahead_first, ahead_more, span_on, in_place, none_below}
+use Rattle.move_judge.proofs.Keeping.{cells_fit, cells_none, width_fits, cells_at, cells_row, at_place, node_known, vehicle_known, served_here, AheadCells, ahead_first, ahead_more, span_on, in_place, none_below}
+use Rattle.move_judge.proofs.Places.{nearer_end}
 use Rattle.move_judge.proofs.kept.fill_ahead.Goals as goal
+
+pub loop-dimension-init : goal.loop-dimension-init
+loop-dimension-init g c =
+    let empty : c.reserve.new.self.items ≡ [] = c.in_ok-reserve.ensures.items ∙ c.clear.ensures.items in
+    subst (λ (xs : List (Option Range)). AheadCells (setting c.args.setup.now) c.args.vehicle c.args.route.now (0 * (length c.args.route.now + 1)) xs) (sym empty)
+    (cells_none (λ k place span. IsAhead (setting c.args.setup.now) c.args.vehicle (take place c.args.route.now) k span) (length c.args.route.now + 1))
+
+pub start-span-requires : goal.start-span-requires
+start-span-requires g c =
+    let s = setting c.args.setup.now in
+    let dims = c.dimensions-dimension-items.ensures in
+    let same = at_place s c.loop-dimension.dimension-index _ _ dims.value c.loop-dimension-test.true c.dimension-item.is in
+    let here = in_place c.loop-dimension.dimension-index _ _ dims.value c.loop-dimension-test.true in
+    record { low = c.requires.low; high = vehicle_known s c.loop-dimension.dimension-index _ c.dimension-item.result dims.sound here same c.requires.high }
+
+pub span_after-span-requires : goal.span_after-span-requires
+span_after-span-requires g c =
+    let s = setting c.args.setup.now in
+    let dims = c.dimensions-dimension-items.ensures in
+    let same = at_place s c.loop-dimension.dimension-index _ _ dims.value c.loop-dimension-test.true c.dimension-item.is in
+    let here = in_place c.loop-dimension.dimension-index _ _ dims.value c.loop-dimension-test.true in
+    record {
+      laws = c.requires.laws;
+      served = served_here s c.loop-dimension.dimension-index _ _ (dims.served c.loop-dimension.dimension-index here) c.registry.ensures.value same;
+      from = c.loop-customer.invariant.known;
+      node = node_known s c.loop-dimension.dimension-index _ c.dimension-item.result dims.sound here same (c.requires.known c.loop-customer.customer-index 0 c.loop-customer-test.true);
+      low = c.requires.low;
+      high = vehicle_known s c.loop-dimension.dimension-index _ c.dimension-item.result dims.sound here same c.requires.high;
+    }
+
+pub returns-in_err-reserve : goal.returns-in_err-reserve
+returns-in_err-reserve g c = let p = err_from_is_err_and c.from_residual.result c.from_residual.ensures.1 in rw p.1 tt
+
+pub returns-in_err-push : goal.returns-in_err-push
+returns-in_err-push g c = let p = err_from_is_err_and c.from_residual-in_err-push.result c.from_residual-in_err-push.ensures.1 in rw p.1 tt
+
+pub returns-in_err-push-2 : goal.returns-in_err-push-2
+returns-in_err-push-2 g c = let p = err_from_is_err_and c.from_residual-in_err-push-2.result c.from_residual-in_err-push-2.ensures.1 in rw p.1 tt
+
+pub overflow_add-width : goal.overflow_add-width
+overflow_add-width g c = width_fits _ c.requires.short
 
 pub loop-customer-init : goal.loop-customer-init
 loop-customer-init g c =
@@ -21,30 +64,6 @@ loop-customer-init g c =
       from = refl;
       known = node_known s c.loop-dimension.dimension-index 0 c.dimension-item.result dims.sound here same (none_below _);
     }
-
-pub span_after-span-requires-clause-served : goal.span_after-span-requires-clause-served
-span_after-span-requires-clause-served g c =
-    let s = setting c.args.setup.now in
-    let dims = c.dimensions-dimension-items.ensures in
-    let same = at_place s c.loop-dimension.dimension-index _ _ dims.value c.loop-dimension-test.true c.dimension-item.is in
-    let here = in_place c.loop-dimension.dimension-index _ _ dims.value c.loop-dimension-test.true in
-    served_here s c.loop-dimension.dimension-index _ _ (dims.served c.loop-dimension.dimension-index here) c.registry.ensures.value same
-
-pub span_after-span-requires-clause-node : goal.span_after-span-requires-clause-node
-span_after-span-requires-clause-node g c =
-    let s = setting c.args.setup.now in
-    let dims = c.dimensions-dimension-items.ensures in
-    let same = at_place s c.loop-dimension.dimension-index _ _ dims.value c.loop-dimension-test.true c.dimension-item.is in
-    let here = in_place c.loop-dimension.dimension-index _ _ dims.value c.loop-dimension-test.true in
-    node_known s c.loop-dimension.dimension-index _ c.dimension-item.result dims.sound here same (c.requires.known c.loop-customer.customer-index 0 c.loop-customer-test.true)
-
-pub span_after-span-requires-clause-high : goal.span_after-span-requires-clause-high
-span_after-span-requires-clause-high g c =
-    let s = setting c.args.setup.now in
-    let dims = c.dimensions-dimension-items.ensures in
-    let same = at_place s c.loop-dimension.dimension-index _ _ dims.value c.loop-dimension-test.true c.dimension-item.is in
-    let here = in_place c.loop-dimension.dimension-index _ _ dims.value c.loop-dimension-test.true in
-    vehicle_known s c.loop-dimension.dimension-index _ c.dimension-item.result dims.sound here same c.requires.high
 
 pub loop-customer-preserved : goal.loop-customer-preserved
 loop-customer-preserved g c =
@@ -84,10 +103,17 @@ returns g c =
           (ap (λ (n : ℕ). n * (length c.args.route.now + 1)) all) c.loop-dimension.invariant;
     }
 
-pub start-span-requires-clause-high : goal.start-span-requires-clause-high
-start-span-requires-clause-high g c =
-    let s = setting c.args.setup.now in
-    let dims = c.dimensions-dimension-items.ensures in
-    let same = at_place s c.loop-dimension.dimension-index _ _ dims.value c.loop-dimension-test.true c.dimension-item.is in
-    let here = in_place c.loop-dimension.dimension-index _ _ dims.value c.loop-dimension-test.true in
-    vehicle_known s c.loop-dimension.dimension-index _ c.dimension-item.result dims.sound here same c.requires.high
+pub overflow_mul-dimensions : goal.overflow_mul-dimensions
+overflow_mul-dimensions g c = cells_fit _ _ _ c.dimensions.ensures.value c.dimensions.ensures.sound.few c.requires.short
+
+pub bounds-dimension-items-dimension-index : goal.bounds-dimension-items-dimension-index
+bounds-dimension-items-dimension-index g c = c.loop-dimension-test.true
+
+pub bounds-route-customer-index : goal.bounds-route-customer-index
+bounds-route-customer-index g c = c.loop-customer-test.true
+
+pub loop-customer-smaller : goal.loop-customer-smaller
+loop-customer-smaller g c = nearer_end _ _ c.loop-customer-test.true
+
+pub loop-dimension-smaller : goal.loop-dimension-smaller
+loop-dimension-smaller g c = nearer_end _ _ c.loop-dimension-test.true
