@@ -1,5 +1,5 @@
 -- What a search gathers before it begins, put together.
-use Rattle.std.proofs.Common.{◌≡◌, ℕ, ◌-◌, ◌^◌, ◌≤◌, refl, sym, subst, true, false, List, ◌++◌, length, take, drop, All}
+use Rattle.std.proofs.Common.{◌≡◌, ◌∙◌, ℕ, ◌-◌, ◌^◌, ◌≤◌, ap, arith, refl, sym, subst, true, false, List, ◌++◌, length, length-append, take, drop, All}
 use Rattle.std.proofs.Math.Seq.{take-append_seam, drop-append_seam}
 use Rattle.callback_store.specs.Tables.{Table}
 use Rattle.way_costs.specs.Sides.{AlongState, AreFloored, AreWaysBetween, IsAlong, TwoWays}
@@ -64,3 +64,39 @@ halves_of S E all n e m =
     let there = subst (λ (xs : List ℕ). take (length S) xs ≡ S) (sym e) (take-append_seam S E) in
     let then = subst (λ (xs : List ℕ). drop (length S) xs ≡ E) (sym e) (drop-append_seam S E) in
     (subst (λ (k : ℕ). take k all ≡ S) (sym m) there, subst (λ (k : ℕ). drop k all ≡ E) (sym m) then)
+
+pub halves_fit : (S E all : List ℕ) (n m : ℕ) → all ≡ S ++ E → m ≡ length S → n ≡ m → n ≤ length all
+halves_fit S E all n m e long counted =
+    let both = ap length e ∙ length-append S E in
+    omega arith
+
+-- the ways along the stops of one vehicle, by the ways between them
+pub goes_along : (t : Table) (S R E cells : List ℕ) (ways : TwoWays) (way : AlongState) → R ≡ S → AreWaysBetween t R R ways → cells ≡ ways.out
+    → ((t : Table) → AreHopsFrom false t S S 0 1 cells → IsAlong t S E way) → IsAlong t S E way
+goes_along t S R E cells ways way same between out along =
+    along t (subst (λ (xs : List ℕ). AreHopsFrom false t S S 0 1 xs) (sym out) (subst (λ (xs : List ℕ). AreHopsFrom false t xs xs 0 1 ways.out) same between.out))
+
+pub sums_fit : (t : Table) (S E cells : List ℕ) (way : AlongState) (n m : ℕ) → IsAlong t S E way → m ≡ length S → n ≡ m → cells ≡ way.sums → n - 1 ≤ length cells
+sums_fit t S E cells way n m goes long counted e =
+    let all = subst (λ (xs : List ℕ). length S - 1 ≤ length xs) (sym e) goes.sums.long in
+    omega arith
+
+-- all of one vehicle, where the ways stand behind the stops and are cut from them
+pub inside_gathered : (q : Searched) (g : Gathered) (S R E all : List ℕ) (n m : ℕ) (ways : TwoWays) (way : AlongState) → q.v ≡ q.w → g.to.now ≡ g.from.now
+    → AreStops q.setting.customers q.view.routes q.v S → R ≡ S → AreWaysBetween (costs_of q) R R ways → IsAlong (costs_of q) S E way
+    → m ≡ length S → n ≡ m → all ≡ S ++ E → g.from.now ≡ take n all → g.from_edges.now ≡ drop n all → g.to_edges.now ≡ drop n all
+    → g.most ≡ way.most → g.out.now ≡ ways.out → g.into.now ≡ ways.into → IsGathered q g
+inside_gathered q g S R E all n m ways way inside to are same between goes long counted joined f e d most out into =
+    let halves = halves_of S E all n joined (counted ∙ long) in
+    let front = f ∙ halves.0 in
+    gathered_inside q g ways E way inside to (subst (λ (xs : List ℕ). AreStops q.setting.customers q.view.routes q.v xs) (sym front) are)
+    (subst (λ (xs : List ℕ). AreWaysBetween (costs_of q) xs xs ways) (same ∙ sym front) between) (subst (λ (xs : List ℕ). IsAlong (costs_of q) xs E way) (sym front) goes)
+    (e ∙ halves.1) (d ∙ halves.1) most out into
+
+pub inside_summed : (q : Searched) (g : Gathered) (S E all cells on back : List ℕ) (n m : ℕ) (way : AlongState) → IsAlong (costs_of q) S E way → m ≡ length S → n ≡ m → all ≡ S ++ E
+    → g.from.now ≡ take n all → cells ≡ way.sums → on ≡ take (n - 1) cells → back ≡ drop (n - 1) cells → AreSummed q g on back
+inside_summed q g S E all cells on back n m way goes long counted joined f e here there =
+    let front = f ∙ (halves_of S E all n joined (counted ∙ long)).0 in
+    let wide : n ≡ length g.from.now = counted ∙ long ∙ ap length (sym front) in
+    summed_inside q g E way cells on back (subst (λ (xs : List ℕ). IsAlong (costs_of q) xs E way) (sym front) goes) e
+    (here ∙ ap (λ (k : ℕ). take (k - 1) cells) wide) (there ∙ ap (λ (k : ℕ). drop (k - 1) cells) wide)

@@ -12,3 +12,4 @@ pub mod Saved
 pub mod Still
 pub mod Gathers
 pub mod Found
+pub mod Small

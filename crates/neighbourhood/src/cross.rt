@@ -9,7 +9,7 @@ use crate::best::Best;
 use crate::searched::{Gathered, Search};
 use move_core::Move;
 use move_judge::must_keep;
-use way_costs::{CutRow, first_gain, may_gain, row};
+use way_costs::{CutRow, first_gain, may_gain, row, way_at};
 
 /// The crosses that keep so many customers of the first vehicle: what each of them loses there, and the ways along the stops of the second,
 /// with the ways from those stops to the one after the last customer kept, and from that customer to them.
@@ -49,8 +49,8 @@ fn cross_row(search: &Search, crosses: &Crosses, first: u32, end: u32, best: Bes
         if there == end {
             return best;
         }
-        let all_lost = lost + u64::from(ways.edges[found]);
-        let all_gained = u64::from(ways.to[found]) + u64::from(ways.on[found + 1]);
+        let all_lost = lost + way_at(ways.edges, found);
+        let all_gained = way_at(ways.to, found) + way_at(ways.on, found + 1);
         let mv = Move::Cross {
             vehicle: search.v,
             keep: crosses.keep,
@@ -76,14 +76,14 @@ fn cross_over(search: &Search, gathered: &Gathered, keep: u32, begin: u32, best:
     ensures { IsBestSoFar (searched search.now)
         (4 ∷ search.now.v ∷ keep ∷ search.now.w ∷ (length gathered.now.to.now - 1) ∷ []) result.found }
 {
-    let (from_edges, width) = (gathered.from_edges, gathered.to.len());
+    let (from_edges, most, width) = (gathered.from_edges, gathered.most, gathered.to.len());
     let index = keep as usize;
-    let lost = u64::from(from_edges[index]);
+    let lost = way_at(from_edges, index);
     let here = row(gathered.out, width, index);
     let next = row(gathered.into, width, index + 1);
-    let least = u64::from(here[0]) + u64::from(next[width - 1]);
+    let least = way_at(here, 0) + way_at(next, width - 1);
     let floor = best.wanted(least);
-    if lost + u64::from(gathered.most) <= floor {
+    if lost + u64::from(most) <= floor {
         return best;
     }
     let last = index + 2 == gathered.from.len();
@@ -93,7 +93,7 @@ fn cross_over(search: &Search, gathered: &Gathered, keep: u32, begin: u32, best:
         lost,
         ways: CutRow {
             edges: gathered.to_edges,
-            most: gathered.most,
+            most,
             to: next,
             on: here,
         },
@@ -110,8 +110,9 @@ pub(crate) fn best_cross(search: &Search, gathered: &Gathered, best: Best) -> Be
     requires best { IsBestSoFar (searched search.now) (4 ∷ []) best.found }
     ensures { IsBestSoFar (searched search.now) (5 ∷ []) result.found }
 {
-    let least = must_keep(search.view, search.setup, search.v);
-    let begin = must_keep(search.view, search.setup, search.w);
+    let (view, setup) = (search.view, search.setup);
+    let least = must_keep(view, setup, search.v);
+    let begin = must_keep(view, setup, search.w);
     let mut best = best;
     for keep in least..gathered.from.len() as u32 - 1 {
         best = cross_over(search, gathered, keep, begin, best);

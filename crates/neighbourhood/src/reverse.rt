@@ -9,7 +9,7 @@ use crate::best::Best;
 use crate::searched::{Gathered, Search};
 use move_core::Move;
 use move_judge::first_free;
-use way_costs::{ReverseRow, first_reverse_gain, may_reverse_gain, row};
+use way_costs::{ReverseRow, first_reverse_gain, may_reverse_gain, row, way_at};
 
 /// The reverses from a place on: what each of them loses and gains there, and the ways along the stops, with the ways to them from the place
 /// and from the stop before it.
@@ -37,28 +37,33 @@ fn reverse_row(search: &Search, reverses: &Reverses, end: u32, best: Best) -> Be
     requires best { IsBestSoFar (searched search.now) (3 ∷ search.now.v ∷ reverses.now.first ∷ (reverses.now.first + 1) ∷ []) best.found }
     ensures { IsBestSoFar (searched search.now) (3 ∷ search.now.v ∷ reverses.now.first ∷ end ∷ []) result.found }
 {
-    let (first, lost, ways) = (reverses.first, reverses.lost, reverses.ways);
+    let (first, lost, gained, ways) = (
+        reverses.first,
+        reverses.lost,
+        reverses.gained,
+        reverses.ways,
+    );
     if first + 1 == end {
         return best;
     }
-    let least = best.wanted(reverses.gained);
+    let least = best.wanted(gained);
     if !may_reverse_gain(lost, least, &ways, first as usize + 1, end as usize) {
         return best;
     }
     let mut best = best;
     let mut last = first + 1;
     'row: while last < end {
-        let least = best.wanted(reverses.gained);
+        let least = best.wanted(gained);
         let found = first_reverse_gain(lost, least, &ways, last as usize, end as usize);
         let there = found as u32;
         if there == end {
             return best;
         }
-        let all_lost = lost + ways.sums[found] + u64::from(ways.edges[found]);
-        let all_gained = reverses.gained
-            + u64::from(ways.before[found])
+        let all_lost = lost + ways.sums[found] + way_at(ways.edges, found);
+        let all_gained = gained
+            + way_at(ways.before, found)
             + ways.back_sums[found]
-            + u64::from(ways.here[found + 1]);
+            + way_at(ways.here, found + 1);
         let mv = Move::Reverse {
             vehicle: search.v,
             first,
@@ -90,18 +95,18 @@ fn reverse_from(
     if first < first_free(search.view, search.setup, search.v) {
         return best;
     }
-    let (edges, width) = (gathered.to_edges, gathered.from.len());
+    let (edges, out, width) = (gathered.to_edges, gathered.out, gathered.from.len());
     let index = first as usize;
     let reverses = Reverses {
         first,
-        lost: u64::from(edges[index - 1]) + back_sums[index],
+        lost: way_at(edges, index - 1) + back_sums[index],
         gained: sums[index],
         ways: ReverseRow {
             edges,
             sums,
             back_sums,
-            before: row(gathered.out, width, index - 1),
-            here: row(gathered.out, width, index),
+            before: row(out, width, index - 1),
+            here: row(out, width, index),
         },
     };
     reverse_row(search, &reverses, width as u32 - 1, best)

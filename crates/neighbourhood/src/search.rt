@@ -37,7 +37,8 @@ fn best_of_one(
     ensures { MatchOption result (IsIdleOf (searched search.now)) (λ p. IsBestOf (searched search.now) p.0 p.1) }
 {
     // copies, of which the compiler knows that no call writes to them
-    let (search, gathered) = (*search, *gathered);
+    let search = *search;
+    let gathered = *gathered;
     let shifted = best_shift_inside(&search, &gathered, Best::none());
     let swapped = best_swap_inside(&search, &gathered, shifted);
     best_reverse(&search, &gathered, sums, back_sums, swapped).found
@@ -50,7 +51,8 @@ fn best_of_two(search: &Search, gathered: &Gathered) -> Option<(Move, u64)>
     requires apart { search.now.v ≢ search.now.w }
     ensures { MatchOption result (IsIdleOf (searched search.now)) (λ p. IsBestOf (searched search.now) p.0 p.1) }
 {
-    let (search, gathered) = (*search, *gathered);
+    let search = *search;
+    let gathered = *gathered;
     let shifted = best_shift(&search, &gathered, Best::none());
     let swapped = best_swap(&search, &gathered, shifted);
     best_cross(&search, &gathered, swapped).found

@@ -15,7 +15,7 @@ use crate::best::Best;
 use crate::searched::{Gathered, Search};
 use move_core::Move;
 use move_judge::{first_free, loose_from};
-use way_costs::{CutRow, first_gain, hop, may_gain, row};
+use way_costs::{CutRow, first_gain, hop, may_gain, row, way_at};
 
 /// The shifts of some customers, which stand from a place on: what each of them loses and gains there, and the ways along the stops that they
 /// are shifted between, with the ways from those stops to the first customer and from the last one to them.
@@ -61,8 +61,8 @@ fn shift_row(
     if first == end {
         return best;
     }
-    let (lost, ways) = (shifts.lost, shifts.ways);
-    let least = best.wanted(shifts.gained);
+    let (lost, gained, ways) = (shifts.lost, shifts.gained, shifts.ways);
+    let least = best.wanted(gained);
     let begin = (first + offset) as usize - 1;
     let last = (end + offset) as usize - 1;
     if !may_gain(lost, least, &ways, begin, last) {
@@ -72,14 +72,14 @@ fn shift_row(
     let mut at = first;
     'row: while at < end {
         let from = (at + offset) as usize - 1;
-        let least = best.wanted(shifts.gained);
+        let least = best.wanted(gained);
         let found = first_gain(lost, least, &ways, from, last);
         let next = (found + 1) as u32 - offset;
         if next == end {
             return best;
         }
-        let all_lost = lost + u64::from(ways.edges[found]);
-        let all_gained = shifts.gained + u64::from(ways.to[found]) + u64::from(ways.on[found + 1]);
+        let all_lost = lost + way_at(ways.edges, found);
+        let all_gained = gained + way_at(ways.to, found) + way_at(ways.on, found + 1);
         let mv = Move::Shift {
             vehicle: search.v,
             place: shifts.place,
@@ -107,11 +107,11 @@ fn closing(search: &Search, gathered: &Gathered, before: usize, after: usize) ->
     let (from, width) = (gathered.from, gathered.to.len());
     if before == 0 {
         let comes = row(gathered.into, width, after);
-        return u64::from(comes[0]);
+        return way_at(comes, 0);
     }
     if after + 1 == from.len() {
         let goes = row(gathered.out, width, before);
-        return u64::from(goes[width - 1]);
+        return way_at(goes, width - 1);
     }
     hop(search.setup, from[before], from[after])
 }
@@ -142,14 +142,14 @@ fn shift_over(
     if free < count {
         return best;
     }
-    let (from_edges, width) = (gathered.from_edges, gathered.to.len());
+    let (from_edges, most, width) = (gathered.from_edges, gathered.most, gathered.to.len());
     let first = place as usize;
     let after = first + count as usize;
     let lost = u64::from(from_edges[first - 1]) + u64::from(from_edges[after - 1]);
     let comes = row(gathered.into, width, first);
     let goes = row(gathered.out, width, after - 1);
-    let reach = lost + u64::from(gathered.most);
-    let least = u64::from(goes[0]) + u64::from(comes[width - 1]);
+    let reach = lost + u64::from(most);
+    let least = way_at(goes, 0) + way_at(comes, width - 1);
     let floor = best.wanted(least);
     if reach <= floor {
         return best;
@@ -167,7 +167,7 @@ fn shift_over(
         gained,
         ways: CutRow {
             edges: gathered.to_edges,
-            most: gathered.most,
+            most,
             to: comes,
             on: goes,
         },
@@ -191,20 +191,20 @@ fn shift_within(search: &Search, gathered: &Gathered, place: u32, count: u32, be
     if place < begin {
         return best;
     }
-    let (edges, width) = (gathered.to_edges, gathered.from.len());
+    let (edges, out, width) = (gathered.to_edges, gathered.out, gathered.from.len());
     let first = place as usize;
     let after = first + count as usize;
-    let closes = row(gathered.out, width, first - 1);
+    let closes = row(out, width, first - 1);
     let shifts = Shifts {
         place,
         count,
-        lost: u64::from(edges[first - 1]) + u64::from(edges[after - 1]),
-        gained: u64::from(closes[after]),
+        lost: way_at(edges, first - 1) + way_at(edges, after - 1),
+        gained: way_at(closes, after),
         ways: CutRow {
             edges,
             most: gathered.most,
             to: row(gathered.into, width, first),
-            on: row(gathered.out, width, after - 1),
+            on: row(out, width, after - 1),
         },
     };
     let forwards = shift_row(search, &shifts, 0, begin, place, best);

@@ -9,7 +9,7 @@ use crate::best::Best;
 use crate::searched::{Gathered, Search};
 use move_core::Move;
 use move_judge::{first_free, may_leave};
-use way_costs::{SwapRow, first_swap_gain, may_swap_gain, row};
+use way_costs::{SwapRow, first_swap_gain, may_swap_gain, row, way_at};
 
 /// The swaps of the customer at a place: what each of them loses there, and the ways along the stops that it is swapped between, with the
 /// ways between those stops and the customer, the stop before it and the stop after it.
@@ -52,11 +52,11 @@ fn swap_row(search: &Search, swaps: &Swaps, first: u32, end: u32, best: Best) ->
         if there == end {
             return best;
         }
-        let all_lost = lost + u64::from(ways.edges[found - 1]) + u64::from(ways.edges[found]);
-        let all_gained = u64::from(ways.before[found])
-            + u64::from(ways.next[found])
-            + u64::from(ways.back[found - 1])
-            + u64::from(ways.here[found + 1]);
+        let all_lost = lost + way_at(ways.edges, found - 1) + way_at(ways.edges, found);
+        let all_gained = way_at(ways.before, found)
+            + way_at(ways.next, found)
+            + way_at(ways.back, found - 1)
+            + way_at(ways.here, found + 1);
         let mv = Move::Swap {
             vehicle: search.v,
             place: swaps.place,
@@ -80,22 +80,24 @@ fn swap_over(search: &Search, gathered: &Gathered, place: u32, best: Best) -> Be
     ensures { IsBestSoFar (searched search.now)
         (2 ∷ search.now.v ∷ place ∷ search.now.w ∷ (length gathered.now.to.now - 1) ∷ []) result.found }
 {
-    if !may_leave(search.view, search.setup, search.v, place, 1) {
+    let (view, setup) = (search.view, search.setup);
+    if !may_leave(view, setup, search.v, place, 1) {
         return best;
     }
-    let begin = first_free(search.view, search.setup, search.w);
-    let (from_edges, width) = (gathered.from_edges, gathered.to.len());
+    let begin = first_free(view, setup, search.w);
+    let (from_edges, most, width) = (gathered.from_edges, gathered.most, gathered.to.len());
+    let (out, into) = (gathered.out, gathered.into);
     let index = place as usize;
-    let lost = u64::from(from_edges[index - 1]) + u64::from(from_edges[index]);
-    let before = row(gathered.out, width, index - 1);
-    let here = row(gathered.out, width, index);
-    let next = row(gathered.into, width, index + 1);
-    let back = row(gathered.into, width, index);
+    let lost = way_at(from_edges, index - 1) + way_at(from_edges, index);
+    let before = row(out, width, index - 1);
+    let here = row(out, width, index);
+    let next = row(into, width, index + 1);
+    let back = row(into, width, index);
     let end = width - 1;
-    let leaves = u64::from(before[0]) + u64::from(here[0]);
-    let least = leaves + u64::from(next[end]) + u64::from(back[end]);
+    let leaves = way_at(before, 0) + way_at(here, 0);
+    let least = leaves + way_at(next, end) + way_at(back, end);
     let floor = best.wanted(least);
-    if lost + 2 * u64::from(gathered.most) <= floor {
+    if lost + 2 * u64::from(most) <= floor {
         return best;
     }
     let swaps = Swaps {
@@ -103,7 +105,7 @@ fn swap_over(search: &Search, gathered: &Gathered, place: u32, best: Best) -> Be
         lost,
         ways: SwapRow {
             edges: gathered.to_edges,
-            most: gathered.most,
+            most,
             before,
             here,
             next,
@@ -122,15 +124,13 @@ fn swap_next(search: &Search, gathered: &Gathered, place: u32, best: Best) -> Be
     requires best { IsBestSoFar (searched search.now) (2 ∷ search.now.v ∷ place ∷ search.now.w ∷ (place + 1) ∷ []) best.found }
     ensures { IsBestSoFar (searched search.now) (2 ∷ search.now.v ∷ place ∷ search.now.w ∷ (place + 2) ∷ []) result.found }
 {
-    let (edges, width) = (gathered.to_edges, gathered.from.len());
+    let (edges, out, width) = (gathered.to_edges, gathered.out, gathered.from.len());
     let index = place as usize;
-    let before = row(gathered.out, width, index - 1);
-    let here = row(gathered.out, width, index);
+    let before = row(out, width, index - 1);
+    let here = row(out, width, index);
     let back = row(gathered.into, width, index);
-    let lost = u64::from(edges[index - 1]) + u64::from(edges[index]) + u64::from(edges[index + 1]);
-    let gained = u64::from(before[index + 1])
-        + u64::from(back[index + 1])
-        + u64::from(here[index + 2]);
+    let lost = way_at(edges, index - 1) + way_at(edges, index) + way_at(edges, index + 1);
+    let gained = way_at(before, index + 1) + way_at(back, index + 1) + way_at(here, index + 2);
     let mv = Move::Swap {
         vehicle: search.v,
         place,
@@ -163,16 +163,17 @@ fn swap_within(search: &Search, gathered: &Gathered, place: u32, best: Best) -> 
     if index + 3 >= width {
         return near;
     }
+    let (out, into) = (gathered.out, gathered.into);
     let swaps = Swaps {
         place,
-        lost: u64::from(edges[index - 1]) + u64::from(edges[index]),
+        lost: way_at(edges, index - 1) + way_at(edges, index),
         ways: SwapRow {
             edges,
             most: gathered.most,
-            before: row(gathered.out, width, index - 1),
-            here: row(gathered.out, width, index),
-            next: row(gathered.into, width, index + 1),
-            back: row(gathered.into, width, index),
+            before: row(out, width, index - 1),
+            here: row(out, width, index),
+            next: row(into, width, index + 1),
+            back: row(into, width, index),
         },
     };
     swap_row(search, &swaps, place + 2, width as u32 - 1, near)

@@ -350,6 +350,12 @@ row_answers turned s ts id i to row out e f g k h =
     let here = ap (λ (xs : List ℕ). slice_index xs k) g ∙ get_or-map (λ j. entry (table_at ts id) i j) to k 0 0 h in
     rw out (answer_of s ts id i (slice_index to k) (slice_index row k) e f here)
 
+pub column_answers : (turned : Bool) (s : Setting) (ts : List Table) (id j : ℕ) (from row : List ℕ) → turned ≡ true → ts ≡ s.tables → id ≡ s.cost
+    → row ≡ map (λ i. entry (table_at ts id) i j) from → (k : ℕ) → k < length from → slice_index row k ≡ entry_by turned (table_at s.tables s.cost) j (slice_index from k)
+column_answers turned s ts id j from row out e f g k h =
+    let here = ap (λ (xs : List ℕ). slice_index xs k) g ∙ get_or-map (λ i. entry (table_at ts id) i j) from k 0 0 h in
+    rw out (answer_of s ts id (slice_index from k) j (slice_index row k) e f here)
+
 -- a way between two stops that follow one another, as it is driven or driven back
 pub steps_by : (turned : Bool) (t : Table) (S cells : List ℕ) (i : ℕ) → AreHopsFrom false t S S 0 1 cells → 1 ≤ i → i + 2 < length S
     → (if turned then slice_index cells ((i + 1) * length S + i) else slice_index cells (i * length S + (i + 1))) ≡ hop_by turned t (slice_index S i) (slice_index S (i + 1))

@@ -58,3 +58,21 @@ edges_back t S E n e h =
           get_or-drop n E k 0 ∙ e.hops (n + k) (omega arith)
           ∙ ap (λ (x : ℕ). hop t x (slice_index S (n + k + 1))) (sym here) ∙ ap (λ (x : ℕ). hop t (slice_index (drop n S) k) x) (sym there);
     }
+
+-- the first of two vehicles ends among the stops of both
+pub middle_front : (r q S C : List ℕ) → C ≡ r → S ≡ stops_of_both r q → length C + 1 + 1 ≤ length S
+middle_front r q S C e f =
+    let here = ap length e in
+    let all = ap length f in
+    let both = both_long r q in
+    omega arith
+
+pub middle_back : (r q S C : List ℕ) → C ≡ r → S ≡ stops_of_both r q → length C + 1 ≤ length S
+middle_back r q S C e f =
+    let front = middle_front r q S C e f in
+    omega arith
+
+pub middle_ways : (r q S C : List ℕ) (n : ℕ) → C ≡ r → S ≡ stops_of_both r q → n + 1 ≡ length S → length C + 1 ≤ n
+middle_ways r q S C n e f counted =
+    let front = middle_front r q S C e f in
+    omega arith

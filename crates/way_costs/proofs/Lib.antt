@@ -6,3 +6,5 @@ pub mod Saved
 pub mod Cells
 pub mod Stops
 pub mod Joined
+pub mod Wins
+pub mod Loops

@@ -4,6 +4,8 @@ ghost use Rattle.way_costs.specs.Rows.{IsCutRow, lost_by_cut, gained_by_cut};
 ghost use Rattle.way_costs.specs.Rows.{IsSwapRow, lost_by_swap, gained_by_swap};
 ghost use Rattle.way_costs.specs.Rows.{IsReverseRow, lost_by_reverse, gained_by_reverse};
 
+use crate::table::way_at;
+
 /// Rows of fewer candidates are not gone through twice.
 const FEW: usize = 16;
 
@@ -68,8 +70,8 @@ pub fn first_gain(lost: u64, wanted: u64, row: &CutRow, from: usize, end: usize)
 {
     let (edges, to, on) = (row.edges, row.to, row.on);
     for k in from..end {
-        let all_gained = wanted + u64::from(to[k]) + u64::from(on[k + 1]);
-        let all_lost = lost + u64::from(edges[k]);
+        let all_gained = wanted + way_at(to, k) + way_at(on, k + 1);
+        let all_lost = lost + way_at(edges, k);
         if all_gained < all_lost {
             return k;
         }
@@ -92,12 +94,12 @@ pub fn first_swap_gain(lost: u64, wanted: u64, row: &SwapRow, from: usize, end: 
 {
     let (edges, before, here, next, back) = (row.edges, row.before, row.here, row.next, row.back);
     for k in from..end {
-        let all_lost = lost + u64::from(edges[k - 1]) + u64::from(edges[k]);
+        let all_lost = lost + way_at(edges, k - 1) + way_at(edges, k);
         let all_gained = wanted
-            + u64::from(before[k])
-            + u64::from(next[k])
-            + u64::from(back[k - 1])
-            + u64::from(here[k + 1]);
+            + way_at(before, k)
+            + way_at(next, k)
+            + way_at(back, k - 1)
+            + way_at(here, k + 1);
         if all_gained < all_lost {
             return k;
         }
@@ -126,8 +128,8 @@ pub fn first_reverse_gain(
     let (edges, sums, back_sums) = (row.edges, row.sums, row.back_sums);
     let (before, here) = (row.before, row.here);
     for k in from..end {
-        let all_lost = lost + sums[k] + u64::from(edges[k]);
-        let all_gained = wanted + u64::from(before[k]) + back_sums[k] + u64::from(here[k + 1]);
+        let all_lost = lost + sums[k] + way_at(edges, k);
+        let all_gained = wanted + way_at(before, k) + back_sums[k] + way_at(here, k + 1);
         if all_gained < all_lost {
             return k;
         }
@@ -221,12 +223,12 @@ pub fn may_swap_gain(lost: u64, wanted: u64, row: &SwapRow, from: usize, end: us
     let (edges, before, here, next, back) = (row.edges, row.before, row.here, row.next, row.back);
     let mut gains = false;
     for k in from..end {
-        let all_lost = lost + u64::from(edges[k - 1]) + u64::from(edges[k]);
+        let all_lost = lost + way_at(edges, k - 1) + way_at(edges, k);
         let all_gained = wanted
-            + u64::from(before[k])
-            + u64::from(next[k])
-            + u64::from(back[k - 1])
-            + u64::from(here[k + 1]);
+            + way_at(before, k)
+            + way_at(next, k)
+            + way_at(back, k - 1)
+            + way_at(here, k + 1);
         if all_gained < all_lost {
             gains = true;
         }
@@ -250,8 +252,8 @@ pub fn may_reverse_gain(lost: u64, wanted: u64, row: &ReverseRow, from: usize, e
     let (before, here) = (row.before, row.here);
     let mut gains = false;
     for k in from..end {
-        let all_lost = lost + sums[k] + u64::from(edges[k]);
-        let all_gained = wanted + u64::from(before[k]) + back_sums[k] + u64::from(here[k + 1]);
+        let all_lost = lost + sums[k] + way_at(edges, k);
+        let all_gained = wanted + way_at(before, k) + back_sums[k] + way_at(here, k + 1);
         if all_gained < all_lost {
             gains = true;
         }

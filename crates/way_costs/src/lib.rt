@@ -15,4 +15,4 @@ pub use gains::{
 pub use hops::{fill_stops, hop};
 pub use laws::moves_save;
 pub use sides::{Along, Sides, Ways, parts_of};
-pub use table::{most_of, row};
+pub use table::{most_of, row, way_at};

@@ -6,6 +6,7 @@ use Rattle.neighbourhood.proofs.Orders.{cross_none}
 use Rattle.neighbourhood.proofs.Rows.{crosses_past}
 use Rattle.neighbourhood.proofs.Saved.{cross_most, cross_possible, cross_saved, into_room, out_room}
 use Rattle.neighbourhood.proofs.cross.cross_over.Goals.{then-last, else-last}
+use Rattle.neighbourhood.proofs.Small.{edge_at, one_small, place_fits, row_end, row_some, two_fit, two_fits, two_low, wide_some, wide_two}
 use Rattle.neighbourhood.proofs.cross.cross_over.Goals as goal
 
 pub row-next-requires : goal.row-next-requires
@@ -35,7 +36,7 @@ cross_row-requires-clause-saving g c =
     let sized = c.requires.gathered.from.sized in
     let wide = c.requires.gathered.to.sized in
     let fit = c.requires.keep in
-    let f = c.from-lost.ensures in
+    let f = c.way_at-lost.ensures.value in
     λ l h.
     let few : l + 1 < length a.to.now = elim c.if-last.branch [
       | then-last w ↦ let e = w.end-is in omega arith
@@ -83,10 +84,10 @@ returns-then-lost-from g c =
     let q = searched c.args.search.now in
     let a = c.args.gathered.now in
     let wide = c.requires.gathered.to.sized in
-    let f = c.from-lost.ensures in
-    let f2 = c.from.ensures in
-    let f3 = c.from-2.ensures in
-    let f4 = c.from-3.ensures in
+    let f = c.way_at-lost.ensures.value in
+    let f2 = c.way_at.ensures.value in
+    let f3 = c.way_at-2.ensures.value in
+    let f4 = c.from.ensures in
     let test = c.if-lost-from.true in
     let bound = c.wanted-floor.ensures.value in
     crosses_past q c.requires.search c.args.keep 0 (length a.to.now - 1) c.args.best.found (omega arith)
@@ -121,3 +122,42 @@ cross_row-requires-clause-short g c =
     let on = c.row-here.ensures.sized in
     let short = c.requires.gathered.to.short in
     omega arith
+
+pub way_at-lost-requires : goal.way_at-lost-requires
+way_at-lost-requires g c = edge_at c.args.keep _ _ c.requires.keep c.requires.gathered.from_edges.counted
+
+pub overflow_add-index : goal.overflow_add-index
+overflow_add-index g c = place_fits c.args.keep _ c.requires.keep c.requires.gathered.from.short
+
+pub way_at-requires : goal.way_at-requires
+way_at-requires g c = row_some _ _ _ c.row-here.ensures.sized c.requires.gathered.to.sized
+
+pub overflow_sub-width : goal.overflow_sub-width
+overflow_sub-width g c = wide_some _ _ c.requires.gathered.to.sized
+
+pub way_at-requires-2 : goal.way_at-requires-2
+way_at-requires-2 g c = row_end _ _ _ c.row-next.ensures.sized c.requires.gathered.to.sized
+
+pub overflow_add-least : goal.overflow_add-least
+overflow_add-least g c = two_fit _ _ c.way_at.ensures.small c.way_at-2.ensures.small
+
+pub wanted-floor-requires : goal.wanted-floor-requires
+wanted-floor-requires g c = two_low _ _ c.way_at.ensures.small c.way_at-2.ensures.small
+
+pub overflow_add-last : goal.overflow_add-last
+overflow_add-last g c = two_fits c.args.keep _ c.requires.keep c.requires.gathered.from.short
+
+pub overflow_sub-end : goal.overflow_sub-end
+overflow_sub-end g c = wide_two _ _ c.requires.gathered.to.sized
+
+pub overflow_sub-end-else-last : goal.overflow_sub-end-else-last
+overflow_sub-end-else-last g c = wide_some _ _ c.requires.gathered.to.sized
+
+pub cross_row-requires-clause-search : goal.cross_row-requires-clause-search
+cross_row-requires-clause-search g c = c.requires.search
+
+pub cross_row-requires-clause-apart : goal.cross_row-requires-clause-apart
+cross_row-requires-clause-apart g c = c.requires.apart
+
+pub cross_row-requires-clause-fixed : goal.cross_row-requires-clause-fixed
+cross_row-requires-clause-fixed g c = one_small _ c.way_at-lost.ensures.small

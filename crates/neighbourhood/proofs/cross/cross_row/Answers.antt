@@ -3,6 +3,7 @@ use Rattle.neighbourhood.specs.Search.{IsBestSoFar}
 use Rattle.neighbourhood.specs.Searched.{searched}
 use Rattle.neighbourhood.proofs.Found.{fixed_small, found_adds, found_after, found_casts, found_in, found_next}
 use Rattle.neighbourhood.proofs.Rows.{cross_next, crosses_past}
+use Rattle.neighbourhood.proofs.Small.{goes_on, lost_fits, lost_low, two_fit}
 use Rattle.neighbourhood.proofs.cross.cross_row.Goals as goal
 
 pub returns-then-there-end : goal.returns-then-there-end
@@ -87,9 +88,9 @@ or_better-best-requires-clause-saving g c =
     let to = c.first_gain-found.ensures.high in
     let other = c.if-there-end.false in
     let saving = c.requires.saving c.first_gain-found.result (omega arith) in
-    let f0 = c.from.ensures in
-    let f1 = c.from-in-row.ensures in
-    let f2 = c.from-in-row-2.ensures in
+    let f0 = c.way_at.ensures.value in
+    let f1 = c.way_at-in-row.ensures.value in
+    let f2 = c.way_at-in-row-2.ensures.value in
     omega arith
 
 pub may_gain-requires-clause-lost : goal.may_gain-requires-clause-lost
@@ -113,17 +114,29 @@ first_gain-found-requires-clause-order g c = c.row.invariant.high
 pub overflow_cast-there : goal.overflow_cast-there
 overflow_cast-there g c = found_casts c.first_gain-found.result c.args.end _ c.first_gain-found.ensures.high c.requires.ways.on c.requires.short
 
-pub bounds-ways-found : goal.bounds-ways-found
-bounds-ways-found g c = found_in c.first_gain-found.result c.args.end _ c.first_gain-found.ensures.high c.if-there-end.false c.requires.ways.edges
+pub way_at-requires : goal.way_at-requires
+way_at-requires g c = found_in c.first_gain-found.result c.args.end _ c.first_gain-found.ensures.high c.if-there-end.false c.requires.ways.edges
 
-pub bounds-ways-found-in-row : goal.bounds-ways-found-in-row
-bounds-ways-found-in-row g c = found_in c.first_gain-found.result c.args.end _ c.first_gain-found.ensures.high c.if-there-end.false c.requires.ways.to
+pub way_at-requires-in-row : goal.way_at-requires-in-row
+way_at-requires-in-row g c = found_in c.first_gain-found.result c.args.end _ c.first_gain-found.ensures.high c.if-there-end.false c.requires.ways.to
 
-pub bounds-ways-found-in-row-2 : goal.bounds-ways-found-in-row-2
-bounds-ways-found-in-row-2 g c = found_after c.first_gain-found.result c.args.end _ c.first_gain-found.ensures.high c.if-there-end.false c.requires.ways.on
+pub way_at-requires-in-row-2 : goal.way_at-requires-in-row-2
+way_at-requires-in-row-2 g c = found_after c.first_gain-found.result c.args.end _ c.first_gain-found.ensures.high c.if-there-end.false c.requires.ways.on
 
 pub overflow_add-found : goal.overflow_add-found
 overflow_add-found g c = found_adds c.first_gain-found.result c.args.end _ c.first_gain-found.ensures.high c.requires.ways.on c.requires.short
 
 pub overflow_add-keep_other : goal.overflow_add-keep_other
 overflow_add-keep_other g c = found_next c.first_gain-found.result c.args.end _ c.first_gain-found.ensures.high c.requires.ways.on c.requires.short
+
+pub overflow_add-all_lost : goal.overflow_add-all_lost
+overflow_add-all_lost g c = lost_fits _ _ c.requires.fixed c.way_at.ensures.small
+
+pub overflow_add-all_gained : goal.overflow_add-all_gained
+overflow_add-all_gained g c = two_fit _ _ c.way_at-in-row.ensures.small c.way_at-in-row-2.ensures.small
+
+pub or_better-best-requires-clause-small : goal.or_better-best-requires-clause-small
+or_better-best-requires-clause-small g c = lost_low _ _ c.requires.fixed c.way_at.ensures.small
+
+pub row-smaller : goal.row-smaller
+row-smaller g c = goes_on c.row.keep_other c.first_gain-found.result c.args.end c.first_gain-found.ensures.low c.first_gain-found.ensures.high c.if-there-end.false

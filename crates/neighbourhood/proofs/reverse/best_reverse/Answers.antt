@@ -1,6 +1,7 @@
 use Rattle.std.proofs.Common.{◌+◌, ◌-◌, arith, refl, length}
 use Rattle.neighbourhood.specs.Searched.{searched}
 use Rattle.neighbourhood.proofs.Rows.{reverses_begin, reverses_end, reverse_row, reverse_row_done}
+use Rattle.neighbourhood.proofs.Small.{place_room, wide_some, width_casts}
 use Rattle.neighbourhood.proofs.reverse.best_reverse.Goals as goal
 
 pub loop-first-init : goal.loop-first-init
@@ -19,3 +20,24 @@ returns g c =
     let low = c.loop-first-test.false in
     let long = c.requires.gathered.from.sized in
     reverses_end (searched c.args.search.now) c.requires.search c.loop-first.first c.loop-first.best.found (omega arith) c.loop-first.invariant
+
+pub overflow_cast-first-end : goal.overflow_cast-first-end
+overflow_cast-first-end g c = width_casts _ c.requires.gathered.from.short
+
+pub overflow_sub-first-end : goal.overflow_sub-first-end
+overflow_sub-first-end g c = wide_some _ _ c.requires.gathered.from.sized
+
+pub reverse_from-best-requires-clause-search : goal.reverse_from-best-requires-clause-search
+reverse_from-best-requires-clause-search g c = c.requires.search
+
+pub reverse_from-best-requires-clause-gathered : goal.reverse_from-best-requires-clause-gathered
+reverse_from-best-requires-clause-gathered g c = c.requires.gathered
+
+pub reverse_from-best-requires-clause-inside : goal.reverse_from-best-requires-clause-inside
+reverse_from-best-requires-clause-inside g c = c.requires.inside
+
+pub reverse_from-best-requires-clause-sums : goal.reverse_from-best-requires-clause-sums
+reverse_from-best-requires-clause-sums g c = c.requires.sums
+
+pub reverse_from-best-requires-clause-first : goal.reverse_from-best-requires-clause-first
+reverse_from-best-requires-clause-first g c = (c.loop-first.auto.first, place_room c.loop-first.first _ c.loop-first-test.true)

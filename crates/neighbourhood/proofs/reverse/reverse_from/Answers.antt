@@ -3,6 +3,7 @@ use Rattle.neighbourhood.specs.Searched.{searched}
 use Rattle.neighbourhood.proofs.Rows.{reverses_past}
 use Rattle.neighbourhood.proofs.Saved.{reverse_possible, reverse_saved, edges_inside, out_room_inside}
 use Rattle.neighbourhood.proofs.Still.{reverse_free}
+use Rattle.neighbourhood.proofs.Small.{edge_before, last_order, sum_low, sums_at, way_sum_fits, way_sum_low, wide_some, width_casts}
 use Rattle.neighbourhood.proofs.reverse.reverse_from.Goals as goal
 
 pub reverse_row-requires-clause-possible : goal.reverse_row-requires-clause-possible
@@ -12,7 +13,7 @@ reverse_row-requires-clause-possible g c =
 
 pub reverse_row-requires-clause-saving : goal.reverse_row-requires-clause-saving
 reverse_row-requires-clause-saving g c =
-    let f = c.from.ensures in
+    let f = c.way_at.ensures.value in
     λ last l h.
     let saved = reverse_saved (searched c.args.search.now) c.requires.search c.args.gathered.now c.requires.gathered c.requires.inside c.args.first last c.args.sums.now c.args.back_sums.now
     c.row.result.now c.row-2.result.now c.requires.first.0 l (omega arith) c.requires.sums c.row.ensures.cells c.row-2.ensures.cells in
@@ -62,3 +63,45 @@ reverse_row-requires-clause-best g c = c.requires.best
 
 pub returns : goal.returns
 returns g c = c.reverse_row.ensures
+
+pub first_free-requires-clause-view : goal.first_free-requires-clause-view
+first_free-requires-clause-view g c = c.requires.search.view
+
+pub first_free-requires-clause-v : goal.first_free-requires-clause-v
+first_free-requires-clause-v g c = (c.requires.gathered.from.low, c.requires.gathered.from.high)
+
+pub overflow_sub-index : goal.overflow_sub-index
+overflow_sub-index g c = c.requires.first.0
+
+pub way_at-requires : goal.way_at-requires
+way_at-requires g c = edge_before c.args.first _ _ c.requires.first.1 (edges_inside (searched c.args.search.now) c.requires.search c.args.gathered.now c.requires.gathered c.requires.inside)
+
+pub bounds-back_sums-index : goal.bounds-back_sums-index
+bounds-back_sums-index g c = sums_at c.args.first _ _ c.requires.first.1 c.requires.sums.back_sums.counted
+
+pub overflow_add-reverses : goal.overflow_add-reverses
+overflow_add-reverses g c = way_sum_fits _ _ c.way_at.ensures.small (c.requires.sums.small.1 c.args.first 0 (sums_at c.args.first _ _ c.requires.first.1 c.requires.sums.back_sums.counted))
+
+pub bounds-sums-index : goal.bounds-sums-index
+bounds-sums-index g c = sums_at c.args.first _ _ c.requires.first.1 c.requires.sums.sums.counted
+
+pub overflow_sub-index-2 : goal.overflow_sub-index-2
+overflow_sub-index-2 g c = c.requires.first.0
+
+pub overflow_cast-width : goal.overflow_cast-width
+overflow_cast-width g c = width_casts _ c.requires.gathered.from.short
+
+pub overflow_sub-width : goal.overflow_sub-width
+overflow_sub-width g c = wide_some _ _ c.requires.gathered.from.sized
+
+pub reverse_row-requires-clause-search : goal.reverse_row-requires-clause-search
+reverse_row-requires-clause-search g c = c.requires.search
+
+pub reverse_row-requires-clause-inside : goal.reverse_row-requires-clause-inside
+reverse_row-requires-clause-inside g c = c.requires.inside
+
+pub reverse_row-requires-clause-order : goal.reverse_row-requires-clause-order
+reverse_row-requires-clause-order g c = last_order c.args.first _ c.requires.first.1
+
+pub reverse_row-requires-clause-fixed : goal.reverse_row-requires-clause-fixed
+reverse_row-requires-clause-fixed g c = (way_sum_low _ _ c.way_at.ensures.small (c.requires.sums.small.1 c.args.first 0 (sums_at c.args.first _ _ c.requires.first.1 c.requires.sums.back_sums.counted)), sum_low _ (c.requires.sums.small.0 c.args.first 0 (sums_at c.args.first _ _ c.requires.first.1 c.requires.sums.sums.counted)))

@@ -1,8 +1,9 @@
 use Rattle.std.proofs.Common.{◌≡◌, ℕ, ◌+◌, arith, subst, [], ◌∷◌, refl}
 use Rattle.neighbourhood.specs.Search.{IsBestSoFar}
 use Rattle.neighbourhood.specs.Searched.{searched}
-use Rattle.neighbourhood.proofs.Found.{fixed_wide, found_adds, found_after, found_casts, found_in}
+use Rattle.neighbourhood.proofs.Found.{fixed_wide, found_adds, found_after, found_casts, found_in, found_next}
 use Rattle.neighbourhood.proofs.Rows.{reverse_next, reverses_past}
+use Rattle.neighbourhood.proofs.Small.{first_casts, first_fits, first_order, goes_on, wide_sum_fits, wide_sum_way_fits, wide_sum_way_low, wide_way_fits, wide_way_sum_fits, wide_way_sum_way_fits}
 use Rattle.neighbourhood.proofs.reverse.reverse_row.Goals as goal
 
 pub returns-then-there-end : goal.returns-then-there-end
@@ -93,9 +94,9 @@ or_better-best-requires-clause-saving g c =
     let to = c.first_reverse_gain-found.ensures.high in
     let other = c.if-there-end.false in
     let saving = c.requires.saving c.first_reverse_gain-found.result (omega arith) (omega arith) in
-    let f0 = c.from.ensures in
-    let f1 = c.from-in-row.ensures in
-    let f2 = c.from-in-row-2.ensures in
+    let f0 = c.way_at.ensures.value in
+    let f1 = c.way_at-in-row.ensures.value in
+    let f2 = c.way_at-in-row-2.ensures.value in
     omega arith
 
 pub may_reverse_gain-requires-clause-lost : goal.may_reverse_gain-requires-clause-lost
@@ -119,17 +120,59 @@ overflow_cast-there g c = found_casts c.first_reverse_gain-found.result c.args.e
 pub bounds-ways-found : goal.bounds-ways-found
 bounds-ways-found g c = found_in c.first_reverse_gain-found.result c.args.end _ c.first_reverse_gain-found.ensures.high c.if-there-end.false c.requires.ways.sums
 
+pub way_at-requires : goal.way_at-requires
+way_at-requires g c = found_in c.first_reverse_gain-found.result c.args.end _ c.first_reverse_gain-found.ensures.high c.if-there-end.false c.requires.ways.edges
+
+pub way_at-requires-in-row : goal.way_at-requires-in-row
+way_at-requires-in-row g c = found_in c.first_reverse_gain-found.result c.args.end _ c.first_reverse_gain-found.ensures.high c.if-there-end.false c.requires.ways.before
+
 pub bounds-ways-found-in-row : goal.bounds-ways-found-in-row
-bounds-ways-found-in-row g c = found_in c.first_reverse_gain-found.result c.args.end _ c.first_reverse_gain-found.ensures.high c.if-there-end.false c.requires.ways.edges
+bounds-ways-found-in-row g c = found_in c.first_reverse_gain-found.result c.args.end _ c.first_reverse_gain-found.ensures.high c.if-there-end.false c.requires.ways.back_sums
 
-pub bounds-ways-found-in-row-2 : goal.bounds-ways-found-in-row-2
-bounds-ways-found-in-row-2 g c = found_in c.first_reverse_gain-found.result c.args.end _ c.first_reverse_gain-found.ensures.high c.if-there-end.false c.requires.ways.before
-
-pub bounds-ways-found-in-row-3 : goal.bounds-ways-found-in-row-3
-bounds-ways-found-in-row-3 g c = found_in c.first_reverse_gain-found.result c.args.end _ c.first_reverse_gain-found.ensures.high c.if-there-end.false c.requires.ways.back_sums
-
-pub bounds-ways-found-in-row-4 : goal.bounds-ways-found-in-row-4
-bounds-ways-found-in-row-4 g c = found_after c.first_reverse_gain-found.result c.args.end _ c.first_reverse_gain-found.ensures.high c.if-there-end.false c.requires.ways.here
+pub way_at-requires-in-row-2 : goal.way_at-requires-in-row-2
+way_at-requires-in-row-2 g c = found_after c.first_reverse_gain-found.result c.args.end _ c.first_reverse_gain-found.ensures.high c.if-there-end.false c.requires.ways.here
 
 pub overflow_add-found : goal.overflow_add-found
 overflow_add-found g c = found_adds c.first_reverse_gain-found.result c.args.end _ c.first_reverse_gain-found.ensures.high c.requires.ways.here c.requires.short
+
+pub overflow_add-first : goal.overflow_add-first
+overflow_add-first g c = first_casts c.args.reverses.now.first c.args.end _ c.requires.order c.requires.ways.here c.requires.short
+
+pub wanted-least-requires : goal.wanted-least-requires
+wanted-least-requires g c = c.requires.fixed.1
+
+pub overflow_add-first-2 : goal.overflow_add-first-2
+overflow_add-first-2 g c = first_fits c.args.reverses.now.first c.args.end _ c.requires.order c.requires.ways.here c.requires.short
+
+pub may_reverse_gain-requires-clause-order : goal.may_reverse_gain-requires-clause-order
+may_reverse_gain-requires-clause-order g c = first_order c.args.reverses.now.first c.args.end c.requires.order
+
+pub overflow_add-last : goal.overflow_add-last
+overflow_add-last g c = first_casts c.args.reverses.now.first c.args.end _ c.requires.order c.requires.ways.here c.requires.short
+
+pub wanted-least-requires-in-row : goal.wanted-least-requires-in-row
+wanted-least-requires-in-row g c = c.requires.fixed.1
+
+pub overflow_add-all_lost : goal.overflow_add-all_lost
+overflow_add-all_lost g c = wide_sum_fits _ _ c.requires.fixed.0 (c.requires.ways.small.0 c.first_reverse_gain-found.result 0 (found_in c.first_reverse_gain-found.result c.args.end _ c.first_reverse_gain-found.ensures.high c.if-there-end.false c.requires.ways.sums))
+
+pub overflow_add-all_lost-in-row : goal.overflow_add-all_lost-in-row
+overflow_add-all_lost-in-row g c = wide_sum_way_fits _ _ _ c.requires.fixed.0 (c.requires.ways.small.0 c.first_reverse_gain-found.result 0 (found_in c.first_reverse_gain-found.result c.args.end _ c.first_reverse_gain-found.ensures.high c.if-there-end.false c.requires.ways.sums)) c.way_at.ensures.small
+
+pub overflow_add-all_gained : goal.overflow_add-all_gained
+overflow_add-all_gained g c = wide_way_fits _ _ c.requires.fixed.1 c.way_at-in-row.ensures.small
+
+pub overflow_add-all_gained-in-row : goal.overflow_add-all_gained-in-row
+overflow_add-all_gained-in-row g c = wide_way_sum_fits _ _ _ c.requires.fixed.1 c.way_at-in-row.ensures.small (c.requires.ways.small.1 c.first_reverse_gain-found.result 0 (found_in c.first_reverse_gain-found.result c.args.end _ c.first_reverse_gain-found.ensures.high c.if-there-end.false c.requires.ways.back_sums))
+
+pub overflow_add-all_gained-in-row-2 : goal.overflow_add-all_gained-in-row-2
+overflow_add-all_gained-in-row-2 g c = wide_way_sum_way_fits _ _ _ _ c.requires.fixed.1 c.way_at-in-row.ensures.small (c.requires.ways.small.1 c.first_reverse_gain-found.result 0 (found_in c.first_reverse_gain-found.result c.args.end _ c.first_reverse_gain-found.ensures.high c.if-there-end.false c.requires.ways.back_sums)) c.way_at-in-row-2.ensures.small
+
+pub or_better-best-requires-clause-small : goal.or_better-best-requires-clause-small
+or_better-best-requires-clause-small g c = wide_sum_way_low _ _ _ c.requires.fixed.0 (c.requires.ways.small.0 c.first_reverse_gain-found.result 0 (found_in c.first_reverse_gain-found.result c.args.end _ c.first_reverse_gain-found.ensures.high c.if-there-end.false c.requires.ways.sums)) c.way_at.ensures.small
+
+pub overflow_add-last-in-row : goal.overflow_add-last-in-row
+overflow_add-last-in-row g c = found_next c.first_reverse_gain-found.result c.args.end _ c.first_reverse_gain-found.ensures.high c.requires.ways.here c.requires.short
+
+pub row-smaller : goal.row-smaller
+row-smaller g c = goes_on c.row.last c.first_reverse_gain-found.result c.args.end c.first_reverse_gain-found.ensures.low c.first_reverse_gain-found.ensures.high c.if-there-end.false

@@ -12,3 +12,33 @@ best_cross-requires-clause-best g c =
 
 pub returns : goal.returns
 returns g c = best_of_all (searched c.args.search.now) c.requires.search c.best_cross.result.found c.best_cross.ensures
+
+pub best_shift-shifted-requires-clause-search : goal.best_shift-shifted-requires-clause-search
+best_shift-shifted-requires-clause-search g c = c.requires.search
+
+pub best_shift-shifted-requires-clause-gathered : goal.best_shift-shifted-requires-clause-gathered
+best_shift-shifted-requires-clause-gathered g c = c.requires.gathered
+
+pub best_shift-shifted-requires-clause-apart : goal.best_shift-shifted-requires-clause-apart
+best_shift-shifted-requires-clause-apart g c = c.requires.apart
+
+pub best_swap-swapped-requires-clause-search : goal.best_swap-swapped-requires-clause-search
+best_swap-swapped-requires-clause-search g c = c.requires.search
+
+pub best_swap-swapped-requires-clause-gathered : goal.best_swap-swapped-requires-clause-gathered
+best_swap-swapped-requires-clause-gathered g c = c.requires.gathered
+
+pub best_swap-swapped-requires-clause-apart : goal.best_swap-swapped-requires-clause-apart
+best_swap-swapped-requires-clause-apart g c = c.requires.apart
+
+pub best_cross-requires-clause-search : goal.best_cross-requires-clause-search
+best_cross-requires-clause-search g c = c.requires.search
+
+pub best_cross-requires-clause-gathered : goal.best_cross-requires-clause-gathered
+best_cross-requires-clause-gathered g c = c.requires.gathered
+
+pub best_cross-requires-clause-apart : goal.best_cross-requires-clause-apart
+best_cross-requires-clause-apart g c = c.requires.apart
+
+pub best_swap-swapped-requires-clause-best : goal.best_swap-swapped-requires-clause-best
+best_swap-swapped-requires-clause-best g c = c.best_shift-shifted.ensures

@@ -4,6 +4,7 @@ use Rattle.neighbourhood.specs.Search.{IsBestSoFar}
 use Rattle.neighbourhood.specs.Searched.{searched}
 use Rattle.neighbourhood.proofs.Shifts.{shifts_at, shifts_begin, shifts_end, shifts_place_done, shifts_row, shifts_row_done, shifts_row_skipped}
 use Rattle.neighbourhood.proofs.shift.best_shift.Goals.{then-place-count, else-place-count}
+use Rattle.neighbourhood.proofs.Small.{few_counts, wide_some, width_casts}
 use Rattle.neighbourhood.proofs.shift.best_shift.Goals as goal
 
 pub loop-place-init : goal.loop-place-init
@@ -50,3 +51,33 @@ returns g c =
     let e : c.loop-place.place ≡ lv + 1 = let t = c.loop-place-test.false in let h = c.loop-place.auto.place-end in let long = c.requires.gathered.from.sized in omega arith in
     shifts_end q c.requires.search c.loop-place.best.found
     (subst (λ (k : ℕ). IsBestSoFar q (1 ∷ q.v ∷ k ∷ []) c.loop-place.best.found) e c.loop-place.invariant)
+
+pub overflow_cast-place-end : goal.overflow_cast-place-end
+overflow_cast-place-end g c = width_casts _ c.requires.gathered.from.short
+
+pub overflow_sub-place-end : goal.overflow_sub-place-end
+overflow_sub-place-end g c = wide_some _ _ c.requires.gathered.from.sized
+
+pub loose_from-free-requires-clause-view : goal.loose_from-free-requires-clause-view
+loose_from-free-requires-clause-view g c = c.requires.search.view
+
+pub loose_from-free-requires-clause-v : goal.loose_from-free-requires-clause-v
+loose_from-free-requires-clause-v g c = (c.requires.gathered.from.low, c.requires.gathered.from.high)
+
+pub loose_from-free-requires-clause-low : goal.loose_from-free-requires-clause-low
+loose_from-free-requires-clause-low g c = c.loop-place.auto.place
+
+pub shift_over-best-requires-clause-search : goal.shift_over-best-requires-clause-search
+shift_over-best-requires-clause-search g c = c.requires.search
+
+pub shift_over-best-requires-clause-gathered : goal.shift_over-best-requires-clause-gathered
+shift_over-best-requires-clause-gathered g c = c.requires.gathered
+
+pub shift_over-best-requires-clause-apart : goal.shift_over-best-requires-clause-apart
+shift_over-best-requires-clause-apart g c = c.requires.apart
+
+pub shift_over-best-requires-clause-count : goal.shift_over-best-requires-clause-count
+shift_over-best-requires-clause-count g c = (c.loop-count.auto.count, few_counts _ c.loop-count-test.true)
+
+pub shift_over-best-requires-clause-place : goal.shift_over-best-requires-clause-place
+shift_over-best-requires-clause-place g c = (c.loop-place.auto.place, c.if-place-count.true)

@@ -5,6 +5,7 @@ use Rattle.neighbourhood.specs.Searched.{searched}
 use Rattle.neighbourhood.proofs.Saved.{same_stops}
 use Rattle.neighbourhood.proofs.Shifts.{shifts_at, shifts_begin, shifts_end, shifts_place_done, shifts_row, shifts_row_done, shifts_row_skipped}
 use Rattle.neighbourhood.proofs.shift.best_shift_inside.Goals.{then-place-count, else-place-count}
+use Rattle.neighbourhood.proofs.Small.{few_counts, wide_some, width_casts}
 use Rattle.neighbourhood.proofs.shift.best_shift_inside.Goals as goal
 
 pub loop-place-init : goal.loop-place-init
@@ -47,3 +48,24 @@ returns g c =
     let e : c.loop-place.place ≡ lv + 1 = let t = c.loop-place-test.false in let h = c.loop-place.auto.place-end in let long = c.requires.gathered.from.sized in omega arith in
     shifts_end q c.requires.search c.loop-place.best.found
     (subst (λ (k : ℕ). IsBestSoFar q (1 ∷ q.v ∷ k ∷ []) c.loop-place.best.found) e c.loop-place.invariant)
+
+pub overflow_cast-place-end : goal.overflow_cast-place-end
+overflow_cast-place-end g c = width_casts _ c.requires.gathered.from.short
+
+pub overflow_sub-place-end : goal.overflow_sub-place-end
+overflow_sub-place-end g c = wide_some _ _ c.requires.gathered.from.sized
+
+pub shift_within-best-requires-clause-search : goal.shift_within-best-requires-clause-search
+shift_within-best-requires-clause-search g c = c.requires.search
+
+pub shift_within-best-requires-clause-gathered : goal.shift_within-best-requires-clause-gathered
+shift_within-best-requires-clause-gathered g c = c.requires.gathered
+
+pub shift_within-best-requires-clause-inside : goal.shift_within-best-requires-clause-inside
+shift_within-best-requires-clause-inside g c = c.requires.inside
+
+pub shift_within-best-requires-clause-count : goal.shift_within-best-requires-clause-count
+shift_within-best-requires-clause-count g c = (c.loop-count.auto.count, few_counts _ c.loop-count-test.true)
+
+pub shift_within-best-requires-clause-place : goal.shift_within-best-requires-clause-place
+shift_within-best-requires-clause-place g c = (c.loop-place.auto.place, c.if-place-count.true)

@@ -4,6 +4,7 @@ use Rattle.neighbourhood.specs.Searched.{searched, costs_of}
 use Rattle.neighbourhood.proofs.Saved.{out_room, shift_most, shift_saved, into_room, shift_possible}
 use Rattle.neighbourhood.proofs.Shifts.{shifts_past}
 use Rattle.neighbourhood.proofs.Still.{shift_free}
+use Rattle.neighbourhood.proofs.Small.{after_low, before_after, before_first, begin_high, begins, count_fits, gap_order, row_end, row_some, two_fit, two_low, two_more_fit, two_more_low, wide_some, width_casts}
 use Rattle.neighbourhood.proofs.shift.shift_over.Goals as goal
 
 pub returns-then-free-count : goal.returns-then-free-count
@@ -33,8 +34,8 @@ returns-then-reach-floor g c =
     let f = c.from.ensures in
     let f2 = c.from-2.ensures in
     let f3 = c.from-3.ensures in
-    let f4 = c.from-4.ensures in
-    let f5 = c.from-5.ensures in
+    let f4 = c.way_at.ensures.value in
+    let f5 = c.way_at-2.ensures.value in
     let test = c.if-reach-floor.true in
     let bound = c.wanted-floor.ensures.value in
     shifts_past q c.requires.search c.args.place c.args.count 1 (length a.to.now) c.args.best.found (omega arith)
@@ -52,8 +53,8 @@ returns-then-reach-higher g c =
     let f = c.from.ensures in
     let f2 = c.from-2.ensures in
     let f3 = c.from-3.ensures in
-    let f4 = c.from-4.ensures in
-    let f5 = c.from-5.ensures in
+    let f4 = c.way_at.ensures.value in
+    let f5 = c.way_at-2.ensures.value in
     let test = c.if-reach-higher.true in
     let bound = c.wanted-higher.ensures.value in
     shifts_past q c.requires.search c.args.place c.args.count 1 (length a.to.now) c.args.best.found (omega arith)
@@ -117,3 +118,75 @@ shift_row-requires-clause-possible g c =
 
 pub returns : goal.returns
 returns g c = c.shift_row.ensures
+
+pub overflow_add-after : goal.overflow_add-after
+overflow_add-after g c = count_fits c.args.place c.args.count _ c.requires.place.1 c.requires.gathered.from.short
+
+pub overflow_sub-first : goal.overflow_sub-first
+overflow_sub-first g c = c.requires.place.0
+
+pub bounds-from_edges-first : goal.bounds-from_edges-first
+bounds-from_edges-first g c = before_first c.args.place c.args.count _ _ c.requires.place.0 c.requires.place.1 c.requires.gathered.from_edges.counted
+
+pub overflow_sub-after : goal.overflow_sub-after
+overflow_sub-after g c = after_low c.args.place c.args.count c.requires.place.0
+
+pub bounds-from_edges-after : goal.bounds-from_edges-after
+bounds-from_edges-after g c = before_after c.args.place c.args.count _ _ c.requires.place.0 c.requires.place.1 c.requires.gathered.from_edges.counted
+
+pub overflow_sub-after-2 : goal.overflow_sub-after-2
+overflow_sub-after-2 g c = after_low c.args.place c.args.count c.requires.place.0
+
+pub way_at-requires : goal.way_at-requires
+way_at-requires g c = row_some _ _ _ c.row-goes.ensures.sized c.requires.gathered.to.sized
+
+pub overflow_sub-width : goal.overflow_sub-width
+overflow_sub-width g c = wide_some _ _ c.requires.gathered.to.sized
+
+pub way_at-requires-2 : goal.way_at-requires-2
+way_at-requires-2 g c = row_end _ _ _ c.row-comes.ensures.sized c.requires.gathered.to.sized
+
+pub overflow_add-least : goal.overflow_add-least
+overflow_add-least g c = two_fit _ _ c.way_at.ensures.small c.way_at-2.ensures.small
+
+pub wanted-floor-requires : goal.wanted-floor-requires
+wanted-floor-requires g c = two_low _ _ c.way_at.ensures.small c.way_at-2.ensures.small
+
+pub first_free-begin-requires-clause-view : goal.first_free-begin-requires-clause-view
+first_free-begin-requires-clause-view g c = c.requires.search.view
+
+pub first_free-begin-requires-clause-v : goal.first_free-begin-requires-clause-v
+first_free-begin-requires-clause-v g c = (c.requires.gathered.to.low, c.requires.gathered.to.high)
+
+pub overflow_sub-first-2 : goal.overflow_sub-first-2
+overflow_sub-first-2 g c = c.requires.place.0
+
+pub closing-gained-requires-clause-gathered : goal.closing-gained-requires-clause-gathered
+closing-gained-requires-clause-gathered g c = c.requires.gathered
+
+pub closing-gained-requires-clause-order : goal.closing-gained-requires-clause-order
+closing-gained-requires-clause-order g c = gap_order c.args.place c.args.count c.requires.place.0
+
+pub closing-gained-requires-clause-after : goal.closing-gained-requires-clause-after
+closing-gained-requires-clause-after g c = c.requires.place.1
+
+pub overflow_add-least-2 : goal.overflow_add-least-2
+overflow_add-least-2 g c = two_more_fit _ _ _ c.way_at.ensures.small c.way_at-2.ensures.small c.closing-gained.ensures.small
+
+pub wanted-higher-requires : goal.wanted-higher-requires
+wanted-higher-requires g c = two_more_low _ _ _ c.way_at.ensures.small c.way_at-2.ensures.small c.closing-gained.ensures.small
+
+pub overflow_cast-width : goal.overflow_cast-width
+overflow_cast-width g c = width_casts _ c.requires.gathered.to.short
+
+pub shift_row-requires-clause-search : goal.shift_row-requires-clause-search
+shift_row-requires-clause-search g c = c.requires.search
+
+pub shift_row-requires-clause-few : goal.shift_row-requires-clause-few
+shift_row-requires-clause-few g c = c.requires.count.1
+
+pub shift_row-requires-clause-low : goal.shift_row-requires-clause-low
+shift_row-requires-clause-low g c = begins _ _ c.first_free-begin.ensures.value
+
+pub shift_row-requires-clause-order : goal.shift_row-requires-clause-order
+shift_row-requires-clause-order g c = begin_high _ _ _ c.first_free-begin.ensures.high c.requires.gathered.to.sized

@@ -3,6 +3,8 @@ use Rattle.way_costs.specs.Rows.{lost_by_cut, gained_by_cut}
 use Rattle.neighbourhood.specs.Search.{IsBestSoFar}
 use Rattle.neighbourhood.specs.Searched.{searched}
 use Rattle.neighbourhood.proofs.Shifts.{shift_next, shifts_past}
+use Rattle.neighbourhood.proofs.Found.{fixed_small, found_adds, found_next}
+use Rattle.neighbourhood.proofs.Small.{after_low, lost_fits, lost_low, lost_two_fit, shift_after, shift_back, shift_casts, shift_end_casts, shift_end_fits, shift_fits, shift_goes_on, shift_in, shift_low, shift_next_casts, shift_order}
 use Rattle.neighbourhood.proofs.shift.shift_row.Goals as goal
 
 pub returns-then-not-may_gain : goal.returns-then-not-may_gain
@@ -50,9 +52,9 @@ or_better-best-requires-clause-saving g c =
     let e : found + 1 - c.args.offset + c.args.offset - 1 ≡ found = omega arith in
     let lost = ap (λ (n : ℕ). lost_by_cut c.args.shifts.now.ways n) e in
     let gained = ap (λ (n : ℕ). gained_by_cut c.args.shifts.now.ways n) e in
-    let f = c.from.ensures in
-    let f2 = c.from-in-row.ensures in
-    let f3 = c.from-in-row-2.ensures in
+    let f = c.way_at.ensures.value in
+    let f2 = c.way_at-in-row.ensures.value in
+    let f3 = c.way_at-in-row-2.ensures.value in
     omega arith
 
 pub row-preserved : goal.row-preserved
@@ -107,3 +109,93 @@ pub returns-then-first-end : goal.returns-then-first-end
 returns-then-first-end g c =
     let q = searched c.args.search.now in
     subst (λ (k : ℕ). IsBestSoFar q (1 ∷ q.v ∷ c.args.shifts.now.place ∷ c.args.shifts.now.count ∷ q.w ∷ k ∷ []) c.args.best.found) c.if-first-end.true c.requires.best
+
+pub wanted-least-requires : goal.wanted-least-requires
+wanted-least-requires g c = fixed_small _ c.requires.fixed.1
+
+pub overflow_add-begin : goal.overflow_add-begin
+overflow_add-begin g c = shift_casts c.args.first c.args.offset c.args.end _ c.requires.order c.requires.ways.on c.requires.short
+
+pub overflow_cast-begin : goal.overflow_cast-begin
+overflow_cast-begin g c = shift_fits c.args.first c.args.offset c.args.end _ c.requires.order c.requires.ways.on c.requires.short
+
+pub overflow_sub-begin : goal.overflow_sub-begin
+overflow_sub-begin g c = after_low c.args.first c.args.offset c.requires.low
+
+pub overflow_add-last : goal.overflow_add-last
+overflow_add-last g c = shift_end_casts c.args.offset c.args.end _ c.requires.ways.on c.requires.short
+
+pub overflow_cast-last : goal.overflow_cast-last
+overflow_cast-last g c = shift_end_fits c.args.offset c.args.end _ c.requires.ways.on c.requires.short
+
+pub overflow_sub-last : goal.overflow_sub-last
+overflow_sub-last g c = shift_low c.args.first c.args.end c.args.offset c.requires.low c.requires.order
+
+pub may_gain-requires-clause-lost : goal.may_gain-requires-clause-lost
+may_gain-requires-clause-lost g c = fixed_small _ c.requires.fixed.0
+
+pub may_gain-requires-clause-wanted : goal.may_gain-requires-clause-wanted
+may_gain-requires-clause-wanted g c = c.wanted-least.ensures.small
+
+pub may_gain-requires-clause-order : goal.may_gain-requires-clause-order
+may_gain-requires-clause-order g c = shift_order c.args.first c.args.end c.args.offset c.requires.order
+
+pub overflow_add-from : goal.overflow_add-from
+overflow_add-from g c = shift_casts c.row.at c.args.offset c.args.end _ c.row.invariant.high c.requires.ways.on c.requires.short
+
+pub overflow_cast-from : goal.overflow_cast-from
+overflow_cast-from g c = shift_fits c.row.at c.args.offset c.args.end _ c.row.invariant.high c.requires.ways.on c.requires.short
+
+pub overflow_sub-from : goal.overflow_sub-from
+overflow_sub-from g c = shift_low c.args.first c.row.at c.args.offset c.requires.low c.row.invariant.low
+
+pub wanted-least-requires-in-row : goal.wanted-least-requires-in-row
+wanted-least-requires-in-row g c = fixed_small _ c.requires.fixed.1
+
+pub first_gain-found-requires-clause-lost : goal.first_gain-found-requires-clause-lost
+first_gain-found-requires-clause-lost g c = fixed_small _ c.requires.fixed.0
+
+pub first_gain-found-requires-clause-wanted : goal.first_gain-found-requires-clause-wanted
+first_gain-found-requires-clause-wanted g c = c.wanted-least-in-row.ensures.small
+
+pub first_gain-found-requires-clause-order : goal.first_gain-found-requires-clause-order
+first_gain-found-requires-clause-order g c = shift_order c.row.at c.args.end c.args.offset c.row.invariant.high
+
+pub overflow_add-next : goal.overflow_add-next
+overflow_add-next g c = found_adds c.first_gain-found.result _ _ c.first_gain-found.ensures.high c.requires.ways.on c.requires.short
+
+pub overflow_cast-next : goal.overflow_cast-next
+overflow_cast-next g c = found_next c.first_gain-found.result _ _ c.first_gain-found.ensures.high c.requires.ways.on c.requires.short
+
+pub overflow_sub-next : goal.overflow_sub-next
+overflow_sub-next g c = shift_back c.row.at c.args.offset c.first_gain-found.result c.first_gain-found.ensures.low
+
+pub way_at-requires : goal.way_at-requires
+way_at-requires g c = shift_in c.row.at c.first_gain-found.result c.args.end c.args.offset _ c.row-test.true c.first_gain-found.ensures.high c.if-next-end.false c.requires.ways.edges
+
+pub overflow_add-all_lost : goal.overflow_add-all_lost
+overflow_add-all_lost g c = lost_fits _ _ c.requires.fixed.0 c.way_at.ensures.small
+
+pub way_at-requires-in-row : goal.way_at-requires-in-row
+way_at-requires-in-row g c = shift_in c.row.at c.first_gain-found.result c.args.end c.args.offset _ c.row-test.true c.first_gain-found.ensures.high c.if-next-end.false c.requires.ways.to
+
+pub overflow_add-all_gained : goal.overflow_add-all_gained
+overflow_add-all_gained g c = lost_fits _ _ c.requires.fixed.1 c.way_at-in-row.ensures.small
+
+pub overflow_add-found : goal.overflow_add-found
+overflow_add-found g c = found_adds c.first_gain-found.result _ _ c.first_gain-found.ensures.high c.requires.ways.on c.requires.short
+
+pub way_at-requires-in-row-2 : goal.way_at-requires-in-row-2
+way_at-requires-in-row-2 g c = shift_after c.row.at c.first_gain-found.result c.args.end c.args.offset _ c.row-test.true c.first_gain-found.ensures.high c.if-next-end.false c.requires.ways.on
+
+pub overflow_add-all_gained-in-row : goal.overflow_add-all_gained-in-row
+overflow_add-all_gained-in-row g c = lost_two_fit _ _ _ c.requires.fixed.1 c.way_at-in-row.ensures.small c.way_at-in-row-2.ensures.small
+
+pub or_better-best-requires-clause-small : goal.or_better-best-requires-clause-small
+or_better-best-requires-clause-small g c = lost_low _ _ c.requires.fixed.0 c.way_at.ensures.small
+
+pub overflow_add-at : goal.overflow_add-at
+overflow_add-at g c = shift_next_casts c.first_gain-found.result c.args.offset c.args.end _ c.first_gain-found.ensures.high c.requires.ways.on c.requires.short
+
+pub row-smaller : goal.row-smaller
+row-smaller g c = shift_goes_on c.row.at c.first_gain-found.result c.args.end c.args.offset c.row-test.true c.first_gain-found.ensures.low

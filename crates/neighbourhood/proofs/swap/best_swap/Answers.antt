@@ -1,6 +1,7 @@
 use Rattle.std.proofs.Common.{◌-◌, arith, length}
 use Rattle.neighbourhood.specs.Searched.{searched}
 use Rattle.neighbourhood.proofs.Rows.{swap_apart, swap_row, swap_row_done, swaps_begin, swaps_end}
+use Rattle.neighbourhood.proofs.Small.{place_room, wide_some, width_casts}
 use Rattle.neighbourhood.proofs.swap.best_swap.Goals as goal
 
 pub loop-place-init : goal.loop-place-init
@@ -22,3 +23,21 @@ returns g c =
     let low = c.loop-place-test.false in
     let long = c.requires.gathered.from.sized in
     swaps_end (searched c.args.search.now) c.requires.search c.loop-place.place c.loop-place.best.found (omega arith) c.loop-place.invariant
+
+pub overflow_cast-place-end : goal.overflow_cast-place-end
+overflow_cast-place-end g c = width_casts _ c.requires.gathered.from.short
+
+pub overflow_sub-place-end : goal.overflow_sub-place-end
+overflow_sub-place-end g c = wide_some _ _ c.requires.gathered.from.sized
+
+pub swap_over-best-requires-clause-search : goal.swap_over-best-requires-clause-search
+swap_over-best-requires-clause-search g c = c.requires.search
+
+pub swap_over-best-requires-clause-gathered : goal.swap_over-best-requires-clause-gathered
+swap_over-best-requires-clause-gathered g c = c.requires.gathered
+
+pub swap_over-best-requires-clause-apart : goal.swap_over-best-requires-clause-apart
+swap_over-best-requires-clause-apart g c = c.requires.apart
+
+pub swap_over-best-requires-clause-place : goal.swap_over-best-requires-clause-place
+swap_over-best-requires-clause-place g c = (c.loop-place.auto.place, place_room c.loop-place.place _ c.loop-place-test.true)

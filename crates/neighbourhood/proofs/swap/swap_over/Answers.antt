@@ -4,6 +4,7 @@ use Rattle.neighbourhood.specs.Searched.{searched}
 use Rattle.neighbourhood.proofs.Rows.{swaps_past}
 use Rattle.neighbourhood.proofs.Saved.{into_room, out_room, swap_most, swap_possible, swap_saved}
 use Rattle.neighbourhood.proofs.Still.{swap_free}
+use Rattle.neighbourhood.proofs.Small.{two_small, two_fit, three_fit, four_fit, four_low, edge_before, edge_at, place_fits, wide_some, row_some, row_end, end_casts, leaves_room, begins}
 use Rattle.neighbourhood.proofs.swap.swap_over.Goals as goal
 
 pub row-next-requires : goal.row-next-requires
@@ -16,8 +17,8 @@ row-back-requires g c =
 
 pub swap_row-requires-clause-saving : goal.swap_row-requires-clause-saving
 swap_row-requires-clause-saving g c =
-    let f = c.from.ensures in
-    let f2 = c.from-2.ensures in
+    let f = c.way_at.ensures.value in
+    let f2 = c.way_at-2.ensures.value in
     let begin = c.first_free-begin.ensures.value in
     λ at l h.
     let saved = swap_saved (searched c.args.search.now) c.requires.search c.args.gathered.now c.requires.gathered c.args.place at
@@ -50,13 +51,13 @@ returns-then-lost-from g c =
     let q = searched c.args.search.now in
     let a = c.args.gathered.now in
     let wide = c.requires.gathered.to.sized in
-    let f = c.from.ensures in
-    let f2 = c.from-2.ensures in
-    let f3 = c.from-3.ensures in
-    let f4 = c.from-4.ensures in
-    let f5 = c.from-5.ensures in
-    let f6 = c.from-6.ensures in
-    let f7 = c.from-7.ensures in
+    let f = c.way_at.ensures.value in
+    let f2 = c.way_at-2.ensures.value in
+    let f3 = c.way_at-3.ensures.value in
+    let f4 = c.way_at-4.ensures.value in
+    let f5 = c.way_at-5.ensures.value in
+    let f6 = c.way_at-6.ensures.value in
+    let f7 = c.from.ensures in
     let test = c.if-lost-from.true in
     let bound = c.wanted-floor.ensures.value in
     swaps_past q c.requires.search c.args.place 1 (length a.to.now - 1) c.args.best.found (omega arith)
@@ -113,3 +114,78 @@ swap_row-requires-clause-possible g c =
 
 pub returns : goal.returns
 returns g c = c.swap_row.ensures
+
+pub may_leave-requires-clause-view : goal.may_leave-requires-clause-view
+may_leave-requires-clause-view g c = c.requires.search.view
+
+pub may_leave-requires-clause-v : goal.may_leave-requires-clause-v
+may_leave-requires-clause-v g c = (c.requires.gathered.from.low, c.requires.gathered.from.high)
+
+pub may_leave-requires-clause-low : goal.may_leave-requires-clause-low
+may_leave-requires-clause-low g c = c.requires.place.0
+
+pub may_leave-requires-clause-high : goal.may_leave-requires-clause-high
+may_leave-requires-clause-high g c = leaves_room _ _ _ c.requires.place.1 c.requires.gathered.from.sized
+
+pub first_free-begin-requires-clause-view : goal.first_free-begin-requires-clause-view
+first_free-begin-requires-clause-view g c = c.requires.search.view
+
+pub first_free-begin-requires-clause-v : goal.first_free-begin-requires-clause-v
+first_free-begin-requires-clause-v g c = (c.requires.gathered.to.low, c.requires.gathered.to.high)
+
+pub overflow_sub-index : goal.overflow_sub-index
+overflow_sub-index g c = c.requires.place.0
+
+pub way_at-requires : goal.way_at-requires
+way_at-requires g c = edge_before _ _ _ c.requires.place.1 c.requires.gathered.from_edges.counted
+
+pub way_at-requires-2 : goal.way_at-requires-2
+way_at-requires-2 g c = edge_at _ _ _ c.requires.place.1 c.requires.gathered.from_edges.counted
+
+pub overflow_add-lost : goal.overflow_add-lost
+overflow_add-lost g c = two_fit _ _ c.way_at.ensures.small c.way_at-2.ensures.small
+
+pub overflow_sub-index-2 : goal.overflow_sub-index-2
+overflow_sub-index-2 g c = c.requires.place.0
+
+pub overflow_add-index : goal.overflow_add-index
+overflow_add-index g c = place_fits _ _ c.requires.place.1 c.requires.gathered.from.short
+
+pub overflow_sub-end : goal.overflow_sub-end
+overflow_sub-end g c = wide_some _ _ c.requires.gathered.to.sized
+
+pub way_at-requires-3 : goal.way_at-requires-3
+way_at-requires-3 g c = row_some _ _ _ c.row-before.ensures.sized c.requires.gathered.to.sized
+
+pub way_at-requires-4 : goal.way_at-requires-4
+way_at-requires-4 g c = row_some _ _ _ c.row-here.ensures.sized c.requires.gathered.to.sized
+
+pub overflow_add-leaves : goal.overflow_add-leaves
+overflow_add-leaves g c = two_fit _ _ c.way_at-3.ensures.small c.way_at-4.ensures.small
+
+pub way_at-requires-5 : goal.way_at-requires-5
+way_at-requires-5 g c = row_end _ _ _ c.row-next.ensures.sized c.requires.gathered.to.sized
+
+pub overflow_add-least : goal.overflow_add-least
+overflow_add-least g c = three_fit _ _ _ c.way_at-3.ensures.small c.way_at-4.ensures.small c.way_at-5.ensures.small
+
+pub way_at-requires-6 : goal.way_at-requires-6
+way_at-requires-6 g c = row_end _ _ _ c.row-back.ensures.sized c.requires.gathered.to.sized
+
+pub overflow_add-least-2 : goal.overflow_add-least-2
+overflow_add-least-2 g c = four_fit _ _ _ _ c.way_at-3.ensures.small c.way_at-4.ensures.small c.way_at-5.ensures.small c.way_at-6.ensures.small
+
+pub wanted-floor-requires : goal.wanted-floor-requires
+wanted-floor-requires g c = four_low _ _ _ _ c.way_at-3.ensures.small c.way_at-4.ensures.small c.way_at-5.ensures.small c.way_at-6.ensures.small
+
+pub overflow_cast-end : goal.overflow_cast-end
+overflow_cast-end g c = end_casts _ c.requires.gathered.to.short
+
+pub swap_row-requires-clause-search : goal.swap_row-requires-clause-search
+swap_row-requires-clause-search g c = c.requires.search
+
+pub swap_row-requires-clause-low : goal.swap_row-requires-clause-low
+swap_row-requires-clause-low g c = begins _ _ c.first_free-begin.ensures.value
+
+pub swap_row-requires-clause-fixed : goal.swap_row-requires-clause-fixed
+swap_row-requires-clause-fixed g c = two_small _ _ c.way_at.ensures.small c.way_at-2.ensures.small

@@ -4,6 +4,7 @@ use Rattle.neighbourhood.specs.Searched.{searched}
 use Rattle.neighbourhood.proofs.Rows.{swaps_past}
 use Rattle.neighbourhood.proofs.Saved.{into_room_inside, swap_inside_possible, swap_inside_saved, edges_inside, out_room_inside}
 use Rattle.neighbourhood.proofs.Still.{swap_inside_free}
+use Rattle.neighbourhood.proofs.Small.{edge_at, edge_before, next_low, place_fits, three_fits, two_casts, two_fit, two_fits, two_order, two_small, wide_some, width_casts}
 use Rattle.neighbourhood.proofs.swap.swap_within.Goals as goal
 
 pub returns-then-index-width : goal.returns-then-index-width
@@ -45,8 +46,8 @@ swap_row-requires-clause-possible g c =
 
 pub swap_row-requires-clause-saving : goal.swap_row-requires-clause-saving
 swap_row-requires-clause-saving g c =
-    let f = c.from.ensures in
-    let f2 = c.from-2.ensures in
+    let f = c.way_at.ensures.value in
+    let f2 = c.way_at-2.ensures.value in
     λ at l h.
     let saved = swap_inside_saved (searched c.args.search.now) c.requires.search c.args.gathered.now c.requires.gathered c.requires.inside c.args.place at
     c.row.result.now c.row-2.result.now c.row-3.result.now c.row-4.result.now c.requires.place.0 (omega arith) (omega arith)
@@ -96,3 +97,69 @@ swap_row-requires-clause-best g c = c.swap_next-near.ensures
 
 pub returns : goal.returns
 returns g c = c.swap_row.ensures
+
+pub overflow_add-index : goal.overflow_add-index
+overflow_add-index g c = two_fits c.args.place _ c.requires.place.1 c.requires.gathered.from.short
+
+pub first_free-requires-clause-view : goal.first_free-requires-clause-view
+first_free-requires-clause-view g c = c.requires.search.view
+
+pub first_free-requires-clause-v : goal.first_free-requires-clause-v
+first_free-requires-clause-v g c = (c.requires.gathered.from.low, c.requires.gathered.from.high)
+
+pub swap_next-near-requires-clause-search : goal.swap_next-near-requires-clause-search
+swap_next-near-requires-clause-search g c = c.requires.search
+
+pub swap_next-near-requires-clause-gathered : goal.swap_next-near-requires-clause-gathered
+swap_next-near-requires-clause-gathered g c = c.requires.gathered
+
+pub swap_next-near-requires-clause-inside : goal.swap_next-near-requires-clause-inside
+swap_next-near-requires-clause-inside g c = c.requires.inside
+
+pub swap_next-near-requires-clause-place : goal.swap_next-near-requires-clause-place
+swap_next-near-requires-clause-place g c = (c.requires.place.0, c.if-index-width.false)
+
+pub swap_next-near-requires-clause-best : goal.swap_next-near-requires-clause-best
+swap_next-near-requires-clause-best g c = c.requires.best
+
+pub overflow_add-index-2 : goal.overflow_add-index-2
+overflow_add-index-2 g c = three_fits c.args.place _ c.requires.place.1 c.requires.gathered.from.short
+
+pub overflow_sub-index : goal.overflow_sub-index
+overflow_sub-index g c = c.requires.place.0
+
+pub way_at-requires : goal.way_at-requires
+way_at-requires g c = edge_before c.args.place _ _ c.requires.place.1 (edges_inside (searched c.args.search.now) c.requires.search c.args.gathered.now c.requires.gathered c.requires.inside)
+
+pub way_at-requires-2 : goal.way_at-requires-2
+way_at-requires-2 g c = edge_at c.args.place _ _ c.requires.place.1 (edges_inside (searched c.args.search.now) c.requires.search c.args.gathered.now c.requires.gathered c.requires.inside)
+
+pub overflow_add-swaps : goal.overflow_add-swaps
+overflow_add-swaps g c = two_fit _ _ c.way_at.ensures.small c.way_at-2.ensures.small
+
+pub overflow_sub-index-2 : goal.overflow_sub-index-2
+overflow_sub-index-2 g c = c.requires.place.0
+
+pub overflow_add-index-3 : goal.overflow_add-index-3
+overflow_add-index-3 g c = place_fits c.args.place _ c.requires.place.1 c.requires.gathered.from.short
+
+pub overflow_add-place : goal.overflow_add-place
+overflow_add-place g c = two_casts c.args.place _ c.requires.place.1 c.requires.gathered.from.short
+
+pub overflow_cast-width : goal.overflow_cast-width
+overflow_cast-width g c = width_casts _ c.requires.gathered.from.short
+
+pub overflow_sub-width : goal.overflow_sub-width
+overflow_sub-width g c = wide_some _ _ c.requires.gathered.from.sized
+
+pub swap_row-requires-clause-search : goal.swap_row-requires-clause-search
+swap_row-requires-clause-search g c = c.requires.search
+
+pub swap_row-requires-clause-low : goal.swap_row-requires-clause-low
+swap_row-requires-clause-low g c = next_low c.args.place 2 (omega arith)
+
+pub swap_row-requires-clause-order : goal.swap_row-requires-clause-order
+swap_row-requires-clause-order g c = two_order c.args.place _ c.if-index-width.false
+
+pub swap_row-requires-clause-fixed : goal.swap_row-requires-clause-fixed
+swap_row-requires-clause-fixed g c = two_small _ _ c.way_at.ensures.small c.way_at-2.ensures.small

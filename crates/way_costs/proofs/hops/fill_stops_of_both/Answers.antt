@@ -1,4 +1,4 @@
-use Rattle.std.proofs.Common.{◌≡◌, ◌∙◌, ◌++◌, List, ℕ, ap}
+use Rattle.std.proofs.Common.{◌≡◌, ◌∙◌, ◌++◌, List, ℕ, ap, subst, sym, ◌≤◌}
 use Rattle.dimension_core.specs.Setup.{setting}
 use Rattle.plan_core.specs.Plan.{route_at}
 use Rattle.way_costs.specs.Sides.{stops_of_both}
@@ -18,3 +18,15 @@ returns-clause-stops g c = are_both g c
 pub returns-clause-known : goal.returns-clause-known
 returns-clause-known g c =
     known_both c.routes_are_known.ensures (setting c.args.setup.now).customers c.args.view.now.routes c.args.v c.args.w _ c.requires.plan (are_both g c)
+
+pub customers-first-requires-clause-low : goal.customers-first-requires-clause-low
+customers-first-requires-clause-low g c = c.requires.v.0
+
+pub customers-first-requires-clause-high : goal.customers-first-requires-clause-high
+customers-first-requires-clause-high g c = subst (λ (n : ℕ). c.args.v ≤ n) (sym c.requires.vehicles) c.requires.v.1
+
+pub customers-second-requires-clause-low : goal.customers-second-requires-clause-low
+customers-second-requires-clause-low g c = c.requires.w.0
+
+pub customers-second-requires-clause-high : goal.customers-second-requires-clause-high
+customers-second-requires-clause-high g c = subst (λ (n : ℕ). c.args.w ≤ n) (sym c.requires.vehicles) c.requires.w.1

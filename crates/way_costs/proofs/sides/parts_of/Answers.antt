@@ -1,10 +1,11 @@
-use Rattle.std.proofs.Common.{◌≡◌, ◌∙◌, ◌+◌, length, ap, arith}
+use Rattle.std.proofs.Common.{◌≡◌, ◌∙◌, ◌+◌, length, ap, arith, subst, sym, ℕ, ◌≤◌}
 use Rattle.callback_store.specs.Tables.{table_at}
 use Rattle.dimension_core.specs.Setup.{setting}
 use Rattle.plan_core.specs.Plan.{route_at}
 use Rattle.way_costs.specs.Sides.{stops_of_both}
 use Rattle.way_costs.proofs.Stops.{made_stops}
-use Rattle.way_costs.proofs.Joined.{both_long, both_front, both_back, rest_whole, edges_front, edges_back}
+use Rattle.way_costs.proofs.Joined.{both_long, both_front, both_back, rest_whole, edges_front, edges_back, middle_back, middle_front, middle_ways}
+use Rattle.std.proofs.lemmas.List.{length-take-le}
 use Rattle.way_costs.proofs.sides.parts_of.Goals as goal
 
 pub returns-clause-from : goal.returns-clause-from
@@ -47,3 +48,25 @@ returns-clause-to_edges g c =
     let middle = length c.customers.result.now + 1 in
     rw (rest_whole middle c.args.stops.now, rest_whole middle c.args.edges.now)
     (edges_back t c.args.stops.now c.args.edges.now (length c.customers.result.now + 1) c.requires.edges (omega arith))
+
+pub customers-requires-clause-low : goal.customers-requires-clause-low
+customers-requires-clause-low g c = c.requires.v.0
+
+pub customers-requires-clause-high : goal.customers-requires-clause-high
+customers-requires-clause-high g c = subst (λ (n : ℕ). c.args.v ≤ n) (sym c.requires.vehicles) c.requires.v.1
+
+pub slice_bounds-from-end : goal.slice_bounds-from-end
+slice_bounds-from-end g c =
+    let fit = middle_front _ c.requires.stops.0 _ _ c.customers.ensures c.requires.stops.1 in
+    omega (arith, length-take-le (length c.customers.result.now + 1 + 1) c.args.stops.now fit)
+
+pub slice_bounds-to-start : goal.slice_bounds-to-start
+slice_bounds-to-start g c = middle_back _ c.requires.stops.0 _ _ c.customers.ensures c.requires.stops.1
+
+pub slice_bounds-from_edges-end : goal.slice_bounds-from_edges-end
+slice_bounds-from_edges-end g c =
+    let fit = middle_ways _ c.requires.stops.0 _ _ _ c.customers.ensures c.requires.stops.1 c.requires.edges.counted in
+    omega (arith, length-take-le (length c.customers.result.now + 1) c.args.edges.now fit)
+
+pub slice_bounds-to_edges-start : goal.slice_bounds-to_edges-start
+slice_bounds-to_edges-start g c = middle_ways _ c.requires.stops.0 _ _ _ c.customers.ensures c.requires.stops.1 c.requires.edges.counted

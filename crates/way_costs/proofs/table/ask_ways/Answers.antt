@@ -1,5 +1,5 @@
 use Rattle.dimension_core.specs.Setup.{setting}
-use Rattle.way_costs.proofs.Cells.{answers_long, id_known, node_known, nodes_known, row_answers}
+use Rattle.way_costs.proofs.Cells.{answers_long, id_known, node_known, nodes_known, row_answers, column_answers}
 use Rattle.way_costs.proofs.table.ask_ways.Goals as goal
 
 pub ask_column-requires-clause-registered : goal.ask_column-requires-clause-registered
@@ -29,3 +29,12 @@ returns-else-turned-clause-sized g c = answers_long _ _ _ c.ask_row.ensures.answ
 pub returns-else-turned-clause-answers : goal.returns-else-turned-clause-answers
 returns-else-turned-clause-answers g c =
     row_answers c.args.turned (setting c.args.setup.now) _ _ c.args.stop c.args.to.now _ c.if-turned.false c.registry-else-turned.ensures.value c.cost-else-turned.ensures.value c.ask_row.ensures.answers
+
+pub ask_column-requires-clause-room : goal.ask_column-requires-clause-room
+ask_column-requires-clause-room g c = c.requires.room
+
+pub ask_row-requires-clause-room : goal.ask_row-requires-clause-room
+ask_row-requires-clause-room g c = c.requires.room
+
+pub returns-then-turned-clause-answers : goal.returns-then-turned-clause-answers
+returns-then-turned-clause-answers g c = column_answers c.args.turned (setting c.args.setup.now) _ _ c.args.stop c.args.to.now _ c.if-turned.true c.registry.ensures.value c.cost.ensures.value c.ask_column.ensures.answers

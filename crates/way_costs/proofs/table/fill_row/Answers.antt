@@ -33,3 +33,48 @@ returns-else-turned-clause-ways g c = let s = setting c.args.setup.now in ways_b
 
 pub returns-else-turned-clause-least : goal.returns-else-turned-clause-least
 returns-else-turned-clause-least g c = c.ask_out.ensures.least
+
+pub read_row-requires-clause-known : goal.read_row-requires-clause-known
+read_row-requires-clause-known g c = rw c.in-Some.is at c.requires.known
+
+pub read_row-requires-clause-stop : goal.read_row-requires-clause-stop
+read_row-requires-clause-stop g c = c.requires.stop
+
+pub read_row-requires-clause-to : goal.read_row-requires-clause-to
+read_row-requires-clause-to g c = c.requires.to
+
+pub read_row-requires-clause-room : goal.read_row-requires-clause-room
+read_row-requires-clause-room g c = c.requires.room
+
+pub returns-in-Some-clause-sized : goal.returns-in-Some-clause-sized
+returns-in-Some-clause-sized g c = c.read_row.ensures.sized
+
+pub returns-in-Some-clause-least : goal.returns-in-Some-clause-least
+returns-in-Some-clause-least g c = c.read_row.ensures.least
+
+pub ask_together-requires-clause-stop : goal.ask_together-requires-clause-stop
+ask_together-requires-clause-stop g c = c.requires.stop
+
+pub ask_together-requires-clause-to : goal.ask_together-requires-clause-to
+ask_together-requires-clause-to g c = c.requires.to
+
+pub ask_together-requires-clause-room : goal.ask_together-requires-clause-room
+ask_together-requires-clause-room g c = c.requires.room
+
+pub ask_back-requires-clause-stop : goal.ask_back-requires-clause-stop
+ask_back-requires-clause-stop g c = c.requires.stop
+
+pub ask_back-requires-clause-to : goal.ask_back-requires-clause-to
+ask_back-requires-clause-to g c = c.requires.to
+
+pub ask_back-requires-clause-room : goal.ask_back-requires-clause-room
+ask_back-requires-clause-room g c = c.requires.room
+
+pub ask_out-requires-clause-stop : goal.ask_out-requires-clause-stop
+ask_out-requires-clause-stop g c = c.requires.stop
+
+pub ask_out-requires-clause-to : goal.ask_out-requires-clause-to
+ask_out-requires-clause-to g c = c.requires.to
+
+pub ask_out-requires-clause-room : goal.ask_out-requires-clause-room
+ask_out-requires-clause-room g c = c.requires.room

@@ -8,3 +8,27 @@ returns c = λ t all.
     let S = c.args.stops.now in
     both_sums t S c.add_sums.new.sums.items c.add_sums-2.new.sums.items
     (subst (λ (xs : List ℕ). AddsSums false t S (length S - 1) xs c.add_sums.new.sums.items) (c.reserve.ensures.items ∙ c.clear.ensures.items) (c.in_ok-add_sums.ensures t all)) (c.in_ok-add_sums-2.ensures t all)
+
+pub add_sums-requires-clause-sized : goal.add_sums-requires-clause-sized
+add_sums-requires-clause-sized c = c.requires.sized
+
+pub add_sums-requires-clause-depot : goal.add_sums-requires-clause-depot
+add_sums-requires-clause-depot c = c.requires.depot
+
+pub add_sums-requires-clause-long : goal.add_sums-requires-clause-long
+add_sums-requires-clause-long c = c.requires.long
+
+pub add_sums-requires-clause-short : goal.add_sums-requires-clause-short
+add_sums-requires-clause-short c = c.requires.short
+
+pub add_sums-requires-2-clause-sized : goal.add_sums-requires-2-clause-sized
+add_sums-requires-2-clause-sized c = c.requires.sized
+
+pub add_sums-requires-2-clause-depot : goal.add_sums-requires-2-clause-depot
+add_sums-requires-2-clause-depot c = c.requires.depot
+
+pub add_sums-requires-2-clause-long : goal.add_sums-requires-2-clause-long
+add_sums-requires-2-clause-long c = c.requires.long
+
+pub add_sums-requires-2-clause-short : goal.add_sums-requires-2-clause-short
+add_sums-requires-2-clause-short c = c.requires.short

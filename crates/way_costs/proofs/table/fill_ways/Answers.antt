@@ -64,3 +64,21 @@ pub returns-clause-floors : goal.returns-clause-floors
 returns-clause-floors g c =
     rows_floors c.args.from.now c.args.to.now c.loop-i.cells.items (if c.args.turned then 1 else 0) (if c.args.turned then 0 else 1) c.first_row-first.result c.first_column-column.result c.spare_column-spare.result c.loop-i.i
     c.first_row-first.ensures.value c.first_column-column.ensures.value c.spare_column-spare.ensures.value c.loop-i-test.false c.loop-i.invariant.floored
+
+pub spare_column-spare-requires-clause-column : goal.spare_column-spare-requires-clause-column
+spare_column-spare-requires-clause-column g c = c.first_column-column.ensures.small
+
+pub spare_column-spare-requires-clause-some : goal.spare_column-spare-requires-clause-some
+spare_column-spare-requires-clause-some g c = c.requires.some.1
+
+pub all_but_one-asked-requires-clause-begin : goal.all_but_one-asked-requires-clause-begin
+all_but_one-asked-requires-clause-begin g c = c.first_column-column.ensures.small
+
+pub all_but_one-asked-requires-clause-some : goal.all_but_one-asked-requires-clause-some
+all_but_one-asked-requires-clause-some g c = c.requires.some.1
+
+pub fill_at-least-requires-clause-known : goal.fill_at-least-requires-clause-known
+fill_at-least-requires-clause-known g c = c.known_ways-known.ensures
+
+pub fill_at-least-requires-clause-across : goal.fill_at-least-requires-clause-across
+fill_at-least-requires-clause-across g c = c.is_read_across-across.ensures

@@ -1,6 +1,8 @@
-use Rattle.std.proofs.Common.{ℕ, ◌≡◌, ◌≤◌, inl, inr, subst, arith, slice_index}
+use Rattle.std.proofs.Common.{ℕ, ◌≡◌, ◌≤◌, inl, inr, subst, arith, slice_index, length}
 use Rattle.std.proofs.lemmas.Bool.{cases_lt}
 use Rattle.std.proofs.lemmas.Grind.{common_steps}
+use Rattle.way_costs.proofs.Wins.{passed}
+use Rattle.std.proofs.lemmas.List.{get_or_default}
 use Rattle.way_costs.proofs.table.most_of.Goals as goal
 
 pub loop-k-preserved : goal.loop-k-preserved
@@ -21,3 +23,15 @@ loop-k-preserved c =
           let new = all c.loop-k.k 0 test in
           grind (arith, common_steps);
     }
+
+pub loop-k-init : goal.loop-k-init
+loop-k-init c = record { above = λ n h. absurd (omega arith); least = λ bound all. omega arith }
+
+pub bounds-edges-k : goal.bounds-edges-k
+bounds-edges-k c = c.loop-k-test.true
+
+pub returns-clause-above : goal.returns-clause-above
+returns-clause-above c = λ k d h. subst (λ (x : ℕ). x ≤ c.loop-k.most) (get_or_default c.args.edges.now k 0 d h) (c.loop-k.invariant.above k (passed k c.loop-k.k (length c.args.edges.now) h c.loop-k-test.false))
+
+pub returns-clause-least : goal.returns-clause-least
+returns-clause-least c = c.loop-k.invariant.least

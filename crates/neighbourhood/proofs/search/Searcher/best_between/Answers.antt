@@ -1,4 +1,4 @@
-use Rattle.std.proofs.Common.{◌∙◌, ◌≤◌, ℕ, ap, arith, subst, sym}
+use Rattle.std.proofs.Common.{◌∙◌, ◌≤◌, ℕ, ap, arith, subst, sym, refl}
 use Rattle.plan_core.specs.Plan.{route_at}
 use Rattle.way_costs.specs.Sides.{SidesState, TwoWays}
 use Rattle.neighbourhood.proofs.Gathers.{edges_of, gathered_between}
@@ -69,3 +69,57 @@ returns-then-holds_up g c = c.holds_up.ensures c.if-holds_up.true
 
 pub returns : goal.returns
 returns g c = c.best_of_two.ensures
+
+pub are_empty-requires-clause-laws : goal.are_empty-requires-clause-laws
+are_empty-requires-clause-laws g c = c.requires.laws
+
+pub gather-requires-clause-plan : goal.gather-requires-clause-plan
+gather-requires-clause-plan g c = c.requires.view.plan
+
+pub gather-requires-clause-vehicles : goal.gather-requires-clause-vehicles
+gather-requires-clause-vehicles g c = c.requires.view.vehicles
+
+pub gather-requires-clause-v : goal.gather-requires-clause-v
+gather-requires-clause-v g c = c.requires.v
+
+pub gather-requires-clause-w : goal.gather-requires-clause-w
+gather-requires-clause-w g c = c.requires.w
+
+pub parts_of-requires-clause-plan : goal.parts_of-requires-clause-plan
+parts_of-requires-clause-plan g c = c.requires.view.plan
+
+pub parts_of-requires-clause-vehicles : goal.parts_of-requires-clause-vehicles
+parts_of-requires-clause-vehicles g c = c.requires.view.vehicles
+
+pub parts_of-requires-clause-v : goal.parts_of-requires-clause-v
+parts_of-requires-clause-v g c = c.requires.v
+
+pub best_of_two-found-requires-clause-apart : goal.best_of_two-found-requires-clause-apart
+best_of_two-found-requires-clause-apart g c = c.requires.apart
+
+pub holds_up-requires-clause-search : goal.holds_up-requires-clause-search
+holds_up-requires-clause-search g c = record { laws = c.requires.laws; view = c.requires.view; v_kept = c.forget.ensures _ _ _ _; w_kept = c.forget-2.ensures _ _ _ _ }
+
+pub holds_up-requires-clause-unbounded : goal.holds_up-requires-clause-unbounded
+holds_up-requires-clause-unbounded g c = refl
+
+pub keep_between-requires-clause-view : goal.keep_between-requires-clause-view
+keep_between-requires-clause-view g c = c.requires.view
+
+pub keep_between-requires-clause-v : goal.keep_between-requires-clause-v
+keep_between-requires-clause-v g c = c.requires.v
+
+pub keep_between-requires-clause-w : goal.keep_between-requires-clause-w
+keep_between-requires-clause-w g c = c.requires.w
+
+pub keep_between-requires-2-clause-view : goal.keep_between-requires-2-clause-view
+keep_between-requires-2-clause-view g c = c.requires.view
+
+pub keep_between-requires-2-clause-v : goal.keep_between-requires-2-clause-v
+keep_between-requires-2-clause-v g c = c.requires.w
+
+pub keep_between-requires-2-clause-w : goal.keep_between-requires-2-clause-w
+keep_between-requires-2-clause-w g c = c.requires.v
+
+pub best_of_two-requires-clause-apart : goal.best_of_two-requires-clause-apart
+best_of_two-requires-clause-apart g c = c.requires.apart

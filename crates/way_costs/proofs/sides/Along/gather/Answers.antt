@@ -1,6 +1,7 @@
-use Rattle.std.proofs.Common.{◌≡◌, ◌≤◌, ◌∙◌, ℕ, false, List, length, All, arith, rules, subst, sym, vec_len}
+use Rattle.std.proofs.Common.{◌≡◌, ◌≤◌, ◌∙◌, ℕ, false, List, length, All, arith, rules, subst, sym, vec_len, ◌*◌, ◌∷◌}
 use Rattle.way_costs.specs.Ways.{AreBothSums, AreHopsFrom}
 use Rattle.way_costs.proofs.Cells.{behind_first, picked_edges}
+use Rattle.way_costs.proofs.Loops.{two_some}
 use Rattle.way_costs.proofs.sides.Along.gather.Goals as goal
 
 pub returns : goal.returns
@@ -19,3 +20,21 @@ returns c =
             (c.in_ok-fill_sums.ensures t (subst (λ (xs : List ℕ). AreHopsFrom false t xs xs 0 1 c.args.cells.now) (sym c.deref.ensures.value) all));
       },
     )
+
+pub fill_sums-requires-clause-sized : goal.fill_sums-requires-clause-sized
+fill_sums-requires-clause-sized c = subst (λ (xs : List ℕ). length c.args.cells.now ≡ length xs * length xs) (sym c.deref.ensures.value) c.requires.sized
+
+pub fill_sums-requires-clause-depot : goal.fill_sums-requires-clause-depot
+fill_sums-requires-clause-depot c = subst (λ (xs : List ℕ). (rest : List ℕ) × (xs ≡ 0 ∷ rest)) (sym c.deref.ensures.value) c.requires.depot
+
+pub fill_sums-requires-clause-long : goal.fill_sums-requires-clause-long
+fill_sums-requires-clause-long c = subst (λ (xs : List ℕ). 2 ≤ length xs) (sym c.deref.ensures.value) c.requires.long
+
+pub fill_sums-requires-clause-short : goal.fill_sums-requires-clause-short
+fill_sums-requires-clause-short c = subst (λ (xs : List ℕ). length xs ≤ 1002) (sym c.deref.ensures.value) c.requires.short
+
+pub add_edges-requires-clause-sized : goal.add_edges-requires-clause-sized
+add_edges-requires-clause-sized c = c.requires.sized
+
+pub add_edges-requires-clause-some : goal.add_edges-requires-clause-some
+add_edges-requires-clause-some c = two_some _ c.requires.long

@@ -20,3 +20,15 @@ returns g c =
       into = turned_ways (table_at s.tables s.cost) S out into c.in_ok-fill_ways.ensures.hops (subst (λ (xs : List ℕ). IsTurned (length S) (length S) xs into) c.deref.ensures.value turned);
     })
     c.fill_turned.ensures
+
+pub fill_ways-requires-clause-from : goal.fill_ways-requires-clause-from
+fill_ways-requires-clause-from g c = c.requires.known
+
+pub fill_ways-requires-clause-to : goal.fill_ways-requires-clause-to
+fill_ways-requires-clause-to g c = c.requires.known
+
+pub fill_ways-requires-clause-some : goal.fill_ways-requires-clause-some
+fill_ways-requires-clause-some g c = (c.requires.some, c.requires.some)
+
+pub fill_ways-requires-clause-short : goal.fill_ways-requires-clause-short
+fill_ways-requires-clause-short g c = (c.requires.short, c.requires.short)

@@ -18,3 +18,27 @@ returns-clause-floors g c =
     IfOk-weaker c.fill_ways-2.result (λ _. AreFloors c.args.from.now c.args.to.now 1 0 c.fill_ways-2.new.cells.items)
     (λ _. AreFloored c.args.from.now c.args.to.now (record { out = c.fill_ways.new.cells.items; into = c.fill_ways-2.new.cells.items }))
     (λ x into. record { out = c.in_ok-fill_ways.ensures.floors; into = into }) c.fill_ways-2.ensures.floors
+
+pub fill_ways-requires-clause-from : goal.fill_ways-requires-clause-from
+fill_ways-requires-clause-from g c = c.requires.from
+
+pub fill_ways-requires-clause-to : goal.fill_ways-requires-clause-to
+fill_ways-requires-clause-to g c = c.requires.to
+
+pub fill_ways-requires-clause-some : goal.fill_ways-requires-clause-some
+fill_ways-requires-clause-some g c = c.requires.some
+
+pub fill_ways-requires-clause-short : goal.fill_ways-requires-clause-short
+fill_ways-requires-clause-short g c = c.requires.short
+
+pub fill_ways-requires-2-clause-from : goal.fill_ways-requires-2-clause-from
+fill_ways-requires-2-clause-from g c = c.requires.from
+
+pub fill_ways-requires-2-clause-to : goal.fill_ways-requires-2-clause-to
+fill_ways-requires-2-clause-to g c = c.requires.to
+
+pub fill_ways-requires-2-clause-some : goal.fill_ways-requires-2-clause-some
+fill_ways-requires-2-clause-some g c = c.requires.some
+
+pub fill_ways-requires-2-clause-short : goal.fill_ways-requires-2-clause-short
+fill_ways-requires-2-clause-short g c = c.requires.short

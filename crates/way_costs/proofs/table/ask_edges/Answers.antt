@@ -1,0 +1,31 @@
+use Rattle.std.proofs.Common.{arith, length, ◌+◌}
+use Rattle.way_costs.proofs.Loops.{before_last, edge_done, edge_in, next_before, some_long}
+use Rattle.way_costs.proofs.Cells.{way_fits}
+use Rattle.way_costs.proofs.table.ask_edges.Goals as goal
+
+pub overflow_sub-k-end : goal.overflow_sub-k-end
+overflow_sub-k-end g c = some_long _ _ c.requires.room
+
+pub loop-k-init : goal.loop-k-init
+loop-k-init g c = record { counted = c.requires.room; hops = λ k h. absurd (omega arith) }
+
+pub bounds-stops-k : goal.bounds-stops-k
+bounds-stops-k g c = before_last c.loop-k.k (length c.args.stops.now) c.loop-k-test.true
+
+pub bounds-stops-k-in-loop-k : goal.bounds-stops-k-in-loop-k
+bounds-stops-k-in-loop-k g c = next_before c.loop-k.k (length c.args.stops.now) c.loop-k-test.true
+
+pub hop-requires-clause-from : goal.hop-requires-clause-from
+hop-requires-clause-from g c = c.requires.known c.loop-k.k 0 (before_last c.loop-k.k (length c.args.stops.now) c.loop-k-test.true)
+
+pub hop-requires-clause-to : goal.hop-requires-clause-to
+hop-requires-clause-to g c = c.requires.known (c.loop-k.k + 1) 0 (next_before c.loop-k.k (length c.args.stops.now) c.loop-k-test.true)
+
+pub overflow_cast-edges : goal.overflow_cast-edges
+overflow_cast-edges g c = way_fits _ c.hop.ensures.small
+
+pub bounds-edges-k : goal.bounds-edges-k
+bounds-edges-k g c = edge_in c.loop-k.k (length c.args.stops.now) _ c.loop-k-test.true c.loop-k.invariant.counted
+
+pub returns : goal.returns
+returns g c = record { counted = c.loop-k.invariant.counted; hops = λ k h. c.loop-k.invariant.hops k (edge_done k (length c.args.stops.now) _ _ h c.loop-k.invariant.counted c.loop-k-test.false) }
