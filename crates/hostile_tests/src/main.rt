@@ -1,4 +1,7 @@
 //! Tests of hostile use: memory that runs out at each place of a call, and a board as large as it may be.
+//!
+//! It is a program that does nothing, and no library: for a library the gate reads the sources of all crates below it once for each way down to
+//! them, of which there are sixty thousand here.
 #![tactic(auto)]
 
 #[cfg(test)]
@@ -29,3 +32,5 @@ mod setups;
 mod tests;
 #[cfg(test)]
 mod works;
+
+fn main() {}
