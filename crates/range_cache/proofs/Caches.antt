@@ -19,7 +19,7 @@ same_each (suc n) zero x = refl
 same_each (suc n) (suc k) x = same_each n k x
 
 -- the row of an empty route
-empty_row : (s : Setting) (v : ℕ) → IsRowOf s v [] no_row
+pub empty_row : (s : Setting) (v : ℕ) → IsRowOf s v [] no_row
 empty_row s v = record { counted = refl; sized = omega arith; spans = λ d k h l. absurd (omega arith) }
 
 pub cache_new : (s : Setting) (rows : List RowState) → rows ≡ replicate s.vehicles no_row → IsCacheOf s (replicate s.vehicles []) (record { rows = rows })

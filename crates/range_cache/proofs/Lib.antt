@@ -1,6 +1,10 @@
 pub mod Caches
+pub mod Changing
 pub mod FirstAsks
 pub mod Judged
+pub mod Judging
 pub mod Misses
+pub mod Opening
 pub mod Rows
 pub mod Tracks
+pub mod Walking

@@ -2,8 +2,23 @@ use Rattle.plan_core.specs.Plan.{changes_of, with_routes}
 use Rattle.plan_core.specs.declared.touch.Touch.{Touch}
 use Rattle.pin_core.specs.Pins.{IsHeld}
 use Rattle.std.proofs.lemmas.Option.{slice_get-get_or}
+use Rattle.pin_core.proofs.Passing.{none_before}
 use Rattle.pin_core.proofs.Standing.{before_more, before_all}
 use Rattle.pin_core.proofs.pins.Pins.first_loose.Goals as goal
+
+pub loop-touch-init : goal.loop-touch-init
+loop-touch-init c = none_before (λ (t : Touch). IsHeld c.args.self.now (with_routes (changes_of c.args.new_routes.now) c.args.plan.now.routes) t.customer) c.args.touched.now
+
+pub leaves_near-requires : goal.leaves_near-requires
+leaves_near-requires c =
+    let known = c.requires.known c.loop-touch.touch-index (record { vehicle = 0; place = 0; customer = 0 }) c.loop-touch-test.true in
+    record { low = known.0; high = known.1; holding = c.requires.holding; apart = c.requires.apart }
+
+pub returns-then-leaves_near : goal.returns-then-leaves_near
+returns-then-leaves_near c = (
+  c.loop-touch.touch-index,
+  record { found = slice_get-get_or c.args.touched.now c.loop-touch.touch-index _ c.loop-touch-test.true; fails = c.if-leaves_near.ensures; before = c.loop-touch.invariant },
+)
 
 pub loop-touch-preserved : goal.loop-touch-preserved
 loop-touch-preserved c =

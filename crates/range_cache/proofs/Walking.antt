@@ -1,0 +1,175 @@
+-- What is answered where a route is walked along in one dimension, and what is known of what the walk reads.
+use Rattle.std.proofs.Common.{◌≡◌, ◌∙◌, ℕ, ◌+◌, ◌-◌, ◌*◌, ◌==◌, ◌<◌, ◌≤◌, ◌↔◌, Fits, w64, Bool, true, false, zero, suc, refl, ap, sym, subst, arith, List, [], ◌∷◌, ◌++◌, length, take, slice_index_or, Option, Some, None, Result, Ok, Err, IfOk, IfSome, IsTrue, is_some, eqb-true}
+use Rattle.std.specs.Prelude.{MatchOption}
+use Rattle.std.proofs.lemmas.Bool.{false≢true}
+use Rattle.callback_store.specs.declared.meter.Meter.{Meter}
+use Rattle.callback_store.specs.Meter.{AsksJust, AsksAtMost, none_asked, no_ask, asks_both, asks_wider}
+use Rattle.callback_store.specs.Tables.{Table, nodes_of}
+use Rattle.dimension_core.specs.declared.range.Range.{Range}
+use Rattle.dimension_core.specs.Cumuls.{Bounds, IsSpan, Reaches, last_of}
+use Rattle.dimension_core.specs.Feasible.{FitsIn}
+use Rattle.dimension_core.specs.Laws.{SpansGoOn}
+use Rattle.dimension_core.specs.Misses.{MissesAreFound, IsFirstMissIn}
+use Rattle.dimension_core.specs.Setting.{Setting, IsSetting}
+use Rattle.dimension_core.specs.Spans.{IsSpanOf, no_range}
+use Rattle.range_cache.specs.Track.{IsSpanAt, IsTrack}
+use Rattle.range_cache.proofs.Misses.{Missed, missed_start, missed_at, missed_back}
+use Rattle.range_cache.proofs.Tracks.{dim_at, never, no_answer, small_at}
+
+-- places and lengths
+pub in_list : (k : ℕ) (xs ys : List Bounds) → xs ≡ ys → k < length ys → k < length xs
+in_list k xs ys e h = subst (λ (zs : List Bounds). k < length zs) (sym e) h
+
+pub offset_fits : (k n : ℕ) → k < n → n ≤ 8 → Fits w64 (k * 72)
+offset_fits k n h few = omega arith
+
+pub some_kept : (n : ℕ) (b : Bool) → b ≡ (n == 0) → b ≡ false → 1 ≤ n
+some_kept zero b e f = absurd (false≢true (sym f ∙ e))
+some_kept (suc n) b e f = omega arith
+
+pub last_below : (n : ℕ) → 1 ≤ n → n - 1 < n
+last_below n some = omega arith
+
+pub last_within : (n m : ℕ) → 1 ≤ n → n ≤ m → n - 1 < m
+last_within n m some few = omega arith
+
+pub room_first : (old now cap_old cap_now route kept : ℕ) → old + route ≤ cap_old → now ≡ old + kept → cap_old ≤ cap_now → now + route ≤ cap_now + kept
+room_first old now cap_old cap_now route kept room long more = omega arith
+
+pub room_next : (now after cap_now cap_after route place : ℕ) → now + route ≤ cap_now + place → after ≡ now + 1 → cap_after ≡ cap_now → after + route ≤ cap_after + (place + 1)
+room_next now after cap_now cap_after route place room long same = omega arith
+
+pub room_left : (now cap route place : ℕ) → now + route ≤ cap + place → place < route → now < cap
+room_left now cap route place room h = omega arith
+
+pub same_room : (old now after : ℕ) → old ≤ now → after ≡ now → old ≤ after
+same_room old now after less same = omega arith
+
+pub none_least : (n : ℕ) → 0 ≤ n
+none_least n = omega arith
+
+same_end : (n m : ℕ) → n ≤ m → m ≤ n → n ≡ m
+same_end n m less more = omega arith
+
+pub no_less : (n : ℕ) → n ≤ n
+no_less n = omega arith
+
+-- asks along the way
+pub asks_first : (m : Meter) (n : ℕ) → AsksJust m m (n - n)
+asks_first m n = let none : n - n ≡ 0 = omega arith in subst (λ (k : ℕ). AsksJust m m k) (sym none) (none_asked m)
+
+next_low : (kept place : ℕ) → kept ≤ place → place + 1 - kept ≤ place - kept + 1
+next_low kept place behind = omega arith
+
+next_high : (kept place : ℕ) → kept ≤ place → place - kept + 1 ≤ place + 1 - kept
+next_high kept place behind = omega arith
+
+next_most : (kept place n : ℕ) → kept ≤ place → place < n → place - kept + 1 ≤ n + 1 - kept
+next_most kept place n behind h = omega arith
+
+pub asks_next : (a b c : Meter) (kept place : ℕ) → kept ≤ place → AsksJust a b (place - kept) → AsksJust b c 1 → AsksJust a c (place + 1 - kept)
+asks_next a b c kept place behind p q = asks_both a b c _ _ _ _ _ _ p q (next_low kept place behind) (next_high kept place behind)
+
+pub asks_few : (a b : Meter) (n : ℕ) → AsksJust a b n → AsksAtMost a b n
+asks_few a b n p = asks_wider a b n n 0 n p (none_least n) (no_less n)
+
+-- what is known of a dimension and of the callbacks that were read
+module _ (s : Setting) (k : ℕ) (ds : List Bounds) (d : Bounds) (set : IsSetting s) (ed : ds ≡ s.dimensions) (h : k < length s.dimensions) (e : d ≡ slice_index_or ds k d) where
+  pub asked_id : (id : ℕ) (ts : List Table) → ts ≡ s.tables → id ≡ d.id → id < length ts
+  asked_id id ts et ei =
+      subst (λ (xs : List Table). id < length xs) (sym et) (subst (λ (n : ℕ). n < length s.tables) (sym (ei ∙ ap (λ (b : Bounds). b.id) (dim_at s ds d k ed h e))) (set.ids k h))
+
+  pub known_there : (n : ℕ) → n ≤ s.customers → n < length d.ranges
+  known_there n known =
+      let sized : length d.ranges ≡ s.customers + 1 = ap (λ (b : Bounds). length b.ranges) (dim_at s ds d k ed h e) ∙ set.ranges k h in
+      omega arith
+
+  pub capped_there : (v : ℕ) → v ≤ s.vehicles → v ≤ length d.caps
+  capped_there v high =
+      let sized : length d.caps ≡ s.vehicles = ap (λ (b : Bounds). length b.caps) (dim_at s ds d k ed h e) ∙ set.caps k h in
+      omega arith
+
+pub asked_node : (s : Setting) (ts : List Table) (n : ℕ) → IsSetting s → ts ≡ s.tables → n ≤ s.customers → n < nodes_of ts
+asked_node s ts n set et known =
+    let sized = set.tables in
+    subst (λ (xs : List Table). n < nodes_of xs) (sym et) (omega arith)
+
+-- what the first range is
+pub record IsBegun (s : Setting) (k v : ℕ) (route : List ℕ) (kept : ℕ) (r : Option (Range × ℕ)) : Type 0 where
+  pub span : MatchOption r (IsSpanAt s k v [] None) (λ at. IsSpanOf s k v (take kept route) at.0)
+  pub node : IfSome r (λ at. at.1 ≡ last_of 0 (take kept route))
+  pub known : IfSome r (λ at. at.1 ≤ s.customers)
+  pub small : IfSome r (λ at. at.0.hi ≤ 1000000000000)
+
+pub begun_none : (s : Setting) (k v : ℕ) (route : List ℕ) (kept : ℕ) (r : Option (Range × ℕ)) → r ≡ None → IsSpanAt s k v [] None → IsBegun s k v route kept r
+begun_none s k v route kept r e none =
+    subst (λ (o : Option (Range × ℕ)). IsBegun s k v route kept o) (sym e) (record { span = none; node = tt; known = tt; small = tt })
+
+pub begun_first : (s : Setting) (k v : ℕ) (route : List ℕ) (kept : ℕ) (b : Bool) (start : Range) → b ≡ (kept == 0) → b ≡ true → IsSpanAt s k v [] (Some start) → start.hi ≤ 1000000000000
+    → IsBegun s k v route kept (Some (start, 0))
+begun_first s k v route zero b start e t span small = record { span = span; node = refl; known = omega arith; small = small }
+begun_first s k v route (suc kept) b start e t span small = let n : suc kept ≡ 0 = eqb-true (suc kept) 0 (sym e ∙ t) in absurd (omega arith)
+
+pub begun_last : SpansGoOn → (s : Setting) (k v : ℕ) (route : List ℕ) (kept : List Range) (ds : List Bounds) (d : Bounds) → IsSetting s → ds ≡ s.dimensions → k < length s.dimensions → d ≡ slice_index_or ds k d
+    → ((t : Table) (vehicle : ℕ) (js : List ℕ) (range : Range) → IsSpan (Some range) (Reaches t d vehicle js) → last_of 0 js < length d.ranges → range.hi ≤ 1000000000000)
+    → ((i c : ℕ) → i < length route → slice_index_or route i c ≤ s.customers) → IsTrack s k v route kept → 1 ≤ length kept
+    → IsBegun s k v route (length kept) (Some (slice_index_or kept (length kept - 1) no_range, slice_index_or route (length kept - 1) 0))
+begun_last law s k v route kept ds d set ed h e small all track some =
+    let few = track.within in
+    let back : length kept - 1 + 1 ≡ length kept = omega arith in
+    let below : length kept - 1 < length kept = omega arith in
+    let inside : length kept - 1 < length route = omega arith in
+    let span : IsSpanOf s k v (take (length kept) route) (slice_index_or kept (length kept - 1) no_range) =
+    subst (λ (n : ℕ). IsSpanOf s k v (take n route) (slice_index_or kept (length kept - 1) no_range)) back (track.each (length kept - 1) below) in
+    let node : slice_index_or route (length kept - 1) 0 ≡ last_of 0 (take (length kept) route) = law.last route (length kept - 1) inside ∙ ap (λ (n : ℕ). last_of 0 (take n route)) back in
+    let known : slice_index_or route (length kept - 1) 0 ≤ s.customers = all (length kept - 1) 0 inside in
+    record {
+      span = span;
+      node = node;
+      known = known;
+      small = small_at s k v (take (length kept) route) ds d _ ed h e small span (subst (λ (n : ℕ). n < length d.ranges) node (known_there s k ds d set ed h e _ known));
+    }
+
+-- what a walk answers
+pub record IsWalked (s : Setting) (k v : ℕ) (route : List ℕ) (kept : ℕ) (old new : List Range) (from to : Meter) {E : Type 0} (r : Result Bool E) : Type 0 where
+  pub bounds : IfOk r (λ is_in. IsTrue is_in ↔ FitsIn s k v route)
+  pub ranges : IfOk r (λ is_in. IsTrue is_in → (more : List Range) × (new ≡ old ++ more) × (length more ≡ length route) × IsTrack s k v route more)
+  pub asks : AsksAtMost from to (length route + 1 - kept)
+  pub whole : IfOk r (λ is_in. IsTrue is_in → AsksJust from to (length route + 1 - kept))
+  pub missed : IfOk r (λ is_in. is_in ≡ false → (i : ℕ) × IsFirstMissIn s k v route i × AsksJust from to (i - kept))
+
+pub walked_full : (s : Setting) (k v : ℕ) (route : List ℕ) (kept : ℕ) (old new : List Range) (m : Meter) {E : Type 0} (r : Result Bool E) (y : E) → r ≡ Err y
+    → IsWalked s k v route kept old new m m r
+walked_full s k v route kept old new m {E} r y e =
+    subst (λ (x : Result Bool E). IsWalked s k v route kept old new m m x) (sym e) (record { bounds = tt; ranges = tt; asks = no_ask m _; whole = tt; missed = tt })
+
+walked_out : (s : Setting) (k v : ℕ) (route : List ℕ) (kept : ℕ) (old new : List Range) (from to : Meter) → (FitsIn s k v route → ⊥) → AsksAtMost from to (length route + 1 - kept)
+    → Missed s k v route kept from to → IsWalked s k v route kept old new from to {E = ℕ} (Ok false)
+walked_out s k v route kept old new from to out asked missed =
+    record { bounds = no_answer (FitsIn s k v route) out; ranges = λ t. absurd (false≢true t); asks = asked; whole = λ t. absurd (false≢true t); missed = λ _. missed }
+
+pub walked_none : SpansGoOn → MissesAreFound → (s : Setting) (k v : ℕ) (route : List ℕ) (kept : ℕ) (old new : List Range) (m : Meter) → 0 < length route → IsSpanAt s k v [] None
+    → IsWalked s k v route kept old new m m {E = ℕ} (Ok false)
+walked_none law misses s k v route kept old new m some none =
+    walked_out s k v route kept old new m m (never law s k v route 0 some none) (no_ask m _) (missed_start misses s k v route kept m none)
+
+pub walked_to : SpansGoOn → MissesAreFound → (s : Setting) (k v : ℕ) (route : List ℕ) (kept : ℕ) (old new : List Range) (a b c : Meter) (place : ℕ) (r : Range) → 0 < length route → place < length route → kept ≤ place
+    → IsSpanOf s k v (take place route) r → IsSpanAt s k v (take (place + 1) route) None → AsksJust a b (place - kept) → AsksJust b c 1 → IsWalked s k v route kept old new a c {E = ℕ} (Ok false)
+walked_to law misses s k v route kept old new a b c place r some h behind span none p q =
+    walked_out s k v route kept old new a c (never law s k v route (place + 1) some none) (asks_both a b c _ _ _ _ _ _ p q (none_least _) (next_most kept place (length route) behind h))
+    (missed_at misses s k v route place kept r a b c span h none behind p q)
+
+pub walked_all : MissesAreFound → (s : Setting) (k v : ℕ) (route : List ℕ) (kept : ℕ) (old new : List Range) (a b c : Meter) (place : ℕ) (r : Range) (o : Option Range) (found : Bool) → length route ≤ place
+    → (kept ≤ length route → place ≤ length route) → kept ≤ length route → kept ≤ place → found ≡ is_some o → IsTrue (is_some o) ↔ FitsIn s k v route → IsSpanAt s k v (route ++ 0 ∷ []) o → IsSpanOf s k v (take place route) r
+    → (more : List Range) × (new ≡ old ++ more) × (length more ≡ place) × IsTrack s k v route more → AsksJust a b (place - kept) → AsksJust b c 1 → IsWalked s k v route kept old new a c {E = ℕ} (Ok found)
+walked_all misses s k v route kept old new a b c place r o found end ends few behind e answer back span m p q =
+    let within : place ≤ length route = ends few in
+    let all : place ≡ length route = same_end place (length route) within end in
+    let asked : AsksJust a c (length route + 1 - kept) = subst (λ (n : ℕ). AsksJust a c (n + 1 - kept)) all (asks_next a b c kept place behind p q) in
+    record {
+      bounds = subst (λ (x : Bool). IsTrue x ↔ FitsIn s k v route) (sym e) answer;
+      ranges = λ _. (m.0, m.1, m.2 ∙ all, m.3);
+      asks = asks_few a c _ asked;
+      whole = λ _. asked;
+      missed = λ none. missed_back misses s k v route place kept r o a b c span within end back (sym e ∙ none) behind p q;
+    }
