@@ -23,7 +23,7 @@ use Rattle.board_rules.specs.Rules.{basis_of}
 use Rattle.board_rules.specs.Pinning.{pin_refusal, unpin_refusal, freeze_refusal, thaw_refusal}
 use Rattle.board_rules.specs.Step.{IsReply, after, refused_by}
 use Rattle.board_rules.specs.History.{Opening, IsNext, state_from, state_after}
-use Rattle.locked_board.specs.Commits.{Legal, Submitted, entry}
+use Rattle.board_lock.specs.Commits.{Legal, Submitted, entry}
 use Rattle.board_lock.specs.Verdicts.{is_verdict}
 
 -- a call takes no commit away

@@ -8,10 +8,10 @@ use Rattle.board_rules.specs.declared.reply.Fault.TheVariants.{Full}
 use Rattle.board_rules.specs.History.{Opening}
 use Rattle.board_lines.specs.declared.command.Command.{Command}
 use Rattle.board_lines.specs.declared.command.Command.TheVariants.{Submit}
-use Rattle.line_front.specs.Answers.{Answer, Replied, Faulted}
-use Rattle.line_front.specs.BoardAnswers.{IsAnswerTo}
-use Rattle.locked_board.specs.Commits.{Submitted, Looked}
-use Rattle.board_seat.specs.Watches.{Watch}
+use Rattle.line_engine.specs.Answers.{Answer, Replied, Faulted}
+use Rattle.line_engine.specs.BoardAnswers.{IsAnswerTo}
+use Rattle.board_lock.specs.Commits.{Submitted, Looked}
+use Rattle.board_lock.specs.Watches.{Watch}
 
 -- The desk had no turn, and its view stays. What it has seen may have grown by entries of other desks.
 pub record HadNoTurn (o : Opening) (old new : Watch) : Type 0 where

@@ -1,7 +1,7 @@
 -- The desk that is made of what it begins with.
 use Rattle.published_board.specs.declared.trail.Naming.{Ghosts}
 use Rattle.board_lock.specs.declared.ready.Ready.{Ready}
-use Rattle.board_seat.specs.Watches.{Watch}
+use Rattle.board_lock.specs.Watches.{Watch}
 
 module _ {X : Type 0} {g : Ghosts X} where
   abbrev pub watch_of : Ready X g → Watch

@@ -1,11 +1,11 @@
 //! A desk as a front: what answers lines while other desks may submit calls.
 
 use crate::desk::DeskOf;
+use crate::held::Held;
 use crate::laws::proposals_have_verdicts;
 use crate::verdict::verdict_of;
 use board_rules::{AskFault, Call, Denial, Fault, Reply, Review, Row};
-use line_front::{Front, append_journal};
-use locked_board::Held;
+use line_engine::{Front, append_journal};
 use move_core::Move;
 use published_board::Naming;
 use rbac_core::{Object, Operation};
@@ -15,7 +15,7 @@ use std::sync::Wait;
 impl<N: Naming, D: Wait + Drop, R: Wait> Front<R> for DeskOf<N, Held<N, D>> {
     ghost use Rattle.std.specs.Prelude.{◌≡◌};
     ghost use Rattle.dimension_core.specs.Setup.{setting};
-    ghost use Rattle.board_seat.specs.Watches.{Watch};
+    ghost use Rattle.board_lock.specs.Watches.{Watch};
     ghost use Rattle.board_lock.specs.DeskSteps.{IsDeskStep, DeskLacksMemory};
 
     ghost State = { Watch };

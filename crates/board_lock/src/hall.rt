@@ -1,12 +1,13 @@
 //! How the desks are handed out.
 ghost use Rattle.std.specs.Prelude.{◌≡◌, ◌≤◌, IfOk, map};
-ghost use Rattle.board_seat.specs.Watches.{watches, watch_at};
+ghost use Rattle.board_lock.specs.Watches.{watches, watch_at};
 ghost use Rattle.board_lock.specs.Readies.{watch_of};
 
+use crate::held::Held;
+use crate::locked::Locked;
 use crate::ready::Ready;
-use board_room::{Anteroom, OpenFault};
-use board_seat::{Seat, SeatOf};
-use locked_board::{Held, Locked};
+use crate::room::{Anteroom, OpenFault};
+use crate::seat::{Seat, SeatOf};
 use published_board::Naming;
 use std::alloc::Global;
 use std::sync::{Arc, Mutex, Wait};

@@ -10,7 +10,7 @@ ghost use Rattle.board_rules.specs.declared.reply.Reply.{Reply};
 ghost use Rattle.board_rules.specs.declared.reply.Reply.TheVariants.{Committed};
 ghost use Rattle.board_rules.specs.History.{Opening, state_after};
 ghost use Rattle.published_board.specs.Shelves.{view_of};
-ghost use Rattle.locked_board.specs.Commits.{Legal, Submitted};
+ghost use Rattle.board_lock.specs.Commits.{Legal, Submitted};
 ghost use Rattle.board_lock.specs.Verdicts.{is_verdict};
 
 use board_rules::{histories_go_on, histories_grow_by_entries};

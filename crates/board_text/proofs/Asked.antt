@@ -8,8 +8,8 @@ use Rattle.board_rules.specs.Questions.{MayAsk, audit_fault}
 use Rattle.board_lines.specs.Listings.{audit_text}
 use Rattle.board_lines.specs.declared.command.Command.{Command}
 use Rattle.board_lines.specs.declared.command.Command.TheVariants as commands
-use Rattle.line_front.specs.Answers.{Refused, Audited}
-use Rattle.line_front.specs.Fronts.{MayRefuse}
+use Rattle.line_engine.specs.Answers.{Refused, Audited}
+use Rattle.line_engine.specs.Fronts.{MayRefuse}
 use Rattle.board_text.specs.BoardSteps.{DeskState, IsBoardStep, LacksMemory}
 
 -- a fault that is due is a step, and running out of memory changes nothing

@@ -12,7 +12,7 @@ use Rattle.board_lines.specs.Reading.{read_of}
 use Rattle.board_lines.specs.declared.command.Command.{Command}
 use Rattle.board_lines.specs.declared.command.Command.TheVariants as commands
 use Rattle.board_lines.specs.declared.command.LineFault.{LineFault}
-use Rattle.line_front.specs.Answers.{Answer, Replied, Faulted, Listed, Rowed, Audited, Reviewed, Checked, Refused}
+use Rattle.line_engine.specs.Answers.{Answer, Replied, Faulted, Listed, Rowed, Audited, Reviewed, Checked, Refused}
 use Rattle.line_engine.specs.Outcomes.{Outcome, Said}
 use Rattle.line_engine.specs.Leaving.{Gives, Leaves, asked}
 use Rattle.line_engine.specs.Running.{Runs, body}
@@ -20,8 +20,8 @@ use Rattle.line_engine.specs.TextLines.{lines_of}
 use Rattle.line_engine.specs.WholeRuns.{IsAnswered, IsNear, EndsAt, IsStopped}
 use Rattle.line_engine.specs.declared.run_fault.RunFault.{RunFault}
 use Rattle.line_engine.specs.declared.run_fault.RunFault.TheVariants as runs
-use Rattle.locked_board.specs.Commits.{entry}
-use Rattle.board_seat.specs.Watches.{Watch}
+use Rattle.board_lock.specs.Commits.{entry}
+use Rattle.board_lock.specs.Watches.{Watch}
 use Rattle.board_lock.specs.DeskSteps.{HadNoTurn, HadTurn, IsDeskStep, DeskLacksMemory}
 use Rattle.desk_text.specs.DeskRuns.{journaled, all_journaled, held_by, HasSeenItsTurns, AreHeld, IsHeld, IsHeldAtStop}
 

@@ -8,13 +8,13 @@ use Rattle.board_lines.specs.Reading.{read_of}
 use Rattle.board_lines.specs.declared.command.Command.{Command}
 use Rattle.board_lines.specs.declared.command.Command.TheVariants.{Submit}
 use Rattle.board_lines.specs.declared.command.LineFault.{LineFault}
-use Rattle.line_front.specs.Answers.{Replied}
+use Rattle.line_engine.specs.Answers.{Replied}
 use Rattle.line_engine.specs.Outcomes.{Outcome, Said}
 use Rattle.line_engine.specs.Running.{body}
 use Rattle.line_engine.specs.TextLines.{lines_of}
 use Rattle.line_engine.specs.WholeRuns.{IsAnswered, IsStopped}
 use Rattle.line_engine.specs.declared.run_fault.RunFault.{RunFault}
-use Rattle.board_seat.specs.Watches.{Watch}
+use Rattle.board_lock.specs.Watches.{Watch}
 use Rattle.board_lock.specs.DeskSteps.{IsDeskStep, DeskLacksMemory}
 use Rattle.board_text.specs.BoardSteps.{DeskState}
 

@@ -3,7 +3,7 @@ ghost use Rattle.std.specs.Prelude.{◌≡◌, ℕ, List, Option};
 ghost use Rattle.board_rules.specs.History.{Opening};
 ghost use Rattle.line_engine.specs.WholeRuns.{IsAnswered, IsStopped};
 ghost use Rattle.line_engine.specs.declared.run_fault.RunFault.{RunFault};
-ghost use Rattle.board_seat.specs.Watches.{Watch};
+ghost use Rattle.board_lock.specs.Watches.{Watch};
 ghost use Rattle.board_lock.specs.DeskSteps.{IsDeskStep, DeskLacksMemory};
 ghost use Rattle.board_text.specs.BoardSteps.{IsBoardStep, LacksMemory};
 ghost use Rattle.desk_text.specs.DeskRuns.{HasSeenItsTurns, IsHeld, IsHeldAtStop, IsOnlyDesk, board_state};

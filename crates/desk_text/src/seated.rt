@@ -3,7 +3,7 @@
 use crate::seating::Seating;
 use board_lock::{Naming, Seat, proposals_have_verdicts, verdict_of};
 use board_rules::{AskFault, Call, Denial, Fault, Reply, Review, Row};
-use line_front::{Front, append_journal};
+use line_engine::{Front, append_journal};
 use move_core::Move;
 use rbac_core::{Object, Operation};
 use separation_core::Name;
@@ -17,7 +17,7 @@ pub struct Seated<N: Naming, D: Wait + Drop, S: Drop> {
 }
 
 impl<N: Naming, D: Wait + Drop, S: Seating<N, D> + Drop, R: Wait> Front<R> for Seated<N, D, S> {
-    ghost use Rattle.board_seat.specs.Watches.{Watch};
+    ghost use Rattle.board_lock.specs.Watches.{Watch};
     ghost use Rattle.board_lock.specs.DeskSteps.{IsDeskStep, DeskLacksMemory};
 
     ghost State = { Watch };

@@ -2,8 +2,8 @@
 
 ghost use Rattle.std.specs.Prelude.{IfOk, IfErr};
 ghost use Rattle.board_lines.specs.declared.command.Command.{Command};
-ghost use Rattle.line_front.specs.Answers.{Replied, Listed};
-ghost use Rattle.line_front.specs.Fronts.{MayFault, MayRefuse};
+ghost use Rattle.line_engine.specs.Answers.{Replied, Listed};
+ghost use Rattle.line_engine.specs.Fronts.{MayFault, MayRefuse};
 ghost use Rattle.board_lock.specs.DeskSteps.{IsDeskStep, DeskLacksMemory};
 
 use board_lock::{Naming, Seat};

@@ -10,7 +10,7 @@ use Rattle.board_lines.specs.Reading.{read_of, words_read}
 use Rattle.board_lines.specs.Replies.{ended}
 use Rattle.board_lines.specs.declared.command.Command.{Command}
 use Rattle.board_lines.specs.declared.command.Command.TheVariants.{Skip}
-use Rattle.line_front.specs.Answers.{Answer}
+use Rattle.line_engine.specs.Answers.{Answer}
 use Rattle.line_engine.specs.Leaving.{Leaves}
 use Rattle.line_engine.specs.Outcomes.{Outcome, outcome_text, written, has_reply, is_refusal}
 use Rattle.line_engine.specs.Running.{HasNoEnd, IsLine, IsTooLong, NextLine, Reaches, Runs, body}

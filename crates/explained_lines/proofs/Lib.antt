@@ -1,3 +1,4 @@
+pub mod Verdict
 mod Bytes
 mod Cuts
 mod Fed

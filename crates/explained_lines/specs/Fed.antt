@@ -4,7 +4,7 @@ use Rattle.std.specs.List.{flat_map, AllByRecursion}
 use Rattle.std.specs.Io.KnownBytes.{Appends, Consumes}
 use Rattle.board_lines.specs.Replies.{ended}
 use Rattle.board_lines.specs.declared.command.Command.{Command}
-use Rattle.line_front.specs.Answers.{Answer}
+use Rattle.line_engine.specs.Answers.{Answer}
 use Rattle.line_engine.specs.Outcomes.{Outcome, written, has_reply, is_refusal}
 use Rattle.line_engine.specs.Running.{Runs, IsLine}
 use Rattle.line_engine.specs.WholeRuns.{IsAnswered, IsStopped}

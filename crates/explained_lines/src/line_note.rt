@@ -4,13 +4,14 @@ ghost use Rattle.std.specs.Prelude.{IfOk, string_bytes};
 ghost use Rattle.explained_lines.specs.Numbered.{IsNumbered};
 
 use crate::meaning::{end_meaning, question_meaning, refusal_meaning, word_meaning};
+use crate::note::explained;
+use crate::text::push_note;
 use crate::word::bad_word;
 use board_core::Board;
 use board_journal::Kept;
 use board_lines::{Command, LineFault, ReadFault, read_words};
 use board_rules::{AskFault, Call, Denial, Reply, Review, legal_histories_leave_good_states};
 use denial_facts::numbered;
-use denial_notes::{explained, push_note};
 use line_engine::RunFault;
 use move_core::Move;
 use std::alloc::{AllocError, Global};

@@ -9,7 +9,7 @@ use Rattle.board_lines.specs.declared.reading.Proposed.{Proposed}
 use Rattle.board_lines.specs.declared.reading.Order.{Order}
 use Rattle.board_lines.specs.Reading.{Says, Proposes, Orders, by_policy}
 use Rattle.board_rules.specs.declared.call.Call.TheVariants as calls
-use Rattle.line_front.specs.Answers.{Answer}
+use Rattle.line_engine.specs.Answers.{Answer}
 use Rattle.line_engine.specs.Outcomes.{Said, Bad}
 use Rattle.line_engine.specs.Leaving.{Does, Gives, Fails, Drops, Loses, RunsOut, as_json, asked}
 use Rattle.line_engine.specs.declared.mark.Mark.{Mark}

@@ -11,7 +11,7 @@ use Rattle.std.proofs.lemmas.List.Sums.{sum_by-append}
 use Rattle.board_lines.specs.Replies.{ended}
 use Rattle.line_engine.specs.Outcomes.{outcome_text, written, has_reply, is_refusal}
 use Rattle.board_lines.specs.declared.command.Command.{Command}
-use Rattle.line_front.specs.Answers.{Answer}
+use Rattle.line_engine.specs.Answers.{Answer}
 use Rattle.line_engine.specs.Outcomes.{Outcome}
 use Rattle.line_engine.specs.declared.run_fault.RunFault.{RunFault}
 use Rattle.line_engine.specs.declared.run_fault.RunFault.TheVariants as runs

@@ -3,7 +3,7 @@ use Rattle.std.proofs.Common.{◌≡◌, ℕ, inl, inr, List, [], ◌++◌, leng
 use Rattle.std.specs.Io.KnownBytes.{Appends}
 use Rattle.std.proofs.lemmas.List.{append-nil}
 use Rattle.board_lines.specs.declared.command.Command.{Command}
-use Rattle.line_front.specs.Answers.{Answer}
+use Rattle.line_engine.specs.Answers.{Answer}
 use Rattle.line_engine.specs.declared.run_fault.RunFault.{RunFault}
 use Rattle.line_engine.specs.declared.run_fault.RunFault.TheVariants as runs
 use Rattle.line_engine.specs.Running.{AppendsPrefix, Reaches, MayBeWrite, Grows, Progress, BrokenWithin}

@@ -5,7 +5,7 @@ use Rattle.std.specs.Io.KnownBytes.{Appends, Keeps, Consumes, IsAtEnd}
 use Rattle.std.proofs.lemmas.List.{append-nil, length-append}
 use Rattle.board_lines.specs.Replies.{ended}
 use Rattle.board_lines.specs.declared.command.Command.{Command}
-use Rattle.line_front.specs.Answers.{Answer}
+use Rattle.line_engine.specs.Answers.{Answer}
 use Rattle.line_engine.specs.Outcomes.{Outcome, written, has_reply, is_refusal}
 use Rattle.line_engine.specs.declared.run_fault.RunFault.{RunFault}
 use Rattle.line_engine.specs.declared.run_fault.RunFault.TheVariants as runs

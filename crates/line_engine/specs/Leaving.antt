@@ -4,7 +4,7 @@ use Rattle.std.specs.Prelude.{◌≡◌, ◌⊎◌, Result, Ok, Err}
 use Rattle.board_lines.specs.declared.command.Command.{Command}
 use Rattle.board_lines.specs.declared.command.Command.TheVariants.{Skip, List as ListRows, Json}
 use Rattle.board_lines.specs.declared.command.LineFault.{LineFault}
-use Rattle.line_front.specs.Answers.{Answer, Listed, Rowed}
+use Rattle.line_engine.specs.Answers.{Answer, Listed, Rowed}
 use Rattle.line_engine.specs.Outcomes.{Outcome, Nothing, Said, Bad}
 
 -- the same answer with its rows as JSON

@@ -1,5 +1,6 @@
-pub use Rattle.line_front.specs.Answers
-pub use Rattle.line_front.specs.Fronts
+pub mod Answers
+pub mod Fronts
+pub mod BoardAnswers
 pub mod Outcomes
 pub mod Leaving
 pub mod Marks

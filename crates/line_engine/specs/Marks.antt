@@ -11,7 +11,7 @@ use Rattle.board_lines.specs.Replies.{ended, reply_text, line_fault_text}
 use Rattle.board_lines.specs.declared.command.Command.{Command}
 use Rattle.board_lines.specs.declared.command.Command.TheVariants.{List as ListRows}
 use Rattle.line_engine.specs.Leaving.{Does, as_json}
-use Rattle.line_front.specs.Answers.{Answer}
+use Rattle.line_engine.specs.Answers.{Answer}
 use Rattle.line_engine.specs.Outcomes.{Outcome, answer_text, outcome_text, has_reply, is_refusal, is_answer_refusal}
 
 -- what is written by a mark, with the text that was spelled

@@ -7,7 +7,7 @@ use Rattle.board_lines.specs.declared.command.LineFault.{LineFault}
 use Rattle.board_lines.specs.Replies.{ended, reply_text, fault_text, ask_fault_text, line_fault_text}
 use Rattle.board_lines.specs.Listings.{list_text, audit_text, review_text, check_text}
 use Rattle.board_lines.specs.Json.{json_text}
-use Rattle.line_front.specs.Answers.{Answer, Replied, Faulted, Listed, Rowed, Audited, Reviewed, Checked, Refused}
+use Rattle.line_engine.specs.Answers.{Answer, Replied, Faulted, Listed, Rowed, Audited, Reviewed, Checked, Refused}
 
 -- What comes of a line: it is skipped, or the front answered, or the line is bad.
 pub data Outcome : Type 0 where

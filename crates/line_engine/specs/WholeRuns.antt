@@ -6,7 +6,7 @@ use Rattle.std.specs.Io.KnownBytes.{Appends, Consumes, IsAtEnd}
 use Rattle.board_lines.specs.Reading.{read_of}
 use Rattle.board_lines.specs.Replies.{ended}
 use Rattle.board_lines.specs.declared.command.Command.{Command}
-use Rattle.line_front.specs.Answers.{Answer}
+use Rattle.line_engine.specs.Answers.{Answer}
 use Rattle.line_engine.specs.Outcomes.{Outcome, written, has_reply, is_refusal}
 use Rattle.line_engine.specs.Leaving.{Leaves}
 use Rattle.line_engine.specs.Running.{Runs, Reaches, IsLine, IsTooLong, NextLine, body}

@@ -10,13 +10,13 @@ ghost use Rattle.board_rules.specs.declared.reply.Fault.TheVariants as faults;
 ghost use Rattle.board_rules.specs.declared.reply.AskFault.TheVariants as asks;
 ghost use Rattle.std.specs.Prelude.{◌≢◌};
 
+use crate::front::Front;
 use crate::mark::Mark;
 use board_lines::{
     Command, ReadFault, push_ask_fault, push_committed, push_fault, push_json, push_list,
     push_reply, push_review,
 };
 use board_rules::{AskFault, Call, Denial, Fault, Reply, Review};
-use line_front::Front;
 use move_core::Move;
 use rbac_core::{Object, Operation};
 use std::alloc::AllocError;

@@ -11,6 +11,7 @@ ghost use Rattle.line_engine.specs.Running.{body, Grows, Served, ServeBroken, Pr
 ghost use Rattle.line_engine.specs.WholeRuns.{IsAnswered, IsStopped};
 
 use crate::answer::{OutOfMemory, obey, propose, reply, unread};
+use crate::front::Front;
 use crate::mark::Mark;
 use crate::outbox::Outbox;
 use crate::run_fault::{Counts, RunFault};
@@ -19,7 +20,6 @@ use board_lines::{
     read_proposal,
 };
 use board_rules::Call;
-use line_front::Front;
 use std::alloc::Global;
 use std::io::{Read, Write};
 use text_words::{keep_all_words, keep_line};

@@ -1,8 +1,10 @@
-//! The engine of lines: commands are read, answered by a front, and replied to.
+//! The engine of lines: commands are read, answered by a front (a board, a desk, or one of your own), and replied to.
 #![tactic(auto)]
 
 mod answer;
 mod engine;
+mod front;
+mod journal;
 mod laws;
 mod mark;
 mod outbox;
@@ -11,7 +13,8 @@ mod tally;
 mod write;
 
 pub use engine::run_lines;
+pub use front::Front;
+pub use journal::append_journal;
 pub use laws::texts_have_their_lines;
-pub use line_front::Front;
 pub use run_fault::{Counts, RunFault};
 pub use write::write_whole;

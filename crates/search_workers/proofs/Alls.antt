@@ -2,10 +2,9 @@
 use Rattle.std.proofs.Common.{ℕ, List, [], ◌∷◌, ◌++◌, All}
 use Rattle.std.proofs.lemmas.List.Elements.{All-head, All-tail, All-nil, All-push, All-append}
 use Rattle.board_rules.specs.History.{Opening}
-use Rattle.board_seat.specs.Watches.{Watch}
-use Rattle.search_rounds.specs.declared.tally.Tally.{Tally}
-use Rattle.search_rounds.specs.Works.{Worked}
-use Rattle.search_workers.specs.Works.{AllWorked}
+use Rattle.board_lock.specs.Watches.{Watch}
+use Rattle.search_workers.specs.declared.tally.Tally.{Tally}
+use Rattle.search_workers.specs.Works.{Worked, AllWorked}
 
 pub all_more : (o : Opening) (rounds : ℕ) (sessions seeds : List ℕ) (befores afters : List Watch) (tallies : List Tally) (session seed : ℕ) (before after : Watch) (tally : Tally)
     → AllWorked o rounds sessions seeds befores afters tallies → Worked o session seed rounds before after tally

@@ -1,1 +1,10 @@
+pub mod Prefixes
+pub mod Drawing
+pub mod Skipping
+pub mod Denying
+pub mod Within
+pub mod Exact
+pub mod Looking
+pub mod Proposed
+pub mod Going
 pub mod Alls

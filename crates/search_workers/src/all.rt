@@ -6,10 +6,11 @@ ghost use Rattle.std.specs.Prelude.{◌≡◌, ◌≤◌, IfOk, IfSome, map, len
 ghost use Rattle.dimension_core.specs.Setup.{setting};
 ghost use Rattle.search_workers.specs.Works.{AllWorked};
 
+use crate::gate::Gate;
 use crate::share::{Share, WorkFault, WorkOf};
+use crate::worker::{Order, Work, Worker, work_at};
 use board_lock::{Desk, DeskOf, Naming};
 use dimension_core::Setup;
-use search_rounds::{Gate, Order, Work, Worker, work_at};
 use std::alloc::Global;
 use std::snapshot::Snapshot;
 use std::sync::{Arc, Wait};
@@ -77,7 +78,7 @@ impl<'g, N: Naming, R: Wait + Drop, W: Wait, G: Gate<W>> Task<
     Work<N, R>,
 > for Rounds<'g, G> {
     ghost use Rattle.dimension_core.specs.Setup.{setting};
-    ghost use Rattle.search_rounds.specs.Works.{Worked};
+    ghost use Rattle.search_workers.specs.Works.{Worked};
 
     ghost may = { λ setup worker. setting setup.value ≡ N.opening.setting };
 

@@ -1,6 +1,7 @@
 //! What workers are given, and what they give back.
+use crate::tally::Tally;
+use crate::worker::{Work, Worker};
 use board_lock::{Desk, Naming};
-use search_rounds::{Tally, Work, Worker};
 use std::snapshot::Snapshot;
 use std::sync::Wait;
 use std::thread::Promise;
@@ -19,7 +20,7 @@ pub(crate) struct WorkOf<N: Naming, R: Wait + Drop> {
 }
 
 impl<N: Naming, R: Wait + Drop> Promise<Work<N, R>> for WorkOf<N, R> {
-    ghost use Rattle.search_rounds.specs.Works.{Worked};
+    ghost use Rattle.search_workers.specs.Works.{Worked};
 
     ghost kept_by = { λ p w. Worked N.opening p.worker.value.order.session p.worker.value.order.seed
         p.worker.value.order.rounds p.worker.value.seat w.seat w.tally };

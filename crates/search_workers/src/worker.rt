@@ -1,48 +1,88 @@
-//! One worker, in the caller's thread.
+//! A worker.
 ghost use Rattle.std.specs.Prelude.{◌≡◌};
 ghost use Rattle.dimension_core.specs.Setup.{setting};
-ghost use Rattle.search_rounds.specs.Works.{Worked};
+ghost use Rattle.search_workers.specs.Works.{Worked};
 
-use crate::share::Share;
-use board_lock::{Desk, DeskOf, Naming};
-use search_rounds::{Gate, Order, Work, Worker, work_at};
+use crate::draws::{draw_round, sow};
+use crate::finder::Finder;
+use crate::gate::Gate;
+use crate::round::{Place, one_round};
+use crate::skips::Skips;
+use crate::tally::Tally;
+use board_lock::{Naming, Seat};
+use dimension_core::Setup;
+use rbac_core::{Object, Operation};
 use std::alloc::Global;
 use std::sync::Wait;
 
-/// Background search from a desk: so many rounds, each of which proposes by the session the best move near two vehicles.
-///
-/// A round draws two vehicles by the next two words of the generator of the seed, `Lcg64Xsh32::seed_from_u64(seed)`. It brings the desk's
-/// view up to the published plan, passes `Seen`, and looks for the best move there. If no move counts, the round is idle. Otherwise it
-/// passes `Before`, submits the move with the view's version as its base, and passes `After`. A round that meets a fault is refused. A
-/// move that was denied, other than by `Stale`, is not proposed again while the version of the view stays the same. After the last round
-/// the desk is brought up to the journal. To the gate it is worker 1.
-pub fn work<N: Naming, R: Wait + Drop, W: Wait, G: Gate<W>>(
+/// The session by which a worker proposes, the seed from which it draws, and how many rounds it does.
+#[derive(Clone, Copy, Drop)]
+pub struct Order {
+    pub session: u32,
+    pub seed: u64,
+    pub rounds: u32,
+}
+
+/// A worker: its number among the workers, from 1, a desk without its setup, and an order.
+#[derive(Drop)]
+pub struct Worker<N: Naming, R: Wait + Drop> {
+    pub number: u32,
+    pub seat: Seat<N, R>,
+    pub order: Order,
+}
+
+/// What comes of a worker: its desk, and how its rounds ended.
+#[derive(Drop)]
+pub struct Work<N: Naming, R: Wait + Drop> {
+    pub seat: Seat<N, R>,
+    pub tally: Tally,
+}
+
+/// The rounds of a worker, as its order has them, by a desk whose setup is lent. `work` of `search_workers` says what a round is.
+pub fn work_at<N: Naming, R: Wait + Drop, W: Wait, G: Gate<W>>(
     rt: &W,
     alloc: Global,
-    desk: Desk<N, R>,
-    session: u32,
-    seed: u64,
-    rounds: u32,
+    setup: &Setup,
+    worker: Worker<N, R>,
     gate: &G,
-) -> Share<N, R>
-    requires { setting desk.setup.value ≡ N.opening.setting }
-    ensures worked { Worked N.opening session seed rounds desk.seat result.desk.seat result.tally }
-    ensures setup { setting result.desk.setup.value ≡ N.opening.setting }
+) -> Work<N, R>
+    requires { setting setup.now ≡ N.opening.setting }
+    ensures { Worked N.opening worker.order.session worker.order.seed worker.order.rounds worker.seat result.seat result.tally }
 {
-    let DeskOf { setup, seat } = desk;
-    let order = Order {
-        session,
-        seed,
-        rounds,
-    };
-    let worker = Worker {
-        number: 1,
+    let Worker {
+        number,
         seat,
         order,
-    };
-    let Work { seat, tally } = work_at(rt, alloc, &setup, worker, gate);
-    Share {
-        desk: DeskOf { setup, seat },
-        tally,
+    } = worker;
+    let mut seat = seat;
+    seat.turns_are_seen();
+    let vehicles = setup.vehicles();
+    let mut rng = sow(order.seed);
+    let mut skips = Skips::new(alloc);
+    let mut finder = Finder::new(alloc);
+    let mut tally = Tally::new();
+    for done in 0..order.rounds {
+        let round = done + 1;
+        let place = Place {
+            worker: number,
+            round,
+        };
+        let (v, w) = draw_round(&mut rng, order.seed, vehicles, done);
+        let outcome = one_round(
+            rt,
+            &mut seat,
+            setup,
+            &mut skips,
+            &mut finder,
+            order,
+            v,
+            w,
+            gate,
+            place,
+        );
+        tally.count(outcome);
+        gate.done(rt, number, round, outcome);
     }
+    let _may = seat.check(rt, order.session, Operation::View, Object::Board);
+    Work { seat, tally }
 }

@@ -8,7 +8,7 @@ use Rattle.board_lines.specs.Reading.{read_of}
 use Rattle.board_lines.specs.declared.command.Command.{Command}
 use Rattle.board_lines.specs.declared.command.Command.TheVariants as commands
 use Rattle.board_lines.specs.declared.command.LineFault.{LineFault}
-use Rattle.line_front.specs.Answers.{Answer, Replied, Faulted, Listed, Rowed, Audited, Reviewed, Checked, Refused}
+use Rattle.line_engine.specs.Answers.{Answer, Replied, Faulted, Listed, Rowed, Audited, Reviewed, Checked, Refused}
 use Rattle.line_engine.specs.Outcomes.{Outcome}
 use Rattle.line_engine.specs.Leaving.{Does, Gives}
 use Rattle.line_engine.specs.Running.{Runs, body}

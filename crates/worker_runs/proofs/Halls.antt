@@ -6,11 +6,11 @@ use Rattle.std.proofs.lemmas.List.{length-append, map-append}
 use Rattle.std.specs.Io.KnownBytes.{Appends}
 use Rattle.board_rules.specs.declared.call.Entry.{Entry}
 use Rattle.board_rules.specs.History.{Opening}
-use Rattle.board_seat.specs.Watches.{Watch, watch_at, watches}
+use Rattle.board_lock.specs.Watches.{Watch, watch_at, watches}
 use Rattle.line_engine.specs.Running.{AppendsPrefix}
 use Rattle.line_engine.specs.declared.run_fault.RunFault.{RunFault}
 use Rattle.line_engine.specs.declared.run_fault.RunFault.TheVariants as runs
-use Rattle.search_rounds.specs.declared.tally.Tally.{Tally}
+use Rattle.search_workers.specs.declared.tally.Tally.{Tally}
 use Rattle.program_parts.specs.declared.stop.Stop.{Stop}
 use Rattle.program_parts.specs.declared.stop.Stop.TheVariants as stops
 use Rattle.worker_runs.specs.declared.orders.Orders.{Orders}

@@ -1,7 +1,7 @@
 -- One more line of a worker.
 use Rattle.std.proofs.Common.{◌≡◌, ◌∙◌, ℕ, ◌+◌, List, [], ◌∷◌, ◌++◌, length, take, get_or, ◌<◌, sym, ap, append_assoc, append-nil, arith}
 use Rattle.std.proofs.lemmas.List.{length-take-le, take_more}
-use Rattle.search_rounds.specs.declared.tally.Tally.{Tally}
+use Rattle.search_workers.specs.declared.tally.Tally.{Tally}
 use Rattle.worker_runs.specs.Tallies.{tally_lines, tally_text}
 
 pub lines_more : (worker : ℕ) (tallies : List Tally) (tally : Tally) → tally_lines worker (tallies ++ tally ∷ []) ≡ tally_lines worker tallies ++ tally_text (worker + length tallies) tally

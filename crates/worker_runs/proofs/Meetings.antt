@@ -4,8 +4,8 @@ use Rattle.std.proofs.lemmas.List.Elements.{All-cons, All-head, All-nil, All-pus
 use mathlib.Core.List.{IsPrefix}
 use Rattle.board_rules.specs.declared.call.Entry.{Entry}
 use Rattle.board_rules.specs.History.{Opening, turns_of}
-use Rattle.board_seat.specs.Watches.{Watch}
-use Rattle.locked_board.specs.Commits.{Legal}
+use Rattle.board_lock.specs.Watches.{Watch}
+use Rattle.board_lock.specs.Commits.{Legal}
 use Rattle.worker_runs.specs.Closings.{IsVersionOf}
 use Rattle.worker_runs.specs.Halls.{AreMet}
 use Rattle.worker_runs.proofs.Prefixes.{prefix_trans}

@@ -3,11 +3,11 @@ use Rattle.std.specs.Prelude.{◌≡◌, ℕ, List, Option}
 use mathlib.Core.List.{IsPrefix}
 use Rattle.board_rules.specs.declared.call.Entry.{Entry}
 use Rattle.board_rules.specs.History.{Opening}
-use Rattle.board_seat.specs.Watches.{Watch}
+use Rattle.board_lock.specs.Watches.{Watch}
 use Rattle.line_engine.specs.Running.{AppendsPrefix}
 use Rattle.line_engine.specs.declared.run_fault.RunFault.{RunFault}
 use Rattle.line_engine.specs.declared.run_fault.RunFault.TheVariants as runs
-use Rattle.search_rounds.specs.Jobs.{view_after}
+use Rattle.search_workers.specs.Jobs.{view_after}
 use Rattle.worker_runs.specs.Halls.{AreMet}
 
 -- the version of the plan after entries in which these desks met, and which begin what has been seen by now

@@ -5,16 +5,16 @@ use Rattle.std.specs.Io.KnownBytes.{Appends}
 use mathlib.Core.List.{IsPrefix}
 use Rattle.board_rules.specs.declared.call.Entry.{Entry}
 use Rattle.board_rules.specs.History.{Opening, turns_of}
-use Rattle.locked_board.specs.Commits.{Legal}
-use Rattle.board_seat.specs.Watches.{Watch, watch_at}
+use Rattle.board_lock.specs.Commits.{Legal}
+use Rattle.board_lock.specs.Watches.{Watch, watch_at}
 use Rattle.line_engine.specs.Running.{AppendsPrefix}
 use Rattle.line_engine.specs.declared.run_fault.Counts.{Counts}
 use Rattle.line_engine.specs.declared.run_fault.RunFault.{RunFault}
 use Rattle.line_engine.specs.declared.run_fault.RunFault.TheVariants as runs
 use Rattle.desk_text.specs.DeskRuns.{IsHeld, IsHeldAtStop}
-use Rattle.search_rounds.specs.declared.tally.Tally.{Tally}
-use Rattle.search_rounds.specs.Jobs.{view_after}
-use Rattle.search_rounds.specs.Works.{Worked}
+use Rattle.search_workers.specs.declared.tally.Tally.{Tally}
+use Rattle.search_workers.specs.Jobs.{view_after}
+use Rattle.search_workers.specs.Works.{Worked}
 use Rattle.program_parts.specs.declared.stop.Stop.{Stop}
 use Rattle.program_parts.specs.declared.stop.Stop.TheVariants as stops
 use Rattle.worker_runs.specs.declared.orders.Orders.{Orders}

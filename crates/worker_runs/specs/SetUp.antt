@@ -8,7 +8,7 @@ use Rattle.board_rules.specs.declared.reply.Reply.{Reply}
 use Rattle.board_rules.specs.declared.reply.Reply.TheVariants as replies
 use Rattle.board_lines.specs.declared.command.Command.{Command}
 use Rattle.board_lines.specs.declared.command.Command.TheVariants.{Submit}
-use Rattle.line_front.specs.Answers.{Answer, Replied}
+use Rattle.line_engine.specs.Answers.{Answer, Replied}
 
 -- a command of session 1
 abbrev pub by_root : PolicyCommand → Call

@@ -1,7 +1,7 @@
 -- The lines that close a run with workers.
 use Rattle.std.specs.Prelude.{ℕ, ◌+◌, List, [], ◌∷◌, ◌++◌, codes}
 use Rattle.std.specs.Fmt.{decimal}
-use Rattle.search_rounds.specs.declared.tally.Tally.{Tally}
+use Rattle.search_workers.specs.declared.tally.Tally.{Tally}
 
 -- `worker I tried T committed C denied D refused R`, with its line end
 abbrev pub tally_text : ℕ → Tally → List ℕ

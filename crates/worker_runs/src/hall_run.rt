@@ -2,7 +2,7 @@
 ghost use Rattle.std.specs.Prelude.{◌≡◌, ◌∷◌, ◌+◌, ◌-◌, ◌⊎◌, ℕ, List, Ok, Err, IfOk, IfErr, MatchResult, option_map};
 ghost use Rattle.std.specs.Option.{IsSomeAnd};
 ghost use Rattle.dimension_core.specs.Setup.{setting};
-ghost use Rattle.board_seat.specs.Watches.{watch_at};
+ghost use Rattle.board_lock.specs.Watches.{watch_at};
 ghost use Rattle.line_engine.specs.Running.{AppendsPrefix};
 ghost use Rattle.program_parts.specs.declared.stop.Stop.TheVariants as stops;
 ghost use Rattle.worker_runs.specs.Halls.{IsClosing, IsEnd, IsHallRun, IsHallShort, worker_desks};

@@ -2,12 +2,12 @@
 ghost use Rattle.std.specs.Prelude.{◌≡◌, OnOk, IfErr};
 ghost use Rattle.board_rules.specs.declared.reply.Reply.TheVariants as replies;
 ghost use Rattle.board_lines.specs.declared.command.Command.TheVariants as commands;
-ghost use Rattle.line_front.specs.Answers.{Replied};
+ghost use Rattle.line_engine.specs.Answers.{Replied};
 ghost use Rattle.worker_runs.specs.SetUp.{AreAsked, by_root, sessions_to, set_up_of, user_and_role};
 
 use crate::orders::Orders;
 use board_rules::{Call, Reply};
-use line_front::Front;
+use line_engine::Front;
 use program_parts::Stop;
 use rbac_core::{Command, Names};
 use separation_core::Name;

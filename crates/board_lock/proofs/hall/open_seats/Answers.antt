@@ -1,6 +1,6 @@
 use Rattle.std.proofs.Common.{List, IfOk, Result, Ok, Err, ap, ◌∙◌}
 use Rattle.board_rules.specs.declared.call.Entry.{Entry}
-use Rattle.board_seat.specs.Watches.{watches}
+use Rattle.board_lock.specs.Watches.{watches}
 use Rattle.board_lock.proofs.hall.open_seats.Goals as goal
 
 ok_map : {A B : Type 0} (r : Result A B) (P Q : A → Type 0) → IfOk r P → ((x : A) → P x → Q x) → IfOk r Q

@@ -2,7 +2,7 @@ use Rattle.std.proofs.Common.{◌≡◌, All, ap, ◌∙◌, map, subst}
 use Rattle.std.proofs.lemmas.List.{map-append}
 use Rattle.std.proofs.lemmas.List.Elements.{All-push}
 use Rattle.dimension_core.specs.Setup.{setting}
-use Rattle.search_rounds.specs.Works.{Worked}
+use Rattle.search_workers.specs.Works.{Worked}
 use Rattle.search_workers.proofs.Alls.{all_more, all_last, all_front}
 use Rattle.search_workers.proofs.all.+start_all.Goals as goal
 

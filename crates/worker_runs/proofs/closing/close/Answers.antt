@@ -1,5 +1,5 @@
 use Rattle.std.proofs.Common.{List, subst}
-use Rattle.search_rounds.specs.declared.tally.Tally.{Tally}
+use Rattle.search_workers.specs.declared.tally.Tally.{Tally}
 use Rattle.worker_runs.specs.Closings.{IsWrittenShort}
 use Rattle.worker_runs.specs.Tallies.{closing_text}
 use Rattle.worker_runs.proofs.Halls.{closed_short}

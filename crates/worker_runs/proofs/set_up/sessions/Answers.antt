@@ -4,7 +4,7 @@ use Rattle.board_rules.specs.declared.call.Call.{Call}
 use Rattle.board_rules.specs.declared.reply.Reply.{Reply}
 use Rattle.board_rules.specs.declared.reply.Reply.TheVariants as replies
 use Rattle.board_lines.specs.declared.command.Command.TheVariants as commands
-use Rattle.line_front.specs.Answers.{Replied}
+use Rattle.line_engine.specs.Answers.{Replied}
 use Rattle.worker_runs.specs.SetUp.{AreAsked, by_root, sessions_to, worker}
 use Rattle.worker_runs.proofs.Asked.{asked_more, sessions_more}
 use Rattle.worker_runs.proofs.set_up.sessions.Goals as goal

@@ -1,5 +1,5 @@
 use Rattle.std.proofs.Common.{rules, ◌≡◌, ◌∙◌, ◌<◌, ◌+◌, ℕ, List, ◌++◌, length, take, get_or, ap, sym, append_assoc, string_bytes}
-use Rattle.search_rounds.specs.declared.tally.Tally.{Tally}
+use Rattle.search_workers.specs.declared.tally.Tally.{Tally}
 use Rattle.worker_runs.specs.Tallies.{tally_lines, tally_text}
 use Rattle.worker_runs.proofs.Lines.{lines_next}
 use Rattle.worker_runs.proofs.tallies.push_tallies.Goals as goal

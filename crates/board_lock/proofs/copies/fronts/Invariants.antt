@@ -1,0 +1,10 @@
+use Rattle.pin_core.specs.Pins.{front_of}
+use Rattle.dimension_core.specs.Setting.{Setting}
+use Rattle.board_rules.specs.History.{state_after}
+use Rattle.board_core.specs.Kept.{IsKept}
+use Rattle.published_board.specs.Written.{AreCells}
+use Rattle.board_lock.proofs.copies.fronts.Given as goal
+
+-- the first cells are there
+abbrev pub invariant-loop-before : goal.invariant-loop-before
+invariant-loop-before l = (s : Setting) → IsKept s l.core → AreCells l.before 0 (front_of (state_after s l.core.journal).pins) l.cells.items

@@ -1,0 +1,12 @@
+use Rattle.std.proofs.Common.{◌+◌, List, sym, subst, None}
+use Rattle.pin_core.specs.Pins.{pin_of}
+use Rattle.board_rules.specs.History.{state_after}
+use Rattle.published_board.specs.Written.{AreCells}
+use Rattle.board_lock.proofs.Cells.{cells_more}
+use Rattle.board_lock.proofs.copies.pins.Goals as goal
+
+pub loop-before-preserved : goal.loop-before-preserved
+loop-before-preserved c = λ s kept.
+    let n = c.loop-before.before in
+    subst (λ (xs : List _). AreCells (n + 1) None (pin_of (state_after s c.args.core.now.journal).pins) xs) (sym c.in_ok-push.ensures.items)
+    (cells_more n None (pin_of (state_after s c.args.core.now.journal).pins) c.loop-before.cells.items c.pinned.result (c.pinned.ensures s kept) (c.loop-before.invariant s kept))

@@ -1,0 +1,16 @@
+use Rattle.std.proofs.Common.{ℕ, ◌+◌, List, [], ◌∷◌, ap, sym, ◌∙◌, subst}
+use Rattle.std.proofs.lemmas.List.{map-append}
+use Rattle.plan_core.specs.Plan.{routes_of, route_at}
+use Rattle.board_rules.specs.State.{BoardState}
+use Rattle.board_rules.specs.History.{state_after}
+use Rattle.published_board.specs.Written.{AreCells}
+use Rattle.board_lock.proofs.Cells.{cells_more}
+use Rattle.board_lock.proofs.copies.routes.Goals as goal
+
+pub loop-before-preserved : goal.loop-before-preserved
+loop-before-preserved c = λ s kept.
+    let n = c.loop-before.before in
+    let state : BoardState = state_after s c.args.core.now.journal in
+    let is = c.in-Ok.ensures ∙ c.route.ensures s kept in
+    subst (λ (xs : List (List ℕ)). AreCells (n + 1) [] (route_at state.routes) xs) (sym (ap routes_of c.in_ok-push.ensures.items ∙ map-append (λ r. r.value) c.loop-before.made.items (c.in-Ok.route ∷ [])))
+    (cells_more n [] (route_at state.routes) (routes_of c.loop-before.made.items) c.in-Ok.route.value is (c.loop-before.invariant s kept))

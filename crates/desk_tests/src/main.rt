@@ -1,0 +1,25 @@
+//! Tests of desks, in one thread, in threads of their own, and many of them, and of workers.
+#![tactic(auto)]
+
+#[cfg(test)]
+mod boards;
+#[cfg(test)]
+mod calls;
+#[cfg(test)]
+mod faults;
+#[cfg(test)]
+mod many;
+#[cfg(test)]
+mod one_thread;
+#[cfg(test)]
+mod questions;
+#[cfg(test)]
+mod scripts;
+#[cfg(test)]
+mod tests;
+#[cfg(test)]
+mod threads;
+#[cfg(test)]
+mod workers;
+
+fn main() {}

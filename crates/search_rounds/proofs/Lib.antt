@@ -1,9 +1,0 @@
-pub mod Prefixes
-pub mod Drawing
-pub mod Skipping
-pub mod Denying
-pub mod Within
-pub mod Exact
-pub mod Looking
-pub mod Proposed
-pub mod Going

@@ -1,7 +1,0 @@
-use Rattle.std.proofs.Common.{ap}
-use Rattle.search_rounds.specs.Draws.{stream_in, seeded}
-use Rattle.search_rounds.proofs.draws.sow.Goals as goal
-
-pub returns : goal.returns
-unfolding seeded
-returns c = ap stream_in c.seed_from_u64.ensures

@@ -1,5 +1,0 @@
-use Rattle.search_rounds.proofs.Denying.{were_denied}
-use Rattle.search_rounds.proofs.laws.skips_were_denied.Goals as goal
-
-pub returns : goal.returns
-returns c = were_denied

@@ -1,0 +1,22 @@
+//! Tests of the crates of texts, from words to the engine of lines, in a crate of their own, so that what they stand on is not proved once
+//! more for them.
+#![tactic(auto)]
+
+#[cfg(test)]
+mod comparing;
+#[cfg(test)]
+mod engine;
+#[cfg(test)]
+mod instances;
+#[cfg(test)]
+mod journal;
+#[cfg(test)]
+mod lines;
+#[cfg(test)]
+mod replies;
+#[cfg(test)]
+mod travels;
+#[cfg(test)]
+mod words;
+
+fn main() {}
