@@ -10,7 +10,7 @@ use dimension_core::Setup;
 use search_workers::Tally;
 use std::alloc::Global;
 use std::sync::{Arc, Wait};
-use std::thread::Threads;
+use std::thread::{JoinHandle, Threads};
 
 /// What desk 1 does first: rights, a session for each worker, and a plan that can be made shorter.
 const PREPARED: &[&str] = &[
@@ -69,7 +69,7 @@ pub(crate) struct End {
 }
 
 /// How many stops a plan has, and how many of them are pinned where they are.
-fn counted(view: &View) -> (usize, usize) {
+fn counted_in(view: &View) -> (usize, usize) {
     let mut stops = 0usize;
     let mut pins = 0usize;
     let mut vehicle = 0u32;
@@ -139,6 +139,44 @@ fn rounds_of(tally: Tally) -> u32 {
     tally.tried.saturating_add(tally.idle)
 }
 
+/// The threads in which the second and the third desk search.
+#[derive(Drop)]
+struct Searching<N: Naming, R: Wait + Drop> {
+    second: Option<JoinHandle<Searched<N, R>>>,
+    third: Option<JoinHandle<Searched<N, R>>>,
+}
+
+/// Starts a worker on the second and on the third desk.
+fn start_both<
+    N: Naming + Send + Sync + 'static,
+    R: Wait + Drop + Send + Sync + 'static,
+    W: Threads + Wait + Copy + Send + Sync + 'static,
+>(rt: W, alloc: Global, setup: &Arc<Setup>, two: Seat<N, R>, three: Seat<N, R>) -> Searching<N, R>
+    requires { setting setup.now.value ≡ N.opening.setting }
+{
+    let second = start_search(rt, Search { alloc, session: 2 }, setup, two);
+    let third = start_search(rt, Search { alloc, session: 3 }, setup, three);
+    Searching { second, third }
+}
+
+/// Waits for both, and gives their seats beside the first one, with how many rounds they did.
+fn join_both<N: Naming, R: Wait + Drop, W: Threads>(
+    rt: &W,
+    one: Seat<N, R>,
+    searching: Searching<N, R>,
+) -> Option<(Three<N, R>, u32)> {
+    let Searching { second, third } = searching;
+    match (join_search(rt, second), join_search(rt, third)) {
+        (Some(second), Some(third)) => {
+            let rounds = rounds_of(second.tally).saturating_add(rounds_of(third.tally));
+            let two = second.seat;
+            let three = third.seat;
+            Some((Three { one, two, three }, rounds))
+        }
+        _ => None,
+    }
+}
+
 /// The second and the third desk search while the first one pins. How many rounds they did, and whether the pins were set and the versions
 /// rose.
 fn all_at_once<
@@ -153,18 +191,12 @@ fn all_at_once<
         two,
         three,
     } = seats;
-    let second = start_search(rt, Search { alloc, session: 2 }, setup, two);
-    let third = start_search(rt, Search { alloc, session: 3 }, setup, three);
+    let searching = start_both(rt, alloc, setup, two, three);
     let rose = pin_all(&rt, setup, &mut one);
-    let second = join_search(&rt, second);
-    let third = join_search(&rt, third);
-    let Searched { seat: two, tally } = second?;
-    let Searched {
-        seat: three,
-        tally: other,
-    } = third?;
-    let rounds = rounds_of(tally).saturating_add(rounds_of(other));
-    Some((Three { one, two, three }, rounds, rose))
+    match join_both(&rt, one, searching) {
+        Some((seats, rounds)) => Some((seats, rounds, rose)),
+        None => None,
+    }
 }
 
 /// The version of a copy of the published plan.
@@ -172,32 +204,19 @@ fn copied<N: Naming, R: Wait + Drop>(seat: &mut Seat<N, R>) -> Option<u32> {
     Some(seat.snapshot().ok()?.version)
 }
 
-/// Has the desks meet, and compares what they then see.
-fn met<N: Naming, R: Wait + Drop, W: Wait>(
-    rt: &W,
-    seats: Three<N, R>,
-    rounds: u32,
-    rose: bool,
-) -> Option<End> {
-    let Three {
-        mut one,
-        mut two,
-        mut three,
-    } = seats;
-    one.meet(rt, &mut two);
-    one.meet(rt, &mut three);
-    let seconds = copied(&mut two);
-    let thirds = copied(&mut three);
-    let view = one.snapshot().ok()?;
-    let (stops, pins) = counted(&view);
-    let version = Some(view.version);
-    Some(End {
-        stops,
-        pins,
-        rounds,
-        rose,
-        agreed: seconds == version && thirds == version,
-    })
+/// How many stops the published plan has, and how many of them are pinned where they are.
+fn counted<N: Naming, R: Wait + Drop>(seat: &mut Seat<N, R>) -> Option<(usize, usize)> {
+    let view = seat.snapshot().ok()?;
+    Some(counted_in(&view))
+}
+
+/// Has the desks meet. Whether all of them then see one version.
+fn met<N: Naming, R: Wait + Drop, W: Wait>(rt: &W, seats: &mut Three<N, R>) -> bool {
+    let Three { one, two, three } = seats;
+    one.meet(rt, two);
+    one.meet(rt, three);
+    let version = copied(one);
+    version.is_some() && copied(two) == version && copied(three) == version
 }
 
 /// Opens three desks and has the first one plan. Then the other two search while it pins, and in the end they meet.
@@ -212,6 +231,14 @@ pub(crate) fn three_desks<
 {
     let mut seats = opened::<N, R>(alloc, room)?;
     play(&rt, alloc, &setup, &mut seats.one, PREPARED);
-    let (seats, rounds, rose) = all_at_once(rt, alloc, &setup, seats)?;
-    met(&rt, seats, rounds, rose)
+    let (mut seats, rounds, rose) = all_at_once(rt, alloc, &setup, seats)?;
+    let agreed = met(&rt, &mut seats);
+    let (stops, pins) = counted(&mut seats.one)?;
+    Some(End {
+        stops,
+        pins,
+        rounds,
+        rose,
+        agreed,
+    })
 }
