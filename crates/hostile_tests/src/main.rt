@@ -1,7 +1,4 @@
 //! Tests of hostile use: memory that runs out at each place of a call, and a board as large as it may be.
-//!
-//! It is a program that does nothing, and no library: for a library the gate reads the sources of all crates below it once for each way down to
-//! them, of which there are sixty thousand here.
 #![tactic(auto)]
 
 #[cfg(test)]
