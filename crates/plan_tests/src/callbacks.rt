@@ -1,27 +1,40 @@
-ghost use Rattle.std.specs.Prelude.{◌≡◌, ◌<◌, ◌+◌, ◌-◌, ◌*◌, slice_index, length};
+ghost use Rattle.std.specs.Prelude.{◌≡◌, ◌<◌, ◌+◌, ◌-◌, ◌*◌, slice_index, length, All};
+ghost use Rattle.callback_store.specs.Registry.{tables};
+ghost use Rattle.callback_store.specs.Tables.{nodes_of};
 
-use callback_store::{Matrix, Meter, RegisterFault, Registry, Transit, Unary};
+use crate::comparing::{compare, compare_meter};
+use callback_store::{Matrix, Meter, RegisterFault, Registry, Transit, TransitId, Unary};
 use std::process::Abort;
 use std::sync::Arc;
 use std::sync::atomic::{AtomicU64, Ordering};
-use std::test::Fail;
 
-fn compare(rt: &impl Abort, found: u64, wanted: u64, what: &str) {
-    assert_eq!(rt; found, wanted, "{what}");
-}
-
-/// Compares the answers, and how often a callback was asked up to here.
-fn compare_answers(rt: &impl Abort, found: &[u32; 4], wanted: &[u32; 4], meter: &Meter, asks: u64) {
-    assert_eq!(rt; found, wanted);
-    assert_eq!(rt; meter.asks, asks);
+/// Compares the answers of a callback for node 1 and each of some nodes, as a row or as a column.
+fn compare_answers(
+    rt: &impl Abort,
+    registry: &Registry,
+    id: TransitId,
+    meter: &mut Meter,
+    is_row: bool,
+    nodes: &[u32],
+    wanted: &[u32],
+)
+    requires registered { id < length (tables registry.now) }
+    requires one { 1 < nodes_of (tables registry.now) }
+    requires nodes { All (λ i. i < nodes_of (tables registry.now)) nodes.now }
+    requires four { length nodes.now ≡ 4 }
+{
+    let mut answers = [1u32; 4];
+    if is_row {
+        registry.ask_row(id, meter, 1, nodes, &mut answers);
+    } else {
+        registry.ask_column(id, meter, 1, nodes, &mut answers);
+    }
+    assert_eq!(rt; answers.as_slice(), wanted);
 }
 
 /// Compares all answers of a callback, as they are lent.
 fn compare_lent(rt: &impl Abort, found: Option<&[u32]>, wanted: &[u32]) {
-    match found {
-        Some(lent) => assert_eq!(rt; lent, wanted),
-        None => panic!(rt; "nothing is lent"),
-    }
+    assert!(rt; found == Some(wanted), "{found:?}");
 }
 
 /// Compares the name that a callback got, or why it got none.
@@ -34,75 +47,124 @@ fn compare_name(
     assert_eq!(rt; found, wanted, "at {step}");
 }
 
-fn compare_meter(rt: &impl Abort, found: Meter, asks: u64, probes: u64, walks: u64) {
-    assert_eq!(rt;
-        found,
-        Meter {
-            asks,
-            probes,
-            walks
-        }
-    );
+fn ask_both_kinds(rt: &impl Abort, registry: &Registry, load: TransitId, time: TransitId)
+    requires load { load < length (tables registry.now) }
+    requires time { time < length (tables registry.now) }
+    requires nodes { nodes_of (tables registry.now) ≡ 2 }
+{
+    let mut meter = Meter::new();
+    compare(rt, registry.ask(load, &mut meter, 1, 0), 4, "load");
+    compare(rt, registry.ask(time, &mut meter, 0, 1), 10, "out");
+    compare(rt, registry.ask(time, &mut meter, 1, 0), 20, "back");
+    compare(rt, meter.asks, 3, "asks");
 }
 
 #[test]
-fn registers_both_kinds(rt: HostRuntime) -> Result<(), Fail> {
-    let demands = vec![in rt.alloc(); 0u64, 4]?;
-    let travel = vec![in rt.alloc(); 0u64, 10, 20, 0]?;
+fn registers_both_kinds(rt: HostRuntime) {
+    let demands = vec![in rt.alloc(); 0u64, 4].expect(&rt, "memory");
+    let travel = vec![in rt.alloc(); 0u64, 10, 20, 0].expect(&rt, "memory");
     let one = Box::new(
         rt.alloc(),
         move |i: u32| -> u64
             requires { i < length demands.items }
             ensures { result ≡ slice_index demands.items i }
         { demands[i as usize] },
-    )?;
+    )
+    .expect(&rt, "memory");
     let two = Box::new(
         rt.alloc(),
         move |i: u32, j: u32| -> u64
             requires { i * 2 + j < length travel.items }
             ensures { result ≡ slice_index travel.items (i * 2 + j) }
         { travel[i as usize * 2 + j as usize] },
-    )?;
+    )
+    .expect(&rt, "memory");
     let unary = Unary::new(2, one);
     let transit = Transit::new(2, two);
     let mut registry = Registry::new(rt.alloc());
     let load = registry.register_unary(unary).expect(&rt, "room");
     let time = registry.register(transit).expect(&rt, "room");
+    ask_both_kinds(&rt, &registry, load, time);
+}
+
+fn ask_a_matrix(rt: &impl Abort, registry: &Registry, costs: TransitId)
+    requires costs { costs < length (tables registry.now) }
+    requires nodes { nodes_of (tables registry.now) ≡ 2 }
+{
     let mut meter = Meter::new();
-    compare(&rt, registry.ask(load, &mut meter, 1, 0), 4, "load");
-    compare(&rt, registry.ask(time, &mut meter, 0, 1), 10, "out");
-    compare(&rt, registry.ask(time, &mut meter, 1, 0), 20, "back");
-    compare(&rt, meter.asks, 3, "asks");
-    Ok(())
+    compare(rt, registry.ask(costs, &mut meter, 0, 1), 10, "out");
+    compare(rt, registry.ask(costs, &mut meter, 1, 0), 20, "back");
+    let nodes = &[1, 0, 0, 1];
+    compare_answers(
+        rt,
+        registry,
+        costs,
+        &mut meter,
+        true,
+        nodes,
+        &[0, 20, 20, 0],
+    );
+    compare(rt, meter.asks, 6, "asks after a row");
+    compare_answers(
+        rt,
+        registry,
+        costs,
+        &mut meter,
+        false,
+        nodes,
+        &[0, 10, 10, 0],
+    );
+    compare(rt, meter.asks, 10, "asks after a column");
+    compare_lent(rt, registry.answers(costs), &[0, 10, 20, 0]);
 }
 
 /// A callback that is given as its answers is asked as any other, and lends them.
 #[test]
-fn answers_from_a_matrix(rt: HostRuntime) -> Result<(), Fail> {
+fn answers_from_a_matrix(rt: HostRuntime) {
     let mut registry = Registry::new(rt.alloc());
-    let costs = Matrix::new(
-        2,
-        Arc::new(rt.alloc(), vec![in rt.alloc(); 0u32, 10, 20, 0]?)?,
-    );
+    let costs = vec![in rt.alloc(); 0u32, 10, 20, 0].expect(&rt, "memory");
+    let costs = Matrix::new(2, Arc::new(rt.alloc(), costs).expect(&rt, "memory"));
     let costs = registry.register_matrix(costs).expect(&rt, "room");
-    let mut meter = Meter::new();
-    compare(&rt, registry.ask(costs, &mut meter, 0, 1), 10, "out");
-    compare(&rt, registry.ask(costs, &mut meter, 1, 0), 20, "back");
-    let mut answers = [1u32; 4];
-    registry.ask_row(costs, &mut meter, 1, &[1, 0, 0, 1], &mut answers);
-    compare_answers(&rt, &answers, &[0, 20, 20, 0], &meter, 6);
-    registry.ask_column(costs, &mut meter, 1, &[1, 0, 0, 1], &mut answers);
-    compare_answers(&rt, &answers, &[0, 10, 10, 0], &meter, 10);
-    compare_lent(&rt, registry.answers(costs), &[0, 10, 20, 0]);
-    let wide = Matrix::new(3, Arc::new(rt.alloc(), vec![in rt.alloc(); 0u32; 9]?)?);
+    ask_a_matrix(&rt, &registry, costs);
+    let wide = vec![in rt.alloc(); 0u32; 9].expect(&rt, "memory");
+    let wide = Matrix::new(3, Arc::new(rt.alloc(), wide).expect(&rt, "memory"));
     let refused = registry.register_matrix(wide).map(|id| id.index());
     compare_name(&rt, refused, Err(RegisterFault::Size), 0);
-    Ok(())
+}
+
+/// Whether the callback for pairs is asked, whether a row is, and what is answered.
+const LISTS: &[(bool, bool, [u32; 4])] = &[
+    (true, true, [30, 10, 0, 30]),
+    (true, false, [10, 30, 0, 10]),
+    (false, true, [7, 7, 7, 7]),
+    (false, false, [14, 0, 7, 14]),
+];
+
+fn ask_rows_and_columns(
+    rt: &impl Abort,
+    registry: &Registry,
+    pairs: TransitId,
+    nodes: TransitId,
+    calls: &Arc<AtomicU64>,
+)
+    requires pairs { pairs < length (tables registry.now) }
+    requires nodes { nodes < length (tables registry.now) }
+    requires three { nodes_of (tables registry.now) ≡ 3 }
+{
+    let mut meter = Meter::new();
+    for (is_paired, is_row, wanted) in LISTS {
+        let id = if *is_paired { pairs } else { nodes };
+        compare_answers(rt, registry, id, &mut meter, *is_row, &[2, 0, 1, 2], wanted);
+        compare(rt, meter.asks, calls.load(Ordering::SeqCst), "calls so far");
+    }
+    registry.ask_row(pairs, &mut meter, 1, &[], &mut []);
+    compare(rt, meter.asks, 16, "asks after no node");
+    compare(rt, calls.load(Ordering::SeqCst), 16, "calls");
 }
 
 /// Rows and columns ask the closure once for each answer: the closures count their calls beside the meter.
 #[test]
-fn answers_a_row_and_a_column(rt: HostRuntime) -> Result<(), Fail> {
+fn answers_a_row_and_a_column(rt: HostRuntime) {
     let calls = Arc::new(rt.alloc(), AtomicU64::new(0)).expect(&rt, "memory");
     let of_pairs = Arc::try_clone(&calls).expect(&rt, "memory");
     let of_nodes = Arc::try_clone(&calls).expect(&rt, "memory");
@@ -114,7 +176,8 @@ fn answers_a_row_and_a_column(rt: HostRuntime) -> Result<(), Fail> {
             of_pairs.fetch_add(1, Ordering::SeqCst);
             30 * u64::from(j.saturating_sub(i)) + 10 * u64::from(i.saturating_sub(j))
         },
-    )?;
+    )
+    .expect(&rt, "memory");
     let one = Box::new(
         rt.alloc(),
         move |i: u32| -> u64
@@ -123,54 +186,18 @@ fn answers_a_row_and_a_column(rt: HostRuntime) -> Result<(), Fail> {
             of_nodes.fetch_add(1, Ordering::SeqCst);
             7 * u64::from(i)
         },
-    )?;
+    )
+    .expect(&rt, "memory");
     let steps = Transit::new(3, two);
     let weights = Unary::new(3, one);
     let mut registry = Registry::new(rt.alloc());
     let pairs = registry.register(steps).expect(&rt, "room");
     let nodes = registry.register_unary(weights).expect(&rt, "room");
-    let mut meter = Meter::new();
-    let mut answers = [1u32; 4];
-    registry.ask_row(pairs, &mut meter, 1, &[2, 0, 1, 2], &mut answers);
-    compare_answers(
-        &rt,
-        &answers,
-        &[30, 10, 0, 30],
-        &meter,
-        calls.load(Ordering::SeqCst),
-    );
-    registry.ask_column(pairs, &mut meter, 1, &[2, 0, 1, 2], &mut answers);
-    compare_answers(
-        &rt,
-        &answers,
-        &[10, 30, 0, 10],
-        &meter,
-        calls.load(Ordering::SeqCst),
-    );
-    registry.ask_row(nodes, &mut meter, 1, &[2, 0, 1, 2], &mut answers);
-    compare_answers(
-        &rt,
-        &answers,
-        &[7, 7, 7, 7],
-        &meter,
-        calls.load(Ordering::SeqCst),
-    );
-    registry.ask_column(nodes, &mut meter, 1, &[2, 0, 1, 2], &mut answers);
-    compare_answers(
-        &rt,
-        &answers,
-        &[14, 0, 7, 14],
-        &meter,
-        calls.load(Ordering::SeqCst),
-    );
-    registry.ask_row(pairs, &mut meter, 1, &[], &mut []);
-    compare(&rt, meter.asks, 16, "asks after no node");
-    compare(&rt, calls.load(Ordering::SeqCst), 16, "calls");
-    Ok(())
+    ask_rows_and_columns(&rt, &registry, pairs, nodes, &calls);
 }
 
 #[test]
-fn refuses_sizes_and_a_seventeenth(rt: HostRuntime) -> Result<(), Fail> {
+fn refuses_sizes_and_a_seventeenth(rt: HostRuntime) {
     let mut registry = Registry::new(rt.alloc());
     for step in 0..21u32 {
         let (size, wanted) = match step {
@@ -186,14 +213,14 @@ fn refuses_sizes_and_a_seventeenth(rt: HostRuntime) -> Result<(), Fail> {
             move |_i: u32| -> u64
                 ensures { result ≡ 7 }
             { 7 },
-        )?;
+        )
+        .expect(&rt, "memory");
         let unary = Unary::new(size, call);
         let answer = registry.register_unary(unary).map(|id| id.index());
         compare_name(&rt, answer, wanted, step);
     }
     compare(&rt, u64::from(registry.count()), 16, "count");
     compare(&rt, u64::from(registry.nodes()), 2, "nodes");
-    Ok(())
 }
 
 #[test]

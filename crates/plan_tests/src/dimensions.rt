@@ -3,6 +3,7 @@ ghost use Rattle.callback_store.specs.Registry.{tables};
 ghost use Rattle.callback_store.specs.Tables.{nodes_of};
 ghost use Rattle.dimension_core.specs.Setup.{setting};
 
+use crate::comparing::compare;
 use callback_store::{Meter, Registry, Transit, TransitId, Unary};
 use dimension_core::{
     Dimension, DimensionFault, Range, Setup, SetupFault, cumuls_are_by_place, first_out,
@@ -13,16 +14,12 @@ use std::process::Abort;
 
 const LIMIT: u64 = 1_000_000_000_000;
 
-fn compare(rt: &impl Abort, found: u64, wanted: u64, what: &str) {
-    assert_eq!(rt; found, wanted, "{what}");
-}
-
 fn compare_span(rt: &impl Abort, found: Option<Range>, wanted: Option<Range>, what: &str) {
-    assert_eq!(rt; found, wanted, "{what}");
+    assert!(rt; found == wanted, "{found:?} is {what}");
 }
 
 fn compare_answer(rt: &impl Abort, found: bool, wanted: bool, what: Range) {
-    assert_eq!(rt; found, wanted, "{what:?}");
+    assert!(rt; found == wanted, "{found} of {what:?}");
 }
 
 /// Whether the start is fixed to 0, the customer's range, and whether the route is in bounds.
@@ -64,7 +61,10 @@ fn compare_fault(
     vehicles: usize,
     nodes: usize,
 ) {
-    assert_eq!(rt; found, wanted, "{vehicles} capacities, {nodes} ranges");
+    assert!(rt;
+        found == wanted,
+        "{found:?} of {vehicles} capacities, {nodes} ranges"
+    );
 }
 
 /// Whether its callback is registered, its slack, how many vehicles of which capacity, how many nodes with a range from where to where,
@@ -131,7 +131,10 @@ fn compare_refusal(
     customers: u32,
     count: u32,
 ) {
-    assert_eq!(rt; found, wanted, "{customers} customers, {count} dimensions");
+    assert!(rt;
+        found == wanted,
+        "{found:?} of {customers} customers, {count} dimensions"
+    );
 }
 
 /// Customers, vehicles, dimensions, whether the callbacks are lost, the greatest number of events, and why the setup is refused, if it is.
@@ -181,7 +184,7 @@ fn compare_setup(rt: &impl Abort, setup: &Setup) {
     compare(rt, u64::from(setup.registry().count()), 1, "callbacks");
     compare(rt, u64::from(setup.cost().index()), 0, "cost");
     compare(rt, u64::from(setup.max_events()), 10, "events");
-    assert_eq!(rt; setup.dimensions().len(), 2);
+    compare(rt, setup.dimensions().len() as u64, 2, "dimensions");
 }
 
 fn compare_first_out(rt: &impl Abort, setup: &Setup)
@@ -189,9 +192,10 @@ fn compare_first_out(rt: &impl Abort, setup: &Setup)
     requires vehicles { (setting setup.now).vehicles ≡ 1 }
 {
     let mut meter = Meter::new();
-    assert_eq!(rt; first_out(setup, 1, &[1, 2], &mut meter), Some(2));
+    let out = first_out(setup, 1, &[1, 2], &mut meter);
     compare(rt, meter.asks, 6, "asks");
-    assert_eq!(rt; first_out(setup, 1, &[2], &mut meter), None);
+    let none = first_out(setup, 1, &[2], &mut meter);
+    assert_eq!(rt; (out, none), (Some(2), None));
 }
 
 /// A route that the first dimension bears and the second does not.

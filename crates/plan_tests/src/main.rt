@@ -4,6 +4,8 @@
 #[cfg(test)]
 mod callbacks;
 #[cfg(test)]
+mod comparing;
+#[cfg(test)]
 mod dimensions;
 #[cfg(test)]
 mod faults;

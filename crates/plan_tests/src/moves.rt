@@ -134,9 +134,13 @@ fn refuse_all(rt: &impl Abort, alloc: Global, plan: &Plan, moves: &[Move]) {
 
 #[test]
 fn names_each_vehicle_once(rt: HostRuntime) {
-    assert_eq!(rt; shift(2, 1, 1, 2, 2).vehicles(), (2, None));
-    assert_eq!(rt; cross(2, 0, 1, 0).vehicles(), (2, Some(1)));
-    assert_eq!(rt; remove(4294967295, 1).vehicles(), (4294967295, None));
+    for (mv, vehicles) in [
+        (shift(2, 1, 1, 2, 2), (2, None)),
+        (cross(2, 0, 1, 0), (2, Some(1))),
+        (remove(4294967295, 1), (4294967295, None)),
+    ] {
+        demand(&rt, mv.vehicles() == vehicles, mv);
+    }
     moves_are_possible();
     moves_name_vehicles();
     moves_keep_plans();
@@ -150,7 +154,7 @@ fn names_each_vehicle_once(rt: HostRuntime) {
 #[test]
 fn inserts_and_removes(rt: HostRuntime) {
     let alloc = rt.alloc();
-    let plan = plan_of(alloc, 6, &[1, 2, 3], &[]).expect(&rt, "memory");
+    let plan = plan_of(&rt, alloc, 6, &[1, 2, 3], &[]);
     compare(
         &rt,
         alloc,
@@ -167,7 +171,7 @@ fn inserts_and_removes(rt: HostRuntime) {
         (&[2, 3], &[]),
         &[at(1, 1, 1)],
     );
-    let plan = plan_of(alloc, 6, &[1, 2], &[4]).expect(&rt, "memory");
+    let plan = plan_of(&rt, alloc, 6, &[1, 2], &[4]);
     compare(
         &rt,
         alloc,
@@ -189,7 +193,7 @@ fn inserts_and_removes(rt: HostRuntime) {
 #[test]
 fn shifts_within_and_across(rt: HostRuntime) {
     let alloc = rt.alloc();
-    let plan = plan_of(alloc, 6, &[1, 2, 3], &[]).expect(&rt, "memory");
+    let plan = plan_of(&rt, alloc, 6, &[1, 2, 3], &[]);
     refuse(&rt, alloc, &plan, shift(1, 1, 1, 1, 1));
     compare(
         &rt,
@@ -199,7 +203,7 @@ fn shifts_within_and_across(rt: HostRuntime) {
         (&[2, 3, 1], &[]),
         &[at(1, 1, 1)],
     );
-    let plan = plan_of(alloc, 6, &[2, 3, 1], &[]).expect(&rt, "memory");
+    let plan = plan_of(&rt, alloc, 6, &[2, 3, 1], &[]);
     compare(
         &rt,
         alloc,
@@ -213,7 +217,7 @@ fn shifts_within_and_across(rt: HostRuntime) {
 #[test]
 fn shifts_more_than_one(rt: HostRuntime) {
     let alloc = rt.alloc();
-    let plan = plan_of(alloc, 6, &[1, 2, 3, 5], &[4, 6]).expect(&rt, "memory");
+    let plan = plan_of(&rt, alloc, 6, &[1, 2, 3, 5], &[4, 6]);
     let two = &[at(1, 2, 2), at(1, 3, 3)];
     compare(
         &rt,
@@ -253,10 +257,10 @@ fn shifts_more_than_one(rt: HostRuntime) {
 #[test]
 fn swaps(rt: HostRuntime) {
     let alloc = rt.alloc();
-    let plan = plan_of(alloc, 6, &[2, 3, 1], &[]).expect(&rt, "memory");
+    let plan = plan_of(&rt, alloc, 6, &[2, 3, 1], &[]);
     let both = &[at(1, 1, 2), at(1, 3, 1)];
     compare(&rt, alloc, &plan, swap(1, 1, 1, 3), (&[1, 3, 2], &[]), both);
-    let plan = plan_of(alloc, 6, &[1, 2], &[4]).expect(&rt, "memory");
+    let plan = plan_of(&rt, alloc, 6, &[1, 2], &[4]);
     let both = &[at(2, 1, 4), at(1, 2, 2)];
     compare(&rt, alloc, &plan, swap(2, 1, 1, 2), (&[2], &[1, 4]), both);
 }
@@ -264,10 +268,10 @@ fn swaps(rt: HostRuntime) {
 #[test]
 fn reverses(rt: HostRuntime) {
     let alloc = rt.alloc();
-    let plan = plan_of(alloc, 6, &[2, 3, 1], &[]).expect(&rt, "memory");
+    let plan = plan_of(&rt, alloc, 6, &[2, 3, 1], &[]);
     let all = &[at(1, 1, 2), at(1, 2, 3), at(1, 3, 1)];
     compare(&rt, alloc, &plan, reverse(1, 1, 3), (&[1, 3, 2], &[]), all);
-    let plan = plan_of(alloc, 6, &[1, 2, 3, 5], &[4, 6]).expect(&rt, "memory");
+    let plan = plan_of(&rt, alloc, 6, &[1, 2, 3, 5], &[4, 6]);
     let inner = &[at(1, 2, 2), at(1, 3, 3)];
     compare(
         &rt,
@@ -282,7 +286,7 @@ fn reverses(rt: HostRuntime) {
 #[test]
 fn crosses_tails(rt: HostRuntime) {
     let alloc = rt.alloc();
-    let plan = plan_of(alloc, 6, &[1, 2], &[4]).expect(&rt, "memory");
+    let plan = plan_of(&rt, alloc, 6, &[1, 2], &[4]);
     let tails = &[at(1, 2, 2), at(2, 1, 4)];
     compare(&rt, alloc, &plan, cross(1, 1, 2, 0), (&[1, 4], &[2]), tails);
     let tail = &[at(1, 1, 1), at(1, 2, 2)];
@@ -307,7 +311,7 @@ fn crosses_tails(rt: HostRuntime) {
 #[test]
 fn has_no_effect_by_one(rt: HostRuntime) {
     let alloc = rt.alloc();
-    let plan = plan_of(alloc, 6, &[1, 2], &[4]).expect(&rt, "memory");
+    let plan = plan_of(&rt, alloc, 6, &[1, 2], &[4]);
     let bad = [
         insert(3, 0, 1),
         insert(3, 3, 1),
@@ -336,7 +340,7 @@ fn has_no_effect_by_one(rt: HostRuntime) {
 #[test]
 fn great_numbers_do_not_wrap(rt: HostRuntime) {
     let alloc = rt.alloc();
-    let plan = plan_of(alloc, 6, &[1, 2], &[4]).expect(&rt, "memory");
+    let plan = plan_of(&rt, alloc, 6, &[1, 2], &[4]);
     let most = 4294967295;
     let bad = [
         insert(most, 1, 1),

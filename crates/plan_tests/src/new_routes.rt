@@ -1,66 +1,72 @@
 //! New routes, and plans that were given them.
-ghost use Rattle.std.specs.Prelude.{◌≡◌, ◌≤◌, [], ◌∷◌, length, true, All, IfOk};
+ghost use Rattle.std.specs.Prelude.{◌≡◌, ◌≤◌, [], ◌∷◌, length, true, All};
 ghost use Rattle.plan_core.specs.Plan.{changes_of};
 ghost use Rattle.plan_core.specs.Tested.{is_plan};
 
 use plan_core::{Plan, Route, plans_are_tested};
-use std::alloc::{AllocError, Global};
+use std::alloc::Global;
+use std::process::Abort;
 use std::sync::Arc;
 
 /// A shared route of these customers.
-fn shared(alloc: Global, customers: &[u32]) -> Result<Arc<Route>, AllocError>
-    ensures { IfOk result (λ route. route.value ≡ customers.now) }
+fn shared(rt: &impl Abort, alloc: Global, customers: &[u32]) -> Arc<Route>
+    ensures { result.value ≡ customers.now }
 {
-    let route = Arc::new(alloc, Route::new(Vec::from_slice(alloc, customers)?))?;
-    Ok(route)
+    let customers = Vec::from_slice(alloc, customers).expect(rt, "memory");
+    Arc::new(alloc, Route::new(customers)).expect(rt, "memory")
 }
 
 /// One new route alone.
 pub(crate) fn one_change(
+    rt: &impl Abort,
     alloc: Global,
     vehicle: u32,
     customers: &[u32],
-) -> Result<Vec<(u32, Arc<Route>)>, AllocError>
-    ensures changes { IfOk result (λ changes. changes_of changes.items ≡ (vehicle, customers.now) ∷ []) }
-    ensures short { IfOk result (λ changes. length customers.now ≤ 1000 → All (λ c. length c.1.value ≤ 1000) changes.items) }
+) -> Vec<(u32, Arc<Route>)>
+    ensures changes { changes_of result.items ≡ (vehicle, customers.now) ∷ [] }
+    ensures short { length customers.now ≤ 1000 → All (λ c. length c.1.value ≤ 1000) result.items }
 {
-    let route = Arc::new(alloc, Route::new(Vec::from_slice(alloc, customers)?))?;
-    let mut changes = Vec::with_capacity(alloc, 1)?;
-    changes.push((vehicle, route))?;
-    Ok(changes)
+    let route = shared(rt, alloc, customers);
+    let mut changes = Vec::with_capacity(alloc, 1).expect(rt, "memory");
+    changes.push((vehicle, route)).expect(rt, "memory");
+    changes
 }
 
 /// New routes for two vehicles.
 pub(crate) fn pair(
+    rt: &impl Abort,
     alloc: Global,
     v: u32,
     first: &[u32],
     w: u32,
     second: &[u32],
-) -> Result<Vec<(u32, Arc<Route>)>, AllocError>
-    ensures { IfOk result (λ changes. changes_of changes.items ≡ (v, first.now) ∷ (w, second.now) ∷ []) }
+) -> Vec<(u32, Arc<Route>)>
+    ensures changes { changes_of result.items ≡ (v, first.now) ∷ (w, second.now) ∷ [] }
+    ensures short { length first.now ≤ 1000 → length second.now ≤ 1000
+        → All (λ c. length c.1.value ≤ 1000) result.items }
 {
-    let mut changes = Vec::with_capacity(alloc, 2)?;
-    changes.push((v, shared(alloc, first)?))?;
-    changes.push((w, shared(alloc, second)?))?;
-    Ok(changes)
+    let mut changes = one_change(rt, alloc, v, first);
+    let route = shared(rt, alloc, second);
+    changes.push((w, route)).expect(rt, "memory");
+    changes
 }
 
 /// A plan of so many customers and two vehicles, which got these routes with one commit.
 pub(crate) fn plan_of(
+    rt: &impl Abort,
     alloc: Global,
     customers: u32,
     first: &[u32],
     second: &[u32],
-) -> Result<Plan, AllocError>
+) -> Plan
     requires customers { customers ≤ 1000 }
     requires plan { is_plan customers (first.now ∷ second.now ∷ []) ≡ true }
-    ensures { IfOk result (λ plan. plan
-        ≡ record { customers = customers; routes = first.now ∷ second.now ∷ []; version = 1; stamps = 1 ∷ 1 ∷ [] }) }
+    ensures { result
+        ≡ record { customers = customers; routes = first.now ∷ second.now ∷ []; version = 1; stamps = 1 ∷ 1 ∷ [] } }
 {
-    let mut plan = Plan::new(alloc, customers, 2)?;
-    let changes = pair(alloc, 1, first, 2, second)?;
+    let mut plan = Plan::new(alloc, customers, 2).expect(rt, "memory");
+    let changes = pair(rt, alloc, 1, first, 2, second);
     plans_are_tested();
     plan.replace(changes);
-    Ok(plan)
+    plan
 }

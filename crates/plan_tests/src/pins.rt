@@ -11,10 +11,9 @@ fn compare(rt: &impl Abort, pins: &Pins, pinned: [Option<u32>; 2], frozen: [u32;
     requires customers { length pins.now.pins ≡ 4 }
     requires vehicles { length pins.now.fronts ≡ 2 }
 {
-    assert_eq!(rt; pins.pinned(1), pinned[0]);
-    assert_eq!(rt; pins.pinned(2), pinned[1]);
-    assert_eq!(rt; pins.frozen(1), frozen[0]);
-    assert_eq!(rt; pins.frozen(2), frozen[1]);
+    let found = [pins.pinned(1), pins.pinned(2)];
+    let fronts = [pins.frozen(1), pins.frozen(2)];
+    assert!(rt; found == pinned && fronts == frozen, "{found:?} {fronts:?}");
 }
 
 #[test]

@@ -1,6 +1,7 @@
-ghost use Rattle.std.specs.Prelude.{◌≡◌, ◌+◌, ◌*◌, length, IfOk};
+ghost use Rattle.std.specs.Prelude.{◌≡◌, ◌+◌, ◌*◌, length};
 ghost use Rattle.dimension_core.specs.Setup.{setting};
 
+use crate::comparing::compare;
 use crate::new_routes::{pair, plan_of};
 use callback_store::{Meter, Registry, Transit};
 use dimension_core::Setup;
@@ -9,7 +10,7 @@ use plan_core::{
     currency_by_stamps, customers_stand_by_route, fronts_are_common, plans_are_tested, route_cost,
     routes_are_known, routes_replaced, stamps_by_one_more, ways_join,
 };
-use std::alloc::{AllocError, Global};
+use std::alloc::Global;
 use std::process::Abort;
 
 /// Compares where customers stand, by vehicle and place.
@@ -23,20 +24,20 @@ fn compare_places(rt: &impl Abort, plan: &Plan, wanted: &[(u32, Option<(u32, u32
 fn compare_routes(rt: &impl Abort, plan: &Plan, version: u32, first: &[u32], second: &[u32])
     requires { length plan.now.routes ≡ 2 }
 {
-    assert_eq!(rt; plan.version(), version);
-    assert_eq!(rt; plan.route(1).customers(), first);
-    assert_eq!(rt; plan.route(2).customers(), second);
+    compare(rt, u64::from(plan.version()), u64::from(version), "version");
+    let routes = (plan.route(1).customers(), plan.route(2).customers());
+    assert_eq!(rt; routes, (first, second));
 }
 
 /// Customers 1 and 2 on vehicle 1 and 4 on vehicle 2, until 2 and 4 change sides.
-fn exchanged(alloc: Global) -> Result<Plan, AllocError>
-    ensures { IfOk result (λ plan. length plan.routes ≡ 2) }
+fn exchanged(rt: &impl Abort, alloc: Global) -> Plan
+    ensures { length result.routes ≡ 2 }
 {
-    let mut plan = plan_of(alloc, 4, &[1, 2], &[4])?;
-    let changes = pair(alloc, 2, &[2], 1, &[1, 4])?;
+    let mut plan = plan_of(rt, alloc, 4, &[1, 2], &[4]);
+    let changes = pair(rt, alloc, 2, &[2], 1, &[1, 4]);
     plans_are_tested();
     plan.replace(changes);
-    Ok(plan)
+    plan
 }
 
 const PLACES: &[(u32, Option<(u32, u32)>)] = &[
@@ -57,10 +58,10 @@ const PLACES_EXCHANGED: &[(u32, Option<(u32, u32)>)] = &[
 
 #[test]
 fn exchanges_two_routes(rt: HostRuntime) {
-    let plan = plan_of(rt.alloc(), 4, &[1, 2], &[4]).expect(&rt, "memory");
+    let plan = plan_of(&rt, rt.alloc(), 4, &[1, 2], &[4]);
     compare_routes(&rt, &plan, 1, &[1, 2], &[4]);
     compare_places(&rt, &plan, PLACES);
-    let plan = exchanged(rt.alloc()).expect(&rt, "memory");
+    let plan = exchanged(&rt, rt.alloc());
     compare_routes(&rt, &plan, 2, &[1, 4], &[2]);
     compare_places(&rt, &plan, PLACES_EXCHANGED);
 }
@@ -80,7 +81,7 @@ fn laws_are_called() {
     ways_join();
 }
 
-const FRONTS: &[(&[u32], &[u32], usize)] = &[
+const FRONTS: &[(&[u32], &[u32], u64)] = &[
     (&[], &[], 0),
     (&[4, 2], &[], 0),
     (&[4, 2, 7], &[4, 2, 9], 2),
@@ -93,7 +94,8 @@ const FRONTS: &[(&[u32], &[u32], usize)] = &[
 #[test]
 fn the_common_front_ends_where_routes_differ(rt: HostRuntime) {
     for (route, other, front) in FRONTS {
-        assert_eq!(rt; common_front(route, other), *front);
+        let found = common_front(route, other) as u64;
+        compare(&rt, found, *front, "common front");
     }
 }
 
@@ -102,18 +104,27 @@ fn compare_cost(rt: &impl Abort, setup: &Setup, plan: &Plan, cost: u64, asks: u6
     requires { plan.now.customers ≡ (setting setup.now).customers }
 {
     let mut meter = Meter::new();
-    assert_eq!(rt; plan.cost(setup, &mut meter), cost);
-    assert_eq!(rt; meter.asks, asks);
+    compare(rt, plan.cost(setup, &mut meter), cost, "cost");
+    compare(rt, meter.asks, asks, "asks");
 }
 
 fn compare_route_costs(rt: &impl Abort, setup: &Setup)
     requires { (setting setup.now).customers ≡ 4 }
 {
     let mut meter = Meter::new();
-    assert_eq!(rt; route_cost(setup, &[1, 2], &mut meter), 33);
-    assert_eq!(rt; route_cost(setup, &[4], &mut meter), 44);
-    assert_eq!(rt; route_cost(setup, &[], &mut meter), 0);
-    assert_eq!(rt; meter.asks, 5);
+    compare(rt, route_cost(setup, &[1, 2], &mut meter), 33, "two");
+    compare(rt, route_cost(setup, &[4], &mut meter), 44, "one");
+    compare(rt, route_cost(setup, &[], &mut meter), 0, "none");
+    compare(rt, meter.asks, 5, "asks");
+}
+
+fn compare_costs(rt: &impl Abort, alloc: Global, setup: &Setup)
+    requires { (setting setup.now).customers ≡ 4 }
+{
+    let empty = Plan::new(alloc, 4, 2).expect(rt, "memory");
+    compare_cost(rt, setup, &empty, 0, 0);
+    let plan = plan_of(rt, alloc, 4, &[1, 2], &[4]);
+    compare_cost(rt, setup, &plan, 77, 5);
 }
 
 /// From node i to node j the cost is 10 i + j, so a route of 1 and 2 costs 1, 12 and 20, and one of 4 costs 4 and 40.
@@ -130,9 +141,6 @@ fn costs_the_way_out_and_home(rt: HostRuntime) {
     let mut registry = Registry::new(rt.alloc());
     let id = registry.register(ways).expect(&rt, "room");
     let setup = Setup::new(4, 2, registry, Vec::new(rt.alloc()), id, 10).expect(&rt, "setup");
-    let empty = Plan::new(rt.alloc(), 4, 2).expect(&rt, "memory");
-    let plan = plan_of(rt.alloc(), 4, &[1, 2], &[4]).expect(&rt, "memory");
-    compare_cost(&rt, &setup, &empty, 0, 0);
-    compare_cost(&rt, &setup, &plan, 77, 5);
+    compare_costs(&rt, rt.alloc(), &setup);
     compare_route_costs(&rt, &setup);
 }

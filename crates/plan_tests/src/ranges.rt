@@ -1,10 +1,11 @@
-ghost use Rattle.std.specs.Prelude.{◌≡◌, ◌+◌, ◌*◌, ◌<◌, ◌≤◌, [], ◌∷◌, length, replicate, slice_index, All, IfOk, IfSome, OnOk, OnErr};
+ghost use Rattle.std.specs.Prelude.{◌≡◌, ◌+◌, ◌*◌, ◌<◌, ◌≤◌, [], ◌∷◌, length, replicate, slice_index, All, IfOk, IfSome};
 ghost use Rattle.dimension_core.specs.NewRoutes.{AllKnown};
 ghost use Rattle.dimension_core.specs.Setup.{setting};
 ghost use Rattle.plan_core.specs.Plan.{IsPlan, changes_of, replaced, with_routes};
 ghost use Rattle.range_cache.specs.Cache.{IsCacheOf};
 
-use crate::new_routes::one_change;
+use crate::comparing::{compare, compare_meter};
+use crate::new_routes::{one_change, pair};
 use callback_store::{Meter, Registry, Transit, TransitId, Unary};
 use dimension_core::{Dimension, Range, Setup, first_out};
 use plan_core::{Plan, Route, plans_are_tested};
@@ -13,7 +14,6 @@ use std::alloc::{AllocError, Global};
 use std::process::Abort;
 use std::sync::Arc;
 use std::sync::atomic::{AtomicU64, Ordering};
-use std::test::Fail;
 
 /// A plan with its ranges, and the memory of ranges that were replaced.
 #[derive(Drop)]
@@ -37,15 +37,16 @@ fn empty(rt: &impl Abort, alloc: Global, setup: &Setup) -> Held
     }
 }
 
-/// Gives a vehicle a new route where it is in bounds, in the ranges and in the plan. New ranges are made in the memory of earlier ones.
+/// Gives a vehicle a new route, which is in bounds, in the ranges and in the plan. New ranges are made in the memory of earlier ones.
 fn commit(
+    rt: &impl Abort,
     alloc: Global,
     setup: &Setup,
     held: &mut Held,
     vehicle: u32,
     customers: &[u32],
     meter: &mut Meter,
-) -> Result<(), JudgeFault>
+)
     requires cache { IsCacheOf (setting setup.now) held.old.plan.routes held.old.cache }
     requires low { 1 ≤ vehicle }
     requires high { vehicle ≤ (setting setup.now).vehicles }
@@ -54,58 +55,41 @@ fn commit(
     requires plan { IsPlan held.old.plan.customers (with_routes ((vehicle, customers.now) ∷ []) held.old.plan.routes) }
     requires room { held.old.plan.version < 16777216 }
     ensures cache { IsCacheOf (setting setup.now) held.new.plan.routes held.new.cache }
-    ensures ok { OnOk result (held.new.plan ≡ replaced ((vehicle, customers.now) ∷ []) held.old.plan) }
-    ensures err { OnErr result (held.new.plan ≡ held.old.plan) }
+    ensures plan { held.new.plan ≡ replaced ((vehicle, customers.now) ∷ []) held.old.plan }
 {
     let Held { plan, cache, room } = held;
-    let changes = one_change(alloc, vehicle, customers)?;
-    let pending = cache.judge_in(room, setup, plan, &changes, meter)?;
+    let changes = one_change(rt, alloc, vehicle, customers);
+    let pending = cache
+        .judge_in(room, setup, plan, &changes, meter)
+        .expect(rt, "in bounds");
     *room = cache.take(pending);
     plan.replace(changes);
-    Ok(())
 }
 
-/// The early values of a vehicle's route, dimension by dimension.
-fn earlies(
-    alloc: Global,
-    setup: &Setup,
-    cache: &Cache,
-    plan: &Plan,
-    vehicle: u32,
-) -> Result<Vec<u64>, AllocError>
+/// Whether the early values of a vehicle's route, dimension by dimension, are these.
+fn has_earlies(setup: &Setup, cache: &Cache, plan: &Plan, vehicle: u32, wanted: &[u64]) -> bool
     requires cache { IsCacheOf (setting setup.now) plan.now.routes cache.now }
     requires low { 1 ≤ vehicle }
     requires high { vehicle ≤ (setting setup.now).vehicles }
 {
     let _sound = setup.vehicles();
-    let mut values = Vec::new(alloc);
+    let mut rest = wanted.iter();
     let stops = plan.route(vehicle).len() as u32;
     for dimension in 0..setup.dimensions().len() as u32 {
         for before in 0..stops {
-            values.push(cache.early(dimension + 1, vehicle, before + 1))?;
+            if rest.next() != Some(&cache.early(dimension + 1, vehicle, before + 1)) {
+                return false;
+            }
         }
     }
-    Ok(values)
+    rest.next().is_none()
 }
 
-fn compare_earlies(
-    rt: &impl Abort,
-    alloc: Global,
-    setup: &Setup,
-    cache: &Cache,
-    plan: &Plan,
-    wanted: &[u64],
-)
+fn compare_earlies(rt: &impl Abort, setup: &Setup, cache: &Cache, plan: &Plan, wanted: &[u64])
     requires cache { IsCacheOf (setting setup.now) plan.now.routes cache.now }
     requires vehicles { (setting setup.now).vehicles ≡ 2 }
 {
-    let kept = earlies(alloc, setup, cache, plan, 1).expect(rt, "memory");
-    assert_eq!(rt; kept.as_slice(), wanted);
-}
-
-/// Compares how often a callback was asked.
-fn asked(rt: &impl Abort, found: u64, wanted: u64) {
-    assert_eq!(rt; found, wanted);
+    assert!(rt; has_earlies(setup, cache, plan, 1, wanted), "{wanted:?}");
 }
 
 /// Why the new routes are not taken, if they are not.
@@ -182,20 +166,13 @@ fn inserts(rt: &impl Abort, alloc: Global, setup: &Setup, meter: &mut Meter)
     plans_are_tested();
     let mut held = empty(rt, alloc, setup);
     let begun = meter.asks;
-    commit(alloc, setup, &mut held, 1, &[1], meter).expect(rt, "one");
-    asked(rt, meter.asks.wrapping_sub(begun), 4);
-    commit(alloc, setup, &mut held, 1, &[1, 2], meter).expect(rt, "two");
-    asked(rt, meter.asks.wrapping_sub(begun), 8);
-    commit(alloc, setup, &mut held, 1, &[1, 2, 3], meter).expect(rt, "three");
-    asked(rt, meter.asks.wrapping_sub(begun), 12);
-    compare_earlies(
-        rt,
-        alloc,
-        setup,
-        &held.cache,
-        &held.plan,
-        &[0, 4, 7, 28, 84, 140],
-    );
+    commit(rt, alloc, setup, &mut held, 1, &[1], meter);
+    compare(rt, meter.asks.wrapping_sub(begun), 4, "asks");
+    commit(rt, alloc, setup, &mut held, 1, &[1, 2], meter);
+    compare(rt, meter.asks.wrapping_sub(begun), 8, "asks");
+    commit(rt, alloc, setup, &mut held, 1, &[1, 2, 3], meter);
+    compare(rt, meter.asks.wrapping_sub(begun), 12, "asks");
+    compare_earlies(rt, setup, &held.cache, &held.plan, &[0, 4, 7, 28, 84, 140]);
 }
 
 /// The cache of the whole plan, made at once.
@@ -205,12 +182,12 @@ fn of_a_plan(rt: &impl Abort, alloc: Global, setup: &Setup, meter: &mut Meter)
 {
     plans_are_tested();
     let mut plan = Plan::new(alloc, 4, 2).expect(rt, "memory");
-    plan.replace(one_change(alloc, 1, &[1, 2, 3]).expect(rt, "memory"));
+    plan.replace(one_change(rt, alloc, 1, &[1, 2, 3]));
     let begun = meter.asks;
     let made = made_anew(alloc, setup, &plan, meter).expect(rt, "memory");
-    asked(rt, meter.asks.wrapping_sub(begun), 16);
+    compare(rt, meter.asks.wrapping_sub(begun), 16, "asks");
     let made = made.expect(rt, "in bounds");
-    compare_earlies(rt, alloc, setup, &made, &plan, &[0, 4, 7, 28, 84, 140]);
+    compare_earlies(rt, setup, &made, &plan, &[0, 4, 7, 28, 84, 140]);
 }
 
 /// Customers that leave a route: the travel past the second is too long, the first and then all may go.
@@ -220,18 +197,18 @@ fn removals(rt: &impl Abort, alloc: Global, setup: &Setup, meter: &mut Meter)
 {
     plans_are_tested();
     let mut held = empty(rt, alloc, setup);
-    commit(alloc, setup, &mut held, 1, &[1, 2, 3], meter).expect(rt, "all");
+    commit(rt, alloc, setup, &mut held, 1, &[1, 2, 3], meter);
     let begun = meter.asks;
-    let late = one_change(alloc, 1, &[1, 3]).expect(rt, "memory");
+    let late = one_change(rt, alloc, 1, &[1, 3]);
     let answer = fault_of(setup, &held.cache, &held.plan, &late, meter);
     compare_fault(rt, answer, Some(JudgeFault::Bound(1, 2)));
-    asked(rt, meter.asks.wrapping_sub(begun), 3);
-    commit(alloc, setup, &mut held, 1, &[2, 3], meter).expect(rt, "two");
-    asked(rt, meter.asks.wrapping_sub(begun), 9);
-    compare_earlies(rt, alloc, setup, &held.cache, &held.plan, &[0, 3, 84, 140]);
-    commit(alloc, setup, &mut held, 1, &[], meter).expect(rt, "none");
-    asked(rt, meter.asks.wrapping_sub(begun), 9);
-    compare_earlies(rt, alloc, setup, &held.cache, &held.plan, &[]);
+    compare(rt, meter.asks.wrapping_sub(begun), 3, "asks");
+    commit(rt, alloc, setup, &mut held, 1, &[2, 3], meter);
+    compare(rt, meter.asks.wrapping_sub(begun), 9, "asks");
+    compare_earlies(rt, setup, &held.cache, &held.plan, &[0, 3, 84, 140]);
+    commit(rt, alloc, setup, &mut held, 1, &[], meter);
+    compare(rt, meter.asks.wrapping_sub(begun), 9, "asks");
+    compare_earlies(rt, setup, &held.cache, &held.plan, &[]);
 }
 
 /// Two new routes, of which the first is in bounds and the second is too heavy.
@@ -239,42 +216,41 @@ fn the_second_is_out(rt: &impl Abort, alloc: Global, setup: &Setup, meter: &mut 
     requires customers { (setting setup.now).customers ≡ 4 }
     requires vehicles { (setting setup.now).vehicles ≡ 2 }
 {
-    let plan = Plan::new(alloc, 4, 2).expect(rt, "memory");
-    let cache = Cache::new(alloc, setup).expect(rt, "memory");
-    let mut changes = one_change(alloc, 2, &[4]).expect(rt, "memory");
-    let route = Route::new(Vec::from_slice(alloc, [1, 2, 3, 4].as_slice()).expect(rt, "memory"));
-    changes
-        .push((1, Arc::new(alloc, route).expect(rt, "memory")))
-        .expect(rt, "memory");
-    let answer = fault_of(setup, &cache, &plan, &changes, meter);
+    let held = empty(rt, alloc, setup);
+    let changes = pair(rt, alloc, 2, &[4], 1, &[1, 2, 3, 4]);
+    let answer = fault_of(setup, &held.cache, &held.plan, &changes, meter);
     compare_fault(rt, answer, Some(JudgeFault::Bound(1, 1)));
 }
 
-fn in_turn(rt: &impl Abort, alloc: Global, setup: &Setup, meter: &mut Meter)
-    requires customers { (setting setup.now).customers ≡ 4 }
-    requires vehicles { (setting setup.now).vehicles ≡ 2 }
-{
-    inserts(rt, alloc, setup, meter);
-    of_a_plan(rt, alloc, setup, meter);
-    removals(rt, alloc, setup, meter);
-    the_second_is_out(rt, alloc, setup, meter);
-}
-
-/// Compares the meter with the calls that the closures counted.
-fn compare_counts(rt: &impl Abort, meter: Meter, calls: u64) {
-    assert_eq!(rt; meter.asks, calls);
-    assert_eq!(rt; (meter.probes, meter.walks), (0, 0));
+/// Compares the meter, at the end, with the calls that the closures counted.
+fn in_turn(
+    rt: &impl Abort,
+    alloc: Global,
+    registry: Registry,
+    load: TransitId,
+    time: TransitId,
+    calls: &Arc<AtomicU64>,
+) {
+    let dimensions = load_and_time(rt, alloc, &registry, load, time);
+    let setup = Setup::new(4, 2, registry, dimensions, time, 10).expect(rt, "setup");
+    let mut meter = Meter::new();
+    inserts(rt, alloc, &setup, &mut meter);
+    of_a_plan(rt, alloc, &setup, &mut meter);
+    removals(rt, alloc, &setup, &mut meter);
+    the_second_is_out(rt, alloc, &setup, &mut meter);
+    compare_meter(rt, meter, calls.load(Ordering::SeqCst), 0, 0);
 }
 
 /// Travel between the depot at (0, 0) and the customers at (2, 2), (6, 6), (10, 10), (3, 4), in tenths, and demands 4, 3, 3, 5. The
 /// closures count their calls beside the meter.
 #[test]
-fn four_customers(rt: HostRuntime) -> Result<(), Fail> {
-    let demands = vec![in rt.alloc(); 0u64, 4, 3, 3, 5]?;
+fn four_customers(rt: HostRuntime) {
+    let demands = vec![in rt.alloc(); 0u64, 4, 3, 3, 5].expect(&rt, "memory");
     let travels = vec![in rt.alloc();
         0u64, 28, 84, 141, 50, 28, 0, 56, 113, 22, 84, 56, 0, 56, 36, 141, 113, 56, 0, 92, 50, 22,
         36, 92, 0,
-    ]?;
+    ]
+    .expect(&rt, "memory");
     let calls = Arc::new(rt.alloc(), AtomicU64::new(0)).expect(&rt, "memory");
     let of_demands = Arc::try_clone(&calls).expect(&rt, "memory");
     let of_travels = Arc::try_clone(&calls).expect(&rt, "memory");
@@ -302,14 +278,8 @@ fn four_customers(rt: HostRuntime) -> Result<(), Fail> {
     .expect(&rt, "memory");
     let demand = Unary::new(5, demand);
     let travel = Transit::new(5, travel);
-    let alloc = rt.alloc();
-    let mut registry = Registry::new(alloc);
+    let mut registry = Registry::new(rt.alloc());
     let load = registry.register_unary(demand).expect(&rt, "room");
     let time = registry.register(travel).expect(&rt, "room");
-    let dimensions = load_and_time(&rt, alloc, &registry, load, time);
-    let setup = Setup::new(4, 2, registry, dimensions, time, 10).expect(&rt, "setup");
-    let mut meter = Meter::new();
-    in_turn(&rt, alloc, &setup, &mut meter);
-    compare_counts(&rt, meter, calls.load(Ordering::SeqCst));
-    Ok(())
+    in_turn(&rt, rt.alloc(), registry, load, time, &calls);
 }
