@@ -1,7 +1,8 @@
 //! What words ask for, and which of them names which file.
 
+use crate::doing::perform;
 use crate::tests::cases::{A, B, GRANTED};
-use dispatch::{perform, run, run_words};
+use crate::words::{run, run_words};
 use std::io::{self, Eprint, ErrorKind};
 use std::process::Abort;
 use std::rt::Files;
