@@ -18,5 +18,3 @@ mod replies;
 mod travels;
 #[cfg(test)]
 mod words;
-
-fn main() {}

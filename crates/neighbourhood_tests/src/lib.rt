@@ -11,5 +11,3 @@ mod tests;
 mod three;
 #[cfg(test)]
 mod views;
-
-fn main() {}

@@ -19,5 +19,3 @@ mod pins;
 mod plans;
 #[cfg(test)]
 mod ranges;
-
-fn main() {}

@@ -15,5 +15,3 @@ mod separation;
 mod steps;
 #[cfg(test)]
 mod tables;
-
-fn main() {}
