@@ -1,13 +1,8 @@
-//! The setups of the tests, and foyers over them. Each function gives up as soon as it lacks memory, so that a test has one way out for a
-//! whole setup.
-ghost use Rattle.std.specs.Prelude.{◌<◌};
-
-use board_core::Board;
-use board_lock::{Foyer, make_foyer};
+//! The setup of the tests. Each function gives up as soon as it lacks memory, so that a test has one way out for a whole setup.
 use callback_store::{Registry, Transit, TransitId};
 use dimension_core::{Dimension, Range, Setup};
 use std::alloc::Global;
-use std::sync::{Arc, Wait};
+use std::sync::Arc;
 
 /// The load is at most 10 everywhere.
 const LOADS: &[Range] = &[
@@ -54,22 +49,4 @@ pub(crate) fn bounded(alloc: Global, demand: Transit, travel: Transit) -> Option
     let dimensions = load_and_time(alloc, &registry, load, time)?;
     let setup = Setup::new(4, 2, registry, dimensions, time, 20000).ok()?;
     Arc::new(alloc, setup).ok()
-}
-
-/// The foyer of a board of five customers and three vehicles without bounds, with one travel as its cost.
-pub(crate) fn free_foyer<R: Wait + Drop>(
-    rt: R,
-    alloc: Global,
-    transit: Transit,
-    desks: u32,
-    events: u32,
-) -> Option<Foyer<R>>
-    requires { (0 < desks) × (desks < 65) }
-{
-    let mut registry = Registry::new(alloc);
-    let cost = registry.register(transit).ok()?;
-    let setup = Setup::new(5, 3, registry, Vec::new(alloc), cost, events).ok()?;
-    let setup = Arc::new(alloc, setup).ok()?;
-    let board = Board::new(alloc, setup, desks).ok()?;
-    make_foyer(rt, alloc, board).ok()
 }

@@ -119,7 +119,7 @@ fn last<N: Naming, R: Wait + Drop>(desks: Vec<Desk<N, R>>) -> Option<(Vec<Desk<N
 }
 
 /// The last desk of a new hall, and the others.
-pub(crate) fn open_last<N: Naming, R: Wait + Drop>(
+fn open_last<N: Naming, R: Wait + Drop>(
     alloc: Global,
     foyer: Foyer<R>,
 ) -> Option<(Vec<Desk<N, R>>, Desk<N, R>)>

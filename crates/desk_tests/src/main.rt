@@ -8,11 +8,7 @@ mod calls;
 #[cfg(test)]
 mod faults;
 #[cfg(test)]
-mod many;
-#[cfg(test)]
 mod one_thread;
-#[cfg(test)]
-mod questions;
 #[cfg(test)]
 mod scripts;
 #[cfg(test)]

@@ -3,13 +3,12 @@ ghost use Rattle.std.specs.Prelude.{◌≡◌};
 ghost use Rattle.dimension_core.specs.Setup.{setting};
 
 use crate::calls::{compare_count, compare_reply, grant, insert, open_two, remove, sees, submits};
-use crate::questions::{compare_grant, shows};
 use board_core::Board;
-use board_journal::Journal;
+use board_journal::{Journal, Kept};
 use board_lock::{Desk, Foyer, Naming, commits_stay_in_views};
-use board_rules::{AskFault, Call, Event, Reply, Review, Row};
+use board_rules::{AskFault, Call, Event, Reply, Row};
 use callback_store::Meter;
-use rbac_core::{Object, ObjectRange, Operation};
+use rbac_core::{Command, Object, ObjectRange, Operation};
 use std::alloc::Global;
 use std::process::Abort;
 use std::sync::Wait;
@@ -38,6 +37,33 @@ fn compare_tests(rt: &impl Abort, found: bool, wanted: bool) {
 
 fn compare_turns(rt: &impl Abort, one: u32, two: u32, wanted: (u32, u32)) {
     assert_eq!(rt; (one, two), wanted);
+}
+
+/// The entry is that of the grant of the audit, in this turn of desk 1.
+fn compare_grant(rt: &impl Abort, kept: Option<Kept<'_>>, turn: u32) {
+    let Some(Kept::Whole(entry)) = kept else {
+        return assert!(rt; false);
+    };
+    assert_eq!(rt;
+        (entry.desk, entry.turn, entry.reply),
+        (1, turn, Reply::Done)
+    );
+    let Call::Policy { session, command } = &entry.call else {
+        return assert!(rt; false);
+    };
+    let Command::GrantPermission {
+        role,
+        operation,
+        range,
+    } = command
+    else {
+        return assert!(rt; false);
+    };
+    assert_eq!(rt; role.as_bytes(), b"root".as_slice());
+    assert_eq!(rt;
+        (*session, *operation, *range),
+        (1, Operation::Audit, ObjectRange::Board)
+    );
 }
 
 /// Six entries, the last of which is that of the grant of the audit.
@@ -69,7 +95,6 @@ fn asked<N: Naming, R: Wait + Drop, W: Wait + Abort>(rt: &W, desk: &mut Desk<N, 
         desk.check(rt, 2, Operation::Audit, Object::Board),
         false,
     );
-    shows(rt, desk, Review::Active(1), b"root");
     match desk.audit(rt, 1) {
         Ok(journal) => compare_six(rt, &journal),
         Err(fault) => compare_count(rt, Err(fault), Ok(6)),

@@ -1,8 +1,8 @@
-//! Scripts through a desk: alone, and while another desk commits. What the audit then tells is judged again by a board of one thread.
+//! A script through a desk, while another desk commits. What the audit then tells is judged again by a board of one thread.
 ghost use Rattle.std.specs.Prelude.{◌≡◌, IfSome};
 ghost use Rattle.dimension_core.specs.Setup.{setting};
 
-use crate::calls::{open_last, open_two};
+use crate::calls::open_two;
 use crate::threads::{Commit, Task, beside};
 use board_core::Board;
 use board_lock::{DeskOf, Foyer, Naming, Seat};
@@ -55,11 +55,11 @@ fn repeated(alloc: Global, text: &str, times: u32) -> Result<Script, AllocError>
 
 /// A script, what is written, the lines with a reply, and those of them that are refused.
 #[derive(Clone, Copy)]
-pub(crate) struct Case {
-    pub script: &'static str,
-    pub wanted: &'static str,
-    pub lines: u64,
-    pub refused: u64,
+struct Case {
+    script: &'static str,
+    wanted: &'static str,
+    lines: u64,
+    refused: u64,
 }
 
 /// On desk 1 of the board of four customers and two vehicles: calls, listings of what may be read, bad lines, an audit and reviews. Customer
@@ -137,14 +137,6 @@ committed 5\n",
     refused: 6,
 };
 
-/// On a board of three events.
-pub(crate) const FULL: Case = Case {
-    script: "1 add-user a\n1 add-user b\n1 add-user c\n1 add-user d\n1 list\n",
-    wanted: "done\ndone\ndone\nfault full\nend\n",
-    lines: 5,
-    refused: 1,
-};
-
 fn compare_run(rt: &impl Abort, written: &[u8], counts: Result<Counts, RunFault>, case: Case) {
     let wanted = Counts {
         lines: case.lines,
@@ -153,41 +145,6 @@ fn compare_run(rt: &impl Abort, written: &[u8], counts: Result<Counts, RunFault>
     assert_eq!(rt; written, case.wanted.as_bytes());
     assert!(rt; counts == Ok(wanted));
 }
-
-/// What the last desk of a hall wrote for a script, and what it counted.
-fn ran<N: Naming, R: Wait + Drop, W: Wait>(
-    rt: &W,
-    alloc: Global,
-    foyer: Foyer<R>,
-    script: &str,
-) -> Option<(Vec<u8>, Result<Counts, RunFault>)>
-    requires opening { foyer.room.opening ≡ N.opening }
-    requires book { foyer.room.book ≡ N.book }
-{
-    let (_others, desk) = open_last::<N, R>(alloc, foyer)?;
-    let script = repeated(alloc, script, 1).ok()?;
-    let DeskOf { setup, seat } = desk;
-    let (_seat, written, counts) = script.run(rt, setup, seat);
-    Some((written, counts))
-}
-
-/// Runs a script on the last desk of a hall.
-pub(crate) fn runs<N: Naming, R: Wait + Drop, W: Wait + Abort>(
-    rt: &W,
-    alloc: Global,
-    foyer: Foyer<R>,
-    case: Case,
-)
-    requires opening { foyer.room.opening ≡ N.opening }
-    requires book { foyer.room.book ≡ N.book }
-{
-    match ran::<N, R, W>(rt, alloc, foyer, case.script) {
-        Some((written, counts)) => compare_run(rt, &written, counts, case),
-        None => assert!(rt; false),
-    }
-}
-
-// ---- beside another desk
 
 /// What an audit's line says of an event: its desk and turn, its call and the text of its reply.
 fn event_of<'a>(alloc: Global, line: &'a str) -> Option<(Event, &'a str)> {

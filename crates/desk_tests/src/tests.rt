@@ -1,11 +1,9 @@
 //! The desks of a board, each test with a board of its own.
 ghost use Rattle.std.specs.Prelude.{◌≡◌, ◌+◌, ◌*◌, ◌<◌, slice_index, length};
 
-use crate::boards::{bounded, free_foyer};
-use crate::many::calls;
+use crate::boards::bounded;
 use crate::one_thread::{grants, opens};
-use crate::questions::asks;
-use crate::scripts::{FULL, compare_replay, judged_again, reads_beside, runs};
+use crate::scripts::{compare_replay, judged_again, reads_beside};
 use crate::threads::{call_for_one_vehicle, call_for_two_vehicles};
 use board_core::Board;
 use board_lock::make_foyer;
@@ -118,53 +116,4 @@ fn two_desks_call_at_once(rt: HostRuntime) -> Result<(), Fail> {
 #[test]
 fn a_desk_reads_a_script_while_another_commits(rt: HostRuntime) -> Result<(), Fail> {
     with_two(&rt, rt.alloc(), Pair::ScriptBeside)
-}
-
-/// What desks of a board without bounds do.
-#[derive(Clone, Copy, Drop)]
-enum Free {
-    FullJournal,
-    Many,
-    Questions,
-}
-
-/// Three vehicles and five customers, each one from each other.
-fn with_near<W: Wait + Abort>(rt: &W, alloc: Global, free: Free) -> Result<(), Fail> {
-    let near = Box::new(
-        alloc,
-        move |_i: u32, _j: u32| -> u64
-            ensures { result ≡ 1 }
-        { 1 },
-    )?;
-    let near = Transit::new(6, near);
-    match free {
-        Free::FullJournal => {
-            let foyer = free_foyer(rt, alloc, near, 1, 3).ok_or("a foyer")?;
-            runs::<Brand, _, _>(rt, alloc, foyer, FULL);
-        }
-        Free::Many => {
-            let foyer = free_foyer(rt, alloc, near, 64, 20000).ok_or("a foyer")?;
-            calls::<Brand, _, _>(rt, alloc, foyer);
-        }
-        Free::Questions => {
-            let foyer = free_foyer(rt, alloc, near, 1, 20000).ok_or("a foyer")?;
-            asks::<Brand, _, _>(rt, alloc, foyer);
-        }
-    }
-    Ok(())
-}
-
-#[test]
-fn a_desk_reads_a_script_until_the_journal_is_full(rt: HostRuntime) -> Result<(), Fail> {
-    with_near(&rt, rt.alloc(), Free::FullJournal)
-}
-
-#[test]
-fn sixty_four_desks(rt: HostRuntime) -> Result<(), Fail> {
-    with_near(&rt, rt.alloc(), Free::Many)
-}
-
-#[test]
-fn a_desk_audits_and_reviews(rt: HostRuntime) -> Result<(), Fail> {
-    with_near(&rt, rt.alloc(), Free::Questions)
 }

@@ -18,3 +18,13 @@ pub(crate) fn compare_written<R: Abort, D: Display>(
     let text = format!(in alloc; "{value}").expect(rt, "memory");
     compare_text(rt, &text, wanted);
 }
+
+/// Compares a text with the one that is wanted of a line.
+pub(crate) fn compare_told(rt: &impl Abort, found: &str, wanted: &str, line: &str) {
+    assert_eq!(rt; found, wanted, "{line}");
+}
+
+/// Compares how many there are.
+pub(crate) fn compare_count(rt: &impl Abort, found: u64, wanted: u64, what: &str) {
+    assert_eq!(rt; found, wanted, "{what}");
+}

@@ -1,11 +1,15 @@
-//! Tests of the crates of texts, from words to the engine of lines, in a crate of their own, so that what they stand on is not proved once
-//! more for them.
+//! Tests of the crates of texts, from words to the engine of lines, and of boards of one thread and their fronts, in a crate of their own,
+//! so that what they stand on is not proved once more for them.
 #![tactic(auto)]
 
+#[cfg(test)]
+mod boards;
 #[cfg(test)]
 mod comparing;
 #[cfg(test)]
 mod engine;
+#[cfg(test)]
+mod fronts;
 #[cfg(test)]
 mod instances;
 #[cfg(test)]

@@ -1,0 +1,30 @@
+//! Scripts with the reply to each line beside it: each row is a line, ` => ` and its reply, and where this is told ` => ` and how many asks
+//! the line may make at most. A row without ` => ` goes on with the reply of the row above.
+use std::alloc::{AllocError, Global};
+
+/// The line of a row, its reply, and the limit of its asks; what is not there is empty.
+pub(crate) fn cut(row: &str) -> (&str, &str, &str) {
+    let (line, told) = row.split_once(" => ").unwrap_or(("", row));
+    let (reply, most) = told.split_once(" => ").unwrap_or((told, ""));
+    (line, reply, most)
+}
+
+/// Puts a line at the end of a text, unless it is empty.
+fn put(text: &mut Vec<u8>, line: &str) -> Result<(), AllocError> {
+    if line.is_empty() {
+        return Ok(());
+    }
+    text.extend_from_slice(line.as_bytes())?;
+    text.push(b'\n')?;
+    Ok(())
+}
+
+/// The lines of rows, or the replies to them.
+pub(crate) fn column(alloc: Global, rows: &str, of_replies: bool) -> Result<Vec<u8>, AllocError> {
+    let mut text = Vec::new(alloc);
+    for row in rows.lines() {
+        let (line, reply, _) = cut(row);
+        put(&mut text, if of_replies { reply } else { line })?;
+    }
+    Ok(text)
+}
