@@ -7,10 +7,9 @@ ghost use Rattle.program_parts.specs.Network.{demand_at, time_between};
 ghost use Rattle.board_program.specs.Joined.{IsRun, IsUnfinished};
 
 use board_core::Board;
-use board_text::{BoardFront, Counts};
+use board_text::{BoardFront, Counts, run_noted_lines};
 use callback_store::{Registry, Transit, Unary};
 use dimension_core::Setup;
-use explained_lines::run_noted_lines;
 use program_parts::{Network, Stop, standard_pair};
 use solomon_reader::Instance;
 use std::alloc::Global;

@@ -1,6 +1,6 @@
 use crate::comparing::compare_written;
 use board_rules::{AskFault, Call, Denial, Fault, Refusal, Reply, Review, Row};
-use explained_lines::{Notes, run_explained_lines};
+use board_text::{Notes, run_explained_lines};
 use line_engine::{Counts, Front, RunFault, run_lines};
 use move_core::Move;
 use rbac_core::{Object, Operation};

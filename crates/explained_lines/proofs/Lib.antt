@@ -1,5 +1,0 @@
-pub mod Verdict
-mod Bytes
-mod Cuts
-mod Fed
-mod Pieces

@@ -1,4 +1,0 @@
-use Rattle.explained_lines.proofs.text.push_times.Goals as goal
-
-pub returns : goal.returns
-returns c = rw (← c.saturating_sub.ensures) c.write.ensures.bytes

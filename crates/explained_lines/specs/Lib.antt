@@ -1,6 +1,0 @@
-pub mod Causes
-pub mod Notes
-pub mod Texts
-pub mod Fed
-pub mod Numbered
-pub mod Pieces
