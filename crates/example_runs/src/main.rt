@@ -3,13 +3,11 @@
 #![tactic(auto)]
 
 mod cases;
-mod counted;
 mod devices;
 mod rows;
 mod runs;
 
 use crate::cases::{Case, case_of};
-use crate::counted::counted;
 use crate::rows::column;
 use crate::runs::{Ended, bytes_of, run_case};
 use std::alloc::Global;
@@ -47,18 +45,6 @@ fn tell<W: Write>(writer: &mut W, alloc: Global, ended: &Ended, rows: &str) -> i
     )
 }
 
-/// Writes what the calls of rows came to.
-fn tell_counts<W: Write>(writer: &mut W, alloc: Global, rows: &str) -> io::Result<()> {
-    match counted(alloc, rows.as_bytes())? {
-        Some(counts) => writeln!(
-            writer,
-            "{} calls, {} otherwise than the rows say, {} asks, {} walks, {} calls of callbacks",
-            counts.calls, counts.others, counts.asks, counts.walks, counts.called
-        ),
-        None => writeln!(writer, "no board"),
-    }
-}
-
 /// The script with replies of a case, or none.
 fn talk_of<'a>(case: &Case<'a>) -> &'a str {
     if case.script.ends_with(".talk") {
@@ -78,9 +64,6 @@ fn answer<
     let alloc = rt.alloc();
     let bytes = bytes_of(&rt, alloc, talk_of(case));
     let rows = str::from_utf8(&bytes).unwrap_or("");
-    if case.verb == "counted" {
-        return tell_counts(writer, alloc, rows);
-    }
     match run_case(rt, case) {
         Ok(ended) => tell(writer, alloc, &ended, rows),
         Err(_) => writeln!(writer, "no memory"),

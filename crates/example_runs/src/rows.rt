@@ -1,12 +1,10 @@
-//! Scripts with the reply to each line beside it: each row is a line, ` => ` and its reply, and where this is told ` => ` and how many asks
-//! the line may make at most. A row without ` => ` goes on with the reply of the row above.
+//! Scripts with the reply to each line beside it: each row is a line, ` => ` and its reply. A row without ` => ` goes on with the reply of the
+//! row above.
 use std::alloc::{AllocError, Global};
 
-/// The line of a row, its reply, and the limit of its asks; what is not there is empty.
-pub(crate) fn cut(row: &str) -> (&str, &str, &str) {
-    let (line, told) = row.split_once(" => ").unwrap_or(("", row));
-    let (reply, most) = told.split_once(" => ").unwrap_or((told, ""));
-    (line, reply, most)
+/// The line of a row and its reply; what is not there is empty.
+fn cut(row: &str) -> (&str, &str) {
+    row.split_once(" => ").unwrap_or(("", row))
 }
 
 /// Puts a line at the end of a text, unless it is empty.
@@ -23,7 +21,7 @@ fn put(text: &mut Vec<u8>, line: &str) -> Result<(), AllocError> {
 pub(crate) fn column(alloc: Global, rows: &str, of_replies: bool) -> Result<Vec<u8>, AllocError> {
     let mut text = Vec::new(alloc);
     for row in rows.lines() {
-        let (line, reply, _) = cut(row);
+        let (line, reply) = cut(row);
         put(&mut text, if of_replies { reply } else { line })?;
     }
     Ok(text)

@@ -14,7 +14,7 @@ use std::process::Abort;
 use std::sync::Arc;
 
 /// The call of a line, if it is one.
-fn call_of(alloc: Global, line: &str) -> Option<Call> {
+pub(crate) fn call_of(alloc: Global, line: &str) -> Option<Call> {
     match read_line(alloc, line.as_bytes()) {
         Ok(Command::Submit(call)) => Some(call),
         _ => None,
@@ -22,7 +22,7 @@ fn call_of(alloc: Global, line: &str) -> Option<Call> {
 }
 
 /// A call as the next event of desk 1, which alone has turns.
-fn next_event(rt: &impl Abort, board: &Board, call: Call) -> Event {
+pub(crate) fn next_event(rt: &impl Abort, board: &Board, call: Call) -> Event {
     let turn = u32::try_from(board.events())
         .expect(rt, "few events")
         .saturating_add(1);

@@ -7,6 +7,8 @@ mod boards;
 #[cfg(test)]
 mod comparing;
 #[cfg(test)]
+mod counted;
+#[cfg(test)]
 mod engine;
 #[cfg(test)]
 mod fronts;

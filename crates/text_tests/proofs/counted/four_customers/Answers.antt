@@ -2,11 +2,11 @@ use Rattle.std.proofs.Common.{rules, ◌+◌, ◌*◌, [], ◌∷◌, refl}
 use borrow.Pointer.Called.{post_made}
 use Rattle.callback_store.specs.Boxed.{post_of_closure}
 use Rattle.callback_store.specs.Closures.{small_at}
-use Rattle.example_runs.proofs.counted.counted.OwnLists.{own-1, at-1-1, own-2, at-2-1}
-use Rattle.example_runs.proofs.counted.counted.Goals as goal
+use Rattle.text_tests.proofs.counted.four_customers.OwnLists.{own-1, at-1-1, own-2, at-2-1}
+use Rattle.text_tests.proofs.counted.four_customers.Goals as goal
 
 pub new-demand-requires-clause-table : goal.new-demand-requires-clause-table
-new-demand-requires-clause-table c =
+new-demand-requires-clause-table g c =
     let m = c.into_dyn_box.ensures.1 in (
       0 ∷ 4 ∷ 3 ∷ 3 ∷ 5 ∷ [],
       record {
@@ -18,7 +18,7 @@ new-demand-requires-clause-table c =
     )
 
 pub new-travel-requires-clause-table : goal.new-travel-requires-clause-table
-new-travel-requires-clause-table c =
+new-travel-requires-clause-table g c =
     let m = c.into_dyn_box-2.ensures.1 in (
       0 ∷ 28 ∷ 84 ∷ 141 ∷ 50 ∷ 28 ∷ 0 ∷ 56 ∷ 113 ∷ 22 ∷ 84 ∷ 56 ∷ 0 ∷ 56 ∷ 36 ∷ 141 ∷ 113 ∷ 56 ∷ 0 ∷ 92 ∷ 50 ∷ 22 ∷ 36 ∷ 92 ∷ 0 ∷ [],
       record {
