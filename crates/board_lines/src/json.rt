@@ -6,7 +6,7 @@ ghost use Rattle.serde_json.specs.View.{view};
 ghost use Rattle.board_lines.specs.Replies.{AppendsPrefix};
 ghost use Rattle.board_lines.specs.Json.{number_data, cells, row_data, rows_data, json_text, comma_number, row_json, comma_row, rows_json, in_pieces};
 
-use crate::digits::{push_ascii, push_number, push_text};
+use crate::digits::{push_ascii, push_decimal, push_number, push_text};
 use board_rules::Row;
 use serde_json::{Value, json};
 use std::alloc::{AllocError, Global};
@@ -69,12 +69,13 @@ pub fn list_json(alloc: Global, rows: &[Row]) -> Result<String, AllocError>
 
 // ---- the same text, appended piece by piece
 
+#[inline(always)]
 fn push_comma(out: &mut String, n: u64) -> Result<(), AllocError>
     ensures ok { OnOk result (string_bytes out.new ≡ string_bytes out.old ++ comma_number n) }
     ensures left { OnErr result (AppendsPrefix (string_bytes out.old) (comma_number n) (string_bytes out.new)) }
 {
     push_ascii(out, ',')?;
-    push_number(out, n)
+    push_decimal(out, n)
 }
 
 fn push_commas(out: &mut String, numbers: &[u64]) -> Result<(), AllocError>

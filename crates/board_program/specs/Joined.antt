@@ -16,7 +16,8 @@ use Rattle.line_engine.specs.declared.run_fault.RunFault.{RunFault}
 use Rattle.line_engine.specs.declared.run_fault.RunFault.TheVariants as runs
 use Rattle.program_parts.specs.Head.{Halves, halves}
 use Rattle.program_parts.specs.Network.{Sites}
-use Rattle.board_program.specs.Standard.{AreSitesOf, opened}
+use Rattle.board_program.specs.Standard.{opened}
+use Rattle.program_parts.specs.Standard.{AreSitesOf}
 use Rattle.program_parts.specs.Stops.{IsUnread}
 use Rattle.program_parts.specs.Streams.{Streams, IsReported, IsUnreadable}
 use Rattle.program_parts.specs.declared.stop.Stop.{Stop}

@@ -1,38 +1,26 @@
 -- The board that an instance opens.
-use Rattle.std.specs.Prelude.{◌≡◌, ◌-◌, List, [], ◌∷◌, length, true, false}
-use Rattle.callback_store.specs.Tables.{Table, node_values, pair_values}
+use Rattle.std.specs.Prelude.{◌≡◌, ℕ, []}
 use Rattle.dimension_core.specs.Setting.{Setting}
-use Rattle.solomon_reader.specs.Instances.{Plain}
-use Rattle.travel_table.specs.Travel.{travel_at}
+use Rattle.board_rules.specs.History.{History}
 use Rattle.board_text.specs.BoardSteps.{DeskState}
-use Rattle.program_parts.specs.Network.{Sites, IsNetwork, demand_at, time_between}
-use Rattle.program_parts.specs.Pair.{load_bounds, time_bounds}
+use Rattle.solomon_reader.specs.Instances.{Plain}
+use Rattle.program_parts.specs.Network.{Sites}
+use Rattle.program_parts.specs.Standard.{AreSitesOf, standard_setting}
 
--- an instance's fleet and nodes, and the travel between them
-pub record AreSitesOf (i : Plain) (s : Sites) : Type 0 where
-  pub vehicles : s.vehicles ≡ i.vehicles
-  pub capacity : s.capacity ≡ i.capacity
-  pub nodes : s.nodes ≡ i.nodes
-  pub network : IsNetwork s
+-- the history of a board with so many desks, before its first entry
+abbrev pub opening_with : Setting → ℕ → History
+opening_with setting desks = record { opening = record { setting = setting; desks = desks }; entries = [] }
 
--- callback 0 is the demand of the node that is left, 1 its service and the travel, 2 the travel alone
-abbrev pub standard_tables : Sites → List Table
-standard_tables s =
-    record { size = length s.nodes; paired = false; entries = node_values (length s.nodes) (demand_at s) }
-    ∷ record { size = length s.nodes; paired = true; entries = pair_values (length s.nodes) (time_between s) }
-    ∷ record { size = length s.nodes; paired = true; entries = pair_values (length s.nodes) (travel_at s.travel) } ∷ []
+-- that of a board over some sites
+abbrev pub opening_of : Sites → ℕ → History
+opening_of s desks = opening_with (standard_setting s) desks
 
--- every node but the depot is a customer; dimension 1 is the load, 2 the time; the cost is the travel
-abbrev pub standard_setting : Sites → Setting
-standard_setting s = record {
-  customers = length s.nodes - 1;
-  vehicles = s.vehicles;
-  tables = standard_tables s;
-  dimensions = load_bounds s 0 ∷ time_bounds s 1 ∷ [];
-  cost = 2;
-  max_events = 1000000;
-}
+-- a history that an instance opens
+pub record IsOpening (i : Plain) (desks : ℕ) (h : History) : Type 0 where
+  pub sites : Sites
+  pub of : AreSitesOf i sites
+  pub opens : h ≡ opening_of sites desks
 
 -- desk 1 of a board with that one desk, before its first turn
 abbrev pub opened : Sites → DeskState
-opened s = record { history = record { opening = record { setting = standard_setting s; desks = 1 }; entries = [] }; desk = 1; turn = 1 }
+opened s = record { history = opening_of s 1; desk = 1; turn = 1 }

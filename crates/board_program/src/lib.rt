@@ -1,7 +1,6 @@
 //! What the program does once its words are read: the bytes of an instance and of a script in, those of the replies out.
 //!
-//! The board's callbacks are made here, and nothing that holds them leaves. The parts that know no board are in
-//! `program_parts`; those of its names that the program needs are passed on.
+//! The parts that know no board are in `program_parts`; those of its names that the program needs are passed on.
 #![tactic(auto)]
 
 mod joined_input;

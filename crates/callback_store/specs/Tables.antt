@@ -3,8 +3,10 @@ use Rattle.std.specs.List.{range_with_len}
 use Rattle.callback_store.specs.declared.transit.Transit.{Transit}
 use Rattle.callback_store.specs.declared.unary.Unary.{Unary}
 use Rattle.callback_store.specs.declared.matrix.Matrix.{Matrix}
+use Rattle.callback_store.specs.declared.vector.Vector.{Vector}
+use Rattle.callback_store.specs.declared.stay_matrix.StayMatrix.{StayMatrix}
 use Rattle.callback_store.specs.declared.slot.Slot.{Slot}
-use Rattle.callback_store.specs.declared.slot.Slot.TheVariants.{Pair, Node, Listed}
+use Rattle.callback_store.specs.declared.slot.Slot.TheVariants.{Pair, Node, Listed, Values, Stayed}
 
 -- The table of a callback: how many nodes it knows, whether it answers for pairs, and its answers.
 pub record Table : Type 0 where
@@ -40,11 +42,28 @@ node_table unary = record { size = unary.size; paired = false; entries = unary.t
 abbrev pub matrix_table : Matrix → Table
 matrix_table matrix = record { size = matrix.size; paired = true; entries = matrix.answers.value.items }
 
+-- the table of a one-node callback that is given as its answers
+abbrev pub vector_table : Vector → Table
+vector_table vector = record { size = length vector.answers.items; paired = false; entries = vector.answers.items }
+
+-- the table of a two-node callback that is given as stays and ways: on a way it has the stay at the node that is left and the way
+abbrev pub stay_values : List ℕ → Matrix → Table
+stay_values stays ways = record {
+  size = ways.size;
+  paired = true;
+  entries = pair_values ways.size (λ i j. slice_index stays i + entry (matrix_table ways) i j);
+}
+
+abbrev pub stay_table : StayMatrix → Table
+stay_table matrix = stay_values matrix.stays.items matrix.ways
+
 -- the table of any
 abbrev pub slot_table : {i j : Type 0} {held : i → Type 0} {holds : j → Type 0} {calls : _} {asks : _} → Slot i j held holds calls asks → Table
 slot_table (Pair transit) = pair_table transit
 slot_table (Node unary) = node_table unary
 slot_table (Listed matrix) = matrix_table matrix
+slot_table (Values vector) = vector_table vector
+slot_table (Stayed matrix) = stay_table matrix
 
 -- how many nodes the first of some tables knows, and 0 where there is none
 abbrev pub nodes_of : List Table → ℕ

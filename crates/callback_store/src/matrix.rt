@@ -77,7 +77,7 @@ impl Matrix {
 
     /// The answer for the way from node `i` to node `j`.
     #[inline(always)]
-    fn answer(&self, i: u32, j: u32) -> u32
+    pub(crate) fn answer(&self, i: u32, j: u32) -> u32
         requires from { i < (matrix_table self.now).size }
         requires to { j < (matrix_table self.now).size }
         ensures answer { result ≡ entry (matrix_table self.now) i j }

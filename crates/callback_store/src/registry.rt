@@ -1,12 +1,14 @@
 ghost use Rattle.std.specs.Prelude.{◌≡◌, ℕ, ◌+◌, ◌*◌, ◌<◌, ◌≤◌, ◌↔◌, true, false, List, [], ◌∷◌, ◌++◌, length, slice_index, map, IfOk, OnErr, IsErrOf, nat_lt, All, IfSome, IsTrue};
 ghost use Rattle.callback_store.specs.Meter.{after_ask, after_asks, AsksJust};
-ghost use Rattle.callback_store.specs.Tables.{AreTables, slot_table, pair_table, node_table, matrix_table, table_at, nodes_of, is_fitting, entry, IsSymmetric};
+ghost use Rattle.callback_store.specs.Tables.{AreTables, slot_table, pair_table, node_table, matrix_table, vector_table, stay_table, table_at, nodes_of, is_fitting, entry, IsSymmetric};
 
 use crate::matrix::Matrix;
 use crate::meter::Meter;
 use crate::slot::Slot;
+use crate::stay_matrix::StayMatrix;
 use crate::transit::Transit;
 use crate::unary::Unary;
+use crate::vector::Vector;
 use std::alloc::{AllocError, Global};
 use std::marker::Model;
 use thiserror::Error;
@@ -178,6 +180,54 @@ impl Registry {
         }
     }
 
+    /// Takes a one-node callback that is given as its answers, and answers its name. The others keep their names and tables.
+    ///
+    /// On a refusal nothing changes, and the answers are dropped.
+    pub fn register_vector(&mut self, vector: Vector) -> Result<TransitId, RegisterFault>
+        ensures id { IfOk result (λ id. id ≡ length (tables self.old)) }
+        ensures ok { IfOk result (λ id. tables self.new ≡ tables self.old ++ vector_table vector ∷ []) }
+        ensures size { IsErrOf result RegisterFault.Size ↔ (is_fitting (tables self.old) (vector_table vector).size ≡ false) }
+        ensures many { IsErrOf result RegisterFault.Many
+            ↔ ((is_fitting (tables self.old) (vector_table vector).size ≡ true) × (16 ≤ length (tables self.old))) }
+        ensures err { OnErr result (tables self.new ≡ tables self.old) }
+    {
+        if !self.is_fitting(vector.size()) {
+            return Err(RegisterFault::Size);
+        }
+        let index = self.count();
+        if index >= 16 {
+            return Err(RegisterFault::Many);
+        }
+        match self.slots.push(Slot::Values(vector)) {
+            Ok(()) => Ok(TransitId { index }),
+            Err(_) => Err(RegisterFault::NoMemory),
+        }
+    }
+
+    /// Takes a two-node callback that is given as stays and ways, and answers its name. The others keep their names and tables.
+    ///
+    /// On a refusal nothing changes, and the answers are dropped.
+    pub fn register_stays(&mut self, matrix: StayMatrix) -> Result<TransitId, RegisterFault>
+        ensures id { IfOk result (λ id. id ≡ length (tables self.old)) }
+        ensures ok { IfOk result (λ id. tables self.new ≡ tables self.old ++ stay_table matrix ∷ []) }
+        ensures size { IsErrOf result RegisterFault.Size ↔ (is_fitting (tables self.old) (stay_table matrix).size ≡ false) }
+        ensures many { IsErrOf result RegisterFault.Many
+            ↔ ((is_fitting (tables self.old) (stay_table matrix).size ≡ true) × (16 ≤ length (tables self.old))) }
+        ensures err { OnErr result (tables self.new ≡ tables self.old) }
+    {
+        if !self.is_fitting(matrix.size()) {
+            return Err(RegisterFault::Size);
+        }
+        let index = self.count();
+        if index >= 16 {
+            return Err(RegisterFault::Many);
+        }
+        match self.slots.push(Slot::Stayed(matrix)) {
+            Ok(()) => Ok(TransitId { index }),
+            Err(_) => Err(RegisterFault::NoMemory),
+        }
+    }
+
     /// All answers of a two-node callback, row by row, where it was given as these.
     pub fn answers(&self, id: TransitId) -> Option<&[u32]>
         requires registered { id < length (tables self.now) }
@@ -212,6 +262,8 @@ impl Registry {
             Slot::Pair(transit) => transit.ask(meter, i, j),
             Slot::Node(unary) => unary.ask(meter, i),
             Slot::Listed(matrix) => matrix.ask(meter, i, j),
+            Slot::Values(vector) => vector.ask(meter, i),
+            Slot::Stayed(matrix) => matrix.ask(meter, i, j),
         }
     }
 

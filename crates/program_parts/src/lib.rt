@@ -1,5 +1,5 @@
 //! The parts of the program that know no board: the line that cuts a joined input, why a run ends early and the line that says so, the
-//! report of an instance, files, and what an instance's callbacks answer from, with its two dimensions.
+//! report of an instance, files, and what an instance's callbacks answer, with its two dimensions.
 #![tactic(auto)]
 
 mod check;

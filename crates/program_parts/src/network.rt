@@ -1,22 +1,31 @@
 //! What a board's callbacks answer from.
 
-ghost use Rattle.std.specs.Prelude.{◌≡◌, ◌*◌, ◌<◌, ◌≤◌, All, IfOk, length, true};
-ghost use Rattle.callback_store.specs.Tables.{matrix_table, pair_values};
-ghost use Rattle.solomon_reader.specs.Instances.{view, IsSound};
+ghost use Rattle.std.specs.Prelude.{◌≡◌, ◌*◌, ◌≤◌, All, IfOk, false, length, map, true};
+ghost use Rattle.callback_store.specs.Tables.{matrix_table, node_values, pair_values, stay_table, vector_table};
+ghost use Rattle.solomon_reader.specs.Instances.{view, IsNode, IsSound};
 ghost use Rattle.travel_table.specs.Travel.{node_at, travel_at};
 ghost use Rattle.program_parts.specs.Network.{IsNetwork, demand_at, time_between};
 
-use callback_store::Matrix;
+use callback_store::{Matrix, StayMatrix, Vector};
 use solomon_reader::{Instance, Node};
 use std::alloc::{AllocError, Global};
 use std::marker::Model;
 use travel_table::{Travel, travel_is_symmetric};
 
 /// An instance, and the travel between its nodes. Node 0 is the depot.
-#[derive(Drop)]
 pub struct Network {
     instance: Instance,
     travel: Travel,
+}
+
+// Written by hand: a derived drop is expanded, down to each list, at every place where a value is dropped.
+impl Drop for Network {
+    fn drop(self) {
+        let Network {
+            instance: _,
+            travel: _,
+        } = self;
+    }
 }
 
 impl Model for Network {
@@ -86,24 +95,30 @@ impl Network {
         u64::from(self.instance.nodes[0].due) * 10
     }
 
-    /// The demand of a node, as the instance has it.
-    pub fn demand(&self, node: u32) -> u64
-        requires { node < length self.now.nodes }
-        ensures value { result ≡ demand_at self.now node }
-        ensures small { result ≤ 9999999 }
+    /// The demands of the nodes, as the answers of a callback.
+    pub fn demands(&self, alloc: Global) -> Result<Vector, AllocError>
+        ensures { IfOk result (λ vector. vector_table vector ≡ record {
+          size = length self.now.nodes;
+          paired = false;
+          entries = node_values (length self.now.nodes) (demand_at self.now);
+        }) }
     {
-        u64::from(self.instance.nodes[node as usize].demand)
+        let nodes = self.instance.nodes.as_slice();
+        Ok(Vector::new(demands_of(alloc, nodes)?))
     }
 
-    /// The service at the node that is left and the travel to the next, in tenths.
-    pub fn time(&self, from: u32, to: u32) -> u64
-        requires from { from < length self.now.nodes }
-        requires to { to < length self.now.nodes }
-        ensures value { result ≡ time_between self.now from to }
-        ensures small { result ≤ 1000000000 }
+    /// For each way the service at the node that is left and the travel, in tenths, as the answers of a callback. The travel is shared with
+    /// the network.
+    pub fn times(&self, alloc: Global) -> Result<StayMatrix, AllocError>
+        ensures { IfOk result (λ matrix. stay_table matrix ≡ record {
+          size = length self.now.nodes;
+          paired = true;
+          entries = pair_values (length self.now.nodes) (time_between self.now);
+        }) }
     {
-        let service = u64::from(self.instance.nodes[from as usize].service);
-        service * 10 + u64::from(self.travel.get(from, to))
+        let nodes = self.instance.nodes.as_slice();
+        let services = services_of(alloc, nodes)?;
+        Ok(StayMatrix::new(services, self.travel_matrix()?))
     }
 
     /// All travel, as the answers of a callback that are the same both ways. They are shared with the network.
@@ -119,14 +134,19 @@ impl Network {
         travel_is_symmetric();
         Ok(Matrix::symmetric(self.size(), answers))
     }
+}
 
-    /// The travel from a node to another, in tenths.
-    pub fn travel(&self, from: u32, to: u32) -> u64
-        requires from { from < length self.now.nodes }
-        requires to { to < length self.now.nodes }
-        ensures value { result ≡ travel_at self.now.travel from to }
-        ensures small { result ≤ 141421342 }
-    {
-        u64::from(self.travel.get(from, to))
-    }
+/// The demand of each node, as the instance has it.
+fn demands_of(alloc: Global, nodes: &[Node]) -> Result<Vec<u32>, AllocError>
+    ensures { IfOk result (λ demands. demands.items ≡ map (λ node. node.demand) nodes.now) }
+{
+    nodes.iter().map(|node| node.demand).collect(alloc)
+}
+
+/// The service at each node, in tenths.
+fn services_of(alloc: Global, nodes: &[Node]) -> Result<Vec<u32>, AllocError>
+    requires { All IsNode nodes.now }
+    ensures { IfOk result (λ services. services.items ≡ map (λ node. node.service * 10) nodes.now) }
+{
+    nodes.iter().map(|node| node.service * 10).collect(alloc)
 }

@@ -1,11 +1,8 @@
 mod Asked
-mod Called
 mod Ends
 mod Halls
 mod Lines
 mod Live
 mod Meetings
-mod Opening
 mod Prefixes
 mod Served
-mod Small

@@ -11,7 +11,8 @@ use Rattle.program_parts.specs.Network.{Sites}
 use Rattle.program_parts.specs.Streams.{IsReported}
 use Rattle.program_parts.specs.declared.stop.Stop.{Stop}
 use Rattle.program_parts.specs.declared.stop.Stop.TheVariants as stops
-use Rattle.board_program.specs.Standard.{AreSitesOf, standard_setting}
+use Rattle.board_program.specs.Standard.{IsOpening, opening_of}
+use Rattle.program_parts.specs.Standard.{AreSitesOf}
 use Rattle.worker_runs.specs.declared.orders.Orders.{Orders}
 use Rattle.worker_runs.specs.SetUp.{AreAsked, set_up_of}
 use Rattle.worker_runs.specs.Halls.{IsHallRun, IsHallShort}
@@ -76,27 +77,21 @@ IsServedShort h orders f (stops.Run fault) = IsScriptStopped h orders f fault �
 
 -- ---- over an instance
 
--- the board that an instance opens, with a desk more than workers, before its first entry
-abbrev pub opened_for : Sites → Orders → History
-opened_for s orders = record { opening = record { setting = standard_setting s; desks = orders.workers + 1 }; entries = [] }
-
--- a history that an instance and orders open
-pub record IsOpened (i : Plain) (orders : Orders) (h : History) : Type 0 where
-  pub sites : Sites
-  pub of : AreSitesOf i sites
-  pub opens : h ≡ opened_for sites orders
+-- a history that an instance opens, with a desk more than workers, before its first entry
+abbrev pub IsOpened : Plain → Orders → History → Type 0
+IsOpened i orders h = IsOpening i (orders.workers + 1) h
 
 -- it was opened and served
 pub record IsRunOf (i : Plain) (orders : Orders) (f : Flow) (refused : Bool) : Type 0 where
   pub sites : Sites
   pub of : AreSitesOf i sites
-  pub served : IsServed (opened_for sites orders) orders f refused
+  pub served : IsServed (opening_of sites (orders.workers + 1)) orders f refused
 
 -- or it was not opened, or came to no end
 pub record IsRunShort (i : Plain) (orders : Orders) (f : Flow) (stop : Stop) : Type 0 where
   pub sites : Sites
   pub of : AreSitesOf i sites
-  pub short : IsServedShort (opened_for sites orders) orders f stop
+  pub short : IsServedShort (opening_of sites (orders.workers + 1)) orders f stop
 
 abbrev pub IsUnrun : Plain → Orders → Flow → Stop → Type 0
 IsUnrun i orders f stop = ((stop ≡ stops.Open) × IsUntouched f) ⊎ IsRunShort i orders f stop

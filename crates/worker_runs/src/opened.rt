@@ -1,10 +1,8 @@
 //! The board that an instance opens, for a run with workers or a live script.
 
-ghost use Rattle.std.specs.Prelude.{◌≡◌, ◌<◌, ◌+◌, ◌||◌, nat_lt, length, Ok, Err, MatchResult};
+ghost use Rattle.std.specs.Prelude.{◌≡◌, ◌||◌, nat_lt, Ok, Err, MatchResult};
 ghost use Rattle.solomon_reader.specs.Instances.{view, IsSound};
-ghost use Rattle.travel_table.specs.Travel.{travel_at};
 ghost use Rattle.board_core.specs.Boards.{history};
-ghost use Rattle.program_parts.specs.Network.{demand_at, time_between};
 ghost use Rattle.worker_runs.specs.Scripted.{IsOpened, IsRunOf, IsUnrun, flow_of};
 
 use crate::hall_run::hall_run;
@@ -13,7 +11,7 @@ use crate::set_up::set_up;
 use board_core::Board;
 use board_lock::make_foyer;
 use board_text::{BoardFront, run_noted_lines};
-use callback_store::{Registry, Transit, Unary};
+use callback_store::Registry;
 use dimension_core::Setup;
 use program_parts::{Network, Stop, standard_pair};
 use solomon_reader::Instance;
@@ -54,8 +52,6 @@ fn opened_for(board: &Board, instance: &Snapshot<Instance>, orders: Orders)
 /// Opens the board of an instance, with a desk more than workers, sets the workers up, and answers the lines of a script on its desk 1
 /// alone, with notes where there is a stream for them. Then it answers live lines there while the workers search, and writes what their rounds
 /// came to. Whether a line counted as refused.
-///
-/// Its callbacks answer from the instance; they are made here, and nothing that holds them leaves.
 pub(crate) fn run_with<
     W: Threads + Wait + Clock + Eprint + AllocGlobal + Copy + Drop + Send + Sync + 'static,
     I: Read,
@@ -83,32 +79,14 @@ pub(crate) fn run_with<
     } = job;
     let alloc = rt.alloc();
     let first = Snapshot::of(&instance);
-    let network = Arc::new(alloc, Network::new(alloc, instance)?)?;
-    let size = network.size();
-    let demands = network.clone()?;
-    let demand = Box::new(
-        alloc,
-        move |node: u32| -> u64
-            requires { node < length demands.value.nodes }
-            ensures { result ≡ demand_at demands.value node }
-        { demands.demand(node) },
-    )?;
-    let ways = network.clone()?;
-    let way = Box::new(
-        alloc,
-        move |from: u32, to: u32| -> u64
-            requires from { from < length ways.value.nodes }
-            requires to { to < length ways.value.nodes }
-            ensures { result ≡ time_between ways.value from to }
-        { ways.time(from, to) },
-    )?;
+    let network = Network::new(alloc, instance)?;
     let mut registry = Registry::new(alloc);
-    let demand = registry.register_unary(Unary::new(size, demand))?;
-    let way = registry.register(Transit::new(size, way))?;
+    let demand = registry.register_vector(network.demands(alloc)?)?;
+    let way = registry.register_stays(network.times(alloc)?)?;
     let cost = registry.register_matrix(network.travel_matrix()?)?;
     let pair = standard_pair(alloc, &registry, &network, demand, way)?;
     let setup = Setup::new(
-        size - 1,
+        network.size() - 1,
         network.vehicles(),
         registry,
         pair,

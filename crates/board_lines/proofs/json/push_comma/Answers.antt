@@ -7,4 +7,4 @@ pub returns-in_err-push_ascii-clause-left : goal.returns-in_err-push_ascii-claus
 returns-in_err-push_ascii-clause-left c = on_err _ (cut_more _ _ (decimal c.args.n) _ _ c.in_err-push_ascii.ensures.left (search rules))
 
 pub returns-clause-left : goal.returns-clause-left
-returns-clause-left c = err_then _ _ _ _ _ _ _ c.in_ok-push_ascii.ensures.ok c.push_number.ensures.left (search rules)
+returns-clause-left c = err_then _ _ _ _ _ _ _ c.in_ok-push_ascii.ensures.ok c.push_decimal.ensures.left (search rules)

@@ -40,3 +40,18 @@ pub ask-requires-in-Listed-clause-to : goal.ask-requires-in-Listed-clause-to
 ask-requires-in-Listed-clause-to g c =
     let low = kept_below slot_table _ _ _ _ c.args.self.now.tables c.id.view_is c.requires.registered c.index.ensures in
     rw c.in-Listed.is at low c.args.j c.requires.to
+
+pub ask-requires-in-Values : goal.ask-requires-in-Values
+ask-requires-in-Values g c =
+    let low = kept_below slot_table _ _ _ _ c.args.self.now.tables c.id.view_is c.requires.registered c.index.ensures in
+    rw c.in-Values.is at low c.args.i c.requires.from
+
+pub ask-requires-in-Stayed-clause-from : goal.ask-requires-in-Stayed-clause-from
+ask-requires-in-Stayed-clause-from g c =
+    let low = kept_below slot_table _ _ _ _ c.args.self.now.tables c.id.view_is c.requires.registered c.index.ensures in
+    rw c.in-Stayed.is at low c.args.i c.requires.from
+
+pub ask-requires-in-Stayed-clause-to : goal.ask-requires-in-Stayed-clause-to
+ask-requires-in-Stayed-clause-to g c =
+    let low = kept_below slot_table _ _ _ _ c.args.self.now.tables c.id.view_is c.requires.registered c.index.ensures in
+    rw c.in-Stayed.is at low c.args.j c.requires.to
