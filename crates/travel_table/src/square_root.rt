@@ -1,4 +1,5 @@
 ghost use Rattle.std.specs.Prelude.{◌≡◌, ◌↔◌, ◌+◌, ◌*◌, ◌<◌, ◌≤◌, IsTrue};
+ghost use Rattle.std.specs.Float.{NotNan};
 ghost use Rattle.travel_table.specs.Root.{IsRoot};
 
 use std::num::nearest_u64_to_f64;
@@ -8,26 +9,27 @@ use std::num::nearest_u64_to_f64;
 const SHIFT: f64 = 4503599627370495.5;
 
 /// A little more than 1. The root of a square, multiplied by this, is not one half below it after the shift.
-pub(crate) const UP: f64 = 1.0000000000001;
+const UP: f64 = 1.0000000000001;
+
+/// Ten times as much.
+pub(crate) const TEN_UP: f64 = 10.000000000001;
 
 /// The whole part of a number below 2 to the 32nd, or one less. Nothing is proved of it, and nothing depends on it.
 #[inline(always)]
-pub(crate) fn whole_part(x: f64) -> u32 {
-    let sum = x + SHIFT;
-    if sum <= f64::MAX {
-        (sum.to_bits() & 0xffff_ffff) as u32
-    } else {
-        0
-    }
+pub(crate) fn whole_part(x: f64) -> u32
+    requires { NotNan x }
+{
+    ((x + SHIFT).to_bits() & 0xffff_ffff) as u32
 }
 
-/// Whether `t` is the root of `n`. Where the square of `t` is above `n`, the difference wraps to more than 2 `t`.
+/// Whether `t` is the root of `n`. The greatest number with this root is `t * (t + 2)`, and the least is `2 * t` below it. Where `n` is
+/// above both, the difference wraps to more than `2 * t`.
 #[inline(always)]
 fn is_root(n: u64, t: u64) -> bool
     requires { t < 4294967296 }
     ensures { IsTrue result → IsRoot n t }
 {
-    n.wrapping_sub(t * t) <= 2 * t
+    (t * (t + 2)).wrapping_sub(n) <= 2 * t
 }
 
 /// The root of `n`, found by halving an interval, in at most 32 steps.

@@ -4,7 +4,7 @@ ghost use Rattle.solomon_reader.specs.declared.instance.Node.{Node};
 ghost use Rattle.travel_table.specs.Root.{IsRoot};
 ghost use Rattle.travel_table.specs.Travel.{square_between, IsNear, IsTravel, IsTravelOf, AreKnown, Distances, node_at, travel_at, travel_between};
 
-use crate::square_root::{UP, root_near, whole_part};
+use crate::square_root::{TEN_UP, root_near, whole_part};
 use solomon_reader::{Instance, Node};
 use std::alloc::{AllocError, Global};
 use std::marker::Model;
@@ -63,7 +63,7 @@ pub fn travel_between(a: &Node, b: &Node) -> u32
     ensures small { result ≤ 141421342 }
 {
     let square = apart(a, b);
-    let guess = whole_part((square as i64 as f64).sqrt() * (10.0 * UP));
+    let guess = whole_part((square as i64 as f64).sqrt() * TEN_UP);
     root_near(100 * square, guess)
 }
 

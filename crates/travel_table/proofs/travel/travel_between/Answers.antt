@@ -1,6 +1,11 @@
-use Rattle.std.proofs.Common.{ℕ, subst}
+use Rattle.std.proofs.Common.{◌<◌, ℕ, arith, refl, sym, subst, w64}
+use Rattle.std.proofs.lemmas.Float.{le_right}
+use Rattle.std.proofs.lemmas.Int.{to_z_pos}
+use Rattle.std.specs.Float.{binary64, float_zero, ◌≤ᶠ◌}
+use lib.Ieee.{of_bits, of_int}
 use Rattle.travel_table.specs.Root.{IsRoot}
 use Rattle.travel_table.specs.Travel.{square_between}
+use Rattle.travel_table.proofs.Numbers.{NotNan-mul, zero_le-of_int}
 use Rattle.travel_table.proofs.Squares.{root_is_only}
 use Rattle.travel_table.proofs.travel.travel_between.Goals as goal
 
@@ -8,3 +13,11 @@ pub returns-clause-value : goal.returns-clause-value
 returns-clause-value c =
     let root = subst (λ (n : ℕ). IsRoot n c.root_near.result) c.apart-square.ensures.value c.root_near.ensures in
     root_is_only (square_between c.args.a.now c.args.b.now) c.root_near.result root
+
+pub whole_part-guess-requires : goal.whole_part-guess-requires
+unfolding of_bits
+whole_part-guess-requires c =
+    let square = c.apart-square.result in
+    let small : square < 9223372036854775808 = omega (arith, c.apart-square.ensures.small) in
+    let from_zero = subst (λ z. float_zero ≤ᶠ of_int binary64 z) (sym (to_z_pos w64 square small)) (zero_le-of_int square) in
+    NotNan-mul binary64 c.sqrt.result _ _ _ (le_right float_zero c.sqrt.result (c.sqrt.ensures.bound from_zero)) refl
