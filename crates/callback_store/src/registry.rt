@@ -246,6 +246,15 @@ impl Registry {
         self.slots[id.index as usize].is_symmetric()
     }
 
+    /// The callback of a name, for a caller that asks it often: it may look at its kind once (`Callback`).
+    pub fn callback(&self, id: TransitId) -> &Slot
+        requires registered { id < length (tables self.now) }
+        ensures table { slot_table result.now ≡ table_at (tables self.now) id }
+        ensures nodes { (slot_table result.now).size ≡ nodes_of (tables self.now) }
+    {
+        &self.slots[id.index as usize]
+    }
+
     /// The answer of a callback on the way from node `i` to node `j`: that for the ordered pair, or that for `i` where it is a one-node
     /// callback. The callback must be registered here and know both nodes. It counts one ask.
     pub fn ask(&self, id: TransitId, meter: &mut Meter, i: u32, j: u32) -> u64

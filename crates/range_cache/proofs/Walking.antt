@@ -4,13 +4,13 @@ use Rattle.std.specs.Prelude.{MatchOption}
 use Rattle.std.proofs.lemmas.Bool.{false≢true}
 use Rattle.callback_store.specs.declared.meter.Meter.{Meter}
 use Rattle.callback_store.specs.Meter.{AsksJust, AsksAtMost, none_asked, no_ask, asks_both, asks_wider}
-use Rattle.callback_store.specs.Tables.{Table, nodes_of}
+use Rattle.callback_store.specs.Tables.{Table, entry, nodes_of, table_at}
 use Rattle.dimension_core.specs.declared.range.Range.{Range}
-use Rattle.dimension_core.specs.Cumuls.{Bounds, IsSpan, Reaches, last_of}
+use Rattle.dimension_core.specs.Cumuls.{Bounds, IsSpan, Reaches, last_of, table_of}
 use Rattle.dimension_core.specs.Feasible.{FitsIn}
 use Rattle.dimension_core.specs.Laws.{SpansGoOn}
 use Rattle.dimension_core.specs.Misses.{MissesAreFound, IsFirstMissIn}
-use Rattle.dimension_core.specs.Setting.{Setting, IsSetting}
+use Rattle.dimension_core.specs.Setting.{Setting, IsSetting, dimension_at}
 use Rattle.dimension_core.specs.Spans.{IsSpanOf, no_range}
 use Rattle.range_cache.specs.Track.{IsSpanAt, IsTrack}
 use Rattle.range_cache.proofs.Misses.{Missed, missed_start, missed_at, missed_back}
@@ -79,6 +79,16 @@ module _ (s : Setting) (k : ℕ) (ds : List Bounds) (d : Bounds) (set : IsSettin
   asked_id id ts et ei =
       subst (λ (xs : List Table). id < length xs) (sym et) (subst (λ (n : ℕ). n < length s.tables) (sym (ei ∙ ap (λ (b : Bounds). b.id) (dim_at s ds d k ed h e))) (set.ids k h))
 
+  -- the callback of a dimension has its table
+  pub asked_table : (id : ℕ) (ts : List Table) (t : Table) → ts ≡ s.tables → id ≡ d.id → t ≡ table_at ts id → t ≡ table_of s.tables (dimension_at s k)
+  asked_table id ts t et ei is =
+      is ∙ ap (λ (xs : List Table). table_at xs id) et ∙ ap (λ (n : ℕ). table_at s.tables n) (ei ∙ ap (λ (b : Bounds). b.id) (dim_at s ds d k ed h e))
+
+  -- and what it answers is the table's
+  pub answered : (t : Table) (way i j : ℕ) → way ≡ entry t i j → t ≡ table_of s.tables (dimension_at s k) → way ≡ entry (table_at s.tables d.id) i j
+  answered t way i j is same =
+      is ∙ ap (λ (u : Table). entry u i j) (same ∙ sym (ap (λ (b : Bounds). table_at s.tables b.id) (dim_at s ds d k ed h e)))
+
   pub known_there : (n : ℕ) → n ≤ s.customers → n < length d.ranges
   known_there n known =
       let sized : length d.ranges ≡ s.customers + 1 = ap (λ (b : Bounds). length b.ranges) (dim_at s ds d k ed h e) ∙ set.ranges k h in
@@ -89,10 +99,11 @@ module _ (s : Setting) (k : ℕ) (ds : List Bounds) (d : Bounds) (set : IsSettin
       let sized : length d.caps ≡ s.vehicles = ap (λ (b : Bounds). length b.caps) (dim_at s ds d k ed h e) ∙ set.caps k h in
       omega arith
 
-pub asked_node : (s : Setting) (ts : List Table) (n : ℕ) → IsSetting s → ts ≡ s.tables → n ≤ s.customers → n < nodes_of ts
-asked_node s ts n set et known =
-    let sized = set.tables in
-    subst (λ (xs : List Table). n < nodes_of xs) (sym et) (omega arith)
+pub asked_size : (s : Setting) (ts : List Table) (n : ℕ) → IsSetting s → ts ≡ s.tables → n ≡ nodes_of ts → n ≡ s.customers + 1
+asked_size s ts n set et is = is ∙ ap (λ (xs : List Table). nodes_of xs) et ∙ set.tables
+
+pub asked_there : (size customers n : ℕ) → size ≡ customers + 1 → n ≤ customers → n < size
+asked_there size customers n is known = omega (arith, is)
 
 -- what the first range is
 pub record IsBegun (s : Setting) (k v : ℕ) (route : List ℕ) (kept : ℕ) (r : Option (Range × ℕ)) : Type 0 where

@@ -8,7 +8,7 @@ ghost use Rattle.range_cache.specs.Cache.{IsRowOf, range_at};
 ghost use Rattle.range_cache.specs.Row.{IsRowFault, AsksToRowFault, row_asks};
 
 use crate::fault::JudgeFault;
-use crate::walk::{Axis, walk};
+use crate::walk::{Axis, Course, walk};
 use callback_store::Meter;
 use dimension_core::{Range, Setup};
 use plan_core::common_front;
@@ -100,7 +100,8 @@ impl Row {
         for dimension in 0..count {
             let kept = self.front(dimension, front);
             let axis = Axis { dimension, vehicle };
-            if !walk(setup, axis, new, kept, &mut row.ranges, meter)? {
+            let course = Course { route: new, kept };
+            if !walk(setup, axis, &course, &mut row.ranges, meter)? {
                 return Err(JudgeFault::Bound(vehicle, dimension as u32 + 1));
             }
         }

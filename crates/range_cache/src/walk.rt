@@ -1,15 +1,16 @@
 //! A walk along a route in one dimension, from a kept range on.
 ghost use Rattle.std.specs.Prelude.{◌≡◌, ℕ, ◌+◌, ◌-◌, ◌<◌, ◌≤◌, ◌↔◌, ◌++◌, [], List, length, take, None, All, IfOk, OnOk, IfSome, IsTrue, false, MatchOption, vec_len, vec_capacity};
 ghost use Rattle.callback_store.specs.Meter.{AsksJust, AsksAtMost};
-ghost use Rattle.dimension_core.specs.Cumuls.{last_of};
+ghost use Rattle.dimension_core.specs.Cumuls.{last_of, table_of};
 ghost use Rattle.dimension_core.specs.Feasible.{FitsIn};
 ghost use Rattle.dimension_core.specs.Misses.{IsFirstMissIn};
+ghost use Rattle.dimension_core.specs.Setting.{dimension_at};
 ghost use Rattle.dimension_core.specs.Setup.{setting};
 ghost use Rattle.dimension_core.specs.Spans.{IsSpanOf};
 ghost use Rattle.dimension_core.specs.declared.range.Range.{Range};
 ghost use Rattle.range_cache.specs.Track.{IsSpanAt, IsTrack};
 
-use callback_store::Meter;
+use callback_store::{Callback, Meter, Slot};
 use dimension_core::{Range, Setup, misses_are_found, spans_go_on};
 use std::alloc::AllocError;
 
@@ -59,47 +60,91 @@ fn push_kept(ranges: &mut Vec<Range>, kept: &[Range]) -> Result<(), AllocError>
     ranges.extend_from_slice(kept)
 }
 
+/// A route, and the ranges that are kept along its first customers.
+#[derive(Clone, Copy)]
+pub(crate) struct Course<'a> {
+    pub(crate) route: &'a [u32],
+    pub(crate) kept: &'a [Range],
+}
+
 /// Walks along a route that is not empty in one dimension, from the customer after the kept ranges to the return. True where the route is
 /// in bounds; the range of each of its customers then follows the others, and there is room for them.
 ///
 /// It asks the callback once for each customer after the kept ranges and once for the return, up to the first stop at which no cumul is
-/// left, and that one too.
+/// left, and that one too. What kind of callback it is is looked at once.
 pub(crate) fn walk(
     setup: &Setup,
     axis: Axis,
-    route: &[u32],
-    kept: &[Range],
+    course: &Course,
     ranges: &mut Vec<Range>,
     meter: &mut Meter,
 ) -> Result<bool, AllocError>
     requires low { 1 ≤ axis.vehicle }
     requires high { axis.vehicle ≤ (setting setup.now).vehicles }
     requires dimension { axis.dimension < length (setting setup.now).dimensions }
-    requires some { 0 < length route.now }
-    requires known { All (λ c. c ≤ (setting setup.now).customers) route.now }
-    requires kept { IsTrack (setting setup.now) axis.dimension axis.vehicle route.now kept.now }
-    requires room { vec_len ranges.old + length route.now ≤ vec_capacity ranges.old }
-    ensures bounds { IfOk result (λ is_in. IsTrue is_in ↔ FitsIn (setting setup.now) axis.dimension axis.vehicle route.now) }
+    requires some { 0 < length course.now.route.now }
+    requires known { All (λ c. c ≤ (setting setup.now).customers) course.now.route.now }
+    requires kept { IsTrack (setting setup.now) axis.dimension axis.vehicle course.now.route.now course.now.kept.now }
+    requires room { vec_len ranges.old + length course.now.route.now ≤ vec_capacity ranges.old }
+    ensures bounds { IfOk result (λ is_in. IsTrue is_in ↔ FitsIn (setting setup.now) axis.dimension axis.vehicle course.now.route.now) }
     ensures ranges { IfOk result (λ is_in. IsTrue is_in → (more : List Range) × (ranges.new.items ≡ ranges.old.items ++ more)
-        × (length more ≡ length route.now) × IsTrack (setting setup.now) axis.dimension axis.vehicle route.now more) }
+        × (length more ≡ length course.now.route.now) × IsTrack (setting setup.now) axis.dimension axis.vehicle course.now.route.now more) }
     ensures capacity { vec_capacity ranges.old ≤ vec_capacity ranges.new }
-    ensures asks { AsksAtMost meter.old meter.new (length route.now + 1 - length kept.now) }
-    ensures whole { IfOk result (λ is_in. IsTrue is_in → AsksJust meter.old meter.new (length route.now + 1 - length kept.now)) }
+    ensures asks { AsksAtMost meter.old meter.new (length course.now.route.now + 1 - length course.now.kept.now) }
+    ensures whole { IfOk result (λ is_in. IsTrue is_in → AsksJust meter.old meter.new (length course.now.route.now + 1 - length course.now.kept.now)) }
     ensures missed { IfOk result (λ is_in. is_in ≡ false → (k : ℕ)
-        × IsFirstMissIn (setting setup.now) axis.dimension axis.vehicle route.now k × AsksJust meter.old meter.new (k - length kept.now)) }
+        × IsFirstMissIn (setting setup.now) axis.dimension axis.vehicle course.now.route.now k × AsksJust meter.old meter.new (k - length course.now.kept.now)) }
+{
+    let bounds = &setup.dimensions()[axis.dimension];
+    match setup.registry().callback(bounds.id()) {
+        Slot::Pair(callback) => walk_by(callback, setup, axis, course, ranges, meter),
+        Slot::Node(callback) => walk_by(callback, setup, axis, course, ranges, meter),
+        Slot::Listed(callback) => walk_by(callback, setup, axis, course, ranges, meter),
+        Slot::Values(callback) => walk_by(callback, setup, axis, course, ranges, meter),
+        Slot::Stayed(callback) => walk_by(callback, setup, axis, course, ranges, meter),
+    }
+}
+
+/// The walk, with the callback of the dimension at hand.
+fn walk_by<C: Callback>(
+    callback: &C,
+    setup: &Setup,
+    axis: Axis,
+    course: &Course,
+    ranges: &mut Vec<Range>,
+    meter: &mut Meter,
+) -> Result<bool, AllocError>
+    requires answers { C.table callback.now
+        ≡ table_of (setting setup.now).tables (dimension_at (setting setup.now) axis.dimension) }
+    requires nodes { (C.table callback.now).size ≡ (setting setup.now).customers + 1 }
+    requires low { 1 ≤ axis.vehicle }
+    requires high { axis.vehicle ≤ (setting setup.now).vehicles }
+    requires dimension { axis.dimension < length (setting setup.now).dimensions }
+    requires some { 0 < length course.now.route.now }
+    requires known { All (λ c. c ≤ (setting setup.now).customers) course.now.route.now }
+    requires kept { IsTrack (setting setup.now) axis.dimension axis.vehicle course.now.route.now course.now.kept.now }
+    requires room { vec_len ranges.old + length course.now.route.now ≤ vec_capacity ranges.old }
+    ensures bounds { IfOk result (λ is_in. IsTrue is_in ↔ FitsIn (setting setup.now) axis.dimension axis.vehicle course.now.route.now) }
+    ensures ranges { IfOk result (λ is_in. IsTrue is_in → (more : List Range) × (ranges.new.items ≡ ranges.old.items ++ more)
+        × (length more ≡ length course.now.route.now) × IsTrack (setting setup.now) axis.dimension axis.vehicle course.now.route.now more) }
+    ensures capacity { vec_capacity ranges.old ≤ vec_capacity ranges.new }
+    ensures asks { AsksAtMost meter.old meter.new (length course.now.route.now + 1 - length course.now.kept.now) }
+    ensures whole { IfOk result (λ is_in. IsTrue is_in → AsksJust meter.old meter.new (length course.now.route.now + 1 - length course.now.kept.now)) }
+    ensures missed { IfOk result (λ is_in. is_in ≡ false → (k : ℕ)
+        × IsFirstMissIn (setting setup.now) axis.dimension axis.vehicle course.now.route.now k × AsksJust meter.old meter.new (k - length course.now.kept.now)) }
 {
     spans_go_on();
     misses_are_found();
     let Axis { dimension, vehicle } = axis;
+    let Course { route, kept } = *course;
     let Some((mut range, mut from)) = begin(setup, axis, route, kept) else {
         return Ok(false);
     };
     push_kept(ranges, kept)?;
     let bounds = &setup.dimensions()[dimension];
-    let registry = setup.registry();
     for place in kept.len()..route.len() {
         let node = route[place];
-        let way = registry.ask(bounds.id(), meter, from, node);
+        let way = callback.ask_way(meter, from, node);
         let Some(next) = bounds.after(range, way, node, vehicle) else {
             return Ok(false);
         };
@@ -107,7 +152,7 @@ pub(crate) fn walk(
         range = next;
         from = node;
     }
-    let back = registry.ask(bounds.id(), meter, from, 0);
+    let back = callback.ask_way(meter, from, 0);
     let end = bounds.after(range, back, 0, vehicle);
     Ok(end.is_some())
 }

@@ -6,7 +6,7 @@ use Rattle.dimension_core.specs.Setup.{setting}
 use Rattle.dimension_core.specs.Spans.{IsSpanOf}
 use Rattle.dimension_core.specs.declared.range.Range.{Range}
 use Rattle.range_cache.specs.Track.{IsTrack}
-use Rattle.range_cache.proofs.walk.walk.Given as goal
+use Rattle.range_cache.proofs.walk.walk_by.Given as goal
 
 -- the ranges of the customers so far follow the others, and the range is that of the last of them
 abbrev pub invariant-loop-place : goal.invariant-loop-place
@@ -18,5 +18,5 @@ invariant-loop-place g l = record {
   room : vec_len l.ranges + length l.route ≤ vec_capacity l.ranges + l.place;
   capacity : vec_capacity l.fn.ranges ≤ vec_capacity l.ranges;
   known : l.from ≤ (setting l.setup).customers;
-  asks : AsksJust l.fn.meter l.meter (l.place - length l.kept);
+  asks : AsksJust l.fn.meter l.meter (l.place - length l.course.kept.now);
 }

@@ -1,0 +1,81 @@
+//! A callback of any kind, as a type parameter.
+
+ghost use Rattle.std.specs.Prelude.{◌≡◌, ◌<◌, ◌≤◌};
+ghost use Rattle.callback_store.specs.Meter.{AsksJust};
+ghost use Rattle.callback_store.specs.Tables.{Table, entry};
+
+use crate::matrix::Matrix;
+use crate::meter::Meter;
+use crate::stay_matrix::StayMatrix;
+use crate::transit::Transit;
+use crate::unary::Unary;
+use crate::vector::Vector;
+
+/// A callback. A function that has its kind as a type parameter looks at the kind once, and not at each ask.
+pub trait Callback {
+    // How many nodes it knows, and its answers.
+    ghost table: { Self → Table };
+
+    /// The answer on the way from node `i` to node `j`. It counts one ask.
+    fn ask_way(&self, meter: &mut Meter, i: u32, j: u32) -> u64
+        requires from { i < (table self.now).size }
+        requires to { j < (table self.now).size }
+        ensures answer { result ≡ entry (table self.now) i j }
+        ensures small { result ≤ 1000000000 }
+        ensures one { AsksJust meter.old meter.new 1 };
+}
+
+impl Callback for Transit {
+    ghost use Rattle.callback_store.specs.Tables.{pair_table};
+
+    ghost table = { λ transit. pair_table transit };
+
+    #[inline(always)]
+    fn ask_way(&self, meter: &mut Meter, i: u32, j: u32) -> u64 {
+        self.ask(meter, i, j)
+    }
+}
+
+impl Callback for Unary {
+    ghost use Rattle.callback_store.specs.Tables.{node_table};
+
+    ghost table = { λ unary. node_table unary };
+
+    #[inline(always)]
+    fn ask_way(&self, meter: &mut Meter, i: u32, _j: u32) -> u64 {
+        self.ask(meter, i)
+    }
+}
+
+impl Callback for Matrix {
+    ghost use Rattle.callback_store.specs.Tables.{matrix_table};
+
+    ghost table = { λ matrix. matrix_table matrix };
+
+    #[inline(always)]
+    fn ask_way(&self, meter: &mut Meter, i: u32, j: u32) -> u64 {
+        self.ask(meter, i, j)
+    }
+}
+
+impl Callback for Vector {
+    ghost use Rattle.callback_store.specs.Tables.{vector_table};
+
+    ghost table = { λ vector. vector_table vector };
+
+    #[inline(always)]
+    fn ask_way(&self, meter: &mut Meter, i: u32, _j: u32) -> u64 {
+        self.ask(meter, i)
+    }
+}
+
+impl Callback for StayMatrix {
+    ghost use Rattle.callback_store.specs.Tables.{stay_table};
+
+    ghost table = { λ matrix. stay_table matrix };
+
+    #[inline(always)]
+    fn ask_way(&self, meter: &mut Meter, i: u32, j: u32) -> u64 {
+        self.ask(meter, i, j)
+    }
+}
