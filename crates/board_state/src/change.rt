@@ -8,6 +8,7 @@ use range_cache::{Pending, Room};
 use rbac_core::Command;
 use std::alloc::Global;
 use std::marker::Model;
+use std::mem::replace;
 use std::snapshot::Snapshot;
 use std::sync::Arc;
 
@@ -15,7 +16,9 @@ use std::sync::Arc;
 #[derive(Drop)]
 pub(crate) struct Workspace {
     pub(crate) touched: Vec<Touch>,
-    pub(crate) changes: Vec<(u32, Arc<Route>)>,
+    changes: Vec<(u32, Arc<Route>)>,
+    /// The second route of a move of two vehicles, while moves of one vehicle come.
+    spare: Option<(u32, Arc<Route>)>,
     pub(crate) rows: Room,
 }
 
@@ -25,6 +28,7 @@ impl Workspace {
         Workspace {
             touched: Vec::new(alloc),
             changes: Vec::new(alloc),
+            spare: None,
             rows: Room::new(alloc),
         }
     }
@@ -33,6 +37,22 @@ impl Workspace {
     pub(crate) fn keep(&mut self, touched: Vec<Touch>, changes: Vec<(u32, Arc<Route>)>) {
         self.touched = touched;
         self.changes = changes;
+    }
+
+    /// Takes out the routes whose memory serves the new ones of a move of one vehicle, or of two. What a move does not need it drops, so
+    /// for a move of one the second route stays here, and the next move of two gets it.
+    pub(crate) fn take_routes(&mut self, alloc: Global, two: bool) -> Vec<(u32, Arc<Route>)> {
+        if !two && self.changes.len() > 1 {
+            self.spare = self.changes.pop();
+        }
+        if two && self.changes.len() < 2 {
+            if let Some(route) = self.spare.take() {
+                if let Err(failed) = self.changes.push(route) {
+                    self.spare = Some(failed.value);
+                }
+            }
+        }
+        replace(&mut self.changes, Vec::new(alloc))
     }
 }
 

@@ -18,7 +18,7 @@ ghost use Rattle.board_state.specs.Changes.{ArePlaceableRoutes, AreMadeBy};
 ghost use Rattle.board_state.specs.Verdicts.{ArePlaceable, IsStop, ComesEarly, IsLate, IsWorkOfMove, early_least};
 ghost use Rattle.board_state.specs.Work.{Works, IsWithinCost};
 
-use crate::change::{NewRoutes, Workspace};
+use crate::change::NewRoutes;
 use crate::rules::are_in_fleet;
 use crate::state::State;
 use crate::stop::Stop;
@@ -71,12 +71,7 @@ impl State {
         if let Some(denial) = self.early_denial(setup, proposal, meter) {
             return Err(Stop::Denied(denial));
         }
-        let mut room = self.workspace(alloc);
-        let judged = self.judge_move(alloc, setup, proposal, &mut room, meter);
-        if judged.is_err() {
-            self.workspace = room;
-        }
-        judged
+        self.judge_move(alloc, setup, proposal, meter)
     }
 
     /// The denial of a proposal by a rule that needs no list of touched customers and no new route.
@@ -121,81 +116,81 @@ impl State {
     /// pays nothing for the stack space of new routes.
     #[inline(never)]
     fn judge_move(
-        &self,
+        &mut self,
         alloc: Global,
         setup: &Setup,
         proposal: &Proposal,
-        room: &mut Workspace,
         meter: &mut Meter,
     ) -> Result<NewRoutes, Stop>
-        requires ready { IsReady (setting setup.now) self.now }
-        requires passes { PassesEffect (setting setup.now) (held_basis self.now proposal.now.session)
+        requires ready { IsReady (setting setup.now) self.old }
+        requires passes { PassesEffect (setting setup.now) (held_basis self.old proposal.now.session)
             proposal.now.base proposal.now.mv.now }
+        ensures same { self.new ≡ self.old }
         ensures passes { OnOk result
-            (PassesAll (setting setup.now) (held_basis self.now proposal.now.session) proposal.now.base proposal.now.mv.now) }
-        ensures changes { IfOk result (λ new. changes_of new.changes.items ≡ changes_by self.now.plan.routes proposal.now.mv.now) }
-        ensures ready { IfOk result (ArePlaceableRoutes self.now) }
-        ensures made { IfOk result (AreMadeBy self.now proposal.now.mv.now) }
+            (PassesAll (setting setup.now) (held_basis self.old proposal.now.session) proposal.now.base proposal.now.mv.now) }
+        ensures changes { IfOk result (λ new. changes_of new.changes.items ≡ changes_by self.old.plan.routes proposal.now.mv.now) }
+        ensures ready { IfOk result (ArePlaceableRoutes self.old) }
+        ensures made { IfOk result (AreMadeBy self.old proposal.now.mv.now) }
         ensures ranges { IfOk result
-            (λ new. AreNewRows (setting setup.now) (changes_by self.now.plan.routes proposal.now.mv.now) new.pending.rows) }
+            (λ new. AreNewRows (setting setup.now) (changes_by self.old.plan.routes proposal.now.mv.now) new.pending.rows) }
         ensures stop { IfErr result
-            (IsStop (setting setup.now) (held_basis self.now proposal.now.session) proposal.now.base proposal.now.mv.now) }
-        ensures work { IsWorkOfMove (setting setup.now) self.now proposal.now.mv.now
-            0 (length (touched_by self.now.plan.routes proposal.now.mv.now)) result meter.old meter.new }
+            (IsStop (setting setup.now) (held_basis self.old proposal.now.session) proposal.now.base proposal.now.mv.now) }
+        ensures work { IsWorkOfMove (setting setup.now) self.old proposal.now.mv.now
+            0 (length (touched_by self.old.plan.routes proposal.now.mv.now)) result meter.old meter.new }
     {
         let Proposal { session, mv, .. } = *proposal;
-        let kept = replace(&mut room.touched, Vec::new(alloc));
+        let kept = replace(&mut self.workspace.touched, Vec::new(alloc));
         let Ok(touched) = mv.touches_in(kept, &self.plan) else {
             return Err(Stop::NoMemory);
         };
         if let Some(touch) = self.first_barred_customer(session, &touched, meter) {
-            room.touched = touched;
+            self.workspace.touched = touched;
             return Err(Stop::Denied(Denial::AccessCustomer(touch.vehicle, touch.place)));
         }
-        self.judge_routes(alloc, setup, proposal, touched, room, meter)
+        self.judge_routes(alloc, setup, proposal, touched, meter)
     }
 
     /// The rules on the new routes: fronts, pins and bounds.
     fn judge_routes(
-        &self,
+        &mut self,
         alloc: Global,
         setup: &Setup,
         proposal: &Proposal,
         touched: Vec<Touch>,
-        room: &mut Workspace,
         meter: &mut Meter,
     ) -> Result<NewRoutes, Stop>
-        requires ready { IsReady (setting setup.now) self.now }
-        requires passes { PassesCustomers (setting setup.now) (held_basis self.now proposal.now.session)
+        requires ready { IsReady (setting setup.now) self.old }
+        requires passes { PassesCustomers (setting setup.now) (held_basis self.old proposal.now.session)
             proposal.now.base proposal.now.mv.now }
-        requires touched { touched.items ≡ touched_by self.now.plan.routes proposal.now.mv.now }
+        requires touched { touched.items ≡ touched_by self.old.plan.routes proposal.now.mv.now }
+        ensures same { self.new ≡ self.old }
         ensures passes { OnOk result
-            (PassesAll (setting setup.now) (held_basis self.now proposal.now.session) proposal.now.base proposal.now.mv.now) }
-        ensures changes { IfOk result (λ new. changes_of new.changes.items ≡ changes_by self.now.plan.routes proposal.now.mv.now) }
-        ensures ready { IfOk result (ArePlaceableRoutes self.now) }
-        ensures made { IfOk result (AreMadeBy self.now proposal.now.mv.now) }
+            (PassesAll (setting setup.now) (held_basis self.old proposal.now.session) proposal.now.base proposal.now.mv.now) }
+        ensures changes { IfOk result (λ new. changes_of new.changes.items ≡ changes_by self.old.plan.routes proposal.now.mv.now) }
+        ensures ready { IfOk result (ArePlaceableRoutes self.old) }
+        ensures made { IfOk result (AreMadeBy self.old proposal.now.mv.now) }
         ensures ranges { IfOk result
-            (λ new. AreNewRows (setting setup.now) (changes_by self.now.plan.routes proposal.now.mv.now) new.pending.rows) }
+            (λ new. AreNewRows (setting setup.now) (changes_by self.old.plan.routes proposal.now.mv.now) new.pending.rows) }
         ensures stop { IfErr result
-            (IsStop (setting setup.now) (held_basis self.now proposal.now.session) proposal.now.base proposal.now.mv.now) }
+            (IsStop (setting setup.now) (held_basis self.old proposal.now.session) proposal.now.base proposal.now.mv.now) }
         ensures late { IfErr result IsLate }
-        ensures work { IsWorkOfMove (setting setup.now) self.now proposal.now.mv.now 0 0 result meter.old meter.new }
+        ensures work { IsWorkOfMove (setting setup.now) self.old proposal.now.mv.now 0 0 result meter.old meter.new }
     {
         pins_after_commits();
         let Proposal { session, mv, .. } = *proposal;
-        let kept = replace(&mut room.changes, Vec::new(alloc));
+        let kept = self.workspace.take_routes(alloc, mv.vehicles().1.is_some());
         let Ok(changes) = self.new_routes(alloc, kept, mv, &touched) else {
             return Err(Stop::NoMemory);
         };
         let freed = match self.judge_pins(alloc, session, &changes, &touched, meter) {
             Ok(freed) => freed,
             Err(stop) => {
-                room.keep(touched, changes);
+                self.workspace.keep(touched, changes);
                 return Err(stop);
             }
         };
         let cache = &self.cache;
-        let rows = &mut room.rows;
+        let rows = &mut self.workspace.rows;
         match cache.judge_in(rows, setup, &self.plan, &changes, meter) {
             Ok(pending) => Ok(NewRoutes {
                 changes,
@@ -204,7 +199,7 @@ impl State {
                 pending,
             }),
             Err(JudgeFault::Bound(vehicle, dimension)) => {
-                room.keep(touched, changes);
+                self.workspace.keep(touched, changes);
                 Err(Stop::Denied(Denial::Bound(vehicle, dimension)))
             }
             Err(JudgeFault::NoMemory) => Err(Stop::NoMemory),

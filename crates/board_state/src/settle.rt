@@ -11,7 +11,7 @@ ghost use Rattle.board_rules.specs.State.{BoardState};
 ghost use Rattle.board_state.specs.Held.{Holds, routes_with};
 ghost use Rattle.board_state.specs.Changes.{WillHold, WillCompile, WillKeep, ArePlaceableRoutes, IsSettleable, IsGivenUp, GivesUp, policy_made, plan_after, pins_after};
 
-use crate::change::{Change, Judged, NewRoutes, PinChange, Workspace};
+use crate::change::{Change, Judged, NewRoutes, PinChange};
 use crate::state::State;
 use board_rules::Reply;
 
@@ -98,10 +98,7 @@ impl State {
         let changes = self.plan.replace(changes);
         self.pins.release(&self.plan, &touched);
         let rows = self.cache.take(pending);
-        self.workspace = Workspace {
-            touched,
-            changes,
-            rows,
-        };
+        self.workspace.keep(touched, changes);
+        self.workspace.rows.refill(rows);
     }
 }

@@ -23,7 +23,6 @@ use range_cache::Cache;
 use rbac_core::{Object, Operation, Policy, Twin};
 use std::alloc::{AllocError, Global};
 use std::marker::Model;
-use std::mem::replace;
 
 /// The policy, its compiled permissions, the plan, its pins and freezes, and the ranges along its routes.
 pub struct State {
@@ -157,13 +156,6 @@ impl State {
     {
         let _few = meter.probes;
         self.tables.check_in(found, operation, object, meter)
-    }
-
-    /// The memory that is kept for the lists and routes of a proposal.
-    pub(crate) fn workspace(&mut self, alloc: Global) -> Workspace
-        ensures { self.new ≡ self.old }
-    {
-        replace(&mut self.workspace, Workspace::new(alloc))
     }
 
     /// CheckAccess: one probe.

@@ -19,11 +19,8 @@ use Rattle.range_cache.proofs.Misses.{AreAskedTo, asked_to_fault}
 pub next_of : {X : Type 0} (xs : List X) (k : ℕ) (x : X) → x ≡ slice_index_or xs k x → k < length xs → drop k xs ≡ x ∷ drop (k + 1) xs
 next_of {X} xs k x is h = rw add-one (drop-cons xs k x h ∙ ap (λ (y : X). y ∷ drop (suc k) xs) (sym is))
 
-pub row_place : (k n m l : ℕ) → k < n → m ≡ n → l ≡ m → k < l
+pub row_place : (k n m l : ℕ) → k < n → n ≤ m → l ≡ m → k < l
 row_place k n m l h e f = omega arith
-
-pub rows_end : (n m k : ℕ) → m ≡ n → n ≤ k → m ≤ k
-rows_end n m k e h = omega arith
 
 -- what a judgement answers
 pub record IsJudged (s : Setting) (routes : List (List ℕ)) (changes : Changes) (self : CacheState) (from to : Meter) (r : Result PendingState JudgeFault) : Type 0 where

@@ -20,7 +20,7 @@ use dimension_core::{Setup, spans_go_on};
 use plan_core::{Plan, Route};
 use std::alloc::{AllocError, Global};
 use std::marker::Model;
-use std::mem::{replace, swap};
+use std::mem::swap;
 use std::sync::Arc;
 
 /// For each vehicle, in each dimension, the range of the cumuls that it may have at each customer of its route.
@@ -112,7 +112,7 @@ impl Cache {
     }
 
     /// What `judge` answers, with the new ranges in the memory of earlier ones: more memory is taken only where that is too small. Where
-    /// the new routes are not taken, the memory stays in the room.
+    /// a new route is out of bounds, the memory stays in the room, and else that of a row which the new routes do not need.
     pub fn judge_in(
         &self,
         room: &mut Room,
@@ -144,8 +144,7 @@ impl Cache {
             *named = *vehicle;
             self.change_row(row, setup, plan, *vehicle, route, meter)?;
         }
-        let none = Vec::new(*self.rows.allocator());
-        Ok(Pending::new(self, replace(&mut room.rows, none)))
+        Ok(Pending::new(self, room.take_rows(changes.len())))
     }
 
     /// Makes a row that of a vehicle's new route, from the row of its route in the plan.
@@ -181,8 +180,8 @@ impl Cache {
     }
 
     /// Takes what was judged: this is then the cache of the plan with the new routes. It takes no memory, and gives back that of the rows
-    /// that were replaced. The contract requires that the cache still is, as contracts see it, the one that judged: nothing was taken
-    /// since.
+    /// that were replaced, to be put in the room of the judgement (`Room::refill`). The contract requires that the cache still is, as
+    /// contracts see it, the one that judged: nothing was taken since.
     pub fn take(&mut self, pending: Pending) -> Room
         requires { pending.of ≡ self.old }
         ensures rows { self.new ≡ record { rows = with_rows pending.rows self.old.rows } }
@@ -194,7 +193,7 @@ impl Cache {
             let (vehicle, row) = &mut rows[k];
             swap(&mut self.rows[*vehicle as usize - 1], row);
         }
-        Room { rows }
+        Room::of(rows)
     }
 
     /// The early value of the customer at a place of a vehicle's route in a dimension: the least cumul that it can have there. All three

@@ -1,36 +1,61 @@
 //! What is judged and not yet taken, and the memory of it.
-ghost use Rattle.std.specs.Prelude.{◌≡◌, length, OnOk};
+ghost use Rattle.std.specs.Prelude.{◌≡◌, ◌≤◌, length, take, OnOk};
 
 use crate::cache::Cache;
 use crate::row::Row;
 use std::alloc::{AllocError, Global};
 use std::marker::Model;
+use std::mem::replace;
 use std::snapshot::Snapshot;
 
 /// The memory of rows that were replaced, kept for the rows of the next judgement.
 #[derive(Drop)]
 pub struct Room {
     pub(crate) rows: Vec<(u32, Row)>,
+    /// A row that a judgement of fewer new routes left over, for one of more.
+    spare: Option<(u32, Row)>,
 }
 
 impl Room {
     /// A room without memory.
     pub fn new(alloc: Global) -> Room {
-        Room {
-            rows: Vec::new(alloc),
-        }
+        Room::of(Vec::new(alloc))
     }
 
-    /// Makes it hold this many rows, whatever they contain.
+    /// The room of these rows.
+    pub(crate) fn of(rows: Vec<(u32, Row)>) -> Room {
+        Room { rows, spare: None }
+    }
+
+    /// Takes in the memory that `Cache::take` gave back. Its own spare row stays.
+    pub fn refill(&mut self, replaced: Room) {
+        let Room { rows, .. } = replaced;
+        self.rows = rows;
+    }
+
+    /// Makes it hold at least this many rows, whatever they contain.
     pub(crate) fn hold(&mut self, count: usize) -> Result<(), AllocError>
-        ensures { OnOk result (length self.new.rows.items ≡ count) }
+        ensures { OnOk result (count ≤ length self.new.rows.items) }
     {
         let alloc = *self.rows.allocator();
-        self.rows.truncate(count);
         'rows: while self.rows.len() < count {
-            self.rows.push((0, Row::empty(alloc)))?;
+            self.rows.reserve(1)?;
+            let row = self.spare.take().unwrap_or((0, Row::empty(alloc)));
+            self.rows.push(row)?;
         }
         Ok(())
+    }
+
+    /// Takes out the first `count` rows. One that is left over becomes the spare row.
+    pub(crate) fn take_rows(&mut self, count: usize) -> Vec<(u32, Row)>
+        ensures { result.items ≡ take count self.old.rows.items }
+    {
+        if self.rows.len() > count {
+            self.spare = self.rows.pop();
+            self.rows.truncate(count);
+        }
+        let none = Vec::new(*self.rows.allocator());
+        replace(&mut self.rows, none)
     }
 }
 

@@ -10,10 +10,12 @@ use Rattle.range_cache.specs.Asks.{judge_asks, asks_before}
 use Rattle.move_core.specs.Moves.{changes_by, effect}
 use Rattle.move_core.specs.Touched.{touched_by}
 use Rattle.board_rules.specs.Override.{DoPinsAllow}
-use Rattle.board_rules.specs.Rules.{may_override, routes_after}
+use Rattle.board_rules.specs.Rules.{PassesCustomers, PassesAll, may_override, routes_after}
 use Rattle.board_state.specs.Deltas.{AreFreed}
-use Rattle.board_state.specs.Held.{HeldState, held_basis}
-use Rattle.board_state.specs.Verdicts.{IsPinStop, ArePlaceable, probes_least}
+use Rattle.board_state.specs.Held.{HeldState, IsReady, held_basis}
+use Rattle.board_rules.specs.declared.reply.Denial.TheVariants.{Bound}
+use Rattle.board_state.specs.declared.stop.Stop.TheVariants.{Denied}
+use Rattle.board_state.specs.Verdicts.{IsStop, IsPinStop, ArePlaceable, probes_least}
 use Rattle.board_state.specs.Work.{Works, leaving}
 use Rattle.board_state.proofs.Proposals.{pin_stop, passes_all, out_of_bounds}
 use Rattle.board_state.proofs.WorkLaws.{both_within, asks_alone, pinned_whole, pinned_stop}
@@ -22,33 +24,40 @@ use Rattle.board_state.proofs.state.State.judge_routes.Goals as goal
 pub returns-in-Err-clause-stop : goal.returns-in-Err-clause-stop
 returns-in-Err-clause-stop g c =
     let a = c.args in
-    let held = a.self.now in
+    let held : HeldState = record { policy = c.self.inside.policy; tables = c.self.inside.tables; plan = c.self.inside.plan; pins = c.self.inside.pins; cache = c.self.inside.cache } in
+    let ready = subst (λ (h : HeldState). IsReady (setting a.setup.now) h) (sym c.self.view_is) c.requires.ready in
+    let passes = subst (λ (h : HeldState). PassesCustomers (setting a.setup.now) (held_basis h a.proposal.now.session) a.proposal.now.base a.proposal.now.mv.now) (sym c.self.view_is) c.requires.passes in
+    let listed = c.requires.touched ∙ ap (λ (h : HeldState). touched_by h.plan.routes a.proposal.now.mv.now) (sym c.self.view_is) in
     let changes = ap (λ xs. changes_of xs) c.deref-2.ensures.value ∙ c.in-Ok.ensures.changes in
-    pin_stop (setting a.setup.now) held a.proposal.now.session a.proposal.now.base a.proposal.now.mv.now c.requires.ready c.requires.passes c.in-Ok.ensures.named a.touched.items c.in-Err.stop c.requires.touched
+    rw (sym c.self.view_is) (pin_stop (setting a.setup.now) held a.proposal.now.session a.proposal.now.base a.proposal.now.mv.now ready passes c.in-Ok.ensures.named a.touched.items c.in-Err.stop listed
     (subst (λ (cs : Changes). IsPinStop held.pins (may_override (held_basis held a.proposal.now.session)) held.plan.routes cs a.touched.items c.in-Err.stop) changes
-    (subst (λ (ts : List Touch). IsPinStop held.pins (may_override (held_basis held a.proposal.now.session)) held.plan.routes (changes_of c.deref-2.result.now) ts c.in-Err.stop) c.deref-3.ensures.value c.in-Err.ensures.stop))
+    (subst (λ (ts : List Touch). IsPinStop held.pins (may_override (held_basis held a.proposal.now.session)) held.plan.routes (changes_of c.deref-2.result.now) ts c.in-Err.stop) c.deref-3.ensures.value c.in-Err.ensures.stop)))
 
 pub returns-in-Ok-judge_in-clause-passes : goal.returns-in-Ok-judge_in-clause-passes
 returns-in-Ok-judge_in-clause-passes g c =
     let a = c.args in
-    let held = a.self.now in
+    let held : HeldState = record { policy = c.self.inside.policy; tables = c.self.inside.tables; plan = c.self.inside.plan; pins = c.self.inside.pins; cache = c.self.inside.cache } in
+    let ready = subst (λ (h : HeldState). IsReady (setting a.setup.now) h) (sym c.self.view_is) c.requires.ready in
+    let passes = subst (λ (h : HeldState). PassesCustomers (setting a.setup.now) (held_basis h a.proposal.now.session) a.proposal.now.base a.proposal.now.mv.now) (sym c.self.view_is) c.requires.passes in
     let changes = ap (λ xs. changes_of xs) c.deref-2.ensures.value ∙ c.in-Ok.ensures.changes in
     let judged = ap (λ xs. changes_of xs) c.deref-4.ensures.value ∙ c.in-Ok.ensures.changes in
-    passes_all (setting a.setup.now) held a.proposal.now.session a.proposal.now.base a.proposal.now.mv.now c.requires.ready c.requires.passes c.in-Ok.ensures.named c.deref.result.now c.in-Ok.ensures.placeable
+    subst (λ (h : HeldState). PassesAll (setting a.setup.now) (held_basis h a.proposal.now.session) a.proposal.now.base a.proposal.now.mv.now) c.self.view_is (passes_all (setting a.setup.now) held a.proposal.now.session a.proposal.now.base a.proposal.now.mv.now ready passes c.in-Ok.ensures.named c.deref.result.now c.in-Ok.ensures.placeable
     (subst (λ (cs : Changes). AreFreezesKept held.pins held.plan.routes (with_routes cs held.plan.routes)) changes c.in-Ok-judge_pins.ensures.fronts)
     (subst (λ (cs : Changes). DoPinsAllow held.pins (may_override (held_basis held a.proposal.now.session)) (with_routes cs held.plan.routes)) changes c.in-Ok-judge_pins.ensures.pins)
-    (subst (λ (cs : Changes). AllFit (setting a.setup.now) cs) judged c.in-Ok-judge_in.ensures.fits)
+    (subst (λ (cs : Changes). AllFit (setting a.setup.now) cs) judged c.in-Ok-judge_in.ensures.fits))
 
 pub returns-in-Ok-judge_in-clause-ready : goal.returns-in-Ok-judge_in-clause-ready
 returns-in-Ok-judge_in-clause-ready g c =
     let a = c.args in
     let held = a.self.now in
-    let same = sym c.in-Ok.ensures.changes in
-    let placeable = subst (λ (ts : List Touch). ArePlaceable held (changes_by held.plan.routes a.proposal.now.mv.now) ts) c.deref.ensures.value c.in-Ok.ensures.placeable in
+    let same = sym (c.in-Ok.ensures.changes ∙ ap (λ (h : HeldState). changes_by h.plan.routes a.proposal.now.mv.now) c.self.view_is) in
+    let placeable = subst (λ (ts : List Touch). ArePlaceable held (changes_by held.plan.routes a.proposal.now.mv.now) ts) c.deref.ensures.value
+    (subst (λ (h : HeldState). ArePlaceable h (changes_by h.plan.routes a.proposal.now.mv.now) c.deref.result.now) c.self.view_is c.in-Ok.ensures.placeable) in
+    let freed = subst (λ (h : HeldState). AreFreed h.pins (with_routes (changes_of c.deref-2.result.now) h.plan.routes) c.deref-3.result.now c.in-Ok-judge_pins.freed.items) c.self.view_is c.in-Ok-judge_pins.ensures.freed in
     record {
       lengths = c.in-Ok.ensures.short;
       freed = subst (λ (ts : List Touch). AreFreed held.pins (with_routes (changes_of c.in-Ok.changes.items) held.plan.routes) ts c.in-Ok-judge_pins.freed.items) c.deref-3.ensures.value
-          (subst (λ (cs : Changes). AreFreed held.pins (with_routes cs held.plan.routes) c.deref-3.result.now c.in-Ok-judge_pins.freed.items) (ap (λ xs. changes_of xs) c.deref-2.ensures.value) c.in-Ok-judge_pins.ensures.freed);
+          (subst (λ (cs : Changes). AreFreed held.pins (with_routes cs held.plan.routes) c.deref-3.result.now c.in-Ok-judge_pins.freed.items) (ap (λ xs. changes_of xs) c.deref-2.ensures.value) freed);
       changes = subst (λ (cs : Changes). AreChanges (length held.plan.routes) cs) same placeable.changes;
       plan = subst (λ (cs : Changes). IsPlan held.plan.customers (with_routes cs held.plan.routes)) same placeable.plan;
       room = c.requires.ready.room;
@@ -62,30 +71,34 @@ pub returns-in-Ok-judge_in-clause-made : goal.returns-in-Ok-judge_in-clause-made
 returns-in-Ok-judge_in-clause-made g c =
     let a = c.args in
     let held = a.self.now in
+    let same = sym (c.in-Ok.ensures.changes ∙ ap (λ (h : HeldState). changes_by h.plan.routes a.proposal.now.mv.now) c.self.view_is) in
     record {
-      sound = c.new_routes.ensures.sound;
-      possible = subst (λ (n : ℕ). effect n held.plan.routes a.proposal.now.mv.now ≡ Some (changes_by held.plan.routes a.proposal.now.mv.now)) (sym c.requires.ready.customers) c.requires.passes.0.1 ∙ ap Some (sym c.in-Ok.ensures.changes);
+      sound = subst (λ (h : HeldState). IsPlan h.plan.customers h.plan.routes) c.self.view_is c.new_routes.ensures.sound;
+      possible = subst (λ (n : ℕ). effect n held.plan.routes a.proposal.now.mv.now ≡ Some (changes_by held.plan.routes a.proposal.now.mv.now)) (sym c.requires.ready.customers) c.requires.passes.0.1 ∙ ap Some same;
       by = c.requires.touched;
     }
 
 pub returns-in-Err-Bound-clause-stop : goal.returns-in-Err-Bound-clause-stop
 returns-in-Err-Bound-clause-stop g c =
     let a = c.args in
-    let held = a.self.now in
+    let held : HeldState = record { policy = c.self.inside.policy; tables = c.self.inside.tables; plan = c.self.inside.plan; pins = c.self.inside.pins; cache = c.self.inside.cache } in
+    let ready = subst (λ (h : HeldState). IsReady (setting a.setup.now) h) (sym c.self.view_is) c.requires.ready in
+    let passes = subst (λ (h : HeldState). PassesCustomers (setting a.setup.now) (held_basis h a.proposal.now.session) a.proposal.now.base a.proposal.now.mv.now) (sym c.self.view_is) c.requires.passes in
     let v = c.in-Err-Bound.vehicle in
     let d = c.in-Err-Bound.dimension in
     let changes = ap (λ xs. changes_of xs) c.deref-2.ensures.value ∙ c.in-Ok.ensures.changes in
     let judged = ap (λ xs. changes_of xs) c.deref-4.ensures.value ∙ c.in-Ok.ensures.changes in
     let out = rw c.in-Err-Bound.field-0-is at c.in-Err-Bound.ensures.fault in
-    out_of_bounds (setting a.setup.now) held a.proposal.now.session a.proposal.now.base a.proposal.now.mv.now c.requires.ready c.requires.passes c.in-Ok.ensures.named c.deref.result.now c.in-Ok.ensures.placeable
+    subst (λ (h : HeldState). IsStop (setting a.setup.now) (held_basis h a.proposal.now.session) a.proposal.now.base a.proposal.now.mv.now (Denied (Bound v d))) c.self.view_is (out_of_bounds (setting a.setup.now) held a.proposal.now.session a.proposal.now.base a.proposal.now.mv.now ready passes c.in-Ok.ensures.named c.deref.result.now c.in-Ok.ensures.placeable
     (subst (λ (cs : Changes). AreFreezesKept held.pins held.plan.routes (with_routes cs held.plan.routes)) changes c.in-Ok-judge_pins.ensures.fronts)
     (subst (λ (cs : Changes). DoPinsAllow held.pins (may_override (held_basis held a.proposal.now.session)) (with_routes cs held.plan.routes)) changes c.in-Ok-judge_pins.ensures.pins)
-    v d (subst (λ (cs : Changes). IsOut (setting a.setup.now) cs v d) judged out)
+    v d (subst (λ (cs : Changes). IsOut (setting a.setup.now) cs v d) judged out))
 
 pub returns-in-Ok-judge_in-clause-work : goal.returns-in-Ok-judge_in-clause-work
 returns-in-Ok-judge_in-clause-work g c =
     let a = c.args in
-    let held = a.self.now in
+    let held : HeldState = record { policy = c.self.inside.policy; tables = c.self.inside.tables; plan = c.self.inside.plan; pins = c.self.inside.pins; cache = c.self.inside.cache } in
+    let listed = c.requires.touched ∙ ap (λ (h : HeldState). touched_by h.plan.routes a.proposal.now.mv.now) (sym c.self.view_is) in
     let s = setting a.setup.now in
     let changes = ap (λ xs. changes_of xs) c.deref-2.ensures.value ∙ c.in-Ok.ensures.changes in
     let judged = ap (λ xs. changes_of xs) c.deref-4.ensures.value ∙ c.in-Ok.ensures.changes in
@@ -94,15 +107,15 @@ returns-in-Ok-judge_in-clause-work g c =
     (subst (λ (ts : List Touch). Works a.meter.now c.judge_pins.new.meter 0 0 (probes_least 0 0 (leaving held.pins (with_routes (changes_of c.deref-2.result.now) held.plan.routes) ts) c.judge_pins.result)
     (leaving held.pins (with_routes (changes_of c.deref-2.result.now) held.plan.routes) ts)) c.deref-3.ensures.value c.judge_pins.ensures.work) in
     let touched = subst (λ (ts : List Touch). Works a.meter.now c.judge_pins.new.meter 0 0 (probes_least 0 0 (leaving held.pins (routes_after held.plan.routes a.proposal.now.mv.now) ts) c.judge_pins.result)
-    (leaving held.pins (routes_after held.plan.routes a.proposal.now.mv.now) ts)) c.requires.touched pins in
-    let bounds = subst (λ (cs : Changes). AsksJust c.judge_pins.new.meter c.judge_in.new.meter (judge_asks (length s.dimensions) held.plan.routes cs)) judged
-    (subst (λ (h : HeldState). AsksJust c.judge_pins.new.meter c.judge_in.new.meter (judge_asks (length s.dimensions) h.plan.routes (changes_of c.deref-4.result.now))) c.self.view_is c.in-Ok-judge_in.ensures.whole) in
-    both_within _ _ _ _ _ _ _ _ _ _ _ _ _ _ _ (pinned_whole _ _ _ _ c.in-Ok-judge_pins.is touched) (asks_alone _ _ _ _ bounds) (omega arith) (omega arith) (omega arith) (omega arith)
+    (leaving held.pins (routes_after held.plan.routes a.proposal.now.mv.now) ts)) listed pins in
+    let bounds = subst (λ (cs : Changes). AsksJust c.judge_pins.new.meter c.judge_in.new.meter (judge_asks (length s.dimensions) held.plan.routes cs)) judged c.in-Ok-judge_in.ensures.whole in
+    rw (sym c.self.view_is) (both_within _ _ _ _ _ _ _ _ _ _ _ _ _ _ _ (pinned_whole _ _ _ _ c.in-Ok-judge_pins.is touched) (asks_alone _ _ _ _ bounds) (omega arith) (omega arith) (omega arith) (omega arith))
 
 pub returns-in-Err-Bound-clause-work : goal.returns-in-Err-Bound-clause-work
 returns-in-Err-Bound-clause-work g c =
     let a = c.args in
-    let held = a.self.now in
+    let held : HeldState = record { policy = c.self.inside.policy; tables = c.self.inside.tables; plan = c.self.inside.plan; pins = c.self.inside.pins; cache = c.self.inside.cache } in
+    let listed = c.requires.touched ∙ ap (λ (h : HeldState). touched_by h.plan.routes a.proposal.now.mv.now) (sym c.self.view_is) in
     let s = setting a.setup.now in
     let changes = ap (λ xs. changes_of xs) c.deref-2.ensures.value ∙ c.in-Ok.ensures.changes in
     let judged = ap (λ xs. changes_of xs) c.deref-4.ensures.value ∙ c.in-Ok.ensures.changes in
@@ -111,39 +124,41 @@ returns-in-Err-Bound-clause-work g c =
     (subst (λ (ts : List Touch). Works a.meter.now c.judge_pins.new.meter 0 0 (probes_least 0 0 (leaving held.pins (with_routes (changes_of c.deref-2.result.now) held.plan.routes) ts) c.judge_pins.result)
     (leaving held.pins (with_routes (changes_of c.deref-2.result.now) held.plan.routes) ts)) c.deref-3.ensures.value c.judge_pins.ensures.work) in
     let touched = subst (λ (ts : List Touch). Works a.meter.now c.judge_pins.new.meter 0 0 (probes_least 0 0 (leaving held.pins (routes_after held.plan.routes a.proposal.now.mv.now) ts) c.judge_pins.result)
-    (leaving held.pins (routes_after held.plan.routes a.proposal.now.mv.now) ts)) c.requires.touched pins in
+    (leaving held.pins (routes_after held.plan.routes a.proposal.now.mv.now) ts)) listed pins in
     let v = c.in-Err-Bound.vehicle in
     let d = c.in-Err-Bound.dimension in
     let least = rw c.in-Err-Bound.field-0-is at c.in-Err-Bound.ensures.least in
-    let bounds = subst (λ (cs : Changes). Asks c.judge_pins.new.meter c.judge_in.new.meter (asks_before (length s.dimensions) held.plan.routes cs v d) (judge_asks (length s.dimensions) held.plan.routes cs)) judged
-    (subst (λ (h : HeldState). Asks c.judge_pins.new.meter c.judge_in.new.meter (asks_before (length s.dimensions) h.plan.routes (changes_of c.deref-4.result.now) v d) (judge_asks (length s.dimensions) h.plan.routes (changes_of c.deref-4.result.now))) c.self.view_is least) in
-    both_within _ _ _ _ _ _ _ _ _ _ _ _ _ _ _ (pinned_whole _ _ _ _ c.in-Ok-judge_pins.is touched) (asks_alone _ _ _ _ bounds) (omega arith) (omega arith) (omega arith) (omega arith)
+    let bounds = subst (λ (cs : Changes). Asks c.judge_pins.new.meter c.judge_in.new.meter (asks_before (length s.dimensions) held.plan.routes cs v d) (judge_asks (length s.dimensions) held.plan.routes cs)) judged least in
+    rw (sym c.self.view_is) (both_within _ _ _ _ _ _ _ _ _ _ _ _ _ _ _ (pinned_whole _ _ _ _ c.in-Ok-judge_pins.is touched) (asks_alone _ _ _ _ bounds) (omega arith) (omega arith) (omega arith) (omega arith))
 
 pub judge_in-requires-clause-known : goal.judge_in-requires-clause-known
 judge_in-requires-clause-known g c =
     let s = setting c.args.setup.now in
+    let ready = subst (λ (h : HeldState). IsReady s h) (sym c.self.view_is) c.requires.ready in
     let judged = ap (λ xs. changes_of xs) c.deref-4.ensures.value ∙ c.in-Ok.ensures.changes in
-    subst (λ (cs : Changes). AllKnown s cs) (sym judged) (c.in-Ok.ensures.known s c.requires.ready.sized c.requires.ready.customers)
+    subst (λ (cs : Changes). AllKnown s cs) (sym judged) (c.in-Ok.ensures.known s ready.sized ready.customers)
 
 pub returns-in-Err-clause-work : goal.returns-in-Err-clause-work
 returns-in-Err-clause-work g c =
     let a = c.args in
-    let held = a.self.now in
+    let held : HeldState = record { policy = c.self.inside.policy; tables = c.self.inside.tables; plan = c.self.inside.plan; pins = c.self.inside.pins; cache = c.self.inside.cache } in
+    let listed = c.requires.touched ∙ ap (λ (h : HeldState). touched_by h.plan.routes a.proposal.now.mv.now) (sym c.self.view_is) in
     let changes = ap (λ xs. changes_of xs) c.deref-2.ensures.value ∙ c.in-Ok.ensures.changes in
     let pins = subst (λ (cs : Changes). Works a.meter.now c.judge_pins.new.meter 0 0 (probes_least 0 0 (leaving held.pins (with_routes cs held.plan.routes) a.touched.items) c.judge_pins.result)
     (leaving held.pins (with_routes cs held.plan.routes) a.touched.items)) changes
     (subst (λ (ts : List Touch). Works a.meter.now c.judge_pins.new.meter 0 0 (probes_least 0 0 (leaving held.pins (with_routes (changes_of c.deref-2.result.now) held.plan.routes) ts) c.judge_pins.result)
     (leaving held.pins (with_routes (changes_of c.deref-2.result.now) held.plan.routes) ts)) c.deref-3.ensures.value c.judge_pins.ensures.work) in
     let touched = subst (λ (ts : List Touch). Works a.meter.now c.judge_pins.new.meter 0 0 (probes_least 0 0 (leaving held.pins (routes_after held.plan.routes a.proposal.now.mv.now) ts) c.judge_pins.result)
-    (leaving held.pins (routes_after held.plan.routes a.proposal.now.mv.now) ts)) c.requires.touched pins in
+    (leaving held.pins (routes_after held.plan.routes a.proposal.now.mv.now) ts)) listed pins in
     let stopped = subst (λ (n : ℕ). Works a.meter.now c.judge_pins.new.meter 0 0 n (leaving held.pins (routes_after held.plan.routes a.proposal.now.mv.now) (touched_by held.plan.routes a.proposal.now.mv.now)))
     (ap (λ r. probes_least 0 0 (leaving held.pins (routes_after held.plan.routes a.proposal.now.mv.now) (touched_by held.plan.routes a.proposal.now.mv.now)) r) c.in-Err.is) touched in
-    pinned_stop _ _ _ _ _ _ _ held.pins (may_override (held_basis held a.proposal.now.session)) held.plan.routes (changes_of c.deref-2.result.now) c.deref-3.result.now c.in-Err.stop c.in-Err.ensures.stop stopped
+    rw (sym c.self.view_is) (pinned_stop _ _ _ _ _ _ _ held.pins (may_override (held_basis held a.proposal.now.session)) held.plan.routes (changes_of c.deref-2.result.now) c.deref-3.result.now c.in-Err.stop c.in-Err.ensures.stop stopped)
 
 pub returns-in-Err-NoMemory-clause-work : goal.returns-in-Err-NoMemory-clause-work
 returns-in-Err-NoMemory-clause-work g c =
     let a = c.args in
-    let held = a.self.now in
+    let held : HeldState = record { policy = c.self.inside.policy; tables = c.self.inside.tables; plan = c.self.inside.plan; pins = c.self.inside.pins; cache = c.self.inside.cache } in
+    let listed = c.requires.touched ∙ ap (λ (h : HeldState). touched_by h.plan.routes a.proposal.now.mv.now) (sym c.self.view_is) in
     let s = setting a.setup.now in
     let changes = ap (λ xs. changes_of xs) c.deref-2.ensures.value ∙ c.in-Ok.ensures.changes in
     let judged = ap (λ xs. changes_of xs) c.deref-4.ensures.value ∙ c.in-Ok.ensures.changes in
@@ -152,7 +167,6 @@ returns-in-Err-NoMemory-clause-work g c =
     (subst (λ (ts : List Touch). Works a.meter.now c.judge_pins.new.meter 0 0 (probes_least 0 0 (leaving held.pins (with_routes (changes_of c.deref-2.result.now) held.plan.routes) ts) c.judge_pins.result)
     (leaving held.pins (with_routes (changes_of c.deref-2.result.now) held.plan.routes) ts)) c.deref-3.ensures.value c.judge_pins.ensures.work) in
     let touched = subst (λ (ts : List Touch). Works a.meter.now c.judge_pins.new.meter 0 0 (probes_least 0 0 (leaving held.pins (routes_after held.plan.routes a.proposal.now.mv.now) ts) c.judge_pins.result)
-    (leaving held.pins (routes_after held.plan.routes a.proposal.now.mv.now) ts)) c.requires.touched pins in
-    let bounds = subst (λ (cs : Changes). AsksAtMost c.judge_pins.new.meter c.judge_in.new.meter (judge_asks (length s.dimensions) held.plan.routes cs)) judged
-    (subst (λ (h : HeldState). AsksAtMost c.judge_pins.new.meter c.judge_in.new.meter (judge_asks (length s.dimensions) h.plan.routes (changes_of c.deref-4.result.now))) c.self.view_is c.judge_in.ensures.asks) in
-    both_within _ _ _ _ _ _ _ _ _ _ _ _ _ _ _ (pinned_whole _ _ _ _ c.in-Ok-judge_pins.is touched) (asks_alone _ _ _ _ bounds) (omega arith) (omega arith) (omega arith) (omega arith)
+    (leaving held.pins (routes_after held.plan.routes a.proposal.now.mv.now) ts)) listed pins in
+    let bounds = subst (λ (cs : Changes). AsksAtMost c.judge_pins.new.meter c.judge_in.new.meter (judge_asks (length s.dimensions) held.plan.routes cs)) judged c.judge_in.ensures.asks in
+    rw (sym c.self.view_is) (both_within _ _ _ _ _ _ _ _ _ _ _ _ _ _ _ (pinned_whole _ _ _ _ c.in-Ok-judge_pins.is touched) (asks_alone _ _ _ _ bounds) (omega arith) (omega arith) (omega arith) (omega arith))

@@ -1,11 +1,11 @@
-use Rattle.std.proofs.Common.{◌≡◌, ◌∙◌, ◌+◌, refl, ap, length, drop, take, Ok, Err}
-use Rattle.std.proofs.lemmas.List.{drop_all, length-set, take_more_set, take_all}
+use Rattle.std.proofs.Common.{◌≡◌, ◌∙◌, ◌+◌, refl, ap, length, drop, Ok, Err, arith}
+use Rattle.std.proofs.lemmas.List.{drop_all, length-set, take_more_set}
 use Rattle.std.proofs.lemmas.Result.{err_from_is_err_and}
 use Rattle.dimension_core.specs.Setup.{setting}
 use Rattle.plan_core.specs.Plan.{changes_of, route_at}
 use Rattle.range_cache.proofs.Changing.{changed_as}
 use Rattle.range_cache.proofs.Judged.{rest_all, rest_next, rest_none, rest_known, rows_within, asked_none, asked_next, asked_all}
-use Rattle.range_cache.proofs.Judging.{next_of, row_place, rows_end, judged_none, judged_out}
+use Rattle.range_cache.proofs.Judging.{next_of, row_place, judged_none, judged_out}
 use Rattle.range_cache.proofs.Misses.{asked_to_all, asked_to_next}
 use Rattle.range_cache.proofs.Opening.{all_as, short_as}
 use Rattle.range_cache.proofs.Walking.{asks_few}
@@ -68,8 +68,8 @@ loop-k-preserved g c =
     let change = changed_as s item.result.0 (route_at c.args.plan.now.routes item.result.0) _ c.deref.result.now item.result.1.value c.loop-k.meter c.change_row.new.meter (Ok tt) c.change_row.new.row refl c.deref.ensures
     (record { fits = e.fits; row = e.row; fault = tt; asks = c.change_row.ensures.asks; whole = e.whole; least = tt; missed = tt }) in
     record {
-      sized = length-set c.loop-k.room.rows.items i (item.result.0, c.change_row.new.row) ∙ so_far.sized;
-      rest = rw (take_more_set c.loop-k.room.rows.items i (item.result.0, c.change_row.new.row) (row_place _ _ _ _ c.loop-k-test.true refl so_far.sized))
+      sized = rw (length-set c.loop-k.room.rows.items i (item.result.0, c.change_row.new.row)) so_far.sized;
+      rest = rw (take_more_set c.loop-k.room.rows.items i (item.result.0, c.change_row.new.row) (row_place _ _ _ _ c.loop-k-test.true so_far.sized refl))
           (rest_next s (changes_of c.args.changes.now) (changes_of (drop i c.args.changes.now)) (changes_of (drop (i + 1) c.args.changes.now)) _ (item.result.0, item.result.1.value) c.change_row.new.row so_far.rest next change.fits change.row);
       asks = asked_next (length s.dimensions) c.args.plan.now.routes (changes_of c.args.changes.now) (changes_of (drop i c.args.changes.now)) (changes_of (drop (i + 1) c.args.changes.now))
           (item.result.0, item.result.1.value) _ _ _ so_far.asks next change.whole;
@@ -82,20 +82,20 @@ new-requires g c =
     let s = setting c.args.setup.now in
     let end = ap (λ xs. changes_of xs) (drop_all c.loop-k.k c.args.changes.now c.loop-k-test.false) in
     let all = rest_none s _ _ _ c.loop-k.invariant.rest end in
-    let whole : take c.loop-k.k c.loop-k.room.rows.items ≡ c.loop-k.room.rows.items = take_all c.loop-k.k c.loop-k.room.rows.items (rows_end _ _ _ c.loop-k.invariant.sized c.loop-k-test.false) in
-    rows_within s (changes_of c.args.changes.now) c.replace.result.items c.args.self.now c.requires.cache.sized (rw c.replace.ensures.value (rw whole at all.1))
+    let counted : length c.args.changes.now ≡ c.loop-k.k = omega (arith, c.loop-k-test.false, c.loop-k.auto.k-end) in
+    rows_within s (changes_of c.args.changes.now) c.take_rows.result.items c.args.self.now c.requires.cache.sized (rw (c.take_rows.ensures, counted) all.1)
 
 pub returns : goal.returns
 returns g c =
     let s = setting c.args.setup.now in
     let end = ap (λ xs. changes_of xs) (drop_all c.loop-k.k c.args.changes.now c.loop-k-test.false) in
     let all = rest_none s _ _ _ c.loop-k.invariant.rest end in
-    let whole : take c.loop-k.k c.loop-k.room.rows.items ≡ c.loop-k.room.rows.items = take_all c.loop-k.k c.loop-k.room.rows.items (rows_end _ _ _ c.loop-k.invariant.sized c.loop-k-test.false) in
+    let counted : length c.args.changes.now ≡ c.loop-k.k = omega (arith, c.loop-k-test.false, c.loop-k.auto.k-end) in
     let asked = asked_all (length s.dimensions) c.args.plan.now.routes (changes_of c.args.changes.now) _ _ _ c.loop-k.invariant.asks end in
     record {
       of = c.new.ensures.of;
       fits = all.0;
-      rows = rw (c.new.ensures.rows, c.replace.ensures.value) (rw whole at all.1);
+      rows = rw (c.new.ensures.rows, c.take_rows.ensures, counted) all.1;
       fault = tt;
       asks = asks_few _ _ _ asked;
       whole = asked;
