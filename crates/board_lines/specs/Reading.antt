@@ -5,7 +5,9 @@ use Rattle.move_core.specs.declared.moves.Move.TheVariants as plan
 use Rattle.rbac_core.specs.declared.command.Command.{Command as PolicyCommand}
 use Rattle.rbac_core.specs.declared.command.Command.TheVariants as policy
 use Rattle.board_rules.specs.declared.call.Call.TheVariants as calls
+use Rattle.board_rules.specs.declared.hold.Hold.{Hold as HoldCall}
 use Rattle.board_rules.specs.declared.review.Review.TheVariants as reviews
+use Rattle.board_rules.specs.Holds.{call_of}
 use Rattle.board_lines.specs.declared.command.Command.{Command}
 use Rattle.board_lines.specs.declared.command.Command.TheVariants.{Skip, Submit, List as ListRows, Json, Audit, Check, Review}
 use Rattle.board_lines.specs.declared.command.LineFault.{LineFault}
@@ -42,6 +44,11 @@ SaysAs f (Err (Line fault)) read = read ≡ Err fault
 abbrev pub Proposes : Result Proposed LineFault → Result Command LineFault → Type 0
 Proposes (Ok p) read = read ≡ Ok (Submit (calls.Propose p.session p.base p.mv))
 Proposes (Err fault) read = read ≡ Err fault
+
+-- What a function returned is the call on a pin or on a frozen front, or the fault, that was to be read.
+abbrev pub Holds : Result HoldCall LineFault → Result Command LineFault → Type 0
+Holds (Ok hold) read = read ≡ Ok (Submit (call_of hold))
+Holds (Err fault) read = read ≡ Err fault
 
 abbrev pub by_policy : ℕ → PolicyCommand → Command
 by_policy session command = Submit (calls.Policy session command)

@@ -19,7 +19,7 @@ pub use listing::{
     list_text, push_audit, push_check, push_end, push_entry, push_list, push_review, push_row,
 };
 pub use reading::{
-    Head, Order, Proposed, read_command, read_head, read_kept, read_line, read_order,
+    Head, Order, Proposed, read_command, read_head, read_hold, read_kept, read_line, read_order,
     read_proposal, read_words,
 };
 pub use replies::{

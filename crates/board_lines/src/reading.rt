@@ -3,10 +3,10 @@
 ghost use Rattle.std.specs.Prelude.{◌≡◌, map};
 ghost use Rattle.board_rules.specs.declared.call.Call.TheVariants as calls;
 ghost use Rattle.board_lines.specs.declared.command.Command.TheVariants.{Submit};
-ghost use Rattle.board_lines.specs.declared.word.Word.TheVariants.{Propose, Hold, Manage, Separate, Session, Ask};
+ghost use Rattle.board_lines.specs.declared.word.Word.TheVariants.{Propose, Hold as HoldBy, Manage, Separate, Session, Ask};
 ghost use Rattle.board_lines.specs.declared.word.ManageWord.TheVariants as manages;
 ghost use Rattle.text_words.specs.Words.{words as line_words, AreFirstOf};
-ghost use Rattle.board_lines.specs.Reading.{Says, Proposes, Orders, Begins, by_policy, after_word, words_read, read_of};
+ghost use Rattle.board_lines.specs.Reading.{Says, Proposes, Holds, Orders, Begins, by_policy, after_word, words_read, read_of};
 
 use crate::arguments::{
     access, five_numbers, four_numbers, name_and_names, name_and_number, name_number_and_names,
@@ -15,7 +15,7 @@ use crate::arguments::{
 };
 use crate::command::{Command, LineFault, ReadFault};
 use crate::word::{AskWord, HoldWord, ManageWord, MoveWord, SessionWord, SetWord, Word};
-use board_rules::{Call, Review};
+use board_rules::{Call, Hold, Review};
 use move_core::Move;
 use rbac_core::{Command as PolicyCommand, Separation};
 use std::alloc::Global;
@@ -153,37 +153,47 @@ fn proposal(session: u32, word: MoveWord, arguments: &[&[u8]]) -> Result<Command
     Ok(Command::Submit(Call::Propose { session, base, mv }))
 }
 
+/// What a line asks of a pin or of a frozen front, or its first fault, where its session and the command's word are known, by the words
+/// after that.
 #[tactic(auto, unfolding(crate::specs::Reading::command_of))]
 #[inline(never)]
-fn hold(session: u32, word: HoldWord, arguments: &[&[u8]]) -> Result<Command, ReadFault>
-    ensures { Says result (after_word session (Hold word) (map (λ w. w.now) arguments.now)) }
+pub fn read_hold(session: u32, word: HoldWord, arguments: &[&[u8]]) -> Result<Hold, LineFault>
+    ensures { Holds result (after_word session (HoldBy word) (map (λ w. w.now) arguments.now)) }
 {
     match word {
         HoldWord::Pin => {
             let customer = one_number(arguments)?;
-            Ok(Command::Submit(Call::Pin { session, customer }))
+            Ok(Hold::Pin { session, customer })
         }
         HoldWord::Unpin => {
             let customer = one_number(arguments)?;
-            Ok(Command::Submit(Call::Unpin { session, customer }))
+            Ok(Hold::Unpin { session, customer })
         }
         HoldWord::Freeze => {
             let (vehicle, length) = two_numbers(arguments)?;
-            Ok(Command::Submit(Call::Freeze {
+            Ok(Hold::Freeze {
                 session,
                 vehicle,
                 length,
-            }))
+            })
         }
         HoldWord::Thaw => {
             let (vehicle, length) = two_numbers(arguments)?;
-            Ok(Command::Submit(Call::Thaw {
+            Ok(Hold::Thaw {
                 session,
                 vehicle,
                 length,
-            }))
+            })
         }
     }
+}
+
+#[inline(never)]
+fn hold(session: u32, word: HoldWord, arguments: &[&[u8]]) -> Result<Command, ReadFault>
+    ensures { Says result (after_word session (HoldBy word) (map (λ w. w.now) arguments.now)) }
+{
+    let hold = read_hold(session, word, arguments)?;
+    Ok(Command::Submit(hold.call()))
 }
 
 // Two names and permissions are read out of line, so that the other lines do not pay for their room.

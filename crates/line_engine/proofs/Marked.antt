@@ -7,8 +7,11 @@ use Rattle.board_lines.specs.declared.command.ReadFault.{ReadFault}
 use Rattle.board_lines.specs.declared.command.ReadFault.TheVariants.{Line, NoMemory}
 use Rattle.board_lines.specs.declared.reading.Proposed.{Proposed}
 use Rattle.board_lines.specs.declared.reading.Order.{Order}
-use Rattle.board_lines.specs.Reading.{Says, Proposes, Orders, by_policy}
+use Rattle.board_lines.specs.Reading.{Says, Proposes, Holds, Orders, by_policy}
+use Rattle.board_rules.specs.declared.call.Call.{Call}
 use Rattle.board_rules.specs.declared.call.Call.TheVariants as calls
+use Rattle.board_rules.specs.declared.hold.Hold.{Hold}
+use Rattle.board_rules.specs.Holds.{call_of}
 use Rattle.line_engine.specs.Answers.{Answer}
 use Rattle.line_engine.specs.Outcomes.{Said, Bad}
 use Rattle.line_engine.specs.Leaving.{Does, Gives, Fails, Drops, Loses, RunsOut, as_json, asked}
@@ -73,6 +76,13 @@ module _ {S E : Type 0} (step : S → Command → Answer → S → Type 0) (refu
 -- what was to be read, by what reading a proposal returned
 pub proposed : (r : Result Proposed LineFault) (read : Result Command LineFault) (p : Proposed) → r ≡ Ok p → Proposes r read → read ≡ Ok (commands.Submit (calls.Propose p.session p.base p.mv))
 proposed r read p is h = subst (λ (x : Result Proposed LineFault). Proposes x read) is h
+
+-- by what reading a call on a pin or on a frozen front returned
+pub held : (r : Result Hold LineFault) (read : Result Command LineFault) (hold : Hold) (call : Call) → r ≡ Ok hold → call ≡ call_of hold → Holds r read → read ≡ Ok (commands.Submit call)
+held r read hold call is e h = rw e (subst (λ (x : Result Hold LineFault). Holds x read) is h)
+
+pub not_held : (r : Result Hold LineFault) (read : Result Command LineFault) (fault : LineFault) → r ≡ Err fault → Holds r read → read ≡ Err fault
+not_held r read fault is h = subst (λ (x : Result Hold LineFault). Holds x read) is h
 
 -- and by what reading a change of the policy returned
 pub ordered : (r : Result Order LineFault) (read : Result Command LineFault) (o : Order) → r ≡ Ok o → Orders r read → read ≡ Ok (by_policy o.session o.command)

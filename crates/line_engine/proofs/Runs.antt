@@ -1,10 +1,8 @@
 -- Runs that follow one another.
-use Rattle.std.proofs.Common.{◌≡◌, ℕ, ◌+◌, ◌-◌, ◌<◌, ◌≤◌, ◌⊎◌, inl, inr, List, [], ◌∷◌, ◌++◌, length, take, drop, get_or, add-one, Bool, ◌≢◌, cond, refl, sym, ap, subst, ◌∙◌, append_assoc, arith}
+use Rattle.std.proofs.Common.{◌≡◌, ℕ, ◌+◌, ◌<◌, ◌≤◌, ◌⊎◌, inl, inr, List, [], ◌∷◌, ◌++◌, length, Bool, ◌≢◌, cond, refl, sym, ap, subst, ◌∙◌, append_assoc, arith}
 use Rattle.std.specs.Prelude.{count_by}
 use Rattle.std.specs.List.{flat_map, AllByRecursion}
-use Rattle.std.proofs.lemmas.List.{append-nil, length-append, length-drop, take-append-drop, take_all}
-use Rattle.std.proofs.Math.Seq.{drop-cons}
-use Rattle.text_words.specs.Words.{IsLineEnd}
+use Rattle.std.proofs.lemmas.List.{append-nil, length-append}
 use Rattle.std.proofs.lemmas.List.Elements.{All-append}
 use Rattle.std.proofs.lemmas.Grind.{flat_map-append}
 use Rattle.std.proofs.lemmas.List.Sums.{sum_by-append}
@@ -192,18 +190,6 @@ Broken-then step refuses fault a b c x y bytes rest more s0 s1 n0 n1 r0 r1 p q =
 }
 
 -- ---- a piece, line by line
-
--- what follows the first line end of a piece
-abbrev pub behind_line : List ℕ → ℕ → List ℕ
-behind_line piece i = take (length piece - (i + 1)) (drop (i + 1) piece)
-
--- a piece is its first line, the line end and what follows
-pub line_first : (piece : List ℕ) (i : ℕ) → IsLineEnd piece i → piece ≡ take i piece ++ 10 ∷ behind_line piece i
-line_first piece i end =
-    let lt : i < length piece = end.0 in
-    let split : drop i piece ≡ get_or piece i 0 ∷ drop (i + 1) piece = rw (add-one, drop-cons piece i 0) refl in
-    let all : behind_line piece i ≡ drop (i + 1) piece = take_all (length piece - (i + 1)) (drop (i + 1) piece) (omega (arith, length-drop (i + 1) piece)) in
-    sym (take-append-drop i piece) ∙ ap (λ (l : List ℕ). take i piece ++ l) (split ∙ ap (λ (b : ℕ). b ∷ drop (i + 1) piece) end.2 ∙ ap (λ (l : List ℕ). 10 ∷ l) (sym all))
 
 pub feed_line : {S : Type 0} (step : S → Command → Answer → S → Type 0) (a b c : S) (x y partial done line rest end : List ℕ) (s0 s1 s2 n0 n1 n2 r0 r1 r2 : ℕ) → Progress step a b x (partial ++ done) rest s0 s1 n0 n1 r0 r1 → Progress step b c y (rest ++ line) end s1 s2 n1 n2 r1 r2 → Progress step a c (x ++ y) (partial ++ (done ++ line)) end s0 s2 n0 n2 r0 r2
 feed_line step a b c x y partial done line rest end s0 s1 s2 n0 n1 n2 r0 r1 r2 p q =

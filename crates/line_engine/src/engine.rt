@@ -4,7 +4,7 @@ ghost use Rattle.std.specs.Prelude.{◌≡◌, ◌+◌, ◌<◌, ◌≤◌, ◌�
 ghost use Rattle.std.specs.Io.KnownBytes.{Appends};
 ghost use Rattle.text_words.specs.Words.{words as line_words};
 ghost use Rattle.board_lines.specs.Reading.{after_word, read_of, words_read};
-ghost use Rattle.board_lines.specs.declared.word.Word.TheVariants.{Propose, Manage};
+ghost use Rattle.board_lines.specs.declared.word.Word.TheVariants.{Propose, Hold, Manage};
 ghost use Rattle.line_engine.specs.Leaving.{Gives, Drops};
 ghost use Rattle.line_engine.specs.Marks.{Marks};
 ghost use Rattle.line_engine.specs.Running.{body, Grows, Served, ServeBroken, Progress, Broken, IsLine, HasNoEnd, BrokenWithin, EndsLast, Finished, Reaches, last_line};
@@ -16,13 +16,13 @@ use crate::mark::Mark;
 use crate::outbox::Outbox;
 use crate::run_fault::{Counts, RunFault};
 use board_lines::{
-    Head, ManageWord, MoveWord, Order, Proposed, Word, read_command, read_head, read_order,
-    read_proposal,
+    Head, HoldWord, ManageWord, MoveWord, Order, Proposed, Word, read_command, read_head,
+    read_hold, read_order, read_proposal,
 };
 use board_rules::Call;
 use std::alloc::Global;
 use std::io::{Read, Write};
-use text_words::{keep_all_words, keep_line};
+use text_words::{Lines, keep_all_words};
 
 /// Asks the front what a line says whose session and command are known, and replaces `text` by the text of the answer.
 // Out of line, since what a line says is large: a line that is skipped, or bad by its head, pays nothing for it.
@@ -102,6 +102,32 @@ fn ask_order<R, F: Front<R>>(
     }
 }
 
+/// Submits to the front the call on a pin or on a frozen front of a line whose session and word are known, and replaces `text` by the text of
+/// the answer.
+// Apart from `ask` for the same reason.
+#[inline(never)]
+fn ask_hold<R, F: Front<R>>(
+    rt: &R,
+    front: &mut F,
+    text: &mut String,
+    session: u32,
+    word: HoldWord,
+    arguments: &[&[u8]],
+) -> Result<Mark, OutOfMemory>
+    requires ready { F.ready front.old }
+    ensures ready { F.ready front.new }
+    ensures ok { IfOk result (Marks (λ outcome. Gives F.step (F.seen front.old)
+        (after_word session (Hold word) (map (λ w. w.now) arguments.now)) outcome (F.seen front.new)) (string_bytes text.new)) }
+    ensures err { OnErr result (Drops F.step F.refuses (F.seen front.old)
+        (after_word session (Hold word) (map (λ w. w.now) arguments.now)) (F.seen front.new)) }
+{
+    text.clear();
+    match read_hold(session, word, arguments) {
+        Ok(hold) => reply(rt, front, text, hold.call()),
+        Err(fault) => Ok(Mark::Bad(fault)),
+    }
+}
+
 /// Asks the front what a line of these words says, and replaces `text` by the text of the answer.
 #[inline(always)]
 fn answer_words<R, F: Front<R>>(
@@ -133,6 +159,13 @@ fn answer_words<R, F: Front<R>>(
                 arguments,
             },
         ) => ask_order(rt, front, text, session, word, arguments),
+        Ok(
+            Head::Asks {
+                session,
+                word: Word::Hold(word),
+                arguments,
+            },
+        ) => ask_hold(rt, front, text, session, word, arguments),
         Ok(
             Head::Asks {
                 session,
@@ -317,24 +350,15 @@ fn feed<'a, R, F: Front<R>>(
         (F.seen front.old) (F.seen front.new) out outbox.old.tally.seen partial.old.items piece.now)) }
 {
     let mut words = Vec::with_capacity(alloc, MANY_WORDS)?;
-    let mut left = piece;
+    let mut left = Lines::new(piece);
     'lines: loop {
-        let Some(end) = keep_line(&mut words, left)? else {
-            keep(partial, left)?;
+        let Some(line) = left.keep_next(&mut words)? else {
+            keep(partial, left.rest())?;
             return Ok(b"".as_slice());
         };
-        take_line(
-            rt,
-            alloc,
-            front,
-            outbox,
-            partial,
-            words.as_slice(),
-            &left[..end],
-        )?;
-        left = &left[end + 1..];
+        take_line(rt, alloc, front, outbox, partial, words.as_slice(), line)?;
         if outbox.is_full() {
-            return Ok(left);
+            return Ok(left.rest());
         }
     }
 }

@@ -123,14 +123,6 @@ one_end text from at le room none end = record {
       (subst (λ (i : ℕ). IsWordEnd text from i) (omega (arith, first)) (record { low = le; high = room; end = end }), omega (arith, first));
 }
 
--- no ends are known
-pub none_to_know : (text : List ℕ) (from : ℕ) → AreWordEnds text from 0 0
-none_to_know text from = record {
-  none = λ k low high. absurd (omega arith);
-  each = λ k j lt set low end. absurd (omega (arith, no_bit j));
-  only = λ k set. absurd (omega (arith, no_bit k));
-}
-
 -- the ends after the first of them
 pub ends_behind : (text : List ℕ) (from base bits bit left : ℕ) → AreWordEnds text from base bits → bit_at bits bit ≡ 1 → ((k : ℕ) → k < bit → bit_at bits k ≡ 0)
     → ((k : ℕ) → k < 64 → k ≢ bit → bit_at left k ≡ bit_at bits k) → ((k : ℕ) → bit_at left k ≡ 1 → (bit_at bits k ≡ 1) × (k ≢ bit))

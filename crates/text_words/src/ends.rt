@@ -1,12 +1,29 @@
 //! Where words end, found for 32 bytes at a time.
 
-ghost use Rattle.std.specs.Prelude.{◌≡◌, ◌≢◌, ◌↔◌, ℕ, ◌+◌, ◌<◌, ◌≤◌, true, length, slice_index, MatchOption};
+ghost use Rattle.std.specs.Prelude.{◌≡◌, ◌≢◌, ◌↔◌, ℕ, ◌+◌, ◌<◌, ◌≤◌, true, List, length, slice_index, MatchOption};
 ghost use Rattle.std.specs.Int.{bit_at};
 ghost use Rattle.text_words.specs.Words.{ends_word};
 ghost use Rattle.text_words.specs.Ends.{EndsNoWord, AreWordEnds};
 
 use crate::is_gap;
 use std::simd::prelude::*;
+
+/// Ends of words that are known: a bit for each, counted from a place.
+#[derive(Clone, Copy, Drop)]
+pub(crate) struct Ends {
+    pub(crate) base: usize,
+    pub(crate) bits: u64,
+}
+
+impl Ends {
+    /// No ends are known.
+    #[inline(always)]
+    pub(crate) fn none() -> Ends
+        ensures { (text : List ℕ) (from : ℕ) → AreWordEnds text from result.base result.bits }
+    {
+        Ends { base: 0, bits: 0 }
+    }
+}
 
 /// Whether the byte ends a word: a space, a tab or a line feed.
 #[inline(always)]
@@ -50,19 +67,21 @@ fn without(bits: u64, bit: usize) -> u64
     bits & !(1 << bit)
 }
 
-/// The first of the ends that are known, and the bits of the others.
+/// The first of the ends that are known, and the others.
 #[inline(always)]
-pub(crate) fn first_end(text: &[u8], from: usize, base: usize, bits: u64) -> (usize, u64)
-    requires some { bits ≢ 0 }
-    requires ends { AreWordEnds text.now from base bits }
+pub(crate) fn first_end(text: &[u8], from: usize, known: Ends) -> (usize, Ends)
+    requires some { known.bits ≢ 0 }
+    requires ends { AreWordEnds text.now from known.base known.bits }
     ensures from { from ≤ result.0 }
     ensures within { result.0 < length text.now }
     ensures none { EndsNoWord text.now from result.0 }
     ensures end { ends_word (slice_index text.now result.0) ≡ true }
-    ensures ends { AreWordEnds text.now (result.0 + 1) base result.1 }
+    ensures ends { AreWordEnds text.now (result.0 + 1) result.1.base result.1.bits }
 {
+    let Ends { base, bits } = known;
     let bit = lowest(bits);
-    (base + bit, without(bits, bit))
+    let bits = without(bits, bit);
+    (base + bit, Ends { base, bits })
 }
 
 /// The place of the first byte from a place on that ends a word, or of the text's end, looked for byte by byte.
@@ -82,17 +101,18 @@ fn near_end(text: &[u8], from: usize) -> usize
     text.len()
 }
 
-/// Where the next words end from a place on: a place, and a bit for each end after it. None where no word ends there.
+/// Where the next words end from a place on. None where no word ends there.
 #[inline(always)]
-fn more_ends(text: &[u8], from: usize) -> Option<(usize, u64)>
+fn more_ends(text: &[u8], from: usize) -> Option<Ends>
     requires { from ≤ length text.now }
-    ensures ends { MatchOption result (EndsNoWord text.now from (length text.now)) (λ r. (r.1 ≢ 0) × AreWordEnds text.now from r.0 r.1) }
+    ensures ends { MatchOption result (EndsNoWord text.now from (length text.now))
+        (λ r. (r.bits ≢ 0) × AreWordEnds text.now from r.base r.bits) }
 {
     let mut at = from;
     while 32 <= text.len() - at {
-        let marked = ends_among(text, at);
-        if marked != 0 {
-            return Some((at, marked));
+        let bits = ends_among(text, at);
+        if bits != 0 {
+            return Some(Ends { base: at, bits });
         }
         at += 32;
     }
@@ -100,18 +120,19 @@ fn more_ends(text: &[u8], from: usize) -> Option<(usize, u64)>
     if end == text.len() {
         return None;
     }
-    Some((end, 1))
+    Some(Ends { base: end, bits: 1 })
 }
 
 /// The ends that are known, or the next ones where there are none.
 #[inline(always)]
-pub(crate) fn known_ends(text: &[u8], from: usize, base: usize, bits: u64) -> Option<(usize, u64)>
+pub(crate) fn known_ends(text: &[u8], from: usize, known: Ends) -> Option<Ends>
     requires from { from ≤ length text.now }
-    requires ends { AreWordEnds text.now from base bits }
-    ensures ends { MatchOption result (EndsNoWord text.now from (length text.now)) (λ r. (r.1 ≢ 0) × AreWordEnds text.now from r.0 r.1) }
+    requires ends { AreWordEnds text.now from known.base known.bits }
+    ensures ends { MatchOption result (EndsNoWord text.now from (length text.now))
+        (λ r. (r.bits ≢ 0) × AreWordEnds text.now from r.base r.bits) }
 {
-    if bits != 0 {
-        return Some((base, bits));
+    if known.bits != 0 {
+        return Some(known);
     }
     more_ends(text, from)
 }

@@ -1,13 +1,14 @@
 //! Words of a line, and the numbers that words are.
 #![tactic(auto)]
 
-ghost use Rattle.std.specs.Prelude.{◌≡◌, if◌then◌else◌, Some, None, ◌<◌, ◌≤◌, ◌-◌, ◌==◌, ◌||◌, true, [], ◌∷◌, ◌++◌, ℕ, IfOk, IfSome, OnOk, OnErr, MatchOption, length, map, take, drop, slice_index};
+ghost use Rattle.std.specs.Prelude.{◌≡◌, if◌then◌else◌, Some, None, ◌<◌, ◌≤◌, ◌==◌, ◌||◌, true, [], ◌∷◌, IfOk, IfSome, OnOk, OnErr, MatchOption, length, map, take, slice_index};
 ghost use Rattle.std.specs.List.{slice_split};
-ghost use Rattle.text_words.specs.Words.{full_parts, words, number, is_gap, AreFirstOf, HasNoGap, HasNoFeed, HasNoLineFeed, IsLineEnd, AreWordsUpTo};
+ghost use Rattle.text_words.specs.Words.{words, number, is_gap, AreFirstOf, HasNoGap};
 
 mod ends;
+mod lines;
 
-use crate::ends::{first_end, known_ends};
+pub use lines::{Lines, keep_line};
 use std::alloc::{AllocError, Global};
 
 /// Whether the byte separates words: a space or a tab.
@@ -86,56 +87,6 @@ pub fn words_of(alloc: Global, line: &[u8]) -> Result<Vec<&[u8]>, AllocError>
     let mut kept = Vec::new(alloc);
     keep_all_words(&mut kept, line)?;
     Ok(kept)
-}
-
-/// Keeps what is between two places, unless that is nothing.
-#[inline(always)]
-fn keep_part<'a>(
-    kept: &mut Vec<&'a [u8]>,
-    text: &'a [u8],
-    from: usize,
-    to: usize,
-) -> Result<(), AllocError>
-    requires from { from ≤ to }
-    requires to { to ≤ length text.now }
-    ensures part { OnOk result (map (λ w. w.now) kept.new.items
-        ≡ map (λ w. w.now) kept.old.items ++ full_parts (take (to - from) (drop from text.now) ∷ [])) }
-    ensures left { OnErr result (kept.new.items ≡ kept.old.items) }
-{
-    if from < to {
-        kept.push(&text[from..to])?;
-    }
-    Ok(())
-}
-
-/// Makes `kept` the words of a text's first line, and gives the place of the line feed that ends it. Line and words are cut in one pass.
-/// Where the text has no line feed, there is no such place, and the words before its last gap are kept. Where memory runs out, the first of
-/// the line's words are kept.
-#[inline(always)]
-pub fn keep_line<'a>(kept: &mut Vec<&'a [u8]>, text: &'a [u8]) -> Result<Option<usize>, AllocError>
-    ensures end { IfOk result (λ end. MatchOption end (HasNoLineFeed text.now) (IsLineEnd text.now)) }
-    ensures words { IfOk result (λ end. IfSome end (λ i. map (λ w. w.now) kept.new.items ≡ words (take i text.now))) }
-    ensures none { IfOk result (λ end. end ≡ None → (i : ℕ) × HasNoGap text.now i (length text.now)
-        × AreWordsUpTo text.now i (map (λ w. w.now) kept.new.items)) }
-    ensures left { OnErr result ((i : ℕ) × AreWordsUpTo text.now i (map (λ w. w.now) kept.new.items)) }
-{
-    kept.clear();
-    let mut start = 0;
-    let mut base = 0;
-    let mut bits = 0;
-    'words: loop {
-        let Some((place, ends)) = known_ends(text, start, base, bits) else {
-            return Ok(None);
-        };
-        let (end, left) = first_end(text, start, place, ends);
-        keep_part(kept, text, start, end)?;
-        if text[end] == b'\n' {
-            return Ok(Some(end));
-        }
-        start = end + 1;
-        base = place;
-        bits = left;
-    }
 }
 
 // Short numbers, without a loop. The byte of a digit is 48 more than its value, so the sum for one to four digits is 48, 528, 5,328 or

@@ -10,7 +10,7 @@ loop-at-preserved c =
     record {
       low = omega (arith, v.low);
       high = omega (arith, v.high, c.loop-at-test.true);
-      none = none_then text c.args.from at (at + 32) v.none (none_among text at c.ends_among-marked.result c.if-marked-ne0.false c.ends_among-marked.ensures);
+      none = none_then text c.args.from at (at + 32) v.none (none_among text at c.ends_among-bits.result c.if-bits-ne0.false c.ends_among-bits.ensures);
     }
 
 pub returns : goal.returns
