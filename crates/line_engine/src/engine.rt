@@ -1,6 +1,6 @@
 //! The engine of lines.
 
-ghost use Rattle.std.specs.Prelude.{◌≡◌, ◌+◌, ◌<◌, ◌≤◌, ◌⊎◌, ◌∷◌, [], ◌++◌, List, ℕ, length, map, OnOk, OnErr, IfOk, IfErr, string_bytes};
+ghost use Rattle.std.specs.Prelude.{◌≡◌, ◌+◌, ◌<◌, ◌≤◌, ◌⊎◌, ◌∷◌, [], ◌++◌, false, List, ℕ, length, map, OnOk, OnErr, IfOk, IfErr, string_bytes};
 ghost use Rattle.std.specs.Io.KnownBytes.{Appends};
 ghost use Rattle.text_words.specs.Words.{words as line_words};
 ghost use Rattle.board_lines.specs.Reading.{after_word, read_of, words_read};
@@ -130,7 +130,7 @@ fn ask_hold<R, F: Front<R>>(
 
 /// Asks the front what a line of these words says, and replaces `text` by the text of the answer.
 #[inline(always)]
-fn answer_words<R, F: Front<R>>(
+fn answer<R, F: Front<R>>(
     rt: &R,
     alloc: Global,
     front: &mut F,
@@ -177,51 +177,7 @@ fn answer_words<R, F: Front<R>>(
     }
 }
 
-/// Answers a line that had a carriage return at its end, by what comes before that.
-// Out of line, since few lines end so.
-#[inline(never)]
-fn answer_returned<R, F: Front<R>>(
-    rt: &R,
-    alloc: Global,
-    front: &mut F,
-    text: &mut String,
-    line: &[u8],
-) -> Result<Mark, OutOfMemory>
-    requires ready { F.ready front.old }
-    ensures ready { F.ready front.new }
-    ensures ok { IfOk result (Marks (λ outcome. Gives F.step (F.seen front.old) (read_of line.now) outcome (F.seen front.new))
-        (string_bytes text.new)) }
-    ensures err { OnErr result (Drops F.step F.refuses (F.seen front.old) (read_of line.now) (F.seen front.new)) }
-{
-    let mut words = Vec::new(alloc);
-    keep_all_words(&mut words, line)?;
-    answer_words(rt, alloc, front, text, words.as_slice())
-}
-
-/// Asks the front what a line says, without the one carriage return at its end, and replaces `text` by the text of the answer. The words of
-/// a line without a carriage return are cut already.
-fn answer<R, F: Front<R>>(
-    rt: &R,
-    alloc: Global,
-    front: &mut F,
-    text: &mut String,
-    words: &[&[u8]],
-    line: &[u8],
-) -> Result<Mark, OutOfMemory>
-    requires ready { F.ready front.old }
-    requires words { map (λ w. w.now) words.now ≡ line_words line.now }
-    ensures ready { F.ready front.new }
-    ensures ok { IfOk result (Marks (λ outcome. Gives F.step (F.seen front.old) (read_of (body line.now)) outcome (F.seen front.new))
-        (string_bytes text.new)) }
-    ensures err { OnErr result (Drops F.step F.refuses (F.seen front.old) (read_of (body line.now)) (F.seen front.new)) }
-{
-    match line.strip_suffix(b"\r".as_slice()) {
-        Some(line) => answer_returned(rt, alloc, front, text, line),
-        None => answer_words(rt, alloc, front, text, words),
-    }
-}
-
-/// Answers a line of these words, and holds the reply.
+/// Answers a line whose words, without the one carriage return at its end, are these, and holds the reply.
 fn serve<R, F: Front<R>>(
     rt: &R,
     alloc: Global,
@@ -232,7 +188,7 @@ fn serve<R, F: Front<R>>(
 ) -> Result<(), RunFault>
     requires seen { outbox.old.tally.seen < 4294967296 }
     requires ready { F.ready front.old }
-    requires words { map (λ w. w.now) words.now ≡ line_words line.now }
+    requires words { map (λ w. w.now) words.now ≡ line_words (body line.now) }
     ensures ready { F.ready front.new }
     ensures ok { OnOk result (Grows outbox.old.held.items outbox.new.held.items
         (λ out. Served F.step (F.seen front.old) (F.seen front.new) out line.now
@@ -241,14 +197,15 @@ fn serve<R, F: Front<R>>(
     ensures held { OnErr result (outbox.new.held.items ≡ outbox.old.held.items) }
     ensures err { IfErr result (λ e. ServeBroken F.step F.refuses e (F.seen front.old) (F.seen front.new) line.now) }
 {
-    let Ok(mark) = answer(rt, alloc, front, &mut outbox.text, words, line) else {
+    let Ok(mark) = answer(rt, alloc, front, &mut outbox.text, words) else {
         return Err(RunFault::NoMemory);
     };
     outbox.put(mark)?;
     Ok(())
 }
 
-/// Answers a line that came in pieces, or has no line end, and holds the reply.
+/// Answers a line, and holds the reply.
+// Out of line, since few lines come in pieces, have no line end, or end with a carriage return: the words of others are cut already.
 #[inline(never)]
 fn serve_whole<R, F: Front<R>>(
     rt: &R,
@@ -267,8 +224,9 @@ fn serve_whole<R, F: Front<R>>(
     ensures held { OnErr result (outbox.new.held.items ≡ outbox.old.held.items) }
     ensures err { IfErr result (λ e. ServeBroken F.step F.refuses e (F.seen front.old) (F.seen front.new) line.now) }
 {
+    let body = line.strip_suffix(b"\r".as_slice()).unwrap_or(line);
     let mut words = Vec::new(alloc);
-    if keep_all_words(&mut words, line).is_err() {
+    if keep_all_words(&mut words, body).is_err() {
         return Err(RunFault::NoMemory);
     }
     serve(rt, alloc, front, outbox, words.as_slice(), line)
@@ -290,6 +248,13 @@ fn keep(partial: &mut Vec<u8>, more: &[u8]) -> Result<(), RunFault>
     }
     partial.extend_from_slice(more)?;
     Ok(())
+}
+
+/// Whether a carriage return ends the line.
+fn is_returned(line: &[u8]) -> bool
+    ensures { result ≡ false → body line.now ≡ line.now }
+{
+    line.strip_suffix(b"\r".as_slice()).is_some()
 }
 
 /// Answers the line that ends with these bytes, which have these words.
@@ -319,6 +284,10 @@ fn take_line<R, F: Front<R>>(
         return Err(RunFault::Read);
     }
     if partial.is_empty() && more.len() <= MOST_BYTES {
+        if is_returned(more) {
+            serve_whole(rt, alloc, front, outbox, more)?;
+            return Ok(());
+        }
         serve(rt, alloc, front, outbox, words, more)?;
         return Ok(());
     }
