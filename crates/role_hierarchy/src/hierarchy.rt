@@ -300,6 +300,9 @@ impl Hierarchy {
     {
         roles.is_small();
         self.is_order();
+        if roles.is_empty() {
+            return roles;
+        }
         let mut below = RoleSet::new();
         let mut from = 0;
         while let Some(role) = roles.next_from(from) {

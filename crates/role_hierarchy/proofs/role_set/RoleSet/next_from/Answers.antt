@@ -1,4 +1,4 @@
-use Rattle.std.proofs.Common.{◌≡◌, ℕ, ◌+◌, ◌*◌, ◌<◌, ◌≤◌, inl, inr, arith}
+use Rattle.std.proofs.Common.{inl, inr, arith}
 use Rattle.std.proofs.lemmas.Bool.{cases_lt}
 use Rattle.role_hierarchy.specs.RoleLaws.{past_none}
 use Rattle.role_hierarchy.proofs.role_set.RoleSet.next_from.Goals as goal

@@ -1,4 +1,4 @@
-use Rattle.std.proofs.Common.{◌≡◌, ℕ, ◌+◌, ◌*◌, ◌/◌, ◌^◌, ◌<◌, ◌≤◌, sym, ap, ◌∙◌, arith, get_or}
+use Rattle.std.proofs.Common.{◌≡◌, ℕ, ◌+◌, ◌*◌, ◌/◌, ◌^◌, ◌<◌, sym, ap, ◌∙◌, arith, get_or}
 use Rattle.std.specs.Int.{trailing_zeros, w64}
 use Rattle.role_hierarchy.specs.Roles.{has}
 use Rattle.role_hierarchy.specs.WordLaws.{none_shifted, in_word, has_lowest, none_lower}
