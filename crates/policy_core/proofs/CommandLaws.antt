@@ -1,11 +1,11 @@
 -- What the commands' judgements say of the whole policy.
-use Rattle.std.proofs.Common.{◌≡◌, ◌≤◌, ◌<◌, ◌+◌, ℕ, Bool, true, false, List, length, filter, not, Option, Some, None, sym, refl, subst, ap, ◌∙◌, arith}
-use Rattle.std.specs.Prelude.{bytes_eq, nat_eq, is_some, count_ones}
+use Rattle.std.proofs.Common.{◌≡◌, ◌≤◌, ◌<◌, ◌+◌, ℕ, Bool, true, false, List, length, filter, not, Option, Some, None, sym, refl, subst, ap, ap₂, ◌∙◌, arith}
+use Rattle.std.specs.Prelude.{bytes_eq, nat_eq, is_some, unwrap_or, count_ones}
 use Rattle.std.specs.List.{list_all}
 use Rattle.std.specs.Option.{option_map, option_or}
 use Rattle.indexmap.specs.IndexMap.{insert_entry}
 use Rattle.std.specs.Map.{lookup, remove_entry}
-use Rattle.std.proofs.lemmas.Bool.{or_parts}
+use Rattle.std.proofs.lemmas.Bool.{or_parts, false≢true}
 use Rattle.role_hierarchy.specs.Roles.{has, with_role, without}
 use Rattle.role_hierarchy.specs.Order.{Order, with_slot, with_pair, is_there, role_count}
 use Rattle.role_hierarchy.specs.Below.{closed, IsOrder}
@@ -17,7 +17,7 @@ use Rattle.permission_core.specs.declared.objects.Operation.{Operation}
 use Rattle.permission_core.specs.Permissions.{Rows, row_at, row_set}
 use Rattle.policy_core.specs.declared.refusal.Refusal.TheVariants.{Ssd, Dsd}
 use Rattle.policy_core.specs.declared.session.Session.{Session}
-use Rattle.policy_core.specs.State.{HasSlots, PolicyState, IsPolicy, AreThere, no_policy, authorized, counted, rise, broken_ssd, broken_dsd, with_roles, with_session, is_session, is_role, broken}
+use Rattle.policy_core.specs.State.{HasSlots, PolicyState, IsPolicy, AreThere, no_policy, authorized, counted, rise, broken_ssd, broken_dsd, with_roles, with_session, is_session, is_user, is_role, held_by, slot_of, broken}
 use Rattle.policy_core.specs.Commands.{slots_of}
 use Rattle.policy_core.specs.KeptLaws.{none_mapped, without_within, same_authorized, same_counted}
 use Rattle.policy_core.specs.BreakLaws.{breaking_inserted, broken_at, breaking_removed, breaking_filtered, closed_none, none_breaks}
@@ -84,6 +84,16 @@ module _ (p now : PolicyState) (same : p ≡ now) (is : IsPolicy p) where
   assigned_there user held role slot roles at here is_roles s f =
       ap (λ r. has r s) is_roles
       ∙ with_none held slot s (apart_slots p.order.roles slot s (is.slots.there role slot (sym here)) f) (none_found (λ r. has r s) (bytes_eq user) p.users held (sym at) (is.free s f).users)
+
+  -- the same, for a caller who does not look at the roles that the user has
+  pub given_there : (user role : List ℕ) (slot : ℕ) → is_user p user ≡ true → Some slot ≡ lookup (bytes_eq role) p.roles → AreThere p.order (with_role (held_by p user) (slot_of p role))
+  given_there user role slot there here = by (lookup (bytes_eq user) p.users) refl
+    where
+      by : (o : Option ℕ) → lookup (bytes_eq user) p.users ≡ o → AreThere p.order (with_role (held_by p user) (slot_of p role))
+      by (Some held) at =
+          assigned_there user held role slot (with_role (held_by p user) (slot_of p role)) (sym at) here
+          (ap₂ with_role (ap (λ (o : Option ℕ). unwrap_or o 0) at) (ap (λ (o : Option ℕ). unwrap_or o 0) (sym here)))
+      by None at = absurd (false≢true (sym (ap is_some at) ∙ there))
 
   pub left_there : (user : List ℕ) (held slot roles : ℕ) → Some held ≡ lookup (bytes_eq user) p.users → roles ≡ without held slot → AreThere p.order roles
   left_there user held slot roles at is_roles s f = ap (λ r. has r s) is_roles ∙ without_none held slot s (none_found (λ r. has r s) (bytes_eq user) p.users held (sym at) (is.free s f).users)

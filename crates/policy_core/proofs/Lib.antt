@@ -9,6 +9,7 @@ mod MemberLaws
 mod NumberLaws
 mod OpeningLaws
 mod PartLaws
+mod PlaceLaws
 mod ReviewLaws
 mod SetLaws
 mod SlotLaws

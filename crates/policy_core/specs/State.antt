@@ -1,6 +1,6 @@
 -- The policy as data: USERS, ROLES, UA, PA, RH and SESSIONS of ANSI INCITS 359-2004, 6.1 and 6.2, and its SSD and DSD sets, 6.3 and 6.4. A
 -- role is its slot; its name is in the list of roles.
-use Rattle.std.specs.Prelude.{◌≡◌, ◌≤◌, ℕ, Bool, true, false, ◌&&◌, nat_le, nat_lt, List, [], ◌∷◌, length, map, Option, Some, None, bytes_eq, nat_eq, is_some, unwrap_or}
+use Rattle.std.specs.Prelude.{◌≡◌, ◌≤◌, ℕ, Bool, true, false, ◌&&◌, nat_le, nat_lt, List, [], ◌∷◌, length, map, Option, Some, None, bytes_eq, nat_eq, is_some, position, unwrap_or}
 use Rattle.std.specs.List.{list_any}
 use Rattle.std.specs.Map.{lookup}
 use Rattle.std.specs.Option.{option_map, option_or}
@@ -126,6 +126,10 @@ is_role p role = is_some (lookup (bytes_eq role) p.roles)
 -- the roles that a user is assigned to, none for one that is not there
 abbrev pub held_by : PolicyState → List ℕ → ℕ
 held_by p user = unwrap_or (lookup (bytes_eq user) p.users) 0
+
+-- the place of a user among all users, from 0
+abbrev pub place_of : PolicyState → List ℕ → Option ℕ
+place_of p user = position (bytes_eq user) (map (λ u. u.0) p.users)
 
 -- the slot of a role, 0 for one that is not there
 abbrev pub slot_of : PolicyState → List ℕ → ℕ

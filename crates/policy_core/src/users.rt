@@ -4,7 +4,7 @@ ghost use Rattle.std.specs.Map.{lookup};
 ghost use Rattle.indexmap.specs.IndexMap.{insert_entry};
 ghost use Rattle.std.specs.Result.{result_err};
 ghost use Rattle.role_hierarchy.specs.Roles.{with_role, without};
-ghost use Rattle.policy_core.specs.State.{AreThere, is_user, held_by, slot_of, with_roles, broken_ssd};
+ghost use Rattle.policy_core.specs.State.{AreThere, is_user, held_by, slot_of, with_roles, place_of, broken_ssd};
 ghost use Rattle.policy_core.specs.Commands.{Says, add_user_refusal, user_added, delete_user_refusal, user_gone, assign_refusal, assigned, narrowed, deassigned, deassign_refusal};
 
 use crate::policy::Policy;
@@ -67,8 +67,8 @@ impl Policy {
         ensures err { OnErr result (self.new ≡ self.old) }
         ensures refused { result_err result ≡ assign_refusal self.old user role }
     {
-        let roles = self.judge_assign(user, role)?;
-        self.put_roles(user, roles);
+        let (place, slot) = self.judge_assign(user, role)?;
+        self.give_role(user, role, place, slot);
         Ok(())
     }
 
@@ -77,56 +77,53 @@ impl Policy {
         requires { assign_refusal self.old user role ≡ None }
         ensures { self.new ≡ assigned self.old user role }
     {
-        let roles = self.wider_roles(user, role);
-        self.put_roles(user, roles);
+        let (place, slot) = self.places_of(user, role);
+        self.give_role(user, role, place, slot);
     }
 
-    /// The roles that the user would have, where nothing refuses the new one.
+    /// The user's place and the role's slot, where nothing refuses the assignment.
     #[tactic(auto, unfolding(crate::specs::Commands::assign_refusal))]
-    fn wider_roles(&self, user: Name, role: Name) -> RoleSet
+    fn places_of(&self, user: Name, role: Name) -> (usize, u8)
         requires { assign_refusal self.now user role ≡ None }
-        ensures there { is_user self.now user ≡ true }
-        ensures roles { with_roles self.now user result ≡ assigned self.now user role }
+        ensures place { place_of self.now user ≡ Some result.0 }
+        ensures slot { result.1 ≡ slot_of self.now role }
         ensures whole { broken_ssd (assigned self.now user role) ≡ None }
-        ensures used { AreThere self.now.order result }
+        ensures used { AreThere self.now.order (with_role (held_by self.now user) (slot_of self.now role)) }
     {
         self.is_policy();
-        let Some(held) = self.roles_of(user) else {
+        let Some(place) = self.place_of(user) else {
             unreachable!()
         };
         let Some(slot) = self.slot_of(role) else {
             unreachable!()
         };
-        let mut roles = held;
-        roles.insert(slot);
-        roles
+        (place, slot)
     }
 
-    /// The roles that the user would have.
+    /// The user's place and the role's slot.
     #[tactic(auto, unfolding(crate::specs::Commands::assign_refusal))]
-    fn judge_assign(&self, user: Name, role: Name) -> Result<RoleSet, Refusal>
+    fn judge_assign(&self, user: Name, role: Name) -> Result<(usize, u8), Refusal>
         ensures refused { result_err result ≡ assign_refusal self.now user role }
-        ensures there { OnOk result (is_user self.now user ≡ true) }
-        ensures roles { IfOk result (λ roles. with_roles self.now user roles ≡ assigned self.now user role) }
+        ensures place { IfOk result (λ r. place_of self.now user ≡ Some r.0) }
+        ensures slot { IfOk result (λ r. r.1 ≡ slot_of self.now role) }
         ensures whole { OnOk result (broken_ssd (assigned self.now user role) ≡ None) }
-        ensures used { IfOk result (λ roles. AreThere self.now.order roles) }
+        ensures used { OnOk result (AreThere self.now.order (with_role (held_by self.now user) (slot_of self.now role))) }
     {
         self.is_policy();
-        let Some(held) = self.roles_of(user) else {
+        let Some(place) = self.place_of(user) else {
             return Err(Refusal::NoUser);
         };
         let Some(slot) = self.slot_of(role) else {
             return Err(Refusal::NoRole);
         };
+        let held = self.held_at(user, place);
         if held.contains(slot) {
             return Err(Refusal::Already);
         }
         if let Some(refusal) = self.refusal_of_role(user, held, slot) {
             return Err(refusal);
         }
-        let mut roles = held;
-        roles.insert(slot);
-        Ok(roles)
+        Ok((place, slot))
     }
 
     /// DeassignUser. In this order `NoUser`, `NoRole`, `NotThere`.
@@ -135,35 +132,36 @@ impl Policy {
         ensures err { OnErr result (self.new ≡ self.old) }
         ensures refused { result_err result ≡ deassign_refusal self.old user role }
     {
-        let roles = self.judge_deassign(user, role)?;
-        self.put_roles(user, roles);
+        let (place, roles) = self.judge_deassign(user, role)?;
+        self.put_roles(user, place, roles);
         let allowed = self.order.closure(roles);
         self.narrow_sessions_of(user, allowed);
         Ok(())
     }
 
-    /// The roles that the user would have.
+    /// The user's place, and the roles that it would have.
     #[tactic(auto, unfolding(crate::specs::Commands::deassign_refusal))]
-    fn judge_deassign(&self, user: Name, role: Name) -> Result<RoleSet, Refusal>
+    fn judge_deassign(&self, user: Name, role: Name) -> Result<(usize, RoleSet), Refusal>
         ensures refused { result_err result ≡ deassign_refusal self.now user role }
-        ensures there { OnOk result (is_user self.now user ≡ true) }
-        ensures roles { IfOk result (λ roles. roles ≡ without (held_by self.now user) (slot_of self.now role)) }
-        ensures whole { IfOk result (λ roles. broken_ssd (with_roles self.now user roles) ≡ None) }
-        ensures used { IfOk result (λ roles. AreThere self.now.order roles) }
+        ensures place { IfOk result (λ r. place_of self.now user ≡ Some r.0) }
+        ensures roles { IfOk result (λ r. r.1 ≡ without (held_by self.now user) (slot_of self.now role)) }
+        ensures whole { IfOk result (λ r. broken_ssd (with_roles self.now user r.1) ≡ None) }
+        ensures used { IfOk result (λ r. AreThere self.now.order r.1) }
     {
-        let Some(held) = self.roles_of(user) else {
+        let Some(place) = self.place_of(user) else {
             return Err(Refusal::NoUser);
         };
         let Some(slot) = self.slot_of(role) else {
             return Err(Refusal::NoRole);
         };
+        let held = self.held_at(user, place);
         if !held.contains(slot) {
             return Err(Refusal::NotThere);
         }
         self.is_policy();
         let mut roles = held;
         roles.remove(slot);
-        Ok(roles)
+        Ok((place, roles))
     }
 
     /// Takes from the sessions of a user each active role that is not allowed.
@@ -195,17 +193,53 @@ impl Policy {
         }
     }
 
-    /// Puts the user's roles in the place of those that it has.
-    fn put_roles(&mut self, user: Name, roles: RoleSet)
-        requires there { is_some (lookup (bytes_eq user) self.old.users) ≡ true }
+    /// The place of the user among all users.
+    fn place_of(&self, user: Name) -> Option<usize>
+        ensures place { result ≡ place_of self.now user }
+        ensures there { is_some result ≡ is_user self.now user }
+    {
+        self.users.get_index_of(&user)
+    }
+
+    /// The roles of the user, which stands at that place.
+    #[inline(always)]
+    fn held_at(&self, user: Name, place: usize) -> RoleSet
+        requires { place_of self.now user ≡ Some place }
+        ensures { lookup (bytes_eq user) self.now.users ≡ Some result }
+    {
+        let Some((_, held)) = self.users.get_index(place) else {
+            unreachable!()
+        };
+        *held
+    }
+
+    /// The user, which stands at that place, gets the role of that slot: neither is looked up again.
+    #[inline(always)]
+    fn give_role(&mut self, user: Name, role: Name, place: usize, slot: u8)
+        requires place { place_of self.old user ≡ Some place }
+        requires slot { slot ≡ slot_of self.old role }
+        requires whole { broken_ssd (assigned self.old user role) ≡ None }
+        requires used { AreThere self.old.order (with_role (held_by self.old user) (slot_of self.old role)) }
+        ensures { self.new ≡ assigned self.old user role }
+    {
+        let Some(held) = self.users.get_index_mut(place) else {
+            unreachable!()
+        };
+        held.insert(slot);
+    }
+
+    /// Puts the roles of the user, which stands at that place, in the place of those that it has: it is not looked up again.
+    #[inline(always)]
+    fn put_roles(&mut self, user: Name, place: usize, roles: RoleSet)
+        requires place { place_of self.old user ≡ Some place }
         requires whole { broken_ssd (with_roles self.old user roles) ≡ None }
         requires used { AreThere self.old.order roles }
         ensures { self.new ≡ with_roles self.old user roles }
     {
-        match self.users.insert(user, roles) {
-            Ok(_) => {}
-            Err(_) => unreachable!(),
-        }
+        let Some(held) = self.users.get_index_mut(place) else {
+            unreachable!()
+        };
+        *held = roles;
     }
 }
 

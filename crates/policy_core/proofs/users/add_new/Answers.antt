@@ -1,4 +1,4 @@
-use Rattle.std.proofs.Common.{◌≡◌, ℕ, List, bytes_eq, sym, ap, ◌∙◌}
+use Rattle.std.proofs.Common.{ℕ, List, bytes_eq, sym, ap, ◌∙◌}
 use Rattle.indexmap.specs.IndexMap.{insert_entry}
 use Rattle.policy_core.proofs.Inserted.{put_back}
 use Rattle.policy_core.proofs.users.add_new.Goals as goal

@@ -1,4 +1,4 @@
-use Rattle.std.proofs.Common.{◌≡◌, ℕ, ◌<◌, List, length, bytes_eq, refl, ap, arith}
+use Rattle.std.proofs.Common.{ℕ, ◌<◌, List, length, bytes_eq, refl, ap, arith}
 use Rattle.indexmap.specs.IndexMap.{insert_entry}
 use Rattle.policy_core.specs.Seen.{state_of}
 use Rattle.policy_core.specs.State.{PolicyState, IsPolicy}
