@@ -1,6 +1,6 @@
 -- Rows against CheckAccess, and tables after a change of the policy.
 use Rattle.std.proofs.Common.{◌≡◌, ℕ, ◌&&◌, Bool, true, false, ◌||◌, ◌+◌, ◌<◌, length, take, get_or, List, ◌++◌, ◌∷◌, [], Option, Some, None, cond, sym, refl, ap, ◌∙◌, subst}
-use Rattle.std.specs.Prelude.{nat_eq, is_some, unwrap_or, IfSome}
+use Rattle.std.specs.Prelude.{nat_eq, is_some, unwrap_or}
 use Rattle.std.specs.Map.{lookup}
 use Rattle.std.specs.Option.{option_or, option_map}
 use Rattle.std.proofs.lemmas.Bool.{and_parts, and_from, eqb-true, false≢true, true≢false}
@@ -11,7 +11,7 @@ use Rattle.permission_core.specs.declared.objects.Operation.{Operation}
 use Rattle.permission_core.specs.declared.objects.Object.{Object}
 use Rattle.permission_core.specs.Objects.{number_of, is_object}
 use Rattle.policy_core.specs.declared.session.Session.{Session}
-use Rattle.policy_core.specs.State.{PolicyState, is_session}
+use Rattle.policy_core.specs.State.{PolicyState}
 use Rattle.policy_core.specs.Access.{some_below, is_reached, reaches, is_here, has_access, reached_roles}
 use Rattle.permission_table.specs.Bits.{SessionAccess, row_in, allowed_by}
 use Rattle.permission_table.specs.Tables.{TablesState, RowsState, rows_of, rows_after, is_among}

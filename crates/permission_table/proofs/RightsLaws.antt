@@ -1,6 +1,6 @@
 -- The rows of a session before and after one role may do more or less of one operation.
 use Rattle.std.proofs.Common.{◌≡◌, ◌≢◌, [], eqb, map, not, ℕ, zero, suc, ◌+◌, ◌*◌, ◌/◌, ◌<◌, ◌≤◌, Bool, true, false, cond, ◌&&◌, ◌||◌, List, map, set, get_or, length, Option, Some, None, inl, inr, refl, sym, ap, ap₂, subst, ◌∙◌, arith}
-use Rattle.std.specs.Prelude.{nat_eq, is_some, unwrap_or, bit_or, IfSome}
+use Rattle.std.specs.Prelude.{nat_eq, is_some, unwrap_or, bit_or}
 use Rattle.std.specs.Map.{lookup}
 use Rattle.std.specs.Option.{option_map, option_map_or}
 use Rattle.std.proofs.lemmas.Bool.{and_parts, and_from, or_left, or_right, or_cases, cases_eq, cases_lt, le-leb, lt-ltb, eqb-true, false≢true, true≢false}
@@ -19,13 +19,12 @@ use Rattle.permission_core.specs.Objects.{index_of, number_of, is_object, first_
 use Rattle.permission_core.specs.ObjectLaws.{has-with_range}
 use Rattle.permission_core.specs.Permissions.{Rows, cleared_rows}
 use Rattle.policy_core.specs.declared.session.Session.{Session}
-use Rattle.policy_core.specs.declared.refusal.Refusal.{Refusal}
 use Rattle.policy_core.specs.declared.refusal.Refusal.TheVariants.{NoRole, BadObject}
 use Rattle.policy_core.specs.State.{PolicyState, is_session, is_role, slot_of}
 use Rattle.policy_core.specs.Access.{row_of, some_below, is_reached, reaches, is_here, has_access, reached_roles}
 use Rattle.policy_core.specs.RowLaws.{index_small}
 use Rattle.policy_core.specs.Commands.{granted, grant_refusal, revoked, inherited, uninherited, role_gone, kept_authorized}
-use Rattle.permission_table.specs.Bits.{SessionAccess, row_in, allowed_by}
+use Rattle.permission_table.specs.Bits.{SessionAccess, row_in}
 use Rattle.permission_table.specs.Rights.{is_in_words, part_of, rows_joined, row_made, with_row_in, granted_to, revoked_from, all_made, followed, refreshed, refreshed_above, made_anew, refreshed_without, all_changed}
 use Rattle.permission_table.specs.Unions.{IsUnion}
 use Rattle.permission_table.specs.Tables.{TablesState, rows_of}

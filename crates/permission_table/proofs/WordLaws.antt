@@ -1,7 +1,7 @@
 -- Words of a row that are joined one by one.
-use Rattle.std.proofs.Common.{◌≡◌, ℕ, suc, ◌+◌, ◌-◌, ◌*◌, ◌/◌, ◌%◌, ◌^◌, ◌<◌, ◌≤◌, max, Bool, true, false, cond, ◌&&◌, ◌||◌, eqb, leb, ltb, List, [], ◌∷◌, get_or, inl, inr, refl, sym, ap, ap₂, ◌∙◌, arith}
+use Rattle.std.proofs.Common.{◌≡◌, ℕ, suc, ◌-◌, ◌*◌, ◌/◌, ◌%◌, ◌^◌, ◌<◌, ◌≤◌, max, Bool, true, false, cond, ◌&&◌, ◌||◌, eqb, leb, ltb, List, [], ◌∷◌, get_or, inl, inr, refl, sym, ap, ap₂, ◌∙◌, arith}
 use Rattle.std.proofs.lemmas.Bool.{and_parts, and_from, cases_lt, le-leb, lt-ltb, leb-true, ltb-true, false≢true}
-use Rattle.std.specs.Prelude.{bit_or, bit_and}
+use Rattle.std.specs.Prelude.{bit_or}
 use Rattle.role_hierarchy.specs.Roles.{has}
 use Rattle.role_hierarchy.specs.RoleLaws.{has-bit_or, has-bit_and, has-empty, same_roles}
 use Rattle.permission_core.specs.Objects.{with_range}

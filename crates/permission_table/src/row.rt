@@ -1,6 +1,8 @@
 //! One session's rows.
-ghost use Rattle.std.specs.Prelude.{◌≡◌, ◌<◌, ◌≤◌, ◌⊎◌, ℕ, true, false, slice_index, bit_or, IfOk, IfSome, IfNone};
+ghost use Rattle.std.specs.Prelude.{◌≡◌, ◌<◌, ◌≤◌, ◌⊎◌, ℕ, true, false, slice_index, length, bit_or, IfOk, IfSome, IfNone};
 ghost use Rattle.role_hierarchy.specs.Roles.{has};
+ghost use Rattle.permission_core.specs.declared.objects.Operation.{Operation as AnOperation};
+ghost use Rattle.permission_core.specs.Objects.{index_of};
 ghost use Rattle.policy_core.specs.Access.{row_of};
 ghost use Rattle.permission_table.specs.Bits.{row_in};
 ghost use Rattle.permission_table.specs.Unions.{AreUnions};
@@ -108,6 +110,39 @@ fn join_words(words: &mut [u64; 32], one: &[u64; 32], other: &[u64; 32])
     }
 }
 
+/// Seven rows without objects.
+fn no_rows() -> [Row; 7]
+    ensures seven { length result ≡ 7 }
+    ensures empty { (operation : AnOperation) → slice_index result (index_of operation) ≡ 0 }
+{
+    [
+        Row::new(),
+        Row::new(),
+        Row::new(),
+        Row::new(),
+        Row::new(),
+        Row::new(),
+        Row::new(),
+    ]
+}
+
+/// What the two roles may do joins the rows, one for each operation.
+fn join_all(rows: &mut [Row; 7], policy: &Policy, two: (u8, u8))
+    requires seven { length rows.old ≡ 7 }
+    ensures seven { length rows.new ≡ 7 }
+    ensures joined { (operation : AnOperation) → slice_index rows.new (index_of operation)
+        ≡ bit_or (bit_or (slice_index rows.old (index_of operation)) (row_of policy.now two.0 operation))
+        (row_of policy.now two.1 operation) }
+{
+    rows[0].join(policy, two, Operation::View);
+    rows[1].join(policy, two, Operation::Move);
+    rows[2].join(policy, two, Operation::Pin);
+    rows[3].join(policy, two, Operation::Freeze);
+    rows[4].join(policy, two, Operation::Admin);
+    rows[5].join(policy, two, Operation::Audit);
+    rows[6].join(policy, two, Operation::Override);
+}
+
 /// The next two roles of the set that are not below `from`; where only one is left, it comes twice.
 fn two_from(roles: RoleSet, from: u32) -> Option<(u8, u8)>
     ensures members { IfSome result (λ r. (has roles r.0 ≡ true) × (has roles r.1 ≡ true)) }
@@ -150,28 +185,13 @@ impl SessionRows {
         ensures { IfOk result (λ rows. AreUnions policy.now roles rows) }
     {
         roles.is_small();
-        let mut view = Row::new();
-        let mut moves = Row::new();
-        let mut pins = Row::new();
-        let mut freezes = Row::new();
-        let mut admin = Row::new();
-        let mut audit = Row::new();
-        let mut overrides = Row::new();
+        let mut rows = Box::new(alloc, no_rows())?;
         let mut from = 0;
         while let Some(two) = two_from(roles, from) {
-            view.join(policy, two, Operation::View);
-            moves.join(policy, two, Operation::Move);
-            pins.join(policy, two, Operation::Pin);
-            freezes.join(policy, two, Operation::Freeze);
-            admin.join(policy, two, Operation::Admin);
-            audit.join(policy, two, Operation::Audit);
-            overrides.join(policy, two, Operation::Override);
+            join_all(&mut rows, policy, two);
             from = two.1 as u32 + 1;
         }
-        Ok(SessionRows {
-            reach: roles,
-            rows: Box::new(alloc, [view, moves, pins, freezes, admin, audit, overrides])?,
-        })
+        Ok(SessionRows { reach: roles, rows })
     }
 
     /// Whether the object is in the row of the operation.

@@ -197,7 +197,7 @@ fn even_out(policy: &Policy, spare: &mut Policy, lag: &mut Lag) -> bool
     ensures free { level_of lag.old ≡ true → result ≡ true }
 {
     let even = match lag {
-        Lag::Even => true,
+        Lag::Even => return true,
         Lag::Behind(command) => change_again(spare, command).is_ok(),
         Lag::Ahead(parts) => spare.restore(policy, *parts).is_ok(),
         Lag::Apart(parts) => spare.restore(policy, *parts).is_ok(),

@@ -1,4 +1,4 @@
-use Rattle.std.proofs.Common.{ℕ, arith}
+use Rattle.std.proofs.Common.{arith}
 use Rattle.permission_table.proofs.RightsLaws.{made_row}
 use Rattle.permission_table.proofs.UnionLaws.{union_none, union_two, union_all}
 use Rattle.permission_table.proofs.row.Row.of.Goals as goal

@@ -1,8 +1,7 @@
-use Rattle.std.proofs.Common.{◌≡◌, [], ◌∷◌, get_or, length, arith, sym, ap, ◌∙◌, true, false, eqb, rules}
+use Rattle.std.proofs.Common.{◌≡◌, get_or, length, arith, sym, ap, ◌∙◌}
 use Rattle.std.specs.Prelude.{slice_set, bit_or}
 use Rattle.std.proofs.lemmas.List.{get_or_read_under}
 use Rattle.role_hierarchy.specs.Roles.{has}
-use Rattle.permission_core.specs.Objects.{index_of}
 use Rattle.policy_core.specs.Access.{row_of}
 use Rattle.permission_table.specs.Bits.{SessionAccess, row_in}
 use Rattle.permission_table.specs.Rights.{part_of, granted_to}

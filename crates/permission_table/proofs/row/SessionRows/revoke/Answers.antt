@@ -1,10 +1,8 @@
-use Rattle.std.proofs.Common.{◌≡◌, [], ◌∷◌, sym, ap, ◌∙◌, true, false, eqb}
-use Rattle.std.specs.Prelude.{slice_set, bit_or}
+use Rattle.std.proofs.Common.{sym, ap, ◌∙◌}
+use Rattle.std.specs.Prelude.{slice_set}
 use Rattle.role_hierarchy.specs.Roles.{has}
-use Rattle.permission_core.specs.Objects.{index_of}
-use Rattle.policy_core.specs.Access.{row_of}
-use Rattle.permission_table.specs.Bits.{SessionAccess, row_in}
-use Rattle.permission_table.specs.Rights.{row_made, revoked_from}
+use Rattle.permission_table.specs.Bits.{SessionAccess}
+use Rattle.permission_table.specs.Rights.{revoked_from}
 use Rattle.permission_table.proofs.RightsLaws.{revoked_so, revoked_not}
 use Rattle.permission_table.proofs.row.SessionRows.revoke.Goals as goal
 
