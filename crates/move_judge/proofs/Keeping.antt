@@ -260,13 +260,16 @@ pub kept_as : (s : Setting) (routes : List (List ℕ)) (v w : ℕ) (kept opened 
 kept_as s routes v w kept opened e all = subst (λ (x : KeptSpans). AreKept s routes v w x) (sym e) all
 
 -- what is kept of both ends of a route, and of the end of another
-pub kept_both : (s : Setting) (routes : List (List ℕ)) (v w : ℕ) (own other : List ℕ) (ahead behind over : SpanTable) → own ≡ route_at routes v → other ≡ route_at routes w
-    → AreAhead s v own ahead → AreBehind s v own behind → AreBehind s v other over → AreKept s routes v w (record { ahead = ahead; behind = behind; over = over })
-kept_both s routes v w own other ahead behind over e f a b o = record {
-  ahead = λ _. subst (λ (r : List ℕ). AreAhead s v r ahead) e a;
-  behind = λ _. subst (λ (r : List ℕ). AreBehind s v r behind) e b;
-  over = λ _ _. subst (λ (r : List ℕ). AreBehind s v r over) f o;
+pub kept_both : (s : Setting) (routes : List (List ℕ)) (v w : ℕ) (other : List ℕ) (kept : KeptSpans) (over : SpanTable) → other ≡ route_at routes w
+    → AreKept s routes v v kept → AreBehind s v other over → AreKept s routes v w (record { ahead = kept.ahead; behind = kept.behind; over = over })
+kept_both s routes v w other kept over e own o = record {
+  ahead = own.ahead;
+  behind = own.behind;
+  over = λ _ _. subst (λ (r : List ℕ). AreBehind s v r over) e o;
 }
+
+pub some_as : (kept all : KeptSpans) → kept ≡ all → (0 < all.ahead.width) × (0 < all.behind.width) → (0 < kept.ahead.width) × (0 < kept.behind.width)
+some_as kept all e some = subst (λ (k : KeptSpans). (0 < k.ahead.width) × (0 < k.behind.width)) (sym e) some
 
 pub kept_alone : (s : Setting) (routes : List (List ℕ)) (v : ℕ) (own : List ℕ) (ahead behind over : SpanTable) → own ≡ route_at routes v
     → AreAhead s v own ahead → AreBehind s v own behind → AreKept s routes v v (record { ahead = ahead; behind = behind; over = over })

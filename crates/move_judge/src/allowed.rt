@@ -1,5 +1,6 @@
 //! What a view allows: a move by the parts of its new routes, and where a move may begin at all.
 ghost use Rattle.std.specs.Prelude.{ℕ, ◌⊎◌, ◌≡◌, ◌≢◌, ◌≤◌, ◌<◌, ◌+◌, ◌-◌, ◌++◌, ◌↔◌, [], true, false, length, take, drop, IsTrue, All, Contains};
+ghost use Rattle.dimension_core.specs.Feasible.{FitsAll};
 ghost use Rattle.dimension_core.specs.NewRoutes.{AllFit};
 ghost use Rattle.dimension_core.specs.Setting.{Setting};
 ghost use Rattle.dimension_core.specs.Setup.{setting};
@@ -12,11 +13,11 @@ ghost use Rattle.move_judge.specs.Scope.{scope};
 ghost use Rattle.move_judge.specs.View.{IsViewOf};
 ghost use Rattle.move_judge.specs.Near.{IsNear};
 ghost use Rattle.move_judge.specs.Allowed.{IsAllowed, AreLoose};
-ghost use Rattle.move_judge.specs.Kept.{AreKept};
+ghost use Rattle.move_judge.specs.Kept.{AreKept, HasAhead, HasBehind};
 ghost use Rattle.move_judge.specs.Given.{Laws};
 
 use crate::fits::fits;
-use crate::kept::Kept;
+use crate::kept::{Kept, Spans};
 use crate::laws::laws_below;
 use crate::parts::Parts;
 use dimension_core::Setup;
@@ -163,6 +164,38 @@ struct Pair<'a> {
     w_kept: &'a Kept,
 }
 
+/// Whether a new route of three parts is in bounds.
+#[inline(always)]
+fn parts_fit(
+    setup: &Setup,
+    v: u32,
+    ahead: &Spans,
+    front: &[u32],
+    first: &[u32],
+    back: &[u32],
+    behind: &Spans,
+) -> bool
+    requires laws { Laws }
+    requires known { All (λ c. c ≤ (setting setup.now).customers) (front.now ++ (first.now ++ back.now)) }
+    requires low { 1 ≤ v }
+    requires high { v ≤ (setting setup.now).vehicles }
+    requires ahead { 0 < ahead.now.width → HasAhead (setting setup.now) v front.now ahead.now }
+    requires behind { 0 < behind.now.width → HasBehind (setting setup.now) v back.now behind.now }
+    ensures { IsTrue result ↔ FitsAll (setting setup.now) v (front.now ++ (first.now ++ back.now)) }
+{
+    let parts = Parts {
+        ahead,
+        front,
+        turned: false,
+        first,
+        second: &[],
+        third: &[],
+        back,
+        behind,
+    };
+    fits(setup, v, &parts)
+}
+
 /// Whether the new route of a shift inside a vehicle is in bounds.
 fn shift_inside_fits(
     view: &View,
@@ -280,34 +313,30 @@ fn shift_fits(view: &View, setup: &Setup, pair: &Pair, place: u32, length: u32, 
     let route = view.customers(pair.v);
     let front = front_of(route, place);
     let rest = back_of(route, place as usize - 1 + length as usize);
-    let parts = Parts {
-        ahead: &v_kept.ahead,
+    if !parts_fit(
+        setup,
+        pair.v,
+        &v_kept.ahead,
         front,
-        turned: false,
-        first: &[],
-        second: &[],
-        third: &[],
-        back: rest,
-        behind: &v_kept.behind,
-    };
-    if !fits(setup, pair.v, &parts) {
+        &[],
+        rest,
+        &v_kept.behind,
+    ) {
         return false;
     }
     let stretch = part(route, place, place + length);
     let other = view.customers(pair.w);
     let before = front_of(other, at);
     let after = back_of(other, at as usize - 1);
-    let parts = Parts {
-        ahead: &w_kept.ahead,
-        front: before,
-        turned: false,
-        first: stretch,
-        second: &[],
-        third: &[],
-        back: after,
-        behind: &w_kept.behind,
-    };
-    fits(setup, pair.w, &parts)
+    parts_fit(
+        setup,
+        pair.w,
+        &w_kept.ahead,
+        before,
+        stretch,
+        after,
+        &w_kept.behind,
+    )
 }
 
 /// Whether the new routes of a swap between two vehicles are in bounds.
@@ -326,33 +355,29 @@ fn swap_fits(view: &View, setup: &Setup, pair: &Pair, place: u32, at: u32) -> bo
     let rest = back_of(route, place as usize);
     let other = view.customers(pair.w);
     let there = part(other, at, at + 1);
-    let parts = Parts {
-        ahead: &v_kept.ahead,
+    if !parts_fit(
+        setup,
+        pair.v,
+        &v_kept.ahead,
         front,
-        turned: false,
-        first: there,
-        second: &[],
-        third: &[],
-        back: rest,
-        behind: &v_kept.behind,
-    };
-    if !fits(setup, pair.v, &parts) {
+        there,
+        rest,
+        &v_kept.behind,
+    ) {
         return false;
     }
     let here = part(route, place, place + 1);
     let before = front_of(other, at);
     let after = back_of(other, at as usize);
-    let parts = Parts {
-        ahead: &w_kept.ahead,
-        front: before,
-        turned: false,
-        first: here,
-        second: &[],
-        third: &[],
-        back: after,
-        behind: &w_kept.behind,
-    };
-    fits(setup, pair.w, &parts)
+    parts_fit(
+        setup,
+        pair.w,
+        &w_kept.ahead,
+        before,
+        here,
+        after,
+        &w_kept.behind,
+    )
 }
 
 /// Whether the new routes of a cross are in bounds.
@@ -368,30 +393,18 @@ fn cross_fits(view: &View, setup: &Setup, pair: &Pair, keep: u32, keep_other: u3
     let (v_kept, w_kept) = (pair.v_kept, pair.w_kept);
     let (front, tail) = view.customers(pair.v).split_at(keep as usize);
     let (before, end) = view.customers(pair.w).split_at(keep_other as usize);
-    let parts = Parts {
-        ahead: &v_kept.ahead,
-        front,
-        turned: false,
-        first: &[],
-        second: &[],
-        third: &[],
-        back: end,
-        behind: &v_kept.over,
-    };
-    if !fits(setup, pair.v, &parts) {
+    if !parts_fit(setup, pair.v, &v_kept.ahead, front, &[], end, &v_kept.over) {
         return false;
     }
-    let parts = Parts {
-        ahead: &w_kept.ahead,
-        front: before,
-        turned: false,
-        first: &[],
-        second: &[],
-        third: &[],
-        back: tail,
-        behind: &w_kept.over,
-    };
-    fits(setup, pair.w, &parts)
+    parts_fit(
+        setup,
+        pair.w,
+        &w_kept.ahead,
+        before,
+        &[],
+        tail,
+        &w_kept.over,
+    )
 }
 
 /// Whether a shift between two vehicles keeps the frozen fronts and the pins.

@@ -281,14 +281,12 @@ impl Kept {
         ensures some { IfOk result (λ _. (0 < self.new.ahead.width) × (0 < self.new.behind.width) × (0 < self.new.over.width)) }
     {
         laws_below();
-        let _customers = setup.customers();
-        let (own, other) = (view.customers(v), view.customers(w));
-        self.ahead.keep_ahead(setup, v, own)?;
-        self.behind.keep_behind(setup, v, own)?;
-        self.over.keep_behind(setup, v, other)
+        self.keep_alone(view, setup, v)?;
+        self.over.keep_behind(setup, v, view.customers(w))
     }
 
     /// Keeps of a vehicle alone that by which moves inside it are judged. Vehicles count from 1.
+    #[inline(always)]
     pub fn keep_alone(&mut self, view: &View, setup: &Setup, v: u32) -> Result<(), AllocError>
         requires view { IsViewOf (setting setup.now) view.now }
         requires v { (1 ≤ v) × (v ≤ (setting setup.now).vehicles) }

@@ -1,4 +1,4 @@
-use Rattle.std.proofs.Common.{add-zero, append_assoc, All, Fits, w32, w64, ◌^◌, ◌≡◌, ◌≢◌, ℕ, ◌+◌, ◌-◌, ◌*◌, ◌<◌, ◌≤◌, ◌∙◌, refl, sym, ap, subst, arith, inl, inr, List, [], ◌∷◌, ◌++◌, length, map, set, slice_index, slice_index_or, length-append, min, Bool, true, false, ◌==◌, if◌then◌else◌, take, drop, suc, Option, Some, None, IfSome, IsTrue, not}
+use Rattle.std.proofs.Common.{add-zero, append_assoc, All, Fits, w32, w64, ◌^◌, ◌≡◌, ◌≢◌, ℕ, ◌+◌, ◌-◌, ◌*◌, ◌<◌, ◌≤◌, ◌∙◌, ◌⊎◌, refl, sym, ap, subst, arith, inl, inr, List, [], ◌∷◌, ◌++◌, length, map, set, slice_index, slice_index_or, length-append, min, Bool, true, false, ◌==◌, if◌then◌else◌, take, drop, suc, Option, Some, None, IfSome, IsTrue, not}
 use Rattle.std.proofs.lemmas.Bool.{cases_lt, ne_eqb}
 use Rattle.std.proofs.lemmas.List.{get_or_default, get_or_push, get_or_append_left, get_or-append-add, get_or-take, get_or-drop, get_or-set_same, get_or-set_other, get_or-map, length-map, length-set, length-take-le, length-drop, take_all, take_more}
 use Rattle.std.proofs.lemmas.List.Elements.{All-append, All-cons, All-drop, All-nil, All-take}
@@ -491,3 +491,42 @@ behind_first S E all n e m =
     subst (λ (k : ℕ). drop k all ≡ E) (sym m) (subst (λ (xs : List ℕ). drop (length S) xs ≡ E) (sym e) (drop-append_seam S E)) in
     let long : length all ≡ length S + length E = ap length e ∙ length-append S E in
     subst (λ (xs : List ℕ). take (length all - n) xs ≡ E) (sym behind) (take_all (length all - n) E (omega (arith, long, m)))
+
+pub behind_fits : (S E all : List ℕ) (n m : ℕ) → all ≡ S ++ E → m ≡ length S → n ≡ m → n ≤ length all
+behind_fits S E all n m e long counted =
+    let both = ap length e ∙ length-append S E in
+    omega arith
+
+-- places among all answers, of so many customers
+pub nodes_fit : (m n : ℕ) → m ≡ n → n ≤ 1000 → Fits w64 (m + 1)
+nodes_fit m n e few = omega arith
+
+pub answers_fit : (m n i : ℕ) → m ≡ n → n ≤ 1000 → i ≤ n → Fits w64 (i * (m + 1))
+answers_fit m n i e few h = table_fits i (m + 1) (omega arith) (omega arith)
+
+pub answer_fits : (m n i j : ℕ) → m ≡ n → n ≤ 1000 → i ≤ n → j ≤ n → Fits w64 (i * (m + 1) + j)
+answer_fits m n i j e few h l = place_fits 1 (m + 1) (m + 1) i j (omega arith) (omega arith) (omega arith) (omega arith) (omega arith)
+
+pub answers_in : (m n i j all : ℕ) → all ≡ (n + 1) * (n + 1) → m ≡ n → i ≤ n → j ≤ n → i * (m + 1) + j < all
+answers_in m n i j all sized e h l =
+    let row = row_fits i (m + 1) (m + 1) (omega arith) in
+    let same : (m + 1) * (m + 1) ≡ (n + 1) * (n + 1) = ap (λ (k : ℕ). (k + 1) * (k + 1)) e in
+    omega arith
+
+pub not_both : (i j : ℕ) → ((i ≡ 0) × ¬ (j ≡ 0)) ⊎ ¬ (i ≡ 0) → i ≡ 0 → j ≢ 0
+not_both i j (inl p) e = p.1
+not_both i j (inr p) e = absurd (p e)
+
+pub neither : (i j : ℕ) → ((j ≡ 0) × ¬ (i ≡ 0)) ⊎ ¬ (j ≡ 0) → i ≡ 0 → j ≢ 0
+neither i j (inl p) e = absurd (p.1 e)
+neither i j (inr p) e = p
+
+-- a column of a table
+pub turned_low : (j n w : ℕ) → j < n → n + 1 ≡ w → w ≤ 1002 → j ≤ 1002
+turned_low j n w h e short = omega arith
+
+pub turned_place : (n : ℕ) → n ≤ n
+turned_place n = omega arith
+
+pub column_in : (j n w : ℕ) → j < n → n + 1 ≡ w → j < 1 + w - 1
+column_in j n w h e = omega arith

@@ -6,8 +6,8 @@ use Rattle.move_judge.proofs.Keeping.{kept_as, kept_front, kept_back, stretch_fi
 use Rattle.move_judge.proofs.Places.{at_most_as, begins_within, ends_within, before_end, end_within, below_sum, rest_fits, front_of_old, back_of_old, stretch_of_old, two_parts, three_parts}
 use Rattle.move_judge.proofs.allowed.shift_fits.Goals as goal
 
-pub fits-requires : goal.fits-requires
-fits-requires g c =
+pub parts_fit-requires : goal.parts_fit-requires
+parts_fit-requires g c =
     let p = c.args.pair.now in
     let s = setting c.args.setup.now in
     let law = c.requires.laws in
@@ -26,8 +26,8 @@ fits-requires g c =
       behind = λ wide. kept_back s _ _ _ _ (c.args.place - 1 + c.args.length) (kept.behind wide) (ends_within _ _ _ _ refl f.from.low f.from.high) rest;
     }
 
-pub fits-requires-2 : goal.fits-requires-2
-fits-requires-2 g c =
+pub parts_fit-requires-2 : goal.parts_fit-requires-2
+parts_fit-requires-2 g c =
     let p = c.args.pair.now in
     let s = setting c.args.setup.now in
     let law = c.requires.laws in
@@ -46,8 +46,8 @@ fits-requires-2 g c =
       behind = λ wide. kept_back s _ _ _ _ (c.args.at - 1) (kept.behind wide) (before_end _ _ _ refl (f.onto.outside c.requires.apart)) after;
     }
 
-pub returns-then-not-fits : goal.returns-then-not-fits
-returns-then-not-fits g c =
+pub returns-then-not-parts_fit : goal.returns-then-not-parts_fit
+returns-then-not-parts_fit g c =
     let p = c.args.pair.now in
     let s = setting c.args.setup.now in
     let law = c.requires.laws in
@@ -56,7 +56,7 @@ returns-then-not-fits g c =
     first_misfits law s c.args.view.now.routes _ _ _ _ _ _ _ _ _ _
     (shift_between law s.customers c.args.view.now.routes p.v c.args.place c.args.length p.w c.args.at c.requires.possible c.requires.apart)
     (two_parts _ _ _ _ front rest)
-    (λ all. false≢true (sym c.if-not-fits.true ∙ c.fits.ensures.1 all))
+    (λ all. false≢true (sym c.if-not-parts_fit.true ∙ c.parts_fit.ensures.1 all))
 
 pub returns : goal.returns
 returns g c =
@@ -71,7 +71,7 @@ returns g c =
     (shift_between law s.customers c.args.view.now.routes p.v c.args.place c.args.length p.w c.args.at c.requires.possible c.requires.apart)
     (two_parts _ _ _ _ front rest)
     (three_parts _ _ _ _ _ _ before (stretch_of_old c.args.place c.args.length _ _ _ c.part-stretch.ensures c.customers-route.ensures) after)
-    (c.fits.ensures.0 c.if-not-fits.false) c.fits-2.ensures
+    (c.parts_fit.ensures.0 c.if-not-parts_fit.false) c.parts_fit-2.ensures
 
 pub customers-route-requires : goal.customers-route-requires
 customers-route-requires g c =

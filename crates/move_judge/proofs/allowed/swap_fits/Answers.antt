@@ -6,8 +6,8 @@ use Rattle.move_judge.proofs.Keeping.{kept_as, kept_front, kept_back, place_fits
 use Rattle.move_judge.proofs.Places.{at_most_as, before_within, no_later, next_within, below_next, as_long, front_of_old, back_of_old, one_of_old, rest_of_old, three_parts}
 use Rattle.move_judge.proofs.allowed.swap_fits.Goals as goal
 
-pub fits-requires : goal.fits-requires
-fits-requires g c =
+pub parts_fit-requires : goal.parts_fit-requires
+parts_fit-requires g c =
     let p = c.args.pair.now in
     let s = setting c.args.setup.now in
     let law = c.requires.laws in
@@ -25,8 +25,8 @@ fits-requires g c =
       behind = λ wide. kept_back s _ _ _ _ c.args.place (kept.behind wide) f.place.high (back_of_old _ _ _ _ c.back_of-rest.ensures c.customers-route.ensures);
     }
 
-pub fits-requires-2 : goal.fits-requires-2
-fits-requires-2 g c =
+pub parts_fit-requires-2 : goal.parts_fit-requires-2
+parts_fit-requires-2 g c =
     let p = c.args.pair.now in
     let s = setting c.args.setup.now in
     let law = c.requires.laws in
@@ -44,8 +44,8 @@ fits-requires-2 g c =
       behind = λ wide. kept_back s _ _ _ _ c.args.at (kept.behind wide) f.at.high (back_of_old _ _ _ _ c.back_of-after.ensures c.customers-other.ensures);
     }
 
-pub returns-then-not-fits : goal.returns-then-not-fits
-returns-then-not-fits g c =
+pub returns-then-not-parts_fit : goal.returns-then-not-parts_fit
+returns-then-not-parts_fit g c =
     let p = c.args.pair.now in
     let s = setting c.args.setup.now in
     let law = c.requires.laws in
@@ -54,7 +54,7 @@ returns-then-not-fits g c =
     first_misfits law s c.args.view.now.routes _ _ _ _ _ _ _ _ _ _
     (swap_between law s.customers c.args.view.now.routes p.v c.args.place p.w c.args.at c.requires.possible c.requires.apart)
     (three_parts _ _ _ _ _ _ front (one_of_old c.args.at _ _ _ c.part-there.ensures c.customers-other.ensures) (rest_of_old c.args.place _ _ _ f.place.low c.back_of-rest.ensures c.customers-route.ensures))
-    (λ all. false≢true (sym c.if-not-fits.true ∙ c.fits.ensures.1 all))
+    (λ all. false≢true (sym c.if-not-parts_fit.true ∙ c.parts_fit.ensures.1 all))
 
 pub returns : goal.returns
 returns g c =
@@ -68,7 +68,7 @@ returns g c =
     (swap_between law s.customers c.args.view.now.routes p.v c.args.place p.w c.args.at c.requires.possible c.requires.apart)
     (three_parts _ _ _ _ _ _ front (one_of_old c.args.at _ _ _ c.part-there.ensures c.customers-other.ensures) (rest_of_old c.args.place _ _ _ f.place.low c.back_of-rest.ensures c.customers-route.ensures))
     (three_parts _ _ _ _ _ _ before (one_of_old c.args.place _ _ _ c.part-here.ensures c.customers-route.ensures) (rest_of_old c.args.at _ _ _ f.at.low c.back_of-after.ensures c.customers-other.ensures))
-    (c.fits.ensures.0 c.if-not-fits.false) c.fits-2.ensures
+    (c.parts_fit.ensures.0 c.if-not-parts_fit.false) c.parts_fit-2.ensures
 
 pub customers-route-requires : goal.customers-route-requires
 customers-route-requires g c =

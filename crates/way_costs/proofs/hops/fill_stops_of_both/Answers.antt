@@ -1,3 +1,5 @@
+use Rattle.way_costs.proofs.Loops.{both_fit, both_more_fit}
+use Rattle.std.proofs.lemmas.Result.{err_from_is_err_and}
 use Rattle.std.proofs.Common.{◌≡◌, ◌∙◌, ◌++◌, List, ℕ, ap, subst, sym, ◌≤◌}
 use Rattle.dimension_core.specs.Setup.{setting}
 use Rattle.plan_core.specs.Plan.{route_at}
@@ -30,3 +32,45 @@ customers-second-requires-clause-low g c = c.requires.w.0
 
 pub customers-second-requires-clause-high : goal.customers-second-requires-clause-high
 customers-second-requires-clause-high g c = subst (λ (n : ℕ). c.args.w ≤ n) (sym c.requires.vehicles) c.requires.w.1
+
+pub overflow_add-first : goal.overflow_add-first
+overflow_add-first g c = both_fit _ _ _ _ _ c.customers-first.ensures c.customers-second.ensures (c.routes_are_known.ensures.short _ _ c.args.v c.requires.plan) (c.routes_are_known.ensures.short _ _ c.args.w c.requires.plan) c.customers-customers.ensures.sound.few_customers
+
+pub overflow_add-first-2 : goal.overflow_add-first-2
+overflow_add-first-2 g c = both_more_fit _ _ _ _ _ c.customers-first.ensures c.customers-second.ensures (c.routes_are_known.ensures.short _ _ c.args.v c.requires.plan) (c.routes_are_known.ensures.short _ _ c.args.w c.requires.plan) c.customers-customers.ensures.sound.few_customers
+
+pub returns-in_err-reserve-clause-stops : goal.returns-in_err-reserve-clause-stops
+returns-in_err-reserve-clause-stops g c = let p = err_from_is_err_and c.from_residual.result c.from_residual.ensures.1 in rw p.1 tt
+
+pub returns-in_err-reserve-clause-known : goal.returns-in_err-reserve-clause-known
+returns-in_err-reserve-clause-known g c = let p = err_from_is_err_and c.from_residual.result c.from_residual.ensures.1 in rw p.1 tt
+
+pub returns-in_err-push-clause-stops : goal.returns-in_err-push-clause-stops
+returns-in_err-push-clause-stops g c = let p = err_from_is_err_and c.from_residual-in_err-push.result c.from_residual-in_err-push.ensures.1 in rw p.1 tt
+
+pub returns-in_err-push-clause-known : goal.returns-in_err-push-clause-known
+returns-in_err-push-clause-known g c = let p = err_from_is_err_and c.from_residual-in_err-push.result c.from_residual-in_err-push.ensures.1 in rw p.1 tt
+
+pub returns-in_err-extend_from_slice-clause-stops : goal.returns-in_err-extend_from_slice-clause-stops
+returns-in_err-extend_from_slice-clause-stops g c = let p = err_from_is_err_and c.from_residual-in_err-extend_from_slice.result c.from_residual-in_err-extend_from_slice.ensures.1 in rw p.1 tt
+
+pub returns-in_err-extend_from_slice-clause-known : goal.returns-in_err-extend_from_slice-clause-known
+returns-in_err-extend_from_slice-clause-known g c = let p = err_from_is_err_and c.from_residual-in_err-extend_from_slice.result c.from_residual-in_err-extend_from_slice.ensures.1 in rw p.1 tt
+
+pub returns-in_err-push-2-clause-stops : goal.returns-in_err-push-2-clause-stops
+returns-in_err-push-2-clause-stops g c = let p = err_from_is_err_and c.from_residual-in_err-push-2.result c.from_residual-in_err-push-2.ensures.1 in rw p.1 tt
+
+pub returns-in_err-push-2-clause-known : goal.returns-in_err-push-2-clause-known
+returns-in_err-push-2-clause-known g c = let p = err_from_is_err_and c.from_residual-in_err-push-2.result c.from_residual-in_err-push-2.ensures.1 in rw p.1 tt
+
+pub returns-in_err-extend_from_slice-2-clause-stops : goal.returns-in_err-extend_from_slice-2-clause-stops
+returns-in_err-extend_from_slice-2-clause-stops g c = let p = err_from_is_err_and c.from_residual-in_err-extend_from_slice-2.result c.from_residual-in_err-extend_from_slice-2.ensures.1 in rw p.1 tt
+
+pub returns-in_err-extend_from_slice-2-clause-known : goal.returns-in_err-extend_from_slice-2-clause-known
+returns-in_err-extend_from_slice-2-clause-known g c = let p = err_from_is_err_and c.from_residual-in_err-extend_from_slice-2.result c.from_residual-in_err-extend_from_slice-2.ensures.1 in rw p.1 tt
+
+pub returns-in_err-push-3-clause-stops : goal.returns-in_err-push-3-clause-stops
+returns-in_err-push-3-clause-stops g c = let p = err_from_is_err_and c.from_residual-in_err-push-3.result c.from_residual-in_err-push-3.ensures.1 in rw p.1 tt
+
+pub returns-in_err-push-3-clause-known : goal.returns-in_err-push-3-clause-known
+returns-in_err-push-3-clause-known g c = let p = err_from_is_err_and c.from_residual-in_err-push-3.result c.from_residual-in_err-push-3.ensures.1 in rw p.1 tt

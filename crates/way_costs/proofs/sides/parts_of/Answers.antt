@@ -1,3 +1,4 @@
+use Rattle.way_costs.proofs.Loops.{one_more_fits, two_more_fit}
 use Rattle.std.proofs.Common.{◌≡◌, ◌∙◌, ◌+◌, length, ap, arith, subst, sym, ℕ, ◌≤◌}
 use Rattle.callback_store.specs.Tables.{table_at}
 use Rattle.dimension_core.specs.Setup.{setting}
@@ -70,3 +71,15 @@ slice_bounds-from_edges-end g c =
 
 pub slice_bounds-to_edges-start : goal.slice_bounds-to_edges-start
 slice_bounds-to_edges-start g c = middle_ways _ c.requires.stops.0 _ _ _ c.customers.ensures c.requires.stops.1 c.requires.edges.counted
+
+pub slice_bounds-to-count : goal.slice_bounds-to-count
+slice_bounds-to-count g c = middle_back _ c.requires.stops.0 _ _ c.customers.ensures c.requires.stops.1
+
+pub slice_bounds-to_edges-count : goal.slice_bounds-to_edges-count
+slice_bounds-to_edges-count g c = middle_ways _ c.requires.stops.0 _ _ _ c.customers.ensures c.requires.stops.1 c.requires.edges.counted
+
+pub overflow_add-middle : goal.overflow_add-middle
+overflow_add-middle g c = one_more_fits _ _ _ c.customers.ensures (c.routes_are_known.ensures.short _ _ c.args.v c.requires.plan) c.customers-customers.ensures.sound.few_customers
+
+pub overflow_add-from : goal.overflow_add-from
+overflow_add-from g c = two_more_fit _ _ _ c.customers.ensures (c.routes_are_known.ensures.short _ _ c.args.v c.requires.plan) c.customers-customers.ensures.sound.few_customers

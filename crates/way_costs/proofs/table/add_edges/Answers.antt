@@ -1,3 +1,4 @@
+use Rattle.std.proofs.lemmas.Result.{err_from_is_err_and}
 use Rattle.std.proofs.Common.{◌≡◌, ◌+◌, ◌-◌, ◌*◌, ◌∙◌, ℕ, List, [], ◌∷◌, ◌++◌, length, slice_index, append_assoc, append-nil, arith, ap, refl, rules, subst, sym, vec_len}
 use Rattle.way_costs.specs.Ways.{ArePicked}
 use Rattle.way_costs.proofs.Cells.{picked_more}
@@ -27,3 +28,9 @@ returns c =
     let end = c.loop-k-test.false in
     let all : c.loop-k.k ≡ length c.args.stops.now.items - 1 = omega arith in
     (i.0, i.1, subst (λ (n : ℕ). ArePicked (length c.args.stops.now.items) n c.args.cells.now i.0) all i.2)
+
+pub returns-in_err-reserve : goal.returns-in_err-reserve
+returns-in_err-reserve c = let p = err_from_is_err_and c.from_residual.result c.from_residual.ensures.1 in rw p.1 tt
+
+pub returns-in_err-push : goal.returns-in_err-push
+returns-in_err-push c = let p = err_from_is_err_and c.from_residual-in_err-push.result c.from_residual-in_err-push.ensures.1 in rw p.1 tt

@@ -1,5 +1,8 @@
-use Rattle.std.proofs.Common.{arith, length, ◌+◌}
-use Rattle.way_costs.proofs.Loops.{before_last, edge_done, edge_in, next_before, some_long}
+use Rattle.way_costs.specs.Ways.{hop}
+use Rattle.callback_store.specs.Tables.{table_at}
+use Rattle.dimension_core.specs.Setup.{setting}
+use Rattle.std.proofs.Common.{arith, length, ◌+◌, slice_index, ℕ}
+use Rattle.way_costs.proofs.Loops.{before_last, edge_done, edge_in, next_before, some_long, edges_more, edges_set}
 use Rattle.way_costs.proofs.Cells.{way_fits}
 use Rattle.way_costs.proofs.table.ask_edges.Goals as goal
 
@@ -29,3 +32,10 @@ bounds-edges-k g c = edge_in c.loop-k.k (length c.args.stops.now) _ c.loop-k-tes
 
 pub returns : goal.returns
 returns g c = record { counted = c.loop-k.invariant.counted; hops = λ k h. c.loop-k.invariant.hops k (edge_done k (length c.args.stops.now) _ _ h c.loop-k.invariant.counted c.loop-k-test.false) }
+
+pub loop-k-preserved : goal.loop-k-preserved
+loop-k-preserved g c = record {
+  counted = edges_set c.loop-k.edges c.loop-k.k c.hop.result _ c.loop-k.invariant.counted;
+  hops = edges_more (λ (k : ℕ). hop (table_at (setting c.args.setup.now).tables (setting c.args.setup.now).cost) (slice_index c.args.stops.now k) (slice_index c.args.stops.now (k + 1)))
+      c.loop-k.edges c.loop-k.k c.hop.result (edge_in c.loop-k.k (length c.args.stops.now) _ c.loop-k-test.true c.loop-k.invariant.counted) c.loop-k.invariant.hops c.hop.ensures.value;
+}

@@ -16,3 +16,15 @@ returns-clause-kept g c = λ k h. row_kept c.args.at (length c.args.to.now) _ _ 
 
 pub returns-clause-least : goal.returns-clause-least
 returns-clause-least g c = λ k h. row_least c.args.at (length c.args.to.now) _ _ _ _ c.requires.room c.fill_row.ensures.sized c.fill_row.ensures.least k h
+
+pub fill_row-requires-clause-known : goal.fill_row-requires-clause-known
+fill_row-requires-clause-known g c = c.requires.known
+
+pub fill_row-requires-clause-across : goal.fill_row-requires-clause-across
+fill_row-requires-clause-across g c = c.requires.across
+
+pub fill_row-requires-clause-stop : goal.fill_row-requires-clause-stop
+fill_row-requires-clause-stop g c = c.requires.stop
+
+pub fill_row-requires-clause-to : goal.fill_row-requires-clause-to
+fill_row-requires-clause-to g c = c.requires.to

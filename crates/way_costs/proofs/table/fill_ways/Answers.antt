@@ -1,3 +1,4 @@
+use Rattle.std.proofs.lemmas.Result.{err_from_is_err_and}
 use Rattle.std.proofs.Common.{◌-◌, ◌∙◌, ap, if◌then◌else◌, length, sym}
 use Rattle.callback_store.specs.Tables.{table_at}
 use Rattle.dimension_core.specs.Setup.{setting}
@@ -82,3 +83,9 @@ fill_at-least-requires-clause-known g c = c.known_ways-known.ensures
 
 pub fill_at-least-requires-clause-across : goal.fill_at-least-requires-clause-across
 fill_at-least-requires-clause-across g c = c.is_read_across-across.ensures
+
+pub returns-in_err-resize-clause-hops : goal.returns-in_err-resize-clause-hops
+returns-in_err-resize-clause-hops g c = let p = err_from_is_err_and c.from_residual.result c.from_residual.ensures.1 in rw p.1 tt
+
+pub returns-in_err-resize-clause-floors : goal.returns-in_err-resize-clause-floors
+returns-in_err-resize-clause-floors g c = let p = err_from_is_err_and c.from_residual.result c.from_residual.ensures.1 in rw p.1 tt

@@ -30,3 +30,9 @@ returns-clause-ways g c = asked_ways c.args.turned _ c.args.stop c.args.to.now c
 
 pub returns-clause-least : goal.returns-clause-least
 returns-clause-least g c = asked_floor c.args.turned _ c.args.stop c.args.to.now c.loop-k.row c.loop-k.k c.loop-k.least c.loop-k-test.false c.loop-k.invariant
+
+pub known_by-way-requires-clause-known : goal.known_by-way-requires-clause-known
+known_by-way-requires-clause-known g c = c.requires.known
+
+pub known_by-way-requires-clause-from : goal.known_by-way-requires-clause-from
+known_by-way-requires-clause-from g c = c.requires.stop

@@ -1,6 +1,7 @@
+use Rattle.std.proofs.lemmas.Result.{err_from_is_err_and}
 use Rattle.std.proofs.Common.{◌≡◌, ◌≤◌, ◌∙◌, ℕ, false, List, length, All, arith, rules, subst, sym, vec_len, ◌*◌, ◌∷◌}
 use Rattle.way_costs.specs.Ways.{AreBothSums, AreHopsFrom}
-use Rattle.way_costs.proofs.Cells.{behind_first, picked_edges}
+use Rattle.way_costs.proofs.Cells.{behind_first, picked_edges, behind_fits}
 use Rattle.way_costs.proofs.Loops.{two_some}
 use Rattle.way_costs.proofs.sides.Along.gather.Goals as goal
 
@@ -38,3 +39,12 @@ add_edges-requires-clause-sized c = c.requires.sized
 
 pub add_edges-requires-clause-some : goal.add_edges-requires-clause-some
 add_edges-requires-clause-some c = two_some _ c.requires.long
+
+pub returns-in_err-fill_sums : goal.returns-in_err-fill_sums
+returns-in_err-fill_sums c = let p = err_from_is_err_and c.from_residual.result c.from_residual.ensures.1 in rw p.1 tt
+
+pub returns-in_err-add_edges : goal.returns-in_err-add_edges
+returns-in_err-add_edges c = let p = err_from_is_err_and c.from_residual-in_err-add_edges.result c.from_residual-in_err-add_edges.ensures.1 in rw p.1 tt
+
+pub slice_bounds-most_of-count : goal.slice_bounds-most_of-count
+slice_bounds-most_of-count c = behind_fits c.args.stops.now.items c.in_ok-add_edges.ensures.0 c.deref-2.result.now _ _ (c.deref-2.ensures.value ∙ c.in_ok-add_edges.ensures.1) c.args.stops.now.ok.0 c.len-count.ensures
