@@ -1,5 +1,5 @@
 -- What a run with workers and a live script writes, and the status that it ends with, from the bytes of its inputs.
-use Rattle.std.specs.Prelude.{◌≡◌, ℕ, ◌+◌, ◌⊎◌, Bool, ◌||◌, nat_lt, List, [], Option, Result, Ok, if◌then◌else◌}
+use Rattle.std.specs.Prelude.{◌≡◌, ℕ, ◌+◌, ◌⊎◌, Bool, ◌||◌, nat_lt, List, Option, Result, Ok, if◌then◌else◌}
 use Rattle.std.specs.Io.KnownBytes.{Keeps}
 use Rattle.board_rules.specs.History.{History}
 use Rattle.board_text.specs.BoardSteps.{DeskState, desk_state, IsBoardStep, LacksMemory}

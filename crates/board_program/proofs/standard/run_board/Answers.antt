@@ -10,7 +10,7 @@ use Rattle.board_rules.specs.History.{History}
 use Rattle.board_text.specs.BoardSteps.{desk_state, IsBoardStep, LacksMemory}
 use Rattle.line_engine.specs.WholeRuns.{IsAnswered, IsStopped}
 use Rattle.solomon_reader.specs.Instances.{view}
-use Rattle.program_parts.specs.Standard.{AreSitesOf, standard_setting}
+use Rattle.program_parts.specs.Standard.{AreSitesOf}
 use Rattle.program_parts.specs.StandardLaws.{standard_by}
 use Rattle.board_program.specs.Joined.{IsCutOff}
 use Rattle.board_program.specs.Standard.{opening_with, opening_of}
