@@ -1,18 +1,16 @@
 -- The marks of a picture.
 use Rattle.std.specs.Prelude.{ℕ, ◌+◌, ◌-◌, ◌*◌, ◌/◌, max, nat_le, List, [], ◌∷◌, ◌++◌, length, map, Option, Some, None, if◌then◌else◌}
 use Rattle.std.specs.List.{flat_map, range_with_len}
-use Rattle.solomon_reader.specs.declared.instance.Node.{Node}
 use Rattle.travel_table.specs.Travel.{node_at}
 use Rattle.plan_sums.specs.declared.row.Row.{Row}
 use Rattle.plan_sums.specs.declared.tour.Tour.{Tour}
 use Rattle.plan_sums.specs.declared.visit.Visit.{Visit}
 use Rattle.plan_sums.specs.Places.{Places, travel_of}
-use Rattle.plan_sums.specs.Rows.{row_at, is_planned}
+use Rattle.plan_sums.specs.Rows.{is_planned}
 use Rattle.plan_sums.specs.Visits.{visit_at}
 use Rattle.plan_sums.specs.Tours.{tours_of}
 use Rattle.plan_sums.specs.Texts.{open_count}
 use Rattle.plan_picture.specs.declared.layout.Layout.{Layout}
-use Rattle.plan_marks.specs.declared.mark.Leg.{Leg}
 use Rattle.plan_marks.specs.declared.mark.Lane.{Lane}
 use Rattle.plan_marks.specs.declared.mark.Mark.{Mark}
 use Rattle.plan_marks.specs.declared.mark.Mark.TheVariants as marks
@@ -99,16 +97,16 @@ ticks_before l n = map (tick_at l) (range_with_len 0 n)
 abbrev pub lanes_before : Places → Layout → List Row → ℕ → List Mark
 lanes_before p l rows n = flat_map (λ k. lanes_of l k (visit_at p rows k)) (range_with_len 0 n)
 
--- All marks, the lower ones first: on the map the ways, a mark for each row, the depot over them, and the numbers; then the table; then the
--- timelines.
+-- On the map the ways, a mark for each row, the depot over them, and the numbers, the lower ones first.
+abbrev pub map_of : Places → Layout → List Row → List Mark
+map_of p l rows = legs_before p l rows (length rows)
+    ++ (customers_before p l.frame l.most rows (length rows)
+    ++ (depot_mark p l ∷ labels_before p l rows (length rows)))
+
+-- all marks: the map, then the table, then the timelines
 abbrev pub marks_of : Places → Layout → List Row → List Tour → List Mark
-marks_of p l rows tours = legs_before p l rows (length rows)
-    ++ customers_before p l.frame l.most rows (length rows)
-    ++ (depot_mark p l ∷ [])
-    ++ labels_before p l rows (length rows)
-    ++ entries_before p tours (length tours)
-    ++ ticks_before l 5
-    ++ lanes_before p l rows (length rows)
+marks_of p l rows tours = map_of p l rows
+    ++ (entries_before p tours (length tours) ++ (ticks_before l 5 ++ lanes_before p l rows (length rows)))
 
 -- the picture of a listing
 abbrev pub picture_of : Places → List Row → List Mark

@@ -1,5 +1,5 @@
 -- Where things stand in a picture. All numbers are tenths of a pixel.
-use Rattle.std.specs.Prelude.{ℕ, ◌+◌, ◌-◌, ◌*◌, ◌/◌, max, min, List, length, fold}
+use Rattle.std.specs.Prelude.{ℕ, ◌+◌, ◌-◌, ◌*◌, ◌/◌, max, min, List, fold}
 use Rattle.solomon_reader.specs.declared.instance.Node.{Node}
 use Rattle.travel_table.specs.Travel.{node_at}
 use Rattle.plan_marks.specs.declared.ground.Frame.{Frame}

@@ -1,5 +1,5 @@
 -- The text of a picture: SVG.
-use Rattle.std.specs.Prelude.{ℕ, ◌+◌, ◌-◌, ◌*◌, ◌/◌, ◌%◌, ◌==◌, if◌then◌else◌, List, ◌++◌, length, codes, Option, Some, None}
+use Rattle.std.specs.Prelude.{ℕ, ◌+◌, ◌-◌, ◌/◌, ◌%◌, ◌==◌, if◌then◌else◌, List, ◌++◌, length, codes, Option, Some, None}
 use Rattle.std.specs.List.{flat_map}
 use Rattle.std.specs.Fmt.{decimal}
 use Rattle.plan_sums.specs.declared.row.Row.{Row}
@@ -42,44 +42,32 @@ dash_of vehicle = vehicle / 8 % 4
 -- ---- what a mark says of itself
 
 -- a planned customer
-unfoldable pub note_head : Visit → List ℕ
-note_head v = codes "customer " ++ (decimal v.row.customer
+unfoldable pub stop_note : Visit → List ℕ
+stop_note v = codes "customer " ++ (decimal v.row.customer
     ++ (codes ", vehicle " ++ (decimal v.row.vehicle
     ++ (codes ", place " ++ (decimal v.row.place
     ++ (codes ": window " ++ (decimal v.node.ready
     ++ (codes " to " ++ (decimal v.node.due
-    ++ (codes ", demand " ++ (decimal v.node.demand ++ codes ", arrival ")))))))))))
-
-unfoldable pub stop_note : Visit → List ℕ
-stop_note v = note_head v ++ (unit_text v.arrival ++ (codes ", service from " ++ unit_text v.row.early))
-
--- a customer who is not planned
-unfoldable pub open_note : Visit → List ℕ
-open_note v = codes "customer " ++ (decimal v.row.customer
-    ++ (codes ", not planned: window " ++ (decimal v.node.ready
-    ++ (codes " to " ++ (decimal v.node.due
-    ++ (codes ", demand " ++ decimal v.node.demand))))))
+    ++ (codes ", demand " ++ (decimal v.node.demand
+    ++ (codes ", arrival " ++ (unit_text v.arrival
+    ++ (codes ", service from " ++ unit_text v.row.early))))))))))))))
 
 -- ---- the marks
 
 -- a way: its line over the middle, where the arrow is, and its vehicle and nodes
-unfoldable pub leg_path : Leg → List ℕ
-leg_path m = codes "<path class=\"l c" ++ (decimal (colour_of m.vehicle)
+unfoldable pub leg_text : Leg → List ℕ
+leg_text m = codes "<path class=\"l c" ++ (decimal (colour_of m.vehicle)
     ++ (codes " p" ++ (decimal (dash_of m.vehicle)
     ++ (codes "\" d=\"M" ++ (decimal m.start.x
     ++ (codes " " ++ (decimal m.start.y
     ++ (codes "L" ++ (decimal (m.start.x / 2 + m.end.x / 2)
-    ++ (codes " " ++ decimal (m.start.y / 2 + m.end.y / 2)))))))))))
-
-unfoldable pub leg_names : Leg → List ℕ
-leg_names m = codes "L" ++ (decimal m.end.x
+    ++ (codes " " ++ (decimal (m.start.y / 2 + m.end.y / 2)
+    ++ (codes "L" ++ (decimal m.end.x
     ++ (codes " " ++ (decimal m.end.y
     ++ (codes "\"><title>vehicle " ++ (decimal m.vehicle
     ++ (codes ": " ++ (decimal m.from
-    ++ (codes " to " ++ (decimal m.to ++ codes ", ")))))))))
-
-unfoldable pub leg_text : Leg → List ℕ
-leg_text m = leg_path m ++ (leg_names m ++ (unit_text m.way ++ codes "</title></path>\n"))
+    ++ (codes " to " ++ (decimal m.to
+    ++ (codes ", " ++ (unit_text m.way ++ codes "</title></path>\n")))))))))))))))))))))))
 
 unfoldable pub depot_text : Depot → List ℕ
 depot_text m = codes "<path class=\"d\" d=\"M" ++ (decimal m.at.x
@@ -87,20 +75,25 @@ depot_text m = codes "<path class=\"d\" d=\"M" ++ (decimal m.at.x
     ++ (codes "m-80 -80h160v160h-160z\"><title>depot: " ++ (decimal m.ready
     ++ (codes " to " ++ (decimal m.due ++ codes "</title></path>\n")))))))
 
--- a circle, up to what it says of itself
-unfoldable pub circle_text : Spot → List ℕ
-circle_text m = codes "\" cx=\"" ++ (decimal m.at.x
-    ++ (codes "\" cy=\"" ++ (decimal m.at.y
-    ++ (codes "\" r=\"" ++ (decimal m.radius ++ codes "\"><title>")))))
-
+-- a planned customer, and the part up to what its circle says of itself
 unfoldable pub stop_open : Spot → List ℕ
-stop_open m = codes "<circle class=\"s f" ++ decimal (colour_of m.visit.row.vehicle)
+stop_open m = codes "<circle class=\"s f" ++ (decimal (colour_of m.visit.row.vehicle)
+    ++ (codes "\" cx=\"" ++ (decimal m.at.x
+    ++ (codes "\" cy=\"" ++ (decimal m.at.y
+    ++ (codes "\" r=\"" ++ (decimal m.radius ++ codes "\"><title>")))))))
 
 unfoldable pub stop_text : Spot → List ℕ
-stop_text m = stop_open m ++ (circle_text m ++ (stop_note m.visit ++ codes "</title></circle>\n"))
+stop_text m = stop_open m ++ (stop_note m.visit ++ codes "</title></circle>\n")
 
+-- a customer who is not planned
 unfoldable pub open_text : Spot → List ℕ
-open_text m = codes "<circle class=\"o" ++ (circle_text m ++ (open_note m.visit ++ codes "</title></circle>\n"))
+open_text m = codes "<circle class=\"o\" cx=\"" ++ (decimal m.at.x
+    ++ (codes "\" cy=\"" ++ (decimal m.at.y
+    ++ (codes "\" r=\"" ++ (decimal m.radius
+    ++ (codes "\"><title>customer " ++ (decimal m.visit.row.customer
+    ++ (codes ", not planned: window " ++ (decimal m.visit.node.ready
+    ++ (codes " to " ++ (decimal m.visit.node.due
+    ++ (codes ", demand " ++ (decimal m.visit.node.demand ++ codes "</title></circle>\n")))))))))))))
 
 unfoldable pub label_text : Label → List ℕ
 label_text m = codes "<text class=\"n\" dx=\"80\" dy=\"-50\" x=\"" ++ (decimal m.at.x
@@ -108,73 +101,58 @@ label_text m = codes "<text class=\"n\" dx=\"80\" dy=\"-50\" x=\"" ++ (decimal m
     ++ (codes "\">" ++ (decimal m.customer ++ codes "</text>\n")))))
 
 -- a line of the table: its vehicle; how many stops it has in the listing, with a plus sign where places between them are not in it; and its sums
+unfoldable pub stops_end : Tour → List ℕ
+stops_end t = if t.hidden == 0 then codes "</text><text class=\"e\" x=\"9500\">" else codes "+</text><text class=\"e\" x=\"9500\">"
+
 unfoldable pub entry_open : Entry → List ℕ
 entry_open m = codes "<g transform=\"translate(0 " ++ (decimal m.y
     ++ (codes ")\"><use href=\"#r\" class=\"r c" ++ (decimal (colour_of m.tour.vehicle)
     ++ (codes " p" ++ (decimal (dash_of m.tour.vehicle)
     ++ (codes "\"/><text class=\"e\" x=\"7650\">" ++ (decimal m.tour.vehicle
-    ++ codes "</text><text class=\"e\" x=\"8350\">")))))))
+    ++ (codes "</text><text class=\"e\" x=\"8350\">" ++ (decimal m.tour.stops
+    ++ (stops_end m.tour ++ (decimal m.tour.load
+    ++ (codes " of " ++ (decimal m.capacity ++ codes "</text><text class=\"e\" x=\"10450\">")))))))))))))
 
-unfoldable pub stops_text : Tour → List ℕ
-stops_text t = if t.hidden == 0 then decimal t.stops else decimal t.stops ++ codes "+"
-
-unfoldable pub entry_load : Entry → List ℕ
-entry_load m = codes "</text><text class=\"e\" x=\"9500\">" ++ (decimal m.tour.load
-    ++ (codes " of " ++ (decimal m.capacity
-    ++ codes "</text><text class=\"e\" x=\"10450\">")))
-
-unfoldable pub entry_times : Entry → List ℕ
-entry_times m = start_text m.tour.start
-    ++ (codes "</text><text class=\"e\" x=\"11450\">" ++ (unit_text m.tour.back
-    ++ (codes "</text><text class=\"e\" x=\"12600\">" ++ (unit_text m.tour.distance
-    ++ codes "</text></g>\n"))))
+unfoldable pub entry_end : Entry → List ℕ
+entry_end m = codes "</text><text class=\"e\" x=\"11450\">" ++ (unit_text m.tour.back
+    ++ (codes "</text><text class=\"e\" x=\"12600\">" ++ (unit_text m.tour.distance ++ codes "</text></g>\n")))
 
 unfoldable pub entry_text : Entry → List ℕ
-entry_text m = entry_open m ++ (stops_text m.tour ++ (entry_load m ++ entry_times m))
+entry_text m = entry_open m ++ (start_text m.tour.start ++ entry_end m)
 
-unfoldable pub tick_line : Tick → List ℕ
-tick_line m = codes "<path class=\"x\" d=\"M" ++ (decimal m.x
+unfoldable pub tick_text : Tick → List ℕ
+tick_text m = codes "<path class=\"x\" d=\"M" ++ (decimal m.x
     ++ (codes " " ++ (decimal m.top
     ++ (codes "V" ++ (decimal m.bottom
     ++ (codes "\"/><text class=\"y\" dy=\"-40\" x=\"" ++ (decimal m.x
-    ++ (codes "\" y=\"" ++ (decimal m.top ++ codes "\">")))))))))
-
-unfoldable pub tick_text : Tick → List ℕ
-tick_text m = tick_line m ++ (unit_text m.time ++ codes "</text>\n")
+    ++ (codes "\" y=\"" ++ (decimal m.top
+    ++ (codes "\">" ++ (unit_text m.time ++ codes "</text>\n")))))))))))
 
 -- a lane: its place; its vehicle and customer; the window; the travel to the stop and home, and the waiting; the service, with a line where it starts
 unfoldable pub lane_open : Lane → List ℕ
 lane_open m = codes "<g transform=\"translate(0 " ++ (decimal m.y ++ codes ")\"><title>")
 
-unfoldable pub lane_names : Lane → List ℕ
-lane_names m = codes "</title><use href=\"#h\"/><text class=\"e\" x=\"650\" y=\"120\">" ++ (decimal m.visit.row.vehicle
-    ++ (codes "</text><text class=\"e\" x=\"1350\" y=\"120\">" ++ (decimal m.visit.row.customer ++ codes "</text>")))
-
-unfoldable pub lane_window : Lane → List ℕ
-lane_window m = codes "<rect class=\"w\" y=\"30\" height=\"100\" x=\"" ++ (decimal m.ready
-    ++ (codes "\" width=\"" ++ (decimal (m.due - m.ready) ++ codes "\"/>")))
-
-unfoldable pub lane_travel : Lane → List ℕ
-lane_travel m = codes "<path class=\"t c" ++ (decimal (colour_of m.visit.row.vehicle)
+unfoldable pub lane_end : Lane → List ℕ
+lane_end m = codes "</title><use href=\"#h\"/><text class=\"e\" x=\"650\" y=\"120\">" ++ (decimal m.visit.row.vehicle
+    ++ (codes "</text><text class=\"e\" x=\"1350\" y=\"120\">" ++ (decimal m.visit.row.customer
+    ++ (codes "</text><rect class=\"w\" y=\"30\" height=\"100\" x=\"" ++ (decimal m.ready
+    ++ (codes "\" width=\"" ++ (decimal (m.due - m.ready)
+    ++ (codes "\"/><path class=\"t c" ++ (decimal (colour_of m.visit.row.vehicle)
     ++ (codes "\" d=\"M" ++ (decimal m.depart
     ++ (codes " 80H" ++ (decimal m.arrival
     ++ (codes "M" ++ (decimal m.leave
-    ++ (codes " 80H" ++ (decimal m.back ++ codes "\"/>")))))))))
-
-unfoldable pub lane_wait : Lane → List ℕ
-lane_wait m = codes "<path class=\"q c" ++ (decimal (colour_of m.visit.row.vehicle)
+    ++ (codes " 80H" ++ (decimal m.back
+    ++ (codes "\"/><path class=\"q c" ++ (decimal (colour_of m.visit.row.vehicle)
     ++ (codes "\" d=\"M" ++ (decimal m.arrival
-    ++ (codes " 80H" ++ (decimal m.early ++ codes "\"/>")))))
-
-unfoldable pub lane_block : Lane → List ℕ
-lane_block m = codes "<rect class=\"f" ++ (decimal (colour_of m.visit.row.vehicle)
+    ++ (codes " 80H" ++ (decimal m.early
+    ++ (codes "\"/><rect class=\"f" ++ (decimal (colour_of m.visit.row.vehicle)
     ++ (codes "\" y=\"30\" height=\"100\" x=\"" ++ (decimal m.early
     ++ (codes "\" width=\"" ++ (decimal (m.leave - m.early)
     ++ (codes "\"/><path class=\"v c" ++ (decimal (colour_of m.visit.row.vehicle)
-    ++ (codes "\" d=\"M" ++ (decimal m.early ++ codes " 15V145\"/></g>\n")))))))))
+    ++ (codes "\" d=\"M" ++ (decimal m.early ++ codes " 15V145\"/></g>\n")))))))))))))))))))))))))))))))))
 
 unfoldable pub lane_text : Lane → List ℕ
-lane_text m = lane_open m ++ (stop_note m.visit ++ (lane_names m ++ (lane_window m ++ (lane_travel m ++ (lane_wait m ++ lane_block m)))))
+lane_text m = lane_open m ++ (stop_note m.visit ++ lane_end m)
 
 -- a mark
 abbrev pub mark_text : Mark → List ℕ
@@ -204,14 +182,16 @@ style_text = STYLE.now
 unfoldable pub headings_text : List ℕ
 headings_text = HEADINGS.now
 
--- the name as the heading, and the whole plan
-unfoldable pub counts_text : ℕ → ℕ → List ℕ
-counts_text planned unplanned = codes ", " ++ (decimal planned
-    ++ (codes " customers planned, " ++ (decimal unplanned ++ codes " not planned</text>\n")))
+-- the whole plan: what it costs, and how many customers are planned and are not
+unfoldable pub sums_line : ℕ → ℕ → ℕ → List ℕ
+sums_line planned unplanned cost = codes "</text>\n<text class=\"m\" x=\"200\" y=\"700\">cost " ++ (unit_text cost
+    ++ (codes ", " ++ (decimal planned
+    ++ (codes " customers planned, " ++ (decimal unplanned ++ codes " not planned</text>\n")))))
 
+-- the name as the heading, and the whole plan
 unfoldable pub heading_text : List ℕ → ℕ → ℕ → ℕ → List ℕ
-heading_text name planned unplanned cost = codes "<text class=\"k\" x=\"200\" y=\"420\">" ++ (escaped name
-    ++ (codes "</text>\n<text class=\"m\" x=\"200\" y=\"700\">cost " ++ (unit_text cost ++ counts_text planned unplanned)))
+heading_text name planned unplanned cost = codes "<text class=\"k\" x=\"200\" y=\"420\">"
+    ++ (escaped name ++ sums_line planned unplanned cost)
 
 -- the headings of the timelines
 unfoldable pub lanes_heading : ℕ → List ℕ

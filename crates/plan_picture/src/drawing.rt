@@ -1,10 +1,10 @@
 //! The marks of a picture, in the order in which they are drawn.
 
-ghost use Rattle.std.specs.Prelude.{◌≡◌, ◌<◌, ◌≤◌, ◌++◌, IfOk, OnOk, length};
+ghost use Rattle.std.specs.Prelude.{◌≡◌, ◌<◌, ◌≤◌, ◌++◌, ◌∷◌, [], IfOk, OnOk, length};
 ghost use Rattle.plan_sums.specs.Rows.{AreRows};
 ghost use Rattle.plan_sums.specs.Visits.{IsVisit, visit_at};
 ghost use Rattle.plan_picture.specs.Drawn.{IsLayout};
-ghost use Rattle.plan_picture.specs.Marks.{leg_of, leg_in, leg_home, legs_of, label_of, labels_of, depot_mark, tick_at, lane_of, lanes_of, legs_before, labels_before, ticks_before, lanes_before, marks_of};
+ghost use Rattle.plan_picture.specs.Marks.{leg_of, leg_in, leg_home, legs_of, label_of, labels_of, depot_mark, tick_at, lane_of, lanes_of, legs_before, labels_before, ticks_before, lanes_before, map_of, marks_of};
 
 use crate::layout::Layout;
 use crate::scale::x_of;
@@ -16,6 +16,14 @@ use std::alloc::{AllocError, Global};
 
 /// The most nodes whose customers have their numbers on the map.
 const MOST_LABELLED: u32 = 101;
+
+/// Appends a mark.
+fn push_mark(marks: &mut Vec<Mark>, mark: Mark) -> Result<(), AllocError>
+    ensures { OnOk result (marks.new.items ≡ marks.old.items ++ mark ∷ []) }
+{
+    marks.push(mark)?;
+    Ok(())
+}
 
 // ---- the ways
 
@@ -51,8 +59,10 @@ fn push_leg_in(
         None => Ok(()),
         Some(from) => {
             let row = visit.row;
-            marks.push(leg_of(roads, layout, row.vehicle, from, row.customer))?;
-            Ok(())
+            push_mark(
+                marks,
+                leg_of(roads, layout, row.vehicle, from, row.customer),
+            )
         }
     }
 }
@@ -72,8 +82,7 @@ fn push_leg_home(
         return Ok(());
     }
     let row = visit.row;
-    marks.push(leg_of(roads, layout, row.vehicle, row.customer, 0))?;
-    Ok(())
+    push_mark(marks, leg_of(roads, layout, row.vehicle, row.customer, 0))
 }
 
 /// Appends the ways of a visit.
@@ -140,8 +149,7 @@ fn push_label(
     if roads.size() > MOST_LABELLED {
         return Ok(());
     }
-    marks.push(label_of(roads, layout, visit))?;
-    Ok(())
+    push_mark(marks, label_of(roads, layout, visit))
 }
 
 /// Appends the numbers of all rows.
@@ -196,7 +204,7 @@ fn push_ticks(marks: &mut Vec<Mark>, layout: &Layout) -> Result<(), AllocError>
     ensures { OnOk result (marks.new.items ≡ marks.old.items ++ ticks_before layout.now 5) }
 {
     for i in 0..5 {
-        marks.push(tick_at(layout, i))?;
+        push_mark(marks, tick_at(layout, i))?;
     }
     Ok(())
 }
@@ -218,11 +226,11 @@ fn lane_of(layout: &Layout, k: usize, visit: &Visit) -> Lane
     Lane {
         y: layout.top + 160 * k as u64,
         visit: *visit,
-        ready: x_of(&clock, u64::from(visit.node.ready) * 10),
-        due: x_of(&clock, u64::from(visit.node.due) * 10),
+        ready: x_of(&clock, visit.node.ready as u64 * 10),
+        due: x_of(&clock, visit.node.due as u64 * 10),
         depart: x_of(&clock, visit.arrival.saturating_sub(visit.way)),
         arrival: x_of(&clock, visit.arrival),
-        early: x_of(&clock, u64::from(visit.row.early)),
+        early: x_of(&clock, visit.row.early as u64),
         leave: x_of(&clock, visit.leave),
         back: x_of(&clock, back),
     }
@@ -244,8 +252,7 @@ fn push_lane(
     if !visit.row.is_planned() {
         return Ok(());
     }
-    marks.push(Mark::Lane(lane_of(layout, k, visit)))?;
-    Ok(())
+    push_mark(marks, Mark::Lane(lane_of(layout, k, visit)))
 }
 
 /// Appends a lane for each planned row.
@@ -267,6 +274,23 @@ fn push_lanes(
 
 // ---- the picture
 
+/// Appends the marks of the map: the ways of the vehicles, a mark for each row of the listing, the depot over them, and their numbers.
+fn push_map(
+    marks: &mut Vec<Mark>,
+    roads: &Roads,
+    layout: &Layout,
+    rows: &[Row],
+) -> Result<(), AllocError>
+    requires rows { AreRows roads.now rows.now }
+    requires layout { IsLayout layout.now }
+    ensures { OnOk result (marks.new.items ≡ marks.old.items ++ map_of roads.now layout.now rows.now) }
+{
+    push_all_legs(marks, roads, layout, rows)?;
+    push_customers(marks, roads, &layout.frame, layout.most, rows)?;
+    push_mark(marks, depot_mark(roads, layout))?;
+    push_labels(marks, roads, layout, rows)
+}
+
 /// The marks of the picture of a listing, with its layout and its sums, the lower ones first: on the map the ways of the vehicles, a mark for each
 /// row of the listing, the depot over them, and their numbers; then the table; then the timelines. No other customer is drawn.
 pub fn picture(
@@ -282,10 +306,7 @@ pub fn picture(
     ensures { IfOk result (λ marks. marks.items ≡ marks_of roads.now layout.now rows.now tours.now) }
 {
     let mut marks = Vec::new(alloc);
-    push_all_legs(&mut marks, roads, layout, rows)?;
-    push_customers(&mut marks, roads, &layout.frame, layout.most, rows)?;
-    marks.push(depot_mark(roads, layout))?;
-    push_labels(&mut marks, roads, layout, rows)?;
+    push_map(&mut marks, roads, layout, rows)?;
     push_entries(&mut marks, roads, tours)?;
     push_ticks(&mut marks, layout)?;
     push_lanes(&mut marks, roads, layout, rows)?;

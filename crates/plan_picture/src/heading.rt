@@ -2,26 +2,27 @@
 
 ghost use Rattle.std.specs.Prelude.{◌≡◌, ◌++◌, ◌-◌, ◌≤◌, All, OnOk, length, string_bytes};
 ghost use Rattle.plan_picture.specs.Drawn.{IsLayout};
-ghost use Rattle.plan_picture.specs.Texts.{size_text, opening_text, style_text, headings_text, counts_text, heading_text, lanes_heading, head_text, end_text};
+ghost use Rattle.plan_picture.specs.Texts.{size_text, opening_text, sums_line, heading_text, lanes_heading, head_text, end_text};
 
 use crate::layout::Layout;
 use crate::style::{HEADINGS, STYLE};
-use crate::text::push_units;
 use plan_marks::{push_escaped, push_text};
-use plan_sums::{Row, Tour, cost, open_count};
+use plan_sums::{Row, Tour, cost, open_count, push_filled};
 use std::alloc::AllocError;
 
 /// Appends the size.
-#[tactic(auto, unfolding(crate::specs::Texts::size_text))]
 fn push_size(out: &mut String, layout: &Layout) -> Result<(), AllocError>
     requires { IsLayout layout.now }
     ensures { OnOk result (string_bytes out.new ≡ string_bytes out.old ++ size_text layout.now) }
 {
-    write!(
+    push_filled(
         out,
-        "<svg xmlns=\"http://www.w3.org/2000/svg\" width=\"1280\" height=\"{}\" viewBox=\"0 0 12800 {}\">\n<title>",
-        (layout.bottom + 400) / 10,
-        layout.bottom + 400
+        &[
+            "<svg xmlns=\"http://www.w3.org/2000/svg\" width=\"1280\" height=\"",
+            "\" viewBox=\"0 0 12800 ",
+        ],
+        &[(layout.bottom + 400) / 10, layout.bottom + 400],
+        "\">\n<title>",
     )
 }
 
@@ -32,35 +33,28 @@ fn push_opening(out: &mut String, layout: &Layout, name: &str) -> Result<(), All
 {
     push_size(out, layout)?;
     push_escaped(out, name)?;
-    push_text(out, "</title>\n")?;
-    Ok(())
+    push_text(out, "</title>\n")
 }
 
-/// Appends the colours and the arrows.
-#[tactic(auto, unfolding(crate::specs::Texts::style_text))]
-fn push_style(out: &mut String) -> Result<(), AllocError>
-    ensures { OnOk result (string_bytes out.new ≡ string_bytes out.old ++ style_text) }
+/// Appends what the plan costs, and how many customers are planned, and how many are not.
+fn push_sums(
+    out: &mut String,
+    planned: usize,
+    unplanned: usize,
+    cost: u64,
+) -> Result<(), AllocError>
+    ensures { OnOk result (string_bytes out.new ≡ string_bytes out.old ++ sums_line planned unplanned cost) }
 {
-    push_text(out, STYLE)
-}
-
-/// Appends the headings of the parts.
-#[tactic(auto, unfolding(crate::specs::Texts::headings_text))]
-fn push_headings(out: &mut String) -> Result<(), AllocError>
-    ensures { OnOk result (string_bytes out.new ≡ string_bytes out.old ++ headings_text) }
-{
-    push_text(out, HEADINGS)
-}
-
-/// Appends how many customers are planned, and how many are not.
-#[tactic(auto, unfolding(crate::specs::Texts::counts_text))]
-fn push_counts(out: &mut String, planned: usize, unplanned: usize) -> Result<(), AllocError>
-    ensures { OnOk result (string_bytes out.new ≡ string_bytes out.old ++ counts_text planned unplanned) }
-{
-    write!(
+    push_filled(
         out,
-        ", {} customers planned, {} not planned</text>\n",
-        planned, unplanned
+        &[
+            "</text>\n<text class=\"m\" x=\"200\" y=\"700\">cost ",
+            ".",
+            ", ",
+            " customers planned, ",
+        ],
+        &[cost / 10, cost % 10, planned as u64, unplanned as u64],
+        " not planned</text>\n",
     )
 }
 
@@ -76,21 +70,21 @@ fn push_heading(
 {
     push_text(out, "<text class=\"k\" x=\"200\" y=\"420\">")?;
     push_escaped(out, name)?;
-    push_text(out, "</text>\n<text class=\"m\" x=\"200\" y=\"700\">cost ")?;
-    push_units(out, cost)?;
-    push_counts(out, planned, unplanned)?;
-    Ok(())
+    push_sums(out, planned, unplanned, cost)
 }
 
 /// Appends the headings of the timelines, at a height.
-#[tactic(auto, unfolding(crate::specs::Texts::lanes_heading))]
 fn push_lanes_heading(out: &mut String, y: u64) -> Result<(), AllocError>
     ensures { OnOk result (string_bytes out.new ≡ string_bytes out.old ++ lanes_heading y) }
 {
-    write!(
+    push_filled(
         out,
-        "<text class=\"e\" x=\"650\" y=\"{}\">vehicle</text>\n<text class=\"e\" x=\"1350\" y=\"{}\">customer</text>\n",
-        y, y
+        &[
+            "<text class=\"e\" x=\"650\" y=\"",
+            "\">vehicle</text>\n<text class=\"e\" x=\"1350\" y=\"",
+        ],
+        &[y, y],
+        "\">customer</text>\n",
     )
 }
 
@@ -110,11 +104,10 @@ pub fn push_head(
 {
     let unplanned = open_count(rows);
     push_opening(out, layout, name)?;
-    push_style(out)?;
+    push_text(out, STYLE)?;
     push_heading(out, name, rows.len() - unplanned, unplanned, cost(tours))?;
-    push_headings(out)?;
-    push_lanes_heading(out, layout.top.saturating_sub(100))?;
-    Ok(())
+    push_text(out, HEADINGS)?;
+    push_lanes_heading(out, layout.top.saturating_sub(100))
 }
 
 /// Appends what stands behind the marks.

@@ -5,7 +5,7 @@ ghost use Rattle.plan_sums.specs.Rows.{AreRows};
 ghost use Rattle.plan_picture.specs.Drawn.{IsLayout};
 ghost use Rattle.plan_picture.specs.Marks.{layout_of};
 
-use crate::scale::{Clock, clock_of, frame_of, most_demand};
+use crate::scale::{Clock, clock_of, ground_of};
 use plan_marks::Frame;
 use plan_sums::{Roads, Row, Tour, open_count};
 
@@ -35,9 +35,10 @@ impl Layout {
         let lines = tours.len() as u64;
         let lanes = (rows.len() - open_count(rows)) as u64;
         let top = (1300 + 190 * lines).max(7600) + 700;
+        let ground = ground_of(roads.nodes());
         Layout {
-            frame: frame_of(roads.nodes()),
-            most: most_demand(roads.nodes()),
+            frame: ground.frame,
+            most: ground.most,
             clock: clock_of(roads),
             top,
             bottom: top + 160 * lanes,

@@ -3,7 +3,8 @@
 ghost use Rattle.std.specs.Prelude.{◌≡◌, ◌<◌, ◌≤◌, length};
 ghost use Rattle.solomon_reader.specs.Instances.{IsNode};
 ghost use Rattle.plan_sums.specs.Places.{ArePlaces};
-ghost use Rattle.plan_picture.specs.Scales.{least_x, most_x, least_y, most_y, most_demand, frame_of, clock_of, x_of};
+ghost use Rattle.plan_picture.specs.Drawn.{extent_of};
+ghost use Rattle.plan_picture.specs.Scales.{most_demand, frame_of, clock_of, x_of};
 
 use plan_marks::Frame;
 use plan_sums::Roads;
@@ -18,59 +19,66 @@ pub struct Clock {
     pub span: u64,
 }
 
-/// The least first coordinate.
-fn least_x(nodes: &[Node]) -> u32
-    requires { 0 < length nodes.now }
-    ensures { result ≡ least_x nodes.now }
-{
-    nodes.iter().fold(nodes[0].x, |m, n| m.min(n.x))
+/// The least and the greatest numbers of some nodes.
+#[derive(Clone, Copy)]
+pub(crate) struct Extent {
+    pub(crate) least_x: u32,
+    pub(crate) most_x: u32,
+    pub(crate) least_y: u32,
+    pub(crate) most_y: u32,
+    pub(crate) most_demand: u32,
 }
 
-/// The greatest first coordinate.
-fn most_x(nodes: &[Node]) -> u32
+/// The least and the greatest coordinates, and the greatest demand.
+fn extent_of(nodes: &[Node]) -> Extent
     requires { 0 < length nodes.now }
-    ensures { result ≡ most_x nodes.now }
+    ensures { result ≡ extent_of nodes.now }
 {
-    nodes.iter().fold(nodes[0].x, |m, n| m.max(n.x))
+    let first = nodes[0];
+    let mut extent = Extent {
+        least_x: first.x,
+        most_x: first.x,
+        least_y: first.y,
+        most_y: first.y,
+        most_demand: 0,
+    };
+    for node in nodes {
+        extent = Extent {
+            least_x: extent.least_x.min(node.x),
+            most_x: extent.most_x.max(node.x),
+            least_y: extent.least_y.min(node.y),
+            most_y: extent.most_y.max(node.y),
+            most_demand: extent.most_demand.max(node.demand),
+        };
+    }
+    extent
 }
 
-/// The least second coordinate.
-fn least_y(nodes: &[Node]) -> u32
-    requires { 0 < length nodes.now }
-    ensures { result ≡ least_y nodes.now }
-{
-    nodes.iter().fold(nodes[0].y, |m, n| m.min(n.y))
+/// What the map shows: the square that all nodes are in, and the greatest demand, 1 where there is none.
+#[derive(Clone, Copy)]
+pub(crate) struct Ground {
+    pub(crate) frame: Frame,
+    pub(crate) most: u32,
 }
 
-/// The greatest second coordinate.
-fn most_y(nodes: &[Node]) -> u32
+/// What the map shows of some nodes.
+pub(crate) fn ground_of(nodes: &[Node]) -> Ground
     requires { 0 < length nodes.now }
-    ensures { result ≡ most_y nodes.now }
+    ensures frame { result.frame ≡ frame_of nodes.now }
+    ensures most { result.most ≡ most_demand nodes.now }
+    ensures wide { 1 ≤ result.frame.span }
+    ensures some { 1 ≤ result.most }
 {
-    nodes.iter().fold(nodes[0].y, |m, n| m.max(n.y))
-}
-
-/// The greatest demand, and 1 where there is none.
-pub(crate) fn most_demand(nodes: &[Node]) -> u32
-    ensures value { result ≡ most_demand nodes.now }
-    ensures some { 1 ≤ result }
-{
-    let most = nodes.iter().fold(0, |m, n| m.max(n.demand));
-    most.max(1)
-}
-
-/// The square that all nodes are in.
-pub(crate) fn frame_of(nodes: &[Node]) -> Frame
-    requires { 0 < length nodes.now }
-    ensures value { result ≡ frame_of nodes.now }
-    ensures some { 1 ≤ result.span }
-{
-    let wide = most_x(nodes).saturating_sub(least_x(nodes));
-    let high = most_y(nodes).saturating_sub(least_y(nodes));
-    Frame {
-        left: least_x(nodes),
-        top: most_y(nodes),
-        span: wide.max(high).max(1),
+    let extent = extent_of(nodes);
+    let wide = extent.most_x.saturating_sub(extent.least_x);
+    let high = extent.most_y.saturating_sub(extent.least_y);
+    Ground {
+        frame: Frame {
+            left: extent.least_x,
+            top: extent.most_y,
+            span: wide.max(high).max(1),
+        },
+        most: extent.most_demand.max(1),
     }
 }
 
@@ -83,8 +91,8 @@ pub(crate) fn clock_of(roads: &Roads) -> Clock
 {
     let depot = roads.depot();
     Clock {
-        from: u64::from(depot.ready) * 10,
-        span: (u64::from(depot.due - depot.ready) * 10).max(1),
+        from: depot.ready as u64 * 10,
+        span: ((depot.due - depot.ready) as u64 * 10).max(1),
     }
 }
 

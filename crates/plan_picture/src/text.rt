@@ -1,10 +1,10 @@
 //! The text of each mark.
 
 ghost use Rattle.std.specs.Prelude.{◌≡◌, ◌+◌, ◌/◌, ◌++◌, OnOk, string_bytes};
-ghost use Rattle.plan_picture.specs.Texts.{unit_text, start_text, note_head, stop_note, open_note, leg_path, leg_names, leg_text, depot_text, circle_text, stop_open, stop_text, open_text, label_text, entry_open, stops_text, entry_load, entry_times, entry_text, tick_line, tick_text, lane_open, lane_names, lane_window, lane_travel, lane_wait, lane_block, lane_text, mark_text};
+ghost use Rattle.plan_picture.specs.Texts.{unit_text, start_text, stop_note, leg_text, depot_text, stop_open, stop_text, open_text, label_text, stops_end, entry_open, entry_end, entry_text, tick_text, lane_open, lane_end, lane_text, mark_text};
 
 use plan_marks::{Depot, Entry, Label, Lane, Leg, Mark, Spot, Tick, push_text};
-use plan_sums::{Tour, Visit};
+use plan_sums::{Tour, Visit, push_filled};
 use std::alloc::AllocError;
 
 /// Appends tenths, in the file's unit.
@@ -25,43 +25,37 @@ fn push_start(out: &mut String, start: Option<u64>) -> Result<(), AllocError>
     }
 }
 
-/// Appends what a planned customer's mark says of itself, up to the arrival.
-#[tactic(auto, unfolding(crate::specs::Texts::note_head))]
-fn push_note_head(out: &mut String, visit: &Visit) -> Result<(), AllocError>
-    ensures { OnOk result (string_bytes out.new ≡ string_bytes out.old ++ note_head visit.now) }
-{
-    write!(
-        out,
-        "customer {}, vehicle {}, place {}: window {} to {}, demand {}, arrival ",
-        visit.row.customer,
-        visit.row.vehicle,
-        visit.row.place,
-        visit.node.ready,
-        visit.node.due,
-        visit.node.demand
-    )
-}
-
 /// Appends what a planned customer's mark says of itself.
 fn push_stop_note(out: &mut String, visit: &Visit) -> Result<(), AllocError>
     ensures { OnOk result (string_bytes out.new ≡ string_bytes out.old ++ stop_note visit.now) }
 {
-    push_note_head(out, visit)?;
-    push_units(out, visit.arrival)?;
-    push_text(out, ", service from ")?;
-    push_units(out, u64::from(visit.row.early))?;
-    Ok(())
-}
-
-/// Appends what the mark of a customer who is not planned says of itself.
-#[tactic(auto, unfolding(crate::specs::Texts::open_note))]
-fn push_open_note(out: &mut String, visit: &Visit) -> Result<(), AllocError>
-    ensures { OnOk result (string_bytes out.new ≡ string_bytes out.old ++ open_note visit.now) }
-{
-    write!(
+    push_filled(
         out,
-        "customer {}, not planned: window {} to {}, demand {}",
-        visit.row.customer, visit.node.ready, visit.node.due, visit.node.demand
+        &[
+            "customer ",
+            ", vehicle ",
+            ", place ",
+            ": window ",
+            " to ",
+            ", demand ",
+            ", arrival ",
+            ".",
+            ", service from ",
+            ".",
+        ],
+        &[
+            visit.row.customer as u64,
+            visit.row.vehicle as u64,
+            visit.row.place as u64,
+            visit.node.ready as u64,
+            visit.node.due as u64,
+            visit.node.demand as u64,
+            visit.arrival / 10,
+            visit.arrival % 10,
+            visit.row.early as u64 / 10,
+            visit.row.early as u64 % 10,
+        ],
+        "",
     )
 }
 
@@ -72,76 +66,78 @@ fn middle(a: u64, b: u64) -> u64
     a / 2 + b / 2
 }
 
-/// Appends the line of a way up to its middle.
-#[tactic(auto, unfolding(crate::specs::Texts::leg_path))]
-fn push_leg_path(out: &mut String, leg: &Leg) -> Result<(), AllocError>
-    ensures { OnOk result (string_bytes out.new ≡ string_bytes out.old ++ leg_path leg.now) }
-{
-    write!(
-        out,
-        "<path class=\"l c{} p{}\" d=\"M{} {}L{} {}",
-        leg.vehicle % 8,
-        leg.vehicle / 8 % 4,
-        leg.start.x,
-        leg.start.y,
-        middle(leg.start.x, leg.end.x),
-        middle(leg.start.y, leg.end.y)
-    )
-}
-
-/// Appends the rest of it, and whose it is.
-#[tactic(auto, unfolding(crate::specs::Texts::leg_names))]
-fn push_leg_names(out: &mut String, leg: &Leg) -> Result<(), AllocError>
-    ensures { OnOk result (string_bytes out.new ≡ string_bytes out.old ++ leg_names leg.now) }
-{
-    write!(
-        out,
-        "L{} {}\"><title>vehicle {}: {} to {}, ",
-        leg.end.x, leg.end.y, leg.vehicle, leg.from, leg.to
-    )
-}
-
 /// Appends a way.
 fn push_leg(out: &mut String, leg: &Leg) -> Result<(), AllocError>
     ensures { OnOk result (string_bytes out.new ≡ string_bytes out.old ++ leg_text leg.now) }
 {
-    push_leg_path(out, leg)?;
-    push_leg_names(out, leg)?;
-    push_units(out, leg.way)?;
-    push_text(out, "</title></path>\n")?;
-    Ok(())
+    push_filled(
+        out,
+        &[
+            "<path class=\"l c",
+            " p",
+            "\" d=\"M",
+            " ",
+            "L",
+            " ",
+            "L",
+            " ",
+            "\"><title>vehicle ",
+            ": ",
+            " to ",
+            ", ",
+            ".",
+        ],
+        &[
+            leg.vehicle as u64 % 8,
+            leg.vehicle as u64 / 8 % 4,
+            leg.start.x,
+            leg.start.y,
+            middle(leg.start.x, leg.end.x),
+            middle(leg.start.y, leg.end.y),
+            leg.end.x,
+            leg.end.y,
+            leg.vehicle as u64,
+            leg.from as u64,
+            leg.to as u64,
+            leg.way / 10,
+            leg.way % 10,
+        ],
+        "</title></path>\n",
+    )
 }
 
 /// Appends the depot.
-#[tactic(auto, unfolding(crate::specs::Texts::depot_text))]
 fn push_depot(out: &mut String, depot: &Depot) -> Result<(), AllocError>
     ensures { OnOk result (string_bytes out.new ≡ string_bytes out.old ++ depot_text depot.now) }
 {
-    write!(
+    push_filled(
         out,
-        "<path class=\"d\" d=\"M{} {}m-80 -80h160v160h-160z\"><title>depot: {} to {}</title></path>\n",
-        depot.at.x, depot.at.y, depot.ready, depot.due
+        &[
+            "<path class=\"d\" d=\"M",
+            " ",
+            "m-80 -80h160v160h-160z\"><title>depot: ",
+            " to ",
+        ],
+        &[depot.at.x, depot.at.y, depot.ready as u64, depot.due as u64],
+        "</title></path>\n",
     )
 }
 
-/// Appends a circle, up to what it says of itself.
-#[tactic(auto, unfolding(crate::specs::Texts::circle_text))]
-fn push_circle(out: &mut String, spot: &Spot) -> Result<(), AllocError>
-    ensures { OnOk result (string_bytes out.new ≡ string_bytes out.old ++ circle_text spot.now) }
-{
-    write!(
-        out,
-        "\" cx=\"{}\" cy=\"{}\" r=\"{}\"><title>",
-        spot.at.x, spot.at.y, spot.radius
-    )
-}
-
-/// Appends the beginning of a planned customer's circle.
-#[tactic(auto, unfolding(crate::specs::Texts::stop_open))]
+/// Appends a planned customer's circle, up to what it says of itself.
 fn push_stop_open(out: &mut String, spot: &Spot) -> Result<(), AllocError>
     ensures { OnOk result (string_bytes out.new ≡ string_bytes out.old ++ stop_open spot.now) }
 {
-    write!(out, "<circle class=\"s f{}", spot.visit.row.vehicle % 8)
+    push_filled(
+        out,
+        &["<circle class=\"s f", "\" cx=\"", "\" cy=\"", "\" r=\""],
+        &[
+            spot.visit.row.vehicle as u64 % 8,
+            spot.at.x,
+            spot.at.y,
+            spot.radius,
+        ],
+        "\"><title>",
+    )
 }
 
 /// Appends a planned customer.
@@ -149,85 +145,114 @@ fn push_stop(out: &mut String, spot: &Spot) -> Result<(), AllocError>
     ensures { OnOk result (string_bytes out.new ≡ string_bytes out.old ++ stop_text spot.now) }
 {
     push_stop_open(out, spot)?;
-    push_circle(out, spot)?;
     push_stop_note(out, &spot.visit)?;
-    push_text(out, "</title></circle>\n")?;
-    Ok(())
+    push_text(out, "</title></circle>\n")
 }
 
 /// Appends a customer who is not planned.
 fn push_open(out: &mut String, spot: &Spot) -> Result<(), AllocError>
     ensures { OnOk result (string_bytes out.new ≡ string_bytes out.old ++ open_text spot.now) }
 {
-    push_text(out, "<circle class=\"o")?;
-    push_circle(out, spot)?;
-    push_open_note(out, &spot.visit)?;
-    push_text(out, "</title></circle>\n")?;
-    Ok(())
+    push_filled(
+        out,
+        &[
+            "<circle class=\"o\" cx=\"",
+            "\" cy=\"",
+            "\" r=\"",
+            "\"><title>customer ",
+            ", not planned: window ",
+            " to ",
+            ", demand ",
+        ],
+        &[
+            spot.at.x,
+            spot.at.y,
+            spot.radius,
+            spot.visit.row.customer as u64,
+            spot.visit.node.ready as u64,
+            spot.visit.node.due as u64,
+            spot.visit.node.demand as u64,
+        ],
+        "</title></circle>\n",
+    )
 }
 
 /// Appends the number of a customer.
-#[tactic(auto, unfolding(crate::specs::Texts::label_text))]
 fn push_label(out: &mut String, label: &Label) -> Result<(), AllocError>
     ensures { OnOk result (string_bytes out.new ≡ string_bytes out.old ++ label_text label.now) }
 {
-    write!(
+    push_filled(
         out,
-        "<text class=\"n\" dx=\"80\" dy=\"-50\" x=\"{}\" y=\"{}\">{}</text>\n",
-        label.at.x, label.at.y, label.customer
+        &[
+            "<text class=\"n\" dx=\"80\" dy=\"-50\" x=\"",
+            "\" y=\"",
+            "\">",
+        ],
+        &[label.at.x, label.at.y, label.customer as u64],
+        "</text>\n",
     )
 }
 
-/// Appends the vehicle of a line of the table.
-#[tactic(auto, unfolding(crate::specs::Texts::entry_open))]
-fn push_entry_open(out: &mut String, entry: &Entry) -> Result<(), AllocError>
-    ensures { OnOk result (string_bytes out.new ≡ string_bytes out.old ++ entry_open entry.now) }
-{
-    write!(
-        out,
-        "<g transform=\"translate(0 {})\"><use href=\"#r\" class=\"r c{} p{}\"/><text class=\"e\" x=\"7650\">{}</text><text class=\"e\" x=\"8350\">",
-        entry.y,
-        entry.tour.vehicle % 8,
-        entry.tour.vehicle / 8 % 4,
-        entry.tour.vehicle
-    )
-}
-
-/// Appends how many stops a vehicle has, with a plus sign where places between them are not in the listing.
-#[tactic(auto, unfolding(crate::specs::Texts::stops_text))]
-fn push_stops(out: &mut String, tour: &Tour) -> Result<(), AllocError>
-    ensures { OnOk result (string_bytes out.new ≡ string_bytes out.old ++ stops_text tour.now) }
+/// What is between the stops of a vehicle and its load: a plus sign first, where places between the stops are not in the listing.
+#[tactic(auto, unfolding(crate::specs::Texts::stops_end))]
+fn stops_end(tour: &Tour) -> &str
+    ensures { result.now ≡ stops_end tour.now }
 {
     if tour.hidden == 0 {
-        write!(out, "{}", tour.stops)
+        "</text><text class=\"e\" x=\"9500\">"
     } else {
-        write!(out, "{}+", tour.stops)
+        "+</text><text class=\"e\" x=\"9500\">"
     }
 }
 
-/// Appends its load.
-#[tactic(auto, unfolding(crate::specs::Texts::entry_load))]
-fn push_entry_load(out: &mut String, entry: &Entry) -> Result<(), AllocError>
-    ensures { OnOk result (string_bytes out.new ≡ string_bytes out.old ++ entry_load entry.now) }
+/// Appends the vehicle of a line of the table, how many stops it has, and its load.
+fn push_entry_open(out: &mut String, entry: &Entry) -> Result<(), AllocError>
+    ensures { OnOk result (string_bytes out.new ≡ string_bytes out.old ++ entry_open entry.now) }
 {
-    write!(
+    push_filled(
         out,
-        "</text><text class=\"e\" x=\"9500\">{} of {}</text><text class=\"e\" x=\"10450\">",
-        entry.tour.load, entry.capacity
+        &[
+            "<g transform=\"translate(0 ",
+            ")\"><use href=\"#r\" class=\"r c",
+            " p",
+            "\"/><text class=\"e\" x=\"7650\">",
+            "</text><text class=\"e\" x=\"8350\">",
+            stops_end(&entry.tour),
+            " of ",
+        ],
+        &[
+            entry.y,
+            entry.tour.vehicle as u64 % 8,
+            entry.tour.vehicle as u64 / 8 % 4,
+            entry.tour.vehicle as u64,
+            entry.tour.stops,
+            entry.tour.load,
+            entry.capacity as u64,
+        ],
+        "</text><text class=\"e\" x=\"10450\">",
     )
 }
 
-/// Appends its times and its distance.
-fn push_entry_times(out: &mut String, entry: &Entry) -> Result<(), AllocError>
-    ensures { OnOk result (string_bytes out.new ≡ string_bytes out.old ++ entry_times entry.now) }
+/// Appends when it is back, and its distance.
+fn push_entry_end(out: &mut String, entry: &Entry) -> Result<(), AllocError>
+    ensures { OnOk result (string_bytes out.new ≡ string_bytes out.old ++ entry_end entry.now) }
 {
-    push_start(out, entry.tour.start)?;
-    push_text(out, "</text><text class=\"e\" x=\"11450\">")?;
-    push_units(out, entry.tour.back)?;
-    push_text(out, "</text><text class=\"e\" x=\"12600\">")?;
-    push_units(out, entry.tour.distance)?;
-    push_text(out, "</text></g>\n")?;
-    Ok(())
+    push_filled(
+        out,
+        &[
+            "</text><text class=\"e\" x=\"11450\">",
+            ".",
+            "</text><text class=\"e\" x=\"12600\">",
+            ".",
+        ],
+        &[
+            entry.tour.back / 10,
+            entry.tour.back % 10,
+            entry.tour.distance / 10,
+            entry.tour.distance % 10,
+        ],
+        "</text></g>\n",
+    )
 }
 
 /// Appends a line of the table.
@@ -235,110 +260,97 @@ fn push_entry(out: &mut String, entry: &Entry) -> Result<(), AllocError>
     ensures { OnOk result (string_bytes out.new ≡ string_bytes out.old ++ entry_text entry.now) }
 {
     push_entry_open(out, entry)?;
-    push_stops(out, &entry.tour)?;
-    push_entry_load(out, entry)?;
-    push_entry_times(out, entry)?;
-    Ok(())
+    push_start(out, entry.tour.start)?;
+    push_entry_end(out, entry)
 }
 
-/// Appends a line across the timelines.
-#[tactic(auto, unfolding(crate::specs::Texts::tick_line))]
-fn push_tick_line(out: &mut String, tick: &Tick) -> Result<(), AllocError>
-    ensures { OnOk result (string_bytes out.new ≡ string_bytes out.old ++ tick_line tick.now) }
-{
-    write!(
-        out,
-        "<path class=\"x\" d=\"M{} {}V{}\"/><text class=\"y\" dy=\"-40\" x=\"{}\" y=\"{}\">",
-        tick.x, tick.top, tick.bottom, tick.x, tick.top
-    )
-}
-
-/// Appends a time of the timelines.
+/// Appends a time of the timelines, with its line across them.
 fn push_tick(out: &mut String, tick: &Tick) -> Result<(), AllocError>
     ensures { OnOk result (string_bytes out.new ≡ string_bytes out.old ++ tick_text tick.now) }
 {
-    push_tick_line(out, tick)?;
-    push_units(out, tick.time)?;
-    push_text(out, "</text>\n")?;
-    Ok(())
+    push_filled(
+        out,
+        &[
+            "<path class=\"x\" d=\"M",
+            " ",
+            "V",
+            "\"/><text class=\"y\" dy=\"-40\" x=\"",
+            "\" y=\"",
+            "\">",
+            ".",
+        ],
+        &[
+            tick.x,
+            tick.top,
+            tick.bottom,
+            tick.x,
+            tick.top,
+            tick.time / 10,
+            tick.time % 10,
+        ],
+        "</text>\n",
+    )
 }
 
 /// Appends the place of a lane.
-#[tactic(auto, unfolding(crate::specs::Texts::lane_open))]
 fn push_lane_open(out: &mut String, lane: &Lane) -> Result<(), AllocError>
     ensures { OnOk result (string_bytes out.new ≡ string_bytes out.old ++ lane_open lane.now) }
 {
-    write!(out, "<g transform=\"translate(0 {})\"><title>", lane.y)
-}
-
-/// Appends its horizon and its numbers.
-#[tactic(auto, unfolding(crate::specs::Texts::lane_names))]
-fn push_lane_names(out: &mut String, lane: &Lane) -> Result<(), AllocError>
-    ensures { OnOk result (string_bytes out.new ≡ string_bytes out.old ++ lane_names lane.now) }
-{
-    write!(
+    push_filled(
         out,
-        "</title><use href=\"#h\"/><text class=\"e\" x=\"650\" y=\"120\">{}</text><text class=\"e\" x=\"1350\" y=\"120\">{}</text>",
-        lane.visit.row.vehicle, lane.visit.row.customer
+        &["<g transform=\"translate(0 "],
+        &[lane.y],
+        ")\"><title>",
     )
 }
 
-/// Appends its window.
-#[tactic(auto, unfolding(crate::specs::Texts::lane_window))]
-fn push_lane_window(out: &mut String, lane: &Lane) -> Result<(), AllocError>
-    ensures { OnOk result (string_bytes out.new ≡ string_bytes out.old ++ lane_window lane.now) }
+/// Appends its horizon and its numbers; its window; the travel to the stop and home; the waiting; and the service, with a line where it
+/// starts.
+fn push_lane_end(out: &mut String, lane: &Lane) -> Result<(), AllocError>
+    ensures { OnOk result (string_bytes out.new ≡ string_bytes out.old ++ lane_end lane.now) }
 {
-    write!(
+    let colour = lane.visit.row.vehicle as u64 % 8;
+    push_filled(
         out,
-        "<rect class=\"w\" y=\"30\" height=\"100\" x=\"{}\" width=\"{}\"/>",
-        lane.ready,
-        lane.due.saturating_sub(lane.ready)
-    )
-}
-
-/// Appends the travel to a stop and home.
-#[tactic(auto, unfolding(crate::specs::Texts::lane_travel))]
-fn push_lane_travel(out: &mut String, lane: &Lane) -> Result<(), AllocError>
-    ensures { OnOk result (string_bytes out.new ≡ string_bytes out.old ++ lane_travel lane.now) }
-{
-    write!(
-        out,
-        "<path class=\"t c{}\" d=\"M{} 80H{}M{} 80H{}\"/>",
-        lane.visit.row.vehicle % 8,
-        lane.depart,
-        lane.arrival,
-        lane.leave,
-        lane.back
-    )
-}
-
-/// Appends the waiting.
-#[tactic(auto, unfolding(crate::specs::Texts::lane_wait))]
-fn push_lane_wait(out: &mut String, lane: &Lane) -> Result<(), AllocError>
-    ensures { OnOk result (string_bytes out.new ≡ string_bytes out.old ++ lane_wait lane.now) }
-{
-    write!(
-        out,
-        "<path class=\"q c{}\" d=\"M{} 80H{}\"/>",
-        lane.visit.row.vehicle % 8,
-        lane.arrival,
-        lane.early
-    )
-}
-
-/// Appends the service, with a line where it starts.
-#[tactic(auto, unfolding(crate::specs::Texts::lane_block))]
-fn push_lane_block(out: &mut String, lane: &Lane) -> Result<(), AllocError>
-    ensures { OnOk result (string_bytes out.new ≡ string_bytes out.old ++ lane_block lane.now) }
-{
-    write!(
-        out,
-        "<rect class=\"f{}\" y=\"30\" height=\"100\" x=\"{}\" width=\"{}\"/><path class=\"v c{}\" d=\"M{} 15V145\"/></g>\n",
-        lane.visit.row.vehicle % 8,
-        lane.early,
-        lane.leave.saturating_sub(lane.early),
-        lane.visit.row.vehicle % 8,
-        lane.early
+        &[
+            "</title><use href=\"#h\"/><text class=\"e\" x=\"650\" y=\"120\">",
+            "</text><text class=\"e\" x=\"1350\" y=\"120\">",
+            "</text><rect class=\"w\" y=\"30\" height=\"100\" x=\"",
+            "\" width=\"",
+            "\"/><path class=\"t c",
+            "\" d=\"M",
+            " 80H",
+            "M",
+            " 80H",
+            "\"/><path class=\"q c",
+            "\" d=\"M",
+            " 80H",
+            "\"/><rect class=\"f",
+            "\" y=\"30\" height=\"100\" x=\"",
+            "\" width=\"",
+            "\"/><path class=\"v c",
+            "\" d=\"M",
+        ],
+        &[
+            lane.visit.row.vehicle as u64,
+            lane.visit.row.customer as u64,
+            lane.ready,
+            lane.due.saturating_sub(lane.ready),
+            colour,
+            lane.depart,
+            lane.arrival,
+            lane.leave,
+            lane.back,
+            colour,
+            lane.arrival,
+            lane.early,
+            colour,
+            lane.early,
+            lane.leave.saturating_sub(lane.early),
+            colour,
+            lane.early,
+        ],
+        " 15V145\"/></g>\n",
     )
 }
 
@@ -348,12 +360,7 @@ fn push_lane(out: &mut String, lane: &Lane) -> Result<(), AllocError>
 {
     push_lane_open(out, lane)?;
     push_stop_note(out, &lane.visit)?;
-    push_lane_names(out, lane)?;
-    push_lane_window(out, lane)?;
-    push_lane_travel(out, lane)?;
-    push_lane_wait(out, lane)?;
-    push_lane_block(out, lane)?;
-    Ok(())
+    push_lane_end(out, lane)
 }
 
 /// Appends the text of a mark, as SVG.

@@ -1,4 +1,5 @@
 pub mod Lines
+pub mod Pieces
 pub mod Places
 pub mod Progress
 pub mod Reading

@@ -1,11 +1,12 @@
 -- What has come of the lines, rows and sums of a listing so far.
-use Rattle.std.specs.Prelude.{◌≡◌, ℕ, ◌+◌, ◌*◌, ◌<◌, ◌≤◌, Bool, true, false, List, ◌∷◌, [], ◌++◌, length, Option, Some, None}
+use Rattle.std.specs.Prelude.{◌≡◌, ℕ, ◌+◌, ◌*◌, ◌<◌, ◌≤◌, Bool, true, false, List, ◌∷◌, [], ◌++◌, Option, Some, None}
 use Rattle.plan_sums.specs.declared.row.Row.{Row}
 use Rattle.plan_sums.specs.declared.finding.Span.{Span}
 use Rattle.plan_sums.specs.declared.finding.Search.{Search}
 use Rattle.plan_sums.specs.declared.lines.Kind.TheVariants as kinds
 use Rattle.plan_sums.specs.declared.tour.Tally.{Tally}
 use Rattle.plan_sums.specs.Places.{Places}
+use Rattle.plan_sums.specs.Reading.{IsNoRow, row_of}
 use Rattle.plan_sums.specs.Rows.{AllFit, AreRows, AreSeen, fits}
 use Rattle.plan_sums.specs.Lines.{IsListing, kind_at}
 use Rattle.plan_sums.specs.Tours.{first_of, ways}
@@ -32,6 +33,11 @@ pub record AreTaken (p : Places) (rows : List Row) (seen : List Bool) : Type 0 w
 abbrev pub IsTakenBy : Places → List Row → List Row → List Bool → Row → Bool → Type 0
 IsTakenBy p old new seen row true = (new ≡ old ++ row ∷ []) × AreTaken p new seen
 IsTakenBy p old new seen row false = fits p old row ≡ false
+
+-- the row of one more line: it is taken, or the line has none that may come next
+abbrev pub IsLineTaken : Places → List Row → List Row → List Bool → List ℕ → Bool → Type 0
+IsLineTaken p old new seen line true = (row : Row) × (row_of line ≡ Some row) × IsTakenBy p old new seen row true
+IsLineTaken p old new seen line false = IsNoRow p old line
 
 -- the first row of the vehicle of the last of some rows, and the ways to its stops
 pub record IsTallied (p : Places) (rows : List Row) (n : ℕ) (tally : Tally) : Type 0 where

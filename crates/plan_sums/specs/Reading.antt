@@ -1,5 +1,5 @@
 -- The rows of the last listing of an output.
-use Rattle.std.specs.Prelude.{◌≡◌, ℕ, ◌+◌, ◌<◌, ◌⊎◌, Bool, true, false, ◌==◌, ◌&&◌, nat_lt, if◌then◌else◌, List, [], ◌∷◌, length, Option, Some, None, MatchOption, Result, Ok, Err}
+use Rattle.std.specs.Prelude.{◌≡◌, ℕ, ◌+◌, ◌<◌, ◌⊎◌, false, ◌==◌, ◌&&◌, nat_lt, if◌then◌else◌, List, [], ◌∷◌, length, Option, Some, None, MatchOption}
 use Rattle.text_words.specs.Words.{words, number}
 use Rattle.solomon_reader.specs.Cuts.{lines}
 use Rattle.plan_sums.specs.declared.row.Row.{Row}
@@ -8,7 +8,7 @@ use Rattle.plan_sums.specs.declared.fault.RowsFault.TheVariants as faults
 use Rattle.plan_sums.specs.declared.finding.Span.{Span}
 use Rattle.plan_sums.specs.Places.{Places}
 use Rattle.plan_sums.specs.Rows.{fits, row_at, AllFit}
-use Rattle.plan_sums.specs.Lines.{IsListing, IsLastListing, IsFound, line_at}
+use Rattle.plan_sums.specs.Lines.{IsLastListing, IsFound, line_at}
 
 -- ---- the row of a line
 

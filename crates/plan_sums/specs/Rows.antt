@@ -1,5 +1,5 @@
 -- Rows of a listing.
-use Rattle.std.specs.Prelude.{◌≡◌, ℕ, ◌+◌, ◌-◌, ◌<◌, ◌≤◌, Bool, nat_lt, nat_le, ◌==◌, ◌&&◌, ◌||◌, not, true, false, if◌then◌else◌, List, length, take, slice_index_or}
+use Rattle.std.specs.Prelude.{◌≡◌, ℕ, ◌+◌, ◌-◌, ◌<◌, ◌≤◌, Bool, nat_lt, nat_le, ◌==◌, ◌&&◌, ◌||◌, not, true, false, List, length, take, slice_index_or}
 use Rattle.std.specs.List.{list_any}
 use Rattle.plan_sums.specs.declared.row.Row.{Row}
 use Rattle.plan_sums.specs.Places.{Places}

@@ -4,7 +4,7 @@ use Rattle.travel_table.specs.Travel.{node_at}
 use Rattle.plan_sums.specs.declared.row.Row.{Row}
 use Rattle.plan_sums.specs.declared.visit.Visit.{Visit}
 use Rattle.plan_sums.specs.Places.{Places, time_between, travel_of}
-use Rattle.plan_sums.specs.Rows.{row_at, is_planned}
+use Rattle.plan_sums.specs.Rows.{row_at}
 
 -- two rows of one vehicle
 abbrev pub share_vehicle : Row → Row → Bool

@@ -4,6 +4,7 @@
 mod fault;
 mod finding;
 mod lines;
+mod pieces;
 mod reading;
 mod roads;
 mod row;
@@ -12,6 +13,7 @@ mod tour;
 mod visit;
 
 pub use fault::RowsFault;
+pub use pieces::push_filled;
 pub use reading::read_rows;
 pub use roads::Roads;
 pub use row::Row;

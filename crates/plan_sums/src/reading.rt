@@ -2,7 +2,8 @@
 
 ghost use Rattle.std.specs.Prelude.{◌≡◌, ◌<◌, ◌≤◌, [], length, map, IfOk, IfErr};
 ghost use Rattle.std.specs.Bool.{OnTrue};
-ghost use Rattle.plan_sums.specs.Progress.{AreTaken, IsTakenBy};
+ghost use Rattle.text_words.specs.Words.{number};
+ghost use Rattle.plan_sums.specs.Progress.{AreTaken, IsLineTaken, IsTakenBy};
 ghost use Rattle.plan_sums.specs.Rows.{AreRows, fits, goes_after, is_in_order, is_row};
 ghost use Rattle.plan_sums.specs.Reading.{AreLastRows, AreRowsAt, IsFault, IsFaultAt, row_of_words, planned_row, lone_row};
 
@@ -14,45 +15,50 @@ use crate::row::Row;
 use std::alloc::{AllocError, Global};
 use text_words::{keep_all_words, number_of};
 
-/// The row of these numbers, with a vehicle and a place.
+/// The row of the numbers that these words are, with a vehicle and a place.
 fn planned_row(
-    vehicle: Option<u32>,
-    place: Option<u32>,
-    customer: Option<u32>,
-    load: Option<u32>,
-    early: Option<u32>,
+    vehicle: &[u8],
+    place: &[u8],
+    customer: &[u8],
+    load: &[u8],
+    early: &[u8],
 ) -> Option<Row>
-    ensures { result ≡ planned_row vehicle place customer load early }
+    ensures { result ≡ planned_row (number vehicle.now) (number place.now) (number customer.now) (number load.now) (number early.now) }
 {
-    let row = Row {
-        vehicle: vehicle?,
-        place: place?,
-        customer: customer?,
-        load: load?,
-        early: early?,
-    };
-    if row.vehicle > 0 && row.place > 0 {
-        Some(row)
-    } else {
-        None
+    match (
+        number_of(vehicle),
+        number_of(place),
+        number_of(customer),
+        number_of(load),
+        number_of(early),
+    ) {
+        (Some(vehicle), Some(place), Some(customer), Some(load), Some(early))
+            if vehicle > 0 && place > 0 => {
+            Some(Row {
+                vehicle,
+                place,
+                customer,
+                load,
+                early,
+            })
+        }
+        _ => None,
     }
 }
 
-/// The row of these numbers, with neither.
-fn lone_row(vehicle: Option<u32>, place: Option<u32>, customer: Option<u32>) -> Option<Row>
-    ensures { result ≡ lone_row vehicle place customer }
+/// The row of the numbers that these words are, with neither.
+fn lone_row(vehicle: &[u8], place: &[u8], customer: &[u8]) -> Option<Row>
+    ensures { result ≡ lone_row (number vehicle.now) (number place.now) (number customer.now) }
 {
-    let row = Row {
-        vehicle: vehicle?,
-        place: place?,
-        customer: customer?,
-        load: 0,
-        early: 0,
-    };
-    if row.vehicle == 0 && row.place == 0 {
-        Some(row)
-    } else {
-        None
+    match (number_of(vehicle), number_of(place), number_of(customer)) {
+        (Some(0), Some(0), Some(customer)) => Some(Row {
+            vehicle: 0,
+            place: 0,
+            customer,
+            load: 0,
+            early: 0,
+        }),
+        _ => None,
     }
 }
 
@@ -61,14 +67,8 @@ fn row_of_words(words: &[&[u8]]) -> Option<Row>
     ensures { result ≡ row_of_words (map (λ w. w.now) words.now) }
 {
     match words {
-        [_, v, p, c] => lone_row(number_of(v), number_of(p), number_of(c)),
-        [_, v, p, c, l, e] => planned_row(
-            number_of(v),
-            number_of(p),
-            number_of(c),
-            number_of(l),
-            number_of(e),
-        ),
+        [_, v, p, c] => lone_row(v, p, c),
+        [_, v, p, c, l, e] => planned_row(v, p, c, l, e),
         _ => None,
     }
 }
@@ -143,6 +143,23 @@ impl Taken {
     }
 }
 
+/// Takes the row of a line, if it is one that may come next.
+fn take_line<'a>(
+    taken: &mut Taken,
+    roads: &Roads,
+    words: &mut Vec<&'a [u8]>,
+    line: &'a [u8],
+) -> Result<bool, AllocError>
+    requires { AreTaken roads.now taken.old.rows.items taken.old.seen.items }
+    ensures { IfOk result (IsLineTaken roads.now taken.old.rows.items taken.new.rows.items taken.new.seen.items line.now) }
+{
+    keep_all_words(words, line)?;
+    match row_of_words(words.as_slice()) {
+        None => Ok(false),
+        Some(row) => taken.take(roads, row),
+    }
+}
+
 /// The rows of a listing, of which the places of its first row and of its end are given.
 fn rows_of(alloc: Global, roads: &Roads, lines: &[&[u8]], span: Span) -> Result<Vec<Row>, RowsFault>
     requires order { span.first ≤ span.end }
@@ -151,14 +168,10 @@ fn rows_of(alloc: Global, roads: &Roads, lines: &[&[u8]], span: Span) -> Result<
     ensures rows { IfOk result (λ rows. AreRows roads.now rows.items) }
     ensures err { IfErr result (IsFaultAt roads.now (map (λ w. w.now) lines.now) span) }
 {
-    let mut words = Vec::new(alloc);
     let mut taken = Taken::none(alloc, roads)?;
+    let mut words = Vec::new(alloc);
     for k in span.first..span.end {
-        keep_all_words(&mut words, lines[k])?;
-        let Some(row) = row_of_words(words.as_slice()) else {
-            return Err(RowsFault::Line(k + 1));
-        };
-        if !taken.take(roads, row)? {
+        if !take_line(&mut taken, roads, &mut words, lines[k])? {
             return Err(RowsFault::Line(k + 1));
         }
     }

@@ -4,6 +4,7 @@ ghost use Rattle.std.specs.Prelude.{◌≡◌, ◌≤◌, ◌++◌, All, OnOk, l
 ghost use Rattle.plan_sums.specs.Rows.{AreRows};
 ghost use Rattle.plan_sums.specs.Texts.{open_count, time_text, tour_text, total_text};
 
+use crate::pieces::push_filled;
 use crate::row::Row;
 use crate::tour::{Tour, cost};
 use std::alloc::AllocError;
@@ -23,13 +24,25 @@ fn push_time(out: &mut String, time: Option<u64>) -> Result<(), AllocError>
 pub fn push_tour(out: &mut String, capacity: u32, tour: &Tour) -> Result<(), AllocError>
     ensures { OnOk result (string_bytes out.new ≡ string_bytes out.old ++ tour_text capacity tour.now) }
 {
-    write!(
+    push_filled(
         out,
-        "vehicle {} stops {} hidden {} load {} of {capacity} start ",
-        tour.vehicle, tour.stops, tour.hidden, tour.load
+        &["vehicle ", " stops ", " hidden ", " load ", " of "],
+        &[
+            tour.vehicle as u64,
+            tour.stops,
+            tour.hidden,
+            tour.load,
+            capacity as u64,
+        ],
+        " start ",
     )?;
     push_time(out, tour.start)?;
-    write!(out, " back {} distance {}\n", tour.back, tour.distance)
+    push_filled(
+        out,
+        &[" back ", " distance "],
+        &[tour.back, tour.distance],
+        "\n",
+    )
 }
 
 /// How many customers of the rows are not planned.
@@ -37,7 +50,14 @@ pub fn open_count(rows: &[Row]) -> usize
     ensures value { result ≡ open_count rows.now }
     ensures within { result ≤ length rows.now }
 {
-    rows.iter().filter(|row| !row.is_planned()).count()
+    let mut count = 0;
+    for row in rows {
+        if row.is_planned() {
+            continue;
+        }
+        count += 1;
+    }
+    count
 }
 
 /// Appends the last line, with its line end: how many vehicles have a row, of all, how many customers of the listing are planned and how many are not,
@@ -53,11 +73,16 @@ pub fn push_total(
     ensures { OnOk result (string_bytes out.new ≡ string_bytes out.old ++ total_text vehicles rows.now tours.now) }
 {
     let open = open_count(rows);
-    write!(
+    push_filled(
         out,
-        "plan vehicles {} of {vehicles} stops {} open {open} cost {}\n",
-        tours.len(),
-        rows.len() - open,
-        cost(tours)
+        &["plan vehicles ", " of ", " stops ", " open ", " cost "],
+        &[
+            tours.len() as u64,
+            vehicles as u64,
+            (rows.len() - open) as u64,
+            open as u64,
+            cost(tours),
+        ],
+        "\n",
     )
 }

@@ -1,4 +1,4 @@
-use Rattle.std.proofs.Common.{◌≡◌, ◌++◌, ℕ, ap, append-nil, arith, length, subst, sym, ◌∙◌}
+use Rattle.std.proofs.Common.{◌≡◌, ◌++◌, ℕ, ap, append-nil, arith, length, subst, sym}
 use Rattle.plan_sums.specs.Visits.{visit_at}
 use Rattle.plan_picture.specs.Marks.{legs_before, legs_of}
 use Rattle.plan_marks.specs.Joining.{flat_joined}

@@ -1,7 +1,7 @@
-use Rattle.std.proofs.Common.{rules, append_assoc}
 use Rattle.plan_picture.specs.Texts.{tick_text}
+use Rattle.plan_picture.proofs.Writing.{units}
 use Rattle.plan_picture.proofs.text.push_tick.Goals as goal
 
 pub returns : goal.returns
 unfolding tick_text
-returns c = search (rules, append_assoc)
+returns c = rw units c.push_filled.ensures

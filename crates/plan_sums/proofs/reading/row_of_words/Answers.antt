@@ -1,4 +1,4 @@
-use Rattle.std.proofs.Common.{arith, map}
+use Rattle.std.proofs.Common.{arith, map, refl}
 use Rattle.std.proofs.lemmas.List.{length-map}
 use Rattle.plan_sums.proofs.Taking.{five_words, four_words, six_words}
 use Rattle.plan_sums.proofs.reading.row_of_words.Goals as goal
@@ -9,10 +9,9 @@ returns-in_default-2 c =
 
 pub returns-in-len4 : goal.returns-in-len4
 returns-in-len4 c =
-    four_words c.args.words.now _ c.number_of.result c.number_of-in-len4.result c.number_of-in-len4-2.result c.lone_row.result c.in-len4.len_at_least c.in-len4.len_below
-    c.number_of.ensures c.number_of-in-len4.ensures c.number_of-in-len4-2.ensures c.lone_row.ensures
+    four_words c.args.words.now _ _ _ _ c.lone_row.result c.in-len4.len_at_least c.in-len4.len_below refl refl refl c.lone_row.ensures
 
 pub returns-in-len6 : goal.returns-in-len6
 returns-in-len6 c =
-    six_words c.args.words.now _ c.number_of-in-len6.result c.number_of-in-len6-2.result c.number_of-in-len6-3.result c.number_of-in-len6-4.result c.number_of-in-len6-5.result c.planned_row.result c.in-len6.len_at_least c.in-len6.len_below
-    c.number_of-in-len6.ensures c.number_of-in-len6-2.ensures c.number_of-in-len6-3.ensures c.number_of-in-len6-4.ensures c.number_of-in-len6-5.ensures c.planned_row.ensures
+    six_words c.args.words.now _ _ _ _ _ _ c.planned_row.result c.in-len6.len_at_least c.in-len6.len_below refl refl refl refl refl
+    c.planned_row.ensures
