@@ -300,14 +300,14 @@ fn reverse_fits(view: &View, setup: &Setup, v: u32, first: u32, last: u32, kept:
 }
 
 /// Whether the new routes of a shift between two vehicles are in bounds.
-fn shift_fits(view: &View, setup: &Setup, pair: &Pair, place: u32, length: u32, at: u32) -> bool
+fn shift_fits(view: &View, setup: &Setup, pair: Pair, place: u32, length: u32, at: u32) -> bool
     requires laws { Laws }
-    requires v_kept { AreKept (setting setup.now) view.now.routes pair.now.v pair.now.w pair.now.v_kept.now }
-    requires w_kept { AreKept (setting setup.now) view.now.routes pair.now.w pair.now.v pair.now.w_kept.now }
+    requires v_kept { AreKept (setting setup.now) view.now.routes pair.v pair.w pair.v_kept.now }
+    requires w_kept { AreKept (setting setup.now) view.now.routes pair.w pair.v pair.w_kept.now }
     requires view { IsViewOf (setting setup.now) view.now }
-    requires possible { is_possible (setting setup.now).customers view.now.routes (Shift pair.now.v place length pair.now.w at) ≡ true }
-    requires apart { pair.now.v ≢ pair.now.w }
-    ensures { IsTrue result ↔ AllFit (setting setup.now) (changes_by view.now.routes (Shift pair.now.v place length pair.now.w at)) }
+    requires possible { is_possible (setting setup.now).customers view.now.routes (Shift pair.v place length pair.w at) ≡ true }
+    requires apart { pair.v ≢ pair.w }
+    ensures { IsTrue result ↔ AllFit (setting setup.now) (changes_by view.now.routes (Shift pair.entry.v place length pair.entry.w at)) }
 {
     let (v_kept, w_kept) = (pair.v_kept, pair.w_kept);
     let route = view.customers(pair.v);
@@ -340,14 +340,14 @@ fn shift_fits(view: &View, setup: &Setup, pair: &Pair, place: u32, length: u32, 
 }
 
 /// Whether the new routes of a swap between two vehicles are in bounds.
-fn swap_fits(view: &View, setup: &Setup, pair: &Pair, place: u32, at: u32) -> bool
+fn swap_fits(view: &View, setup: &Setup, pair: Pair, place: u32, at: u32) -> bool
     requires laws { Laws }
-    requires v_kept { AreKept (setting setup.now) view.now.routes pair.now.v pair.now.w pair.now.v_kept.now }
-    requires w_kept { AreKept (setting setup.now) view.now.routes pair.now.w pair.now.v pair.now.w_kept.now }
+    requires v_kept { AreKept (setting setup.now) view.now.routes pair.v pair.w pair.v_kept.now }
+    requires w_kept { AreKept (setting setup.now) view.now.routes pair.w pair.v pair.w_kept.now }
     requires view { IsViewOf (setting setup.now) view.now }
-    requires possible { is_possible (setting setup.now).customers view.now.routes (Swap pair.now.v place pair.now.w at) ≡ true }
-    requires apart { pair.now.v ≢ pair.now.w }
-    ensures { IsTrue result ↔ AllFit (setting setup.now) (changes_by view.now.routes (Swap pair.now.v place pair.now.w at)) }
+    requires possible { is_possible (setting setup.now).customers view.now.routes (Swap pair.v place pair.w at) ≡ true }
+    requires apart { pair.v ≢ pair.w }
+    ensures { IsTrue result ↔ AllFit (setting setup.now) (changes_by view.now.routes (Swap pair.entry.v place pair.entry.w at)) }
 {
     let (v_kept, w_kept) = (pair.v_kept, pair.w_kept);
     let route = view.customers(pair.v);
@@ -381,13 +381,13 @@ fn swap_fits(view: &View, setup: &Setup, pair: &Pair, place: u32, at: u32) -> bo
 }
 
 /// Whether the new routes of a cross are in bounds.
-fn cross_fits(view: &View, setup: &Setup, pair: &Pair, keep: u32, keep_other: u32) -> bool
+fn cross_fits(view: &View, setup: &Setup, pair: Pair, keep: u32, keep_other: u32) -> bool
     requires laws { Laws }
-    requires v_kept { AreKept (setting setup.now) view.now.routes pair.now.v pair.now.w pair.now.v_kept.now }
-    requires w_kept { AreKept (setting setup.now) view.now.routes pair.now.w pair.now.v pair.now.w_kept.now }
+    requires v_kept { AreKept (setting setup.now) view.now.routes pair.v pair.w pair.v_kept.now }
+    requires w_kept { AreKept (setting setup.now) view.now.routes pair.w pair.v pair.w_kept.now }
     requires view { IsViewOf (setting setup.now) view.now }
-    requires possible { is_possible (setting setup.now).customers view.now.routes (Cross pair.now.v keep pair.now.w keep_other) ≡ true }
-    ensures { IsTrue result ↔ AllFit (setting setup.now) (changes_by view.now.routes (Cross pair.now.v keep pair.now.w keep_other)) }
+    requires possible { is_possible (setting setup.now).customers view.now.routes (Cross pair.v keep pair.w keep_other) ≡ true }
+    ensures { IsTrue result ↔ AllFit (setting setup.now) (changes_by view.now.routes (Cross pair.entry.v keep pair.entry.w keep_other)) }
 {
     let _customers = setup.customers();
     let (v_kept, w_kept) = (pair.v_kept, pair.w_kept);
@@ -616,7 +616,7 @@ pub fn fits_after(
             if vehicle == to {
                 shift_inside_fits(view, setup, vehicle, place, length, at, v_kept)
             } else {
-                shift_fits(view, setup, &pair, place, length, at)
+                shift_fits(view, setup, pair, place, length, at)
             }
         }
         Move::Swap {
@@ -628,7 +628,7 @@ pub fn fits_after(
             if vehicle == other {
                 swap_inside_fits(view, setup, vehicle, place, at, v_kept)
             } else {
-                swap_fits(view, setup, &pair, place, at)
+                swap_fits(view, setup, pair, place, at)
             }
         }
         Move::Reverse {
@@ -640,7 +640,7 @@ pub fn fits_after(
             keep,
             keep_other,
             ..
-        } => cross_fits(view, setup, &pair, keep, keep_other),
+        } => cross_fits(view, setup, pair, keep, keep_other),
         Move::Insert { .. } | Move::Remove { .. } => false,
     }
 }

@@ -1,4 +1,4 @@
-use Rattle.std.proofs.Common.{◌≡◌, ◌≢◌, ℕ, ◌+◌, ◌-◌, ◌<◌, ◌≤◌, arith, refl, [], ◌∷◌, length, Option}
+use Rattle.std.proofs.Common.{◌≡◌, ◌≢◌, ℕ, ◌+◌, ◌-◌, ◌<◌, ◌≤◌, arith, refl, subst, [], ◌∷◌, length, Option}
 use Rattle.std.proofs.lemmas.Bool.{ne_eqb, eq-eqb}
 use Rattle.plan_core.specs.Plan.{route_at}
 use Rattle.move_core.specs.declared.moves.Move.{Move}
@@ -20,6 +20,11 @@ module _ (q : Searched) (is : IsSearch q) where
   -- the rows of swaps
   pub swap_next : (x y : ℕ) → IsNext (CountsIn q) (Swap q.v x q.w y) (2 ∷ q.v ∷ x ∷ q.w ∷ (y + 1) ∷ [])
   swap_next x y = pair_next (CountsIn q) (new_cost q) (old_cost q) 2 q.v (q.w ∷ []) (λ x y. Swap q.v x q.w y) 1 (length (route_at q.view.routes q.v)) (swap_from q.v q.w) (length (route_at q.view.routes q.w)) (swaps q is) x y
+
+  pub swap_beside : (x : ℕ) → IsNext (CountsIn q) (Swap q.v x q.w (x + 1)) (2 ∷ q.v ∷ x ∷ q.w ∷ (x + 2) ∷ [])
+  swap_beside x =
+      let e : x + 1 + 1 ≡ x + 2 = omega arith in
+      subst (λ (k : ℕ). IsNext (CountsIn q) (Swap q.v x q.w (x + 1)) (2 ∷ q.v ∷ x ∷ q.w ∷ k ∷ [])) e (swap_next x (x + 1))
 
   pub swaps_past : (x a b : ℕ) (best : Option (Move × ℕ)) → a ≤ b
       → ((k : ℕ) → a ≤ k → k < b → CountsIn q (Swap q.v x q.w k) → old_cost q - new_cost q (Swap q.v x q.w k) ≤ gain_of best)

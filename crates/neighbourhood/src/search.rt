@@ -72,16 +72,24 @@ fn are_empty(view: &View, v: u32, w: u32) -> bool
 }
 
 /// Whether the bounds allow what was found without them, where nothing is kept of them. It is then the best with them.
-fn holds_up(search: &Search, found: Option<(Move, u64)>) -> bool
-    requires search { IsSearch (searched search.now) }
-    requires unbounded { search.now.bounded ≡ false }
-    requires found { MatchOption found (IsIdleOf (searched search.now)) (λ p. IsBestOf (searched search.now) p.0 p.1) }
+#[inline(always)]
+fn holds_up(search: Search, found: Option<(Move, u64)>) -> bool
+    requires search { IsSearch (searched search) }
+    requires unbounded { search.bounded ≡ false }
+    requires found { MatchOption found (IsIdleOf (searched search)) (λ p. IsBestOf (searched search) p.0 p.1) }
     ensures { IsTrue result → MatchOption found
-        (IsIdle (setting search.now.setup.now) search.now.view.now search.now.skip.now search.now.v search.now.w)
-        (λ p. IsBest (setting search.now.setup.now) search.now.view.now search.now.skip.now search.now.v search.now.w p.0 p.1) }
+        (IsIdle (setting search.entry.setup.now) search.entry.view.now search.entry.skip.now search.entry.v search.entry.w)
+        (λ p. IsBest (setting search.entry.setup.now) search.entry.view.now search.entry.skip.now search.entry.v search.entry.w p.0 p.1) }
 {
-    let (view, setup, v, w) = (search.view, search.setup, search.v, search.w);
-    let (v_kept, w_kept) = (search.v_kept, search.w_kept);
+    let Search {
+        view,
+        setup,
+        v,
+        w,
+        v_kept,
+        w_kept,
+        ..
+    } = search;
     match found {
         None => true,
         Some((mv, _)) => fits_after(view, setup, v, w, v_kept, w_kept, mv),
@@ -90,13 +98,25 @@ fn holds_up(search: &Search, found: Option<(Move, u64)>) -> bool
 
 /// A search that keeps its memory from call to call: the tables of ways, and what it keeps of the bounds. It grows to what the longest
 /// routes so far needed, some 8 MB for one of a thousand customers. Each call is as of a new one.
-#[derive(Drop)]
 pub struct Searcher {
     sides: Sides,
     ways: Ways,
     along: Along,
     v_kept: Kept,
     w_kept: Kept,
+}
+
+// Written by hand: a derived drop is expanded, down to each list, at every place where a value is dropped.
+impl Drop for Searcher {
+    fn drop(self) {
+        let Searcher {
+            sides: _,
+            ways: _,
+            along: _,
+            v_kept: _,
+            w_kept: _,
+        } = self;
+    }
 }
 
 impl Searcher {
@@ -114,12 +134,12 @@ impl Searcher {
 
     /// The best move inside a vehicle. It is searched without the dimensions at first: where none is found, or they allow what was found,
     /// nothing is kept of them.
-    fn best_inside(
+    fn best_inside<'a>(
         &mut self,
-        view: &View,
-        setup: &Setup,
+        view: &'a View,
+        setup: &'a Setup,
         v: u32,
-        skip: &[Move],
+        skip: &'a [Move],
     ) -> Result<Option<(Move, u64)>, AllocError>
         requires laws { Laws }
         requires view { IsViewOf (setting setup.now) view.now }
@@ -134,7 +154,8 @@ impl Searcher {
         let count = self.sides.stops.len();
         self.ways.gather_among(setup, &self.sides.stops)?;
         let ways = &self.ways;
-        self.along.gather(&mut self.sides.stops, &ways.out)?;
+        let out = ways.out.as_slice();
+        self.along.gather(&mut self.sides.stops, out)?;
         let along = &self.along;
         let (stops, edges) = self.sides.stops.split_at(count);
         let (sums, back_sums) = along.sums.split_at(count - 1);
@@ -144,7 +165,7 @@ impl Searcher {
             from_edges: edges,
             to_edges: edges,
             most: along.most,
-            out: &ways.out,
+            out,
             into: &ways.into,
         };
         self.v_kept.forget();
@@ -159,7 +180,7 @@ impl Searcher {
             w_kept: &self.v_kept,
         };
         let found = best_of_one(&search, &gathered, sums, back_sums);
-        if holds_up(&search, found) {
+        if holds_up(search, found) {
             return Ok(found);
         }
         self.v_kept.keep_alone(view, setup, v)?;
@@ -177,13 +198,13 @@ impl Searcher {
     }
 
     /// The best move between two vehicles, searched without the dimensions at first as `best_inside` does.
-    fn best_between(
+    fn best_between<'a>(
         &mut self,
-        view: &View,
-        setup: &Setup,
+        view: &'a View,
+        setup: &'a Setup,
         v: u32,
         w: u32,
-        skip: &[Move],
+        skip: &'a [Move],
     ) -> Result<Option<(Move, u64)>, AllocError>
         requires laws { Laws }
         requires view { IsViewOf (setting setup.now) view.now }
@@ -224,7 +245,7 @@ impl Searcher {
             w_kept: &self.w_kept,
         };
         let found = best_of_two(&search, &gathered);
-        if holds_up(&search, found) {
+        if holds_up(search, found) {
             return Ok(found);
         }
         self.v_kept.keep_between(view, setup, v, w)?;

@@ -31,32 +31,25 @@ struct Shifts<'a> {
 /// The better of the best so far and the shifts to the places from one to before another. What comes before and after the customers there
 /// stands `offset` places further among the stops.
 #[inline(always)]
-fn shift_row(
-    search: &Search,
-    shifts: &Shifts,
-    offset: u32,
-    first: u32,
-    end: u32,
-    best: Best,
-) -> Best
+fn shift_row(search: &Search, shifts: Shifts, offset: u32, first: u32, end: u32, best: Best) -> Best
     requires search { IsSearch (searched search.now) }
-    requires few { shifts.now.count ≤ 3 }
+    requires few { shifts.count ≤ 3 }
     requires low { 1 ≤ first }
     requires order { first ≤ end }
-    requires ways { IsCutRow shifts.now.ways (end + offset - 1) }
-    requires most { All (λ x. x ≤ shifts.now.ways.most) shifts.now.ways.edges.now }
-    requires short { length shifts.now.ways.on.now ≤ 1002 }
-    requires fixed { (shifts.now.lost < 2 ^ 34) × (shifts.now.gained < 2 ^ 34) }
+    requires ways { IsCutRow shifts.ways (end + offset - 1) }
+    requires most { All (λ x. x ≤ shifts.ways.most) shifts.ways.edges.now }
+    requires short { length shifts.ways.on.now ≤ 1002 }
+    requires fixed { (shifts.lost < 2 ^ 34) × (shifts.gained < 2 ^ 34) }
     requires possible { (at : ℕ) → first ≤ at → at < end
-        → IsPossible (searched search.now) (Shift search.now.v shifts.now.place shifts.now.count search.now.w at) }
+        → IsPossible (searched search.now) (Shift search.now.v shifts.place shifts.count search.now.w at) }
     requires saving { (at : ℕ) → first ≤ at → at < end
-        → Saves (searched search.now) (Shift search.now.v shifts.now.place shifts.now.count search.now.w at)
-        (shifts.now.lost + lost_by_cut shifts.now.ways (at + offset - 1))
-        (shifts.now.gained + gained_by_cut shifts.now.ways (at + offset - 1)) }
+        → Saves (searched search.now) (Shift search.now.v shifts.place shifts.count search.now.w at)
+        (shifts.lost + lost_by_cut shifts.ways (at + offset - 1))
+        (shifts.gained + gained_by_cut shifts.ways (at + offset - 1)) }
     requires best { IsBestSoFar (searched search.now)
-        (1 ∷ search.now.v ∷ shifts.now.place ∷ shifts.now.count ∷ search.now.w ∷ first ∷ []) best.found }
+        (1 ∷ search.now.v ∷ shifts.place ∷ shifts.count ∷ search.now.w ∷ first ∷ []) best.found }
     ensures { IsBestSoFar (searched search.now)
-        (1 ∷ search.now.v ∷ shifts.now.place ∷ shifts.now.count ∷ search.now.w ∷ end ∷ []) result.found }
+        (1 ∷ search.now.v ∷ shifts.entry.place ∷ shifts.entry.count ∷ search.now.w ∷ end ∷ []) result.found }
 {
     if first == end {
         return best;
@@ -172,7 +165,7 @@ fn shift_over(
             on: goes,
         },
     };
-    shift_row(search, &shifts, 0, begin, width as u32, best)
+    shift_row(search, shifts, 0, begin, width as u32, best)
 }
 
 /// The better of the best so far and the shifts of so many customers from a place on inside their vehicle.
@@ -207,9 +200,9 @@ fn shift_within(search: &Search, gathered: &Gathered, place: u32, count: u32, be
             on: row(out, width, after - 1),
         },
     };
-    let forwards = shift_row(search, &shifts, 0, begin, place, best);
+    let forwards = shift_row(search, shifts, 0, begin, place, best);
     let end = width as u32 - count;
-    shift_row(search, &shifts, count, place + 1, end, forwards)
+    shift_row(search, shifts, count, place + 1, end, forwards)
 }
 
 /// The better of the best so far and all shifts of 1 to 3 customers from one vehicle to another.

@@ -22,21 +22,21 @@ struct Swaps<'a> {
 
 /// The better of the best so far and the swaps with the customers at the places from one to before another.
 #[inline(always)]
-fn swap_row(search: &Search, swaps: &Swaps, first: u32, end: u32, best: Best) -> Best
+fn swap_row(search: &Search, swaps: Swaps, first: u32, end: u32, best: Best) -> Best
     requires search { IsSearch (searched search.now) }
     requires low { 1 ≤ first }
     requires order { first ≤ end }
-    requires near { search.now.v ≡ search.now.w → swaps.now.place < first }
-    requires ways { IsSwapRow swaps.now.ways end }
-    requires most { All (λ x. x ≤ swaps.now.ways.most) swaps.now.ways.edges.now }
-    requires short { length swaps.now.ways.here.now ≤ 1002 }
-    requires fixed { swaps.now.lost < 2 ^ 34 }
+    requires near { search.now.v ≡ search.now.w → swaps.place < first }
+    requires ways { IsSwapRow swaps.ways end }
+    requires most { All (λ x. x ≤ swaps.ways.most) swaps.ways.edges.now }
+    requires short { length swaps.ways.here.now ≤ 1002 }
+    requires fixed { swaps.lost < 2 ^ 34 }
     requires possible { (at : ℕ) → first ≤ at → at < end
-        → IsPossible (searched search.now) (Swap search.now.v swaps.now.place search.now.w at) }
-    requires saving { (at : ℕ) → first ≤ at → at < end → Saves (searched search.now) (Swap search.now.v swaps.now.place search.now.w at)
-        (swaps.now.lost + lost_by_swap swaps.now.ways at) (gained_by_swap swaps.now.ways at) }
-    requires best { IsBestSoFar (searched search.now) (2 ∷ search.now.v ∷ swaps.now.place ∷ search.now.w ∷ first ∷ []) best.found }
-    ensures { IsBestSoFar (searched search.now) (2 ∷ search.now.v ∷ swaps.now.place ∷ search.now.w ∷ end ∷ []) result.found }
+        → IsPossible (searched search.now) (Swap search.now.v swaps.place search.now.w at) }
+    requires saving { (at : ℕ) → first ≤ at → at < end → Saves (searched search.now) (Swap search.now.v swaps.place search.now.w at)
+        (swaps.lost + lost_by_swap swaps.ways at) (gained_by_swap swaps.ways at) }
+    requires best { IsBestSoFar (searched search.now) (2 ∷ search.now.v ∷ swaps.place ∷ search.now.w ∷ first ∷ []) best.found }
+    ensures { IsBestSoFar (searched search.now) (2 ∷ search.now.v ∷ swaps.entry.place ∷ search.now.w ∷ end ∷ []) result.found }
 {
     let (lost, ways) = (swaps.lost, swaps.ways);
     let least = best.wanted(0);
@@ -112,32 +112,7 @@ fn swap_over(search: &Search, gathered: &Gathered, place: u32, best: Best) -> Be
             back,
         },
     };
-    swap_row(search, &swaps, begin, end as u32, best)
-}
-
-/// The better of the best so far and the swap of the customer at a place with the next one.
-fn swap_next(search: &Search, gathered: &Gathered, place: u32, best: Best) -> Best
-    requires search { IsSearch (searched search.now) }
-    requires gathered { IsGathered (searched search.now) gathered.now }
-    requires inside { search.now.v ≡ search.now.w }
-    requires place { (1 ≤ place) × (place + 2 < length gathered.now.from.now) }
-    requires best { IsBestSoFar (searched search.now) (2 ∷ search.now.v ∷ place ∷ search.now.w ∷ (place + 1) ∷ []) best.found }
-    ensures { IsBestSoFar (searched search.now) (2 ∷ search.now.v ∷ place ∷ search.now.w ∷ (place + 2) ∷ []) result.found }
-{
-    let (edges, out, width) = (gathered.to_edges, gathered.out, gathered.from.len());
-    let index = place as usize;
-    let before = row(out, width, index - 1);
-    let here = row(out, width, index);
-    let back = row(gathered.into, width, index);
-    let lost = way_at(edges, index - 1) + way_at(edges, index) + way_at(edges, index + 1);
-    let gained = way_at(before, index + 1) + way_at(back, index + 1) + way_at(here, index + 2);
-    let mv = Move::Swap {
-        vehicle: search.v,
-        place,
-        other: search.w,
-        at: place + 1,
-    };
-    best.or_better(search, mv, lost, gained)
+    swap_row(search, swaps, begin, end as u32, best)
 }
 
 /// The better of the best so far and the swaps of the customer at a place with those behind it.
@@ -159,24 +134,37 @@ fn swap_within(search: &Search, gathered: &Gathered, place: u32, best: Best) -> 
     if place < first_free(search.view, search.setup, search.v) {
         return best;
     }
-    let near = swap_next(search, gathered, place, best);
+    let (out, into) = (gathered.out, gathered.into);
+    let before = row(out, width, index - 1);
+    let here = row(out, width, index);
+    let back = row(into, width, index);
+    // with the next customer first: the way between both is then driven back
+    let lost = way_at(edges, index - 1) + way_at(edges, index);
+    let next_lost = lost + way_at(edges, index + 1);
+    let gained = way_at(before, index + 1) + way_at(back, index + 1) + way_at(here, index + 2);
+    let mv = Move::Swap {
+        vehicle: search.v,
+        place,
+        other: search.w,
+        at: place + 1,
+    };
+    let near = best.or_better(search, mv, next_lost, gained);
     if index + 3 >= width {
         return near;
     }
-    let (out, into) = (gathered.out, gathered.into);
     let swaps = Swaps {
         place,
-        lost: way_at(edges, index - 1) + way_at(edges, index),
+        lost,
         ways: SwapRow {
             edges,
             most: gathered.most,
-            before: row(out, width, index - 1),
-            here: row(out, width, index),
+            before,
+            here,
             next: row(into, width, index + 1),
-            back: row(into, width, index),
+            back,
         },
     };
-    swap_row(search, &swaps, place + 2, width as u32 - 1, near)
+    swap_row(search, swaps, place + 2, width as u32 - 1, near)
 }
 
 /// The better of the best so far and all swaps of a customer of one vehicle with one of another.

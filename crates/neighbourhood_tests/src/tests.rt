@@ -12,7 +12,6 @@ use plan_core::Plan;
 use rand_pcg::Lcg64Xsh32;
 use std::alloc::Global;
 use std::process::Abort;
-use std::test::Fail;
 
 /// A searcher that is kept, how many answers were compared with its own, how many of them name a move, and how many differ.
 #[derive(Drop)]
@@ -135,34 +134,39 @@ fn compare_setup<R: Abort + AllocGlobal>(
     }
 }
 
-/// Nothing is compared yet.
-fn no_tally(alloc: Global) -> Tally {
-    Tally {
+/// Compares the answers on some views of each of some random setups: so many are compared, so many of them name a move, and so many differ.
+fn compare_setups<R: Abort + AllocGlobal>(
+    rt: &R,
+    seed: u64,
+    setups: u32,
+    rooms: u32,
+    views: u32,
+    wanted: (u32, u32, u32),
+)
+    requires { (1 ≤ rooms) × (rooms ≤ 140) }
+{
+    let alloc = rt.alloc();
+    let mut rng = Lcg64Xsh32::new(seed, 11);
+    let mut tally = Tally {
         searcher: Searcher::new(alloc),
         answers: 0,
         moves: 0,
         differ: 0,
+    };
+    for _ in 0..setups {
+        compare_setup(rt, alloc, rooms, views, &mut rng, &mut tally);
     }
+    assert_eq!(rt; (tally.answers, tally.moves, tally.differ), wanted);
 }
 
 /// On random views the answers are those of a plain search that builds each move and judges the whole plan after it.
 #[test]
-fn answers_as_a_plain_search(rt: HostRuntime) -> Result<(), Fail> {
-    let mut rng = Lcg64Xsh32::new(2026, 11);
-    let mut tally = no_tally(rt.alloc());
-    for _ in 0..80 {
-        compare_setup(&rt, rt.alloc(), 1, 4, &mut rng, &mut tally);
-    }
-    assert_eq!(&rt; (tally.answers, tally.moves, tally.differ), (4863, 2370, 0));
-    Ok(())
+fn answers_as_a_plain_search(rt: HostRuntime) {
+    compare_setups(&rt, 2026, 80, 1, 4, (4863, 2370, 0));
 }
 
 /// The same on routes so long that a row of candidates is gone through twice.
 #[test]
-fn answers_on_long_routes(rt: HostRuntime) -> Result<(), Fail> {
-    let mut rng = Lcg64Xsh32::new(2027, 11);
-    let mut tally = no_tally(rt.alloc());
-    compare_setup(&rt, rt.alloc(), 6, 1, &mut rng, &mut tally);
-    assert_eq!(&rt; (tally.answers, tally.moves, tally.differ), (24, 18, 0));
-    Ok(())
+fn answers_on_long_routes(rt: HostRuntime) {
+    compare_setups(&rt, 2027, 1, 6, 1, (24, 18, 0));
 }

@@ -74,12 +74,15 @@ fn ask_in_turn(rt: &impl Abort, alloc: Global, setup: &Setup, view: &View, tied:
     requires view { IsViewOf (setting setup.now) view.now }
     requires vehicles { (setting setup.now).vehicles ≡ 1 }
 {
-    for k in 0..tied.len() {
+    for k in 0..tied.len() + 1 {
         let found = best_move(alloc, view, setup, 1, 1, &tied[..k]).expect(rt, "memory");
-        assert_eq!(rt; found, Some((tied[k], 60)));
+        let wanted = if k < tied.len() {
+            Some((tied[k], 60))
+        } else {
+            None
+        };
+        assert_eq!(rt; found, wanted);
     }
-    let found = best_move(alloc, view, setup, 1, 1, tied).expect(rt, "memory");
-    assert_eq!(rt; found, None);
 }
 
 /// Asks for the best moves of the customers in an order, which has a cost.

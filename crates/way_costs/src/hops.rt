@@ -27,6 +27,19 @@ pub fn hop(setup: &Setup, i: u32, j: u32) -> u64
     setup.registry().ask(setup.cost(), &mut Meter::new(), i, j)
 }
 
+/// Puts the stops of a route in place of what `all` held: the depot, its customers, the depot. It makes room for so many.
+#[inline(always)]
+fn begin_stops(route: &[u32], room: usize, all: &mut Vec<u32>) -> Result<(), AllocError>
+    ensures { IfOk result (λ _. all.new.items ≡ 0 ∷ (route.now ++ 0 ∷ [])) }
+{
+    all.clear();
+    all.reserve(room)?;
+    all.push(0)?;
+    all.extend_from_slice(route)?;
+    all.push(0)?;
+    Ok(())
+}
+
 /// Puts the stops of a vehicle, which count from 1, in place of what `all` held: the depot, its customers, the depot. The caller owes a
 /// view of a plan of the setup. On `AllocError` `all` may hold a part of them.
 pub fn fill_stops(view: &View, setup: &Setup, v: u32, all: &mut Vec<u32>) -> Result<(), AllocError>
@@ -39,12 +52,7 @@ pub fn fill_stops(view: &View, setup: &Setup, v: u32, all: &mut Vec<u32>) -> Res
     routes_are_known();
     let _customers = setup.customers();
     let customers = view.customers(v);
-    all.clear();
-    all.reserve(2 * customers.len() + 3)?;
-    all.push(0)?;
-    all.extend_from_slice(customers)?;
-    all.push(0)?;
-    Ok(())
+    begin_stops(customers, 2 * customers.len() + 3, all)
 }
 
 /// Puts the stops of two vehicles, one after the other, in place of what `all` held: the depot, the customers of one, the depot, those of
@@ -66,11 +74,7 @@ pub(crate) fn fill_stops_of_both(
     routes_are_known();
     let _customers = setup.customers();
     let (first, second) = (view.customers(v), view.customers(w));
-    all.clear();
-    all.reserve(first.len() + second.len() + 3)?;
-    all.push(0)?;
-    all.extend_from_slice(first)?;
-    all.push(0)?;
+    begin_stops(first, first.len() + second.len() + 3, all)?;
     all.extend_from_slice(second)?;
     all.push(0)?;
     Ok(())

@@ -475,8 +475,7 @@ pub(crate) fn fill_sums(stops: &[u32], cells: &[u32], sums: &mut Vec<u64>) -> Re
     sums.clear();
     sums.reserve(2 * stops.len())?;
     add_sums(false, stops, cells, sums)?;
-    add_sums(true, stops, cells, sums)?;
-    Ok(())
+    add_sums(true, stops, cells, sums)
 }
 
 /// One row of a table of `width` numbers a row; rows count from 0.

@@ -8,7 +8,7 @@ use Rattle.move_judge.proofs.allowed.cross_fits.Goals as goal
 
 pub parts_fit-requires : goal.parts_fit-requires
 parts_fit-requires g c =
-    let p = c.args.pair.now in
+    let p = c.args.pair in
     let s = setting c.args.setup.now in
     let law = c.requires.laws in
     let f = (law.possible.cross s.customers c.args.view.now.routes p.v c.args.keep p.w c.args.keep_other).0 c.requires.possible in
@@ -28,7 +28,7 @@ parts_fit-requires g c =
 
 pub parts_fit-requires-2 : goal.parts_fit-requires-2
 parts_fit-requires-2 g c =
-    let p = c.args.pair.now in
+    let p = c.args.pair in
     let s = setting c.args.setup.now in
     let law = c.requires.laws in
     let f = (law.possible.cross s.customers c.args.view.now.routes p.v c.args.keep p.w c.args.keep_other).0 c.requires.possible in
@@ -48,7 +48,7 @@ parts_fit-requires-2 g c =
 
 pub returns-then-not-parts_fit : goal.returns-then-not-parts_fit
 returns-then-not-parts_fit g c =
-    let p = c.args.pair.now in
+    let p = c.args.pair in
     let s = setting c.args.setup.now in
     let law = c.requires.laws in
     let front = front_of_old _ _ _ _ c.split_at.ensures.front c.customers.ensures in
@@ -60,7 +60,7 @@ returns-then-not-parts_fit g c =
 
 pub returns : goal.returns
 returns g c =
-    let p = c.args.pair.now in
+    let p = c.args.pair in
     let s = setting c.args.setup.now in
     let law = c.requires.laws in
     let front = front_of_old _ _ _ _ c.split_at.ensures.front c.customers.ensures in
@@ -75,24 +75,24 @@ returns g c =
 
 pub customers-requires : goal.customers-requires
 customers-requires g c =
-    let p = c.args.pair.now in
+    let p = c.args.pair in
     let f = (c.requires.laws.possible.cross (setting c.args.setup.now).customers c.args.view.now.routes p.v c.args.keep p.w c.args.keep_other).0 c.requires.possible in
     record { low = f.vehicle.low; high = f.vehicle.high }
 
 pub customers-requires-2 : goal.customers-requires-2
 customers-requires-2 g c =
-    let p = c.args.pair.now in
+    let p = c.args.pair in
     let f = (c.requires.laws.possible.cross (setting c.args.setup.now).customers c.args.view.now.routes p.v c.args.keep p.w c.args.keep_other).0 c.requires.possible in
     record { low = f.other.low; high = f.other.high }
 
 pub split_at-requires : goal.split_at-requires
 split_at-requires g c =
-    let p = c.args.pair.now in
+    let p = c.args.pair in
     let f = (c.requires.laws.possible.cross (setting c.args.setup.now).customers c.args.view.now.routes p.v c.args.keep p.w c.args.keep_other).0 c.requires.possible in
     as_long _ _ _ c.customers.ensures f.kept
 
 pub split_at-requires-2 : goal.split_at-requires-2
 split_at-requires-2 g c =
-    let p = c.args.pair.now in
+    let p = c.args.pair in
     let f = (c.requires.laws.possible.cross (setting c.args.setup.now).customers c.args.view.now.routes p.v c.args.keep p.w c.args.keep_other).0 c.requires.possible in
     as_long _ _ _ c.customers-2.ensures f.kept_other

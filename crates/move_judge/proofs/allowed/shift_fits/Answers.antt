@@ -8,7 +8,7 @@ use Rattle.move_judge.proofs.allowed.shift_fits.Goals as goal
 
 pub parts_fit-requires : goal.parts_fit-requires
 parts_fit-requires g c =
-    let p = c.args.pair.now in
+    let p = c.args.pair in
     let s = setting c.args.setup.now in
     let law = c.requires.laws in
     let f = (law.possible.shift s.customers c.args.view.now.routes p.v c.args.place c.args.length p.w c.args.at).0 c.requires.possible in
@@ -28,7 +28,7 @@ parts_fit-requires g c =
 
 pub parts_fit-requires-2 : goal.parts_fit-requires-2
 parts_fit-requires-2 g c =
-    let p = c.args.pair.now in
+    let p = c.args.pair in
     let s = setting c.args.setup.now in
     let law = c.requires.laws in
     let f = (law.possible.shift s.customers c.args.view.now.routes p.v c.args.place c.args.length p.w c.args.at).0 c.requires.possible in
@@ -48,7 +48,7 @@ parts_fit-requires-2 g c =
 
 pub returns-then-not-parts_fit : goal.returns-then-not-parts_fit
 returns-then-not-parts_fit g c =
-    let p = c.args.pair.now in
+    let p = c.args.pair in
     let s = setting c.args.setup.now in
     let law = c.requires.laws in
     let front = front_of_old _ _ _ _ c.front_of-front.ensures c.customers-route.ensures in
@@ -60,7 +60,7 @@ returns-then-not-parts_fit g c =
 
 pub returns : goal.returns
 returns g c =
-    let p = c.args.pair.now in
+    let p = c.args.pair in
     let s = setting c.args.setup.now in
     let law = c.requires.laws in
     let front = front_of_old _ _ _ _ c.front_of-front.ensures c.customers-route.ensures in
@@ -75,66 +75,66 @@ returns g c =
 
 pub customers-route-requires : goal.customers-route-requires
 customers-route-requires g c =
-    let p = c.args.pair.now in
+    let p = c.args.pair in
     let f = (c.requires.laws.possible.shift (setting c.args.setup.now).customers c.args.view.now.routes p.v c.args.place c.args.length p.w c.args.at).0 c.requires.possible in
     record { low = f.from.vehicle.low; high = f.from.vehicle.high }
 
 pub customers-other-requires : goal.customers-other-requires
 customers-other-requires g c =
-    let p = c.args.pair.now in
+    let p = c.args.pair in
     let f = (c.requires.laws.possible.shift (setting c.args.setup.now).customers c.args.view.now.routes p.v c.args.place c.args.length p.w c.args.at).0 c.requires.possible in
     record { low = f.onto.vehicle.low; high = f.onto.vehicle.high }
 
 pub front_of-front-requires : goal.front_of-front-requires
 front_of-front-requires g c =
-    let p = c.args.pair.now in
+    let p = c.args.pair in
     let f = (c.requires.laws.possible.shift (setting c.args.setup.now).customers c.args.view.now.routes p.v c.args.place c.args.length p.w c.args.at).0 c.requires.possible in
     record { low = f.from.low; high = begins_within _ _ _ _ c.customers-route.ensures f.from.high }
 
 pub back_of-rest-requires : goal.back_of-rest-requires
 back_of-rest-requires g c =
-    let p = c.args.pair.now in
+    let p = c.args.pair in
     let f = (c.requires.laws.possible.shift (setting c.args.setup.now).customers c.args.view.now.routes p.v c.args.place c.args.length p.w c.args.at).0 c.requires.possible in
     ends_within _ _ _ _ c.customers-route.ensures f.from.low f.from.high
 
 pub part-stretch-requires : goal.part-stretch-requires
 part-stretch-requires g c =
-    let p = c.args.pair.now in
+    let p = c.args.pair in
     let f = (c.requires.laws.possible.shift (setting c.args.setup.now).customers c.args.view.now.routes p.v c.args.place c.args.length p.w c.args.at).0 c.requires.possible in
     record { low = f.from.low; order = below_sum _ _; high = end_within _ _ _ c.customers-route.ensures f.from.high }
 
 pub front_of-before-requires : goal.front_of-before-requires
 front_of-before-requires g c =
-    let p = c.args.pair.now in
+    let p = c.args.pair in
     let f = (c.requires.laws.possible.shift (setting c.args.setup.now).customers c.args.view.now.routes p.v c.args.place c.args.length p.w c.args.at).0 c.requires.possible in
     record { low = f.onto.low; high = end_within _ _ _ c.customers-other.ensures (f.onto.outside c.requires.apart) }
 
 pub back_of-after-requires : goal.back_of-after-requires
 back_of-after-requires g c =
-    let p = c.args.pair.now in
+    let p = c.args.pair in
     let f = (c.requires.laws.possible.shift (setting c.args.setup.now).customers c.args.view.now.routes p.v c.args.place c.args.length p.w c.args.at).0 c.requires.possible in
     before_end _ _ _ c.customers-other.ensures (f.onto.outside c.requires.apart)
 
 pub overflow_sub-place : goal.overflow_sub-place
 overflow_sub-place g c =
-    let p = c.args.pair.now in
+    let p = c.args.pair in
     let f = (c.requires.laws.possible.shift (setting c.args.setup.now).customers c.args.view.now.routes p.v c.args.place c.args.length p.w c.args.at).0 c.requires.possible in
     f.from.low
 
 pub overflow_add-place : goal.overflow_add-place
 overflow_add-place g c =
-    let p = c.args.pair.now in
+    let p = c.args.pair in
     let f = (c.requires.laws.possible.shift (setting c.args.setup.now).customers c.args.view.now.routes p.v c.args.place c.args.length p.w c.args.at).0 c.requires.possible in
     rest_fits c.args.place c.args.length _ _ f.from.high (c.requires.laws.known.short _ _ p.v c.requires.view.plan) c.args.setup.now.sound.few_customers
 
 pub overflow_sub-at : goal.overflow_sub-at
 overflow_sub-at g c =
-    let p = c.args.pair.now in
+    let p = c.args.pair in
     let f = (c.requires.laws.possible.shift (setting c.args.setup.now).customers c.args.view.now.routes p.v c.args.place c.args.length p.w c.args.at).0 c.requires.possible in
     f.onto.low
 
 pub overflow_add-place-2 : goal.overflow_add-place-2
 overflow_add-place-2 g c =
-    let p = c.args.pair.now in
+    let p = c.args.pair in
     let f = (c.requires.laws.possible.shift (setting c.args.setup.now).customers c.args.view.now.routes p.v c.args.place c.args.length p.w c.args.at).0 c.requires.possible in
     stretch_fits (c.args.place + c.args.length) _ _ f.from.high (c.requires.laws.known.short _ _ p.v c.requires.view.plan) c.args.setup.now.sound.few_customers

@@ -8,7 +8,7 @@ use Rattle.move_judge.proofs.allowed.swap_fits.Goals as goal
 
 pub parts_fit-requires : goal.parts_fit-requires
 parts_fit-requires g c =
-    let p = c.args.pair.now in
+    let p = c.args.pair in
     let s = setting c.args.setup.now in
     let law = c.requires.laws in
     let f = (law.possible.swap s.customers c.args.view.now.routes p.v c.args.place p.w c.args.at).0 c.requires.possible in
@@ -27,7 +27,7 @@ parts_fit-requires g c =
 
 pub parts_fit-requires-2 : goal.parts_fit-requires-2
 parts_fit-requires-2 g c =
-    let p = c.args.pair.now in
+    let p = c.args.pair in
     let s = setting c.args.setup.now in
     let law = c.requires.laws in
     let f = (law.possible.swap s.customers c.args.view.now.routes p.v c.args.place p.w c.args.at).0 c.requires.possible in
@@ -46,7 +46,7 @@ parts_fit-requires-2 g c =
 
 pub returns-then-not-parts_fit : goal.returns-then-not-parts_fit
 returns-then-not-parts_fit g c =
-    let p = c.args.pair.now in
+    let p = c.args.pair in
     let s = setting c.args.setup.now in
     let law = c.requires.laws in
     let f = (law.possible.swap s.customers c.args.view.now.routes p.v c.args.place p.w c.args.at).0 c.requires.possible in
@@ -58,7 +58,7 @@ returns-then-not-parts_fit g c =
 
 pub returns : goal.returns
 returns g c =
-    let p = c.args.pair.now in
+    let p = c.args.pair in
     let s = setting c.args.setup.now in
     let law = c.requires.laws in
     let f = (law.possible.swap s.customers c.args.view.now.routes p.v c.args.place p.w c.args.at).0 c.requires.possible in
@@ -72,60 +72,60 @@ returns g c =
 
 pub customers-route-requires : goal.customers-route-requires
 customers-route-requires g c =
-    let p = c.args.pair.now in
+    let p = c.args.pair in
     let f = (c.requires.laws.possible.swap (setting c.args.setup.now).customers c.args.view.now.routes p.v c.args.place p.w c.args.at).0 c.requires.possible in
     record { low = f.vehicle.low; high = f.vehicle.high }
 
 pub customers-other-requires : goal.customers-other-requires
 customers-other-requires g c =
-    let p = c.args.pair.now in
+    let p = c.args.pair in
     let f = (c.requires.laws.possible.swap (setting c.args.setup.now).customers c.args.view.now.routes p.v c.args.place p.w c.args.at).0 c.requires.possible in
     record { low = f.other.low; high = f.other.high }
 
 pub front_of-front-requires : goal.front_of-front-requires
 front_of-front-requires g c =
-    let p = c.args.pair.now in
+    let p = c.args.pair in
     let f = (c.requires.laws.possible.swap (setting c.args.setup.now).customers c.args.view.now.routes p.v c.args.place p.w c.args.at).0 c.requires.possible in
     record { low = f.place.low; high = no_later _ _ _ c.customers-route.ensures f.place.high }
 
 pub front_of-before-requires : goal.front_of-before-requires
 front_of-before-requires g c =
-    let p = c.args.pair.now in
+    let p = c.args.pair in
     let f = (c.requires.laws.possible.swap (setting c.args.setup.now).customers c.args.view.now.routes p.v c.args.place p.w c.args.at).0 c.requires.possible in
     record { low = f.at.low; high = no_later _ _ _ c.customers-other.ensures f.at.high }
 
 pub part-here-requires : goal.part-here-requires
 part-here-requires g c =
-    let p = c.args.pair.now in
+    let p = c.args.pair in
     let f = (c.requires.laws.possible.swap (setting c.args.setup.now).customers c.args.view.now.routes p.v c.args.place p.w c.args.at).0 c.requires.possible in
     record { low = f.place.low; order = below_next _; high = next_within _ _ _ c.customers-route.ensures f.place.high }
 
 pub part-there-requires : goal.part-there-requires
 part-there-requires g c =
-    let p = c.args.pair.now in
+    let p = c.args.pair in
     let f = (c.requires.laws.possible.swap (setting c.args.setup.now).customers c.args.view.now.routes p.v c.args.place p.w c.args.at).0 c.requires.possible in
     record { low = f.at.low; order = below_next _; high = next_within _ _ _ c.customers-other.ensures f.at.high }
 
 pub back_of-rest-requires : goal.back_of-rest-requires
 back_of-rest-requires g c =
-    let p = c.args.pair.now in
+    let p = c.args.pair in
     let f = (c.requires.laws.possible.swap (setting c.args.setup.now).customers c.args.view.now.routes p.v c.args.place p.w c.args.at).0 c.requires.possible in
     as_long _ _ _ c.customers-route.ensures f.place.high
 
 pub back_of-after-requires : goal.back_of-after-requires
 back_of-after-requires g c =
-    let p = c.args.pair.now in
+    let p = c.args.pair in
     let f = (c.requires.laws.possible.swap (setting c.args.setup.now).customers c.args.view.now.routes p.v c.args.place p.w c.args.at).0 c.requires.possible in
     as_long _ _ _ c.customers-other.ensures f.at.high
 
 pub overflow_add-at : goal.overflow_add-at
 overflow_add-at g c =
-    let p = c.args.pair.now in
+    let p = c.args.pair in
     let f = (c.requires.laws.possible.swap (setting c.args.setup.now).customers c.args.view.now.routes p.v c.args.place p.w c.args.at).0 c.requires.possible in
     place_fits c.args.at _ _ f.at.high (c.requires.laws.known.short _ _ p.w c.requires.view.plan) c.args.setup.now.sound.few_customers
 
 pub overflow_add-place : goal.overflow_add-place
 overflow_add-place g c =
-    let p = c.args.pair.now in
+    let p = c.args.pair in
     let f = (c.requires.laws.possible.swap (setting c.args.setup.now).customers c.args.view.now.routes p.v c.args.place p.w c.args.at).0 c.requires.possible in
     place_fits c.args.place _ _ f.place.high (c.requires.laws.known.short _ _ p.v c.requires.view.plan) c.args.setup.now.sound.few_customers

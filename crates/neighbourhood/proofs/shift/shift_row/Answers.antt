@@ -10,7 +10,7 @@ use Rattle.neighbourhood.proofs.shift.shift_row.Goals as goal
 pub returns-then-not-may_gain : goal.returns-then-not-may_gain
 returns-then-not-may_gain g c =
     let order = c.requires.order in
-    shifts_past (searched c.args.search.now) c.requires.search c.args.shifts.now.place c.args.shifts.now.count c.args.first c.args.end c.args.best.found (omega arith)
+    shifts_past (searched c.args.search.now) c.requires.search c.args.shifts.place c.args.shifts.count c.args.first c.args.end c.args.best.found (omega arith)
     (λ k h l q.
     let saving = c.requires.saving k h l in
     let none = c.may_gain.ensures c.if-not-may_gain.true (k + c.args.offset - 1) (omega arith) (omega arith) in
@@ -22,7 +22,7 @@ pub returns-then-next-end : goal.returns-then-next-end
 returns-then-next-end g c =
     let end = c.if-next-end.true in
     let test = c.row-test.true in
-    shifts_past (searched c.args.search.now) c.requires.search c.args.shifts.now.place c.args.shifts.now.count c.row.at c.args.end c.row.best.found (omega arith)
+    shifts_past (searched c.args.search.now) c.requires.search c.args.shifts.place c.args.shifts.count c.row.at c.args.end c.row.best.found (omega arith)
     (λ k h l q.
     let low = c.row.invariant.low in
     let saving = c.requires.saving k (omega arith) l in
@@ -50,8 +50,8 @@ or_better-best-requires-clause-saving g c =
     let found = c.first_gain-found.result in
     let saving = c.requires.saving (found + 1 - c.args.offset) (omega arith) (omega arith) in
     let e : found + 1 - c.args.offset + c.args.offset - 1 ≡ found = omega arith in
-    let lost = ap (λ (n : ℕ). lost_by_cut c.args.shifts.now.ways n) e in
-    let gained = ap (λ (n : ℕ). gained_by_cut c.args.shifts.now.ways n) e in
+    let lost = ap (λ (n : ℕ). lost_by_cut c.args.shifts.ways n) e in
+    let gained = ap (λ (n : ℕ). gained_by_cut c.args.shifts.ways n) e in
     let f = c.way_at.ensures.value in
     let f2 = c.way_at-in-row.ensures.value in
     let f3 = c.way_at-in-row-2.ensures.value in
@@ -67,7 +67,7 @@ row-preserved g c =
     let q = searched c.args.search.now in
     let next = c.first_gain-found.result + 1 - c.args.offset in
     let past =
-    shifts_past q c.requires.search c.args.shifts.now.place c.args.shifts.now.count c.row.at next c.row.best.found (omega arith)
+    shifts_past q c.requires.search c.args.shifts.place c.args.shifts.count c.row.at next c.row.best.found (omega arith)
     (λ k h l q.
     let low = c.row.invariant.low in
     let saving = c.requires.saving k (omega arith) (omega arith) in
@@ -78,14 +78,14 @@ row-preserved g c =
     record {
       low = omega arith;
       high = omega arith;
-      best = c.or_better-best.ensures (1 ∷ q.v ∷ c.args.shifts.now.place ∷ c.args.shifts.now.count ∷ q.w ∷ (next + 1) ∷ []) (shift_next q c.requires.search c.args.shifts.now.place c.args.shifts.now.count next) past;
+      best = c.or_better-best.ensures (1 ∷ q.v ∷ c.args.shifts.place ∷ c.args.shifts.count ∷ q.w ∷ (next + 1) ∷ []) (shift_next q c.requires.search c.args.shifts.place c.args.shifts.count next) past;
     }
 
 pub returns : goal.returns
 returns g c =
     let e : c.row.at ≡ c.args.end = let test = c.row-test.false in let high = c.row.invariant.high in omega arith in
     let q = searched c.args.search.now in
-    subst (λ (k : ℕ). IsBestSoFar q (1 ∷ q.v ∷ c.args.shifts.now.place ∷ c.args.shifts.now.count ∷ q.w ∷ k ∷ []) c.row.best.found) e c.row.invariant.best
+    subst (λ (k : ℕ). IsBestSoFar q (1 ∷ q.v ∷ c.args.shifts.place ∷ c.args.shifts.count ∷ q.w ∷ k ∷ []) c.row.best.found) e c.row.invariant.best
 
 pub may_gain-requires-clause-row : goal.may_gain-requires-clause-row
 may_gain-requires-clause-row g c = c.requires.ways
@@ -108,7 +108,7 @@ may_gain-requires-clause-most g c = c.requires.most
 pub returns-then-first-end : goal.returns-then-first-end
 returns-then-first-end g c =
     let q = searched c.args.search.now in
-    subst (λ (k : ℕ). IsBestSoFar q (1 ∷ q.v ∷ c.args.shifts.now.place ∷ c.args.shifts.now.count ∷ q.w ∷ k ∷ []) c.args.best.found) c.if-first-end.true c.requires.best
+    subst (λ (k : ℕ). IsBestSoFar q (1 ∷ q.v ∷ c.args.shifts.place ∷ c.args.shifts.count ∷ q.w ∷ k ∷ []) c.args.best.found) c.if-first-end.true c.requires.best
 
 pub wanted-least-requires : goal.wanted-least-requires
 wanted-least-requires g c = fixed_small _ c.requires.fixed.1

@@ -10,7 +10,7 @@ pub returns-then-there-end : goal.returns-then-there-end
 returns-then-there-end g c =
     let end = c.if-there-end.true in
     let test = c.row-test.true in
-    swaps_past (searched c.args.search.now) c.requires.search c.args.swaps.now.place c.row.at c.args.end c.row.best.found (omega arith)
+    swaps_past (searched c.args.search.now) c.requires.search c.args.swaps.place c.row.at c.args.end c.row.best.found (omega arith)
     (λ k h l q.
     let low = c.row.invariant.low in
     let saving = c.requires.saving k (omega arith) l in
@@ -28,7 +28,7 @@ row-preserved g c =
     let low = c.row.invariant.low in
     let q = searched c.args.search.now in
     let past =
-    swaps_past q c.requires.search c.args.swaps.now.place c.row.at c.first_swap_gain-found.result c.row.best.found (omega arith)
+    swaps_past q c.requires.search c.args.swaps.place c.row.at c.first_swap_gain-found.result c.row.best.found (omega arith)
     (λ k h l q.
     let low = c.row.invariant.low in
     let saving = c.requires.saving k (omega arith) (omega arith) in
@@ -39,19 +39,19 @@ row-preserved g c =
     record {
       low = omega arith;
       high = omega arith;
-      best = c.or_better-best.ensures (2 ∷ q.v ∷ c.args.swaps.now.place ∷ q.w ∷ (c.first_swap_gain-found.result + 1) ∷ []) (swap_next q c.requires.search c.args.swaps.now.place c.first_swap_gain-found.result) past;
+      best = c.or_better-best.ensures (2 ∷ q.v ∷ c.args.swaps.place ∷ q.w ∷ (c.first_swap_gain-found.result + 1) ∷ []) (swap_next q c.requires.search c.args.swaps.place c.first_swap_gain-found.result) past;
     }
 
 pub returns : goal.returns
 returns g c =
     let e : c.row.at ≡ c.args.end = let test = c.row-test.false in let high = c.row.invariant.high in omega arith in
     let q = searched c.args.search.now in
-    subst (λ (k : ℕ). IsBestSoFar q (2 ∷ q.v ∷ c.args.swaps.now.place ∷ q.w ∷ k ∷ []) c.row.best.found) e c.row.invariant.best
+    subst (λ (k : ℕ). IsBestSoFar q (2 ∷ q.v ∷ c.args.swaps.place ∷ q.w ∷ k ∷ []) c.row.best.found) e c.row.invariant.best
 
 pub returns-then-not-may_swap_gain : goal.returns-then-not-may_swap_gain
 returns-then-not-may_swap_gain g c =
     let order = c.requires.order in
-    swaps_past (searched c.args.search.now) c.requires.search c.args.swaps.now.place c.args.first c.args.end c.args.best.found (omega arith)
+    swaps_past (searched c.args.search.now) c.requires.search c.args.swaps.place c.args.first c.args.end c.args.best.found (omega arith)
     (λ k h l q.
     let saving = c.requires.saving k h l in
     let none = c.may_swap_gain.ensures c.if-not-may_swap_gain.true k (omega arith) (omega arith) in
@@ -104,7 +104,7 @@ or_better-best-requires-clause-saving g c =
     omega arith
 
 pub may_swap_gain-requires-clause-lost : goal.may_swap_gain-requires-clause-lost
-may_swap_gain-requires-clause-lost g c = fixed_small c.args.swaps.now.lost c.requires.fixed
+may_swap_gain-requires-clause-lost g c = fixed_small c.args.swaps.lost c.requires.fixed
 
 pub may_swap_gain-requires-clause-wanted : goal.may_swap_gain-requires-clause-wanted
 may_swap_gain-requires-clause-wanted g c = c.wanted-least.ensures.small
@@ -116,7 +116,7 @@ pub may_swap_gain-requires-clause-order : goal.may_swap_gain-requires-clause-ord
 may_swap_gain-requires-clause-order g c = c.requires.order
 
 pub first_swap_gain-found-requires-clause-lost : goal.first_swap_gain-found-requires-clause-lost
-first_swap_gain-found-requires-clause-lost g c = fixed_small c.args.swaps.now.lost c.requires.fixed
+first_swap_gain-found-requires-clause-lost g c = fixed_small c.args.swaps.lost c.requires.fixed
 
 pub first_swap_gain-found-requires-clause-wanted : goal.first_swap_gain-found-requires-clause-wanted
 first_swap_gain-found-requires-clause-wanted g c = c.wanted-least-in-row.ensures.small

@@ -1,18 +1,17 @@
 use Rattle.way_costs.proofs.Loops.{both_fit, both_more_fit}
 use Rattle.std.proofs.lemmas.Result.{err_from_is_err_and}
-use Rattle.std.proofs.Common.{◌≡◌, ◌∙◌, ◌++◌, List, ℕ, ap, subst, sym, ◌≤◌}
+use Rattle.std.proofs.Common.{◌≡◌, ◌∙◌, [], ◌∷◌, ◌++◌, List, ℕ, ap, subst, sym, ◌≤◌}
 use Rattle.dimension_core.specs.Setup.{setting}
 use Rattle.plan_core.specs.Plan.{route_at}
 use Rattle.way_costs.specs.Sides.{stops_of_both}
-use Rattle.way_costs.proofs.Stops.{pushed_stops, pushed_both, known_both}
+use Rattle.way_costs.proofs.Stops.{pushed_both, known_both}
 use Rattle.way_costs.proofs.hops.fill_stops_of_both.Goals as goal
 
-are_both : (g : _) (c : goal.In_ok-push-3 g) → c.push-3.new.self.items ≡ stops_of_both (route_at c.args.view.now.routes c.args.v) (route_at c.args.view.now.routes c.args.w)
+are_both : (g : _) (c : goal.In_ok-push g) → c.push.new.self.items ≡ stops_of_both (route_at c.args.view.now.routes c.args.v) (route_at c.args.view.now.routes c.args.w)
 are_both g c =
     pushed_both _ _ _ _ _
-    (pushed_stops _ _ _ _ _ _ c.clear.ensures.items c.reserve.ensures.items c.in_ok-push.ensures.items
-    (c.in_ok-extend_from_slice.ensures.items ∙ ap (λ (r : List ℕ). c.push.new.self.items ++ r) c.customers-first.ensures) c.in_ok-push-2.ensures.items)
-    (c.in_ok-extend_from_slice-2.ensures.items ∙ ap (λ (q : List ℕ). c.push-2.new.self.items ++ q) c.customers-second.ensures) c.in_ok-push-3.ensures.items
+    (c.in_ok-begin_stops.ensures ∙ ap (λ (r : List ℕ). 0 ∷ (r ++ 0 ∷ [])) c.customers-first.ensures)
+    (c.in_ok-extend_from_slice.ensures.items ∙ ap (λ (q : List ℕ). c.begin_stops.new.all.items ++ q) c.customers-second.ensures) c.in_ok-push.ensures.items
 
 pub returns-clause-stops : goal.returns-clause-stops
 returns-clause-stops g c = are_both g c
@@ -39,17 +38,11 @@ overflow_add-first g c = both_fit _ _ _ _ _ c.customers-first.ensures c.customer
 pub overflow_add-first-2 : goal.overflow_add-first-2
 overflow_add-first-2 g c = both_more_fit _ _ _ _ _ c.customers-first.ensures c.customers-second.ensures (c.routes_are_known.ensures.short _ _ c.args.v c.requires.plan) (c.routes_are_known.ensures.short _ _ c.args.w c.requires.plan) c.customers-customers.ensures.sound.few_customers
 
-pub returns-in_err-reserve-clause-stops : goal.returns-in_err-reserve-clause-stops
-returns-in_err-reserve-clause-stops g c = let p = err_from_is_err_and c.from_residual.result c.from_residual.ensures.1 in rw p.1 tt
+pub returns-in_err-begin_stops-clause-stops : goal.returns-in_err-begin_stops-clause-stops
+returns-in_err-begin_stops-clause-stops g c = let p = err_from_is_err_and c.from_residual.result c.from_residual.ensures.1 in rw p.1 tt
 
-pub returns-in_err-reserve-clause-known : goal.returns-in_err-reserve-clause-known
-returns-in_err-reserve-clause-known g c = let p = err_from_is_err_and c.from_residual.result c.from_residual.ensures.1 in rw p.1 tt
-
-pub returns-in_err-push-clause-stops : goal.returns-in_err-push-clause-stops
-returns-in_err-push-clause-stops g c = let p = err_from_is_err_and c.from_residual-in_err-push.result c.from_residual-in_err-push.ensures.1 in rw p.1 tt
-
-pub returns-in_err-push-clause-known : goal.returns-in_err-push-clause-known
-returns-in_err-push-clause-known g c = let p = err_from_is_err_and c.from_residual-in_err-push.result c.from_residual-in_err-push.ensures.1 in rw p.1 tt
+pub returns-in_err-begin_stops-clause-known : goal.returns-in_err-begin_stops-clause-known
+returns-in_err-begin_stops-clause-known g c = let p = err_from_is_err_and c.from_residual.result c.from_residual.ensures.1 in rw p.1 tt
 
 pub returns-in_err-extend_from_slice-clause-stops : goal.returns-in_err-extend_from_slice-clause-stops
 returns-in_err-extend_from_slice-clause-stops g c = let p = err_from_is_err_and c.from_residual-in_err-extend_from_slice.result c.from_residual-in_err-extend_from_slice.ensures.1 in rw p.1 tt
@@ -57,20 +50,8 @@ returns-in_err-extend_from_slice-clause-stops g c = let p = err_from_is_err_and 
 pub returns-in_err-extend_from_slice-clause-known : goal.returns-in_err-extend_from_slice-clause-known
 returns-in_err-extend_from_slice-clause-known g c = let p = err_from_is_err_and c.from_residual-in_err-extend_from_slice.result c.from_residual-in_err-extend_from_slice.ensures.1 in rw p.1 tt
 
-pub returns-in_err-push-2-clause-stops : goal.returns-in_err-push-2-clause-stops
-returns-in_err-push-2-clause-stops g c = let p = err_from_is_err_and c.from_residual-in_err-push-2.result c.from_residual-in_err-push-2.ensures.1 in rw p.1 tt
+pub returns-in_err-push-clause-stops : goal.returns-in_err-push-clause-stops
+returns-in_err-push-clause-stops g c = let p = err_from_is_err_and c.from_residual-in_err-push.result c.from_residual-in_err-push.ensures.1 in rw p.1 tt
 
-pub returns-in_err-push-2-clause-known : goal.returns-in_err-push-2-clause-known
-returns-in_err-push-2-clause-known g c = let p = err_from_is_err_and c.from_residual-in_err-push-2.result c.from_residual-in_err-push-2.ensures.1 in rw p.1 tt
-
-pub returns-in_err-extend_from_slice-2-clause-stops : goal.returns-in_err-extend_from_slice-2-clause-stops
-returns-in_err-extend_from_slice-2-clause-stops g c = let p = err_from_is_err_and c.from_residual-in_err-extend_from_slice-2.result c.from_residual-in_err-extend_from_slice-2.ensures.1 in rw p.1 tt
-
-pub returns-in_err-extend_from_slice-2-clause-known : goal.returns-in_err-extend_from_slice-2-clause-known
-returns-in_err-extend_from_slice-2-clause-known g c = let p = err_from_is_err_and c.from_residual-in_err-extend_from_slice-2.result c.from_residual-in_err-extend_from_slice-2.ensures.1 in rw p.1 tt
-
-pub returns-in_err-push-3-clause-stops : goal.returns-in_err-push-3-clause-stops
-returns-in_err-push-3-clause-stops g c = let p = err_from_is_err_and c.from_residual-in_err-push-3.result c.from_residual-in_err-push-3.ensures.1 in rw p.1 tt
-
-pub returns-in_err-push-3-clause-known : goal.returns-in_err-push-3-clause-known
-returns-in_err-push-3-clause-known g c = let p = err_from_is_err_and c.from_residual-in_err-push-3.result c.from_residual-in_err-push-3.ensures.1 in rw p.1 tt
+pub returns-in_err-push-clause-known : goal.returns-in_err-push-clause-known
+returns-in_err-push-clause-known g c = let p = err_from_is_err_and c.from_residual-in_err-push.result c.from_residual-in_err-push.ensures.1 in rw p.1 tt

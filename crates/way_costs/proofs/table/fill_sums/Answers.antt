@@ -1,13 +1,19 @@
-use Rattle.std.proofs.Common.{◌-◌, ◌∙◌, List, ℕ, length, subst, false}
-use Rattle.way_costs.specs.Ways.{AddsSums}
+use Rattle.std.proofs.Common.{◌-◌, ◌∙◌, List, ℕ, length, subst, false, true}
+use Rattle.std.proofs.lemmas.Result.{IfOk-weaker}
+use Rattle.callback_store.specs.Tables.{Table}
+use Rattle.way_costs.specs.Ways.{AddsSums, AreBothSums, AreHopsFrom}
 use Rattle.way_costs.proofs.Cells.{both_sums}
 use Rattle.way_costs.proofs.table.fill_sums.Goals as goal
 
 pub returns : goal.returns
-returns c = λ t all.
+returns c =
     let S = c.args.stops.now in
+    IfOk-weaker c.add_sums-2.result (λ _. (t : Table) → AreHopsFrom false t S S 0 1 c.args.cells.now → AddsSums true t S (length S - 1) c.add_sums.new.sums.items c.add_sums-2.new.sums.items)
+    (λ _. (t : Table) → AreHopsFrom false t S S 0 1 c.args.cells.now → AreBothSums t S c.add_sums-2.new.sums.items)
+    (λ _ added t all.
     both_sums t S c.add_sums.new.sums.items c.add_sums-2.new.sums.items
-    (subst (λ (xs : List ℕ). AddsSums false t S (length S - 1) xs c.add_sums.new.sums.items) (c.reserve.ensures.items ∙ c.clear.ensures.items) (c.in_ok-add_sums.ensures t all)) (c.in_ok-add_sums-2.ensures t all)
+    (subst (λ (xs : List ℕ). AddsSums false t S (length S - 1) xs c.add_sums.new.sums.items) (c.reserve.ensures.items ∙ c.clear.ensures.items) (c.in_ok-add_sums.ensures t all)) (added t all))
+    c.add_sums-2.ensures
 
 pub add_sums-requires-clause-sized : goal.add_sums-requires-clause-sized
 add_sums-requires-clause-sized c = c.requires.sized

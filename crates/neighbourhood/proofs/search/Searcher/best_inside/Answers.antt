@@ -34,7 +34,7 @@ gather_among-requires-clause-short g c = subst (λ (xs : List ℕ). length xs �
 
 pub gather-requires-clause-sized : goal.gather-requires-clause-sized
 gather-requires-clause-sized g c =
-    subst (λ (xs : List ℕ). length xs ≡ length c.fill_stops.new.all.items * length c.fill_stops.new.all.items) (sym (c.deref-2.ensures.value ∙ ap (λ (x : TwoWays). x.out) c.ways.view_is))
+    subst (λ (xs : List ℕ). length xs ≡ length c.fill_stops.new.all.items * length c.fill_stops.new.all.items) (sym (c.as_slice-out.ensures.value ∙ ap (λ (x : TwoWays). x.out) c.ways.view_is))
     (subst (λ (xs : List ℕ). length c.gather_among.new.self.out ≡ length xs * length xs) c.deref.ensures.value c.in_ok-gather_among.ensures.out.counted)
 
 pub gather-requires-clause-depot : goal.gather-requires-clause-depot
@@ -52,45 +52,45 @@ pub gather-requires-clause-short : goal.gather-requires-clause-short
 gather-requires-clause-short g c = c.in_ok-fill_stops.ensures.short
 
 pub split_at-requires : goal.split_at-requires
-split_at-requires g c = halves_fit c.fill_stops.new.all.items c.in_ok-gather.ensures.0 c.deref-3.result.now c.len-count.result c.fill_stops.new.all.len (c.deref-3.ensures.value ∙ c.in_ok-gather.ensures.1) c.fill_stops.new.all.ok.0 c.len-count.ensures
+split_at-requires g c = halves_fit c.fill_stops.new.all.items c.in_ok-gather.ensures.0 c.deref-2.result.now c.len-count.result c.fill_stops.new.all.len (c.deref-2.ensures.value ∙ c.in_ok-gather.ensures.1) c.fill_stops.new.all.ok.0 c.len-count.ensures
 
 pub split_at-requires-2 : goal.split_at-requires-2
 split_at-requires-2 g c =
-    sums_fit (table_at (setting c.args.setup.now).tables (setting c.args.setup.now).cost) c.fill_stops.new.all.items c.in_ok-gather.ensures.0 c.deref-4.result.now c.gather.new.self c.len-count.result c.fill_stops.new.all.len
-    (goes_along (table_at (setting c.args.setup.now).tables (setting c.args.setup.now).cost) c.fill_stops.new.all.items c.deref.result.now c.in_ok-gather.ensures.0 c.deref-2.result.now c.gather_among.new.self c.gather.new.self c.deref.ensures.value c.in_ok-gather_among.ensures (c.deref-2.ensures.value ∙ ap (λ (x : TwoWays). x.out) c.ways.view_is) c.in_ok-gather.ensures.2)
-    c.fill_stops.new.all.ok.0 c.len-count.ensures (c.deref-4.ensures.value ∙ ap (λ (x : AlongState). x.sums) c.along.view_is)
+    sums_fit (table_at (setting c.args.setup.now).tables (setting c.args.setup.now).cost) c.fill_stops.new.all.items c.in_ok-gather.ensures.0 c.deref-3.result.now c.gather.new.self c.len-count.result c.fill_stops.new.all.len
+    (goes_along (table_at (setting c.args.setup.now).tables (setting c.args.setup.now).cost) c.fill_stops.new.all.items c.deref.result.now c.in_ok-gather.ensures.0 c.as_slice-out.result.now c.gather_among.new.self c.gather.new.self c.deref.ensures.value c.in_ok-gather_among.ensures (c.as_slice-out.ensures.value ∙ ap (λ (x : TwoWays). x.out) c.ways.view_is) c.in_ok-gather.ensures.2)
+    c.fill_stops.new.all.ok.0 c.len-count.ensures (c.deref-3.ensures.value ∙ ap (λ (x : AlongState). x.sums) c.along.view_is)
 
 pub best_of_one-found-requires-clause-search : goal.best_of_one-found-requires-clause-search
 best_of_one-found-requires-clause-search g c = record { laws = c.requires.laws; view = c.requires.view; v_kept = c.forget.ensures _ _ _ _; w_kept = c.forget.ensures _ _ _ _ }
 
 pub best_of_one-found-requires-clause-gathered : goal.best_of_one-found-requires-clause-gathered
 best_of_one-found-requires-clause-gathered g c =
-    inside_gathered _ _ c.fill_stops.new.all.items c.deref.result.now c.in_ok-gather.ensures.0 c.deref-3.result.now c.len-count.result c.fill_stops.new.all.len c.gather_among.new.self c.gather.new.self refl refl c.in_ok-fill_stops.ensures c.deref.ensures.value c.in_ok-gather_among.ensures
-    (goes_along (table_at (setting c.args.setup.now).tables (setting c.args.setup.now).cost) c.fill_stops.new.all.items c.deref.result.now c.in_ok-gather.ensures.0 c.deref-2.result.now c.gather_among.new.self c.gather.new.self c.deref.ensures.value c.in_ok-gather_among.ensures (c.deref-2.ensures.value ∙ ap (λ (x : TwoWays). x.out) c.ways.view_is) c.in_ok-gather.ensures.2)
-    c.fill_stops.new.all.ok.0 c.len-count.ensures (c.deref-3.ensures.value ∙ c.in_ok-gather.ensures.1) c.split_at.ensures.front c.split_at.ensures.back c.split_at.ensures.back (ap (λ (x : AlongState). x.most) c.along.view_is)
-    (c.deref-5.ensures.value ∙ ap (λ (x : TwoWays). x.out) c.ways.view_is) (c.deref-6.ensures.value ∙ ap (λ (x : TwoWays). x.into) c.ways.view_is)
+    inside_gathered _ _ c.fill_stops.new.all.items c.deref.result.now c.in_ok-gather.ensures.0 c.deref-2.result.now c.len-count.result c.fill_stops.new.all.len c.gather_among.new.self c.gather.new.self refl refl c.in_ok-fill_stops.ensures c.deref.ensures.value c.in_ok-gather_among.ensures
+    (goes_along (table_at (setting c.args.setup.now).tables (setting c.args.setup.now).cost) c.fill_stops.new.all.items c.deref.result.now c.in_ok-gather.ensures.0 c.as_slice-out.result.now c.gather_among.new.self c.gather.new.self c.deref.ensures.value c.in_ok-gather_among.ensures (c.as_slice-out.ensures.value ∙ ap (λ (x : TwoWays). x.out) c.ways.view_is) c.in_ok-gather.ensures.2)
+    c.fill_stops.new.all.ok.0 c.len-count.ensures (c.deref-2.ensures.value ∙ c.in_ok-gather.ensures.1) c.split_at.ensures.front c.split_at.ensures.back c.split_at.ensures.back (ap (λ (x : AlongState). x.most) c.along.view_is)
+    (c.as_slice-out.ensures.value ∙ ap (λ (x : TwoWays). x.out) c.ways.view_is) (c.deref-4.ensures.value ∙ ap (λ (x : TwoWays). x.into) c.ways.view_is)
 
 pub best_of_one-found-requires-clause-sums : goal.best_of_one-found-requires-clause-sums
 best_of_one-found-requires-clause-sums g c =
-    inside_summed _ _ c.fill_stops.new.all.items c.in_ok-gather.ensures.0 c.deref-3.result.now c.deref-4.result.now _ _ c.len-count.result c.fill_stops.new.all.len c.gather.new.self
-    (goes_along (table_at (setting c.args.setup.now).tables (setting c.args.setup.now).cost) c.fill_stops.new.all.items c.deref.result.now c.in_ok-gather.ensures.0 c.deref-2.result.now c.gather_among.new.self c.gather.new.self c.deref.ensures.value c.in_ok-gather_among.ensures (c.deref-2.ensures.value ∙ ap (λ (x : TwoWays). x.out) c.ways.view_is) c.in_ok-gather.ensures.2)
-    c.fill_stops.new.all.ok.0 c.len-count.ensures (c.deref-3.ensures.value ∙ c.in_ok-gather.ensures.1) c.split_at.ensures.front (c.deref-4.ensures.value ∙ ap (λ (x : AlongState). x.sums) c.along.view_is) c.split_at-2.ensures.front c.split_at-2.ensures.back
+    inside_summed _ _ c.fill_stops.new.all.items c.in_ok-gather.ensures.0 c.deref-2.result.now c.deref-3.result.now _ _ c.len-count.result c.fill_stops.new.all.len c.gather.new.self
+    (goes_along (table_at (setting c.args.setup.now).tables (setting c.args.setup.now).cost) c.fill_stops.new.all.items c.deref.result.now c.in_ok-gather.ensures.0 c.as_slice-out.result.now c.gather_among.new.self c.gather.new.self c.deref.ensures.value c.in_ok-gather_among.ensures (c.as_slice-out.ensures.value ∙ ap (λ (x : TwoWays). x.out) c.ways.view_is) c.in_ok-gather.ensures.2)
+    c.fill_stops.new.all.ok.0 c.len-count.ensures (c.deref-2.ensures.value ∙ c.in_ok-gather.ensures.1) c.split_at.ensures.front (c.deref-3.ensures.value ∙ ap (λ (x : AlongState). x.sums) c.along.view_is) c.split_at-2.ensures.front c.split_at-2.ensures.back
 
 pub best_of_one-requires-clause-search : goal.best_of_one-requires-clause-search
 best_of_one-requires-clause-search g c = record { laws = c.requires.laws; view = c.requires.view; v_kept = c.in_ok-keep_alone.ensures.kept; w_kept = c.in_ok-keep_alone.ensures.kept }
 
 pub best_of_one-requires-clause-gathered : goal.best_of_one-requires-clause-gathered
 best_of_one-requires-clause-gathered g c =
-    inside_gathered _ _ c.fill_stops.new.all.items c.deref.result.now c.in_ok-gather.ensures.0 c.deref-3.result.now c.len-count.result c.fill_stops.new.all.len c.gather_among.new.self c.gather.new.self refl refl c.in_ok-fill_stops.ensures c.deref.ensures.value c.in_ok-gather_among.ensures
-    (goes_along (table_at (setting c.args.setup.now).tables (setting c.args.setup.now).cost) c.fill_stops.new.all.items c.deref.result.now c.in_ok-gather.ensures.0 c.deref-2.result.now c.gather_among.new.self c.gather.new.self c.deref.ensures.value c.in_ok-gather_among.ensures (c.deref-2.ensures.value ∙ ap (λ (x : TwoWays). x.out) c.ways.view_is) c.in_ok-gather.ensures.2)
-    c.fill_stops.new.all.ok.0 c.len-count.ensures (c.deref-3.ensures.value ∙ c.in_ok-gather.ensures.1) c.split_at.ensures.front c.split_at.ensures.back c.split_at.ensures.back (ap (λ (x : AlongState). x.most) c.along.view_is)
-    (c.deref-5.ensures.value ∙ ap (λ (x : TwoWays). x.out) c.ways.view_is) (c.deref-6.ensures.value ∙ ap (λ (x : TwoWays). x.into) c.ways.view_is)
+    inside_gathered _ _ c.fill_stops.new.all.items c.deref.result.now c.in_ok-gather.ensures.0 c.deref-2.result.now c.len-count.result c.fill_stops.new.all.len c.gather_among.new.self c.gather.new.self refl refl c.in_ok-fill_stops.ensures c.deref.ensures.value c.in_ok-gather_among.ensures
+    (goes_along (table_at (setting c.args.setup.now).tables (setting c.args.setup.now).cost) c.fill_stops.new.all.items c.deref.result.now c.in_ok-gather.ensures.0 c.as_slice-out.result.now c.gather_among.new.self c.gather.new.self c.deref.ensures.value c.in_ok-gather_among.ensures (c.as_slice-out.ensures.value ∙ ap (λ (x : TwoWays). x.out) c.ways.view_is) c.in_ok-gather.ensures.2)
+    c.fill_stops.new.all.ok.0 c.len-count.ensures (c.deref-2.ensures.value ∙ c.in_ok-gather.ensures.1) c.split_at.ensures.front c.split_at.ensures.back c.split_at.ensures.back (ap (λ (x : AlongState). x.most) c.along.view_is)
+    (c.as_slice-out.ensures.value ∙ ap (λ (x : TwoWays). x.out) c.ways.view_is) (c.deref-4.ensures.value ∙ ap (λ (x : TwoWays). x.into) c.ways.view_is)
 
 pub best_of_one-requires-clause-sums : goal.best_of_one-requires-clause-sums
 best_of_one-requires-clause-sums g c =
-    inside_summed _ _ c.fill_stops.new.all.items c.in_ok-gather.ensures.0 c.deref-3.result.now c.deref-4.result.now _ _ c.len-count.result c.fill_stops.new.all.len c.gather.new.self
-    (goes_along (table_at (setting c.args.setup.now).tables (setting c.args.setup.now).cost) c.fill_stops.new.all.items c.deref.result.now c.in_ok-gather.ensures.0 c.deref-2.result.now c.gather_among.new.self c.gather.new.self c.deref.ensures.value c.in_ok-gather_among.ensures (c.deref-2.ensures.value ∙ ap (λ (x : TwoWays). x.out) c.ways.view_is) c.in_ok-gather.ensures.2)
-    c.fill_stops.new.all.ok.0 c.len-count.ensures (c.deref-3.ensures.value ∙ c.in_ok-gather.ensures.1) c.split_at.ensures.front (c.deref-4.ensures.value ∙ ap (λ (x : AlongState). x.sums) c.along.view_is) c.split_at-2.ensures.front c.split_at-2.ensures.back
+    inside_summed _ _ c.fill_stops.new.all.items c.in_ok-gather.ensures.0 c.deref-2.result.now c.deref-3.result.now _ _ c.len-count.result c.fill_stops.new.all.len c.gather.new.self
+    (goes_along (table_at (setting c.args.setup.now).tables (setting c.args.setup.now).cost) c.fill_stops.new.all.items c.deref.result.now c.in_ok-gather.ensures.0 c.as_slice-out.result.now c.gather_among.new.self c.gather.new.self c.deref.ensures.value c.in_ok-gather_among.ensures (c.as_slice-out.ensures.value ∙ ap (λ (x : TwoWays). x.out) c.ways.view_is) c.in_ok-gather.ensures.2)
+    c.fill_stops.new.all.ok.0 c.len-count.ensures (c.deref-2.ensures.value ∙ c.in_ok-gather.ensures.1) c.split_at.ensures.front (c.deref-3.ensures.value ∙ ap (λ (x : AlongState). x.sums) c.along.view_is) c.split_at-2.ensures.front c.split_at-2.ensures.back
 
 pub holds_up-requires-clause-found : goal.holds_up-requires-clause-found
 holds_up-requires-clause-found g c = c.best_of_one-found.ensures
