@@ -56,7 +56,7 @@ impl Core {
                     base,
                     mv,
                 };
-                match self.propose(setup, proposal, meter) {
+                match self.propose(setup, &proposal, meter) {
                     Ok(Ok(version)) => Ok(Reply::Committed(version)),
                     Ok(Err(denial)) => Ok(Reply::Denied(denial)),
                     Err(fault) => Err(fault),
@@ -105,26 +105,27 @@ impl Core {
     pub fn propose(
         &mut self,
         setup: &Setup,
-        proposal: Proposal,
+        proposal: &Proposal,
         meter: &mut Meter,
     ) -> Result<Result<u32, Denial>, Fault>
         requires { IsKept (setting setup.now) self.old }
         ensures kept { IsKept (setting setup.now) self.new }
-        ensures ok { IfOk result (λ verdict. self.new.journal ≡ self.old.journal ++ proposed proposal verdict ∷ []) }
+        ensures ok { IfOk result (λ verdict. self.new.journal ≡ self.old.journal ++ proposed proposal.now verdict ∷ []) }
         ensures desks { length self.new.turns ≡ length self.old.turns }
         ensures err { OnErr result (self.new.journal ≡ self.old.journal) }
         ensures untried { self.old.held.policy.tried ≡ self.old.held.policy.now → self.new.held.policy.tried ≡ self.new.held.policy.now }
         ensures out_of_turn { IsErrOf result Fault.OutOfTurn
-            ↔ (is_turn (length self.old.turns) self.old.journal proposal.desk proposal.turn ≡ false) }
-        ensures full { IsErrOf result Fault.Full ↔ ((is_turn (length self.old.turns) self.old.journal proposal.desk proposal.turn ≡ true)
+            ↔ (is_turn (length self.old.turns) self.old.journal proposal.now.desk proposal.now.turn ≡ false) }
+        ensures full { IsErrOf result Fault.Full
+            ↔ ((is_turn (length self.old.turns) self.old.journal proposal.now.desk proposal.now.turn ≡ true)
             × (length self.old.journal ≡ (setting setup.now).max_events)) }
         ensures untaken { IfErr result (λ fault. fault ≢ Fault.NoMemory → meter.new ≡ meter.old) }
         ensures work { IfOk result (λ verdict. IsWorkOf (setting setup.now) (state_after (setting setup.now) self.old.journal).pins
-            (state_after (setting setup.now) self.old.journal).routes (call_of proposal) (reply_by verdict) meter.old meter.new) }
+            (state_after (setting setup.now) self.old.journal).routes (call_of proposal.now) (reply_by verdict) meter.old meter.new) }
         ensures most { WorksAtMost meter.old meter.new
-            (call_asks (setting setup.now) (state_after (setting setup.now) self.old.journal).routes (call_of proposal))
+            (call_asks (setting setup.now) (state_after (setting setup.now) self.old.journal).routes (call_of proposal.now))
             (call_probes (state_after (setting setup.now) self.old.journal).pins (state_after (setting setup.now) self.old.journal).routes
-            (call_of proposal)) }
+            (call_of proposal.now)) }
     {
         if let Some(fault) = self.due_fault(setup, proposal.desk, proposal.turn) {
             return Err(fault);
@@ -140,22 +141,22 @@ impl Core {
     fn take_proposal(
         &mut self,
         setup: &Setup,
-        proposal: Proposal,
+        proposal: &Proposal,
         meter: &mut Meter,
     ) -> Result<Result<u32, Denial>, AllocError>
         requires kept { IsKept (setting setup.now) self.old }
-        requires taken { IsTaken (setting setup.now) self.old proposal.desk proposal.turn }
+        requires taken { IsTaken (setting setup.now) self.old proposal.now.desk proposal.now.turn }
         ensures kept { IsKept (setting setup.now) self.new }
-        ensures ok { IfOk result (λ verdict. self.new.journal ≡ self.old.journal ++ proposed proposal verdict ∷ []) }
+        ensures ok { IfOk result (λ verdict. self.new.journal ≡ self.old.journal ++ proposed proposal.now verdict ∷ []) }
         ensures desks { length self.new.turns ≡ length self.old.turns }
         ensures err { OnErr result (self.new.journal ≡ self.old.journal) }
         ensures untried { self.old.held.policy.tried ≡ self.old.held.policy.now → self.new.held.policy.tried ≡ self.new.held.policy.now }
         ensures work { IfOk result (λ verdict. IsWorkOf (setting setup.now) (state_after (setting setup.now) self.old.journal).pins
-            (state_after (setting setup.now) self.old.journal).routes (call_of proposal) (reply_by verdict) meter.old meter.new) }
+            (state_after (setting setup.now) self.old.journal).routes (call_of proposal.now) (reply_by verdict) meter.old meter.new) }
         ensures most { WorksAtMost meter.old meter.new
-            (call_asks (setting setup.now) (state_after (setting setup.now) self.old.journal).routes (call_of proposal))
+            (call_asks (setting setup.now) (state_after (setting setup.now) self.old.journal).routes (call_of proposal.now))
             (call_probes (state_after (setting setup.now) self.old.journal).pins (state_after (setting setup.now) self.old.journal).routes
-            (call_of proposal)) }
+            (call_of proposal.now)) }
     {
         self.is_ready(setup);
         histories_grow_by_entries();
@@ -166,11 +167,13 @@ impl Core {
             turn,
             session,
             base,
-            mv,
-        } = proposal;
-        let verdict = self.state.propose(alloc, setup, session, base, &mv, meter)?;
+            ..
+        } = *proposal;
+        let verdict = self
+            .state
+            .propose(alloc, setup, session, base, &proposal.mv, meter)?;
         self.turns[desk as usize - 1] = turn;
-        self.journal.push_proposal(proposal, verdict);
+        self.journal.push_proposal(*proposal, verdict);
         Ok(verdict)
     }
 

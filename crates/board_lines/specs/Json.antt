@@ -29,16 +29,18 @@ json_text rows = compact_text (object (member (codes "rows") (rows_data rows) no
 abbrev pub comma_number : ℕ → List ℕ
 comma_number n = 44 ∷ decimal n
 
-abbrev pub row_json : RowShown → List ℕ
-row_json row = 91 ∷ (decimal row.vehicle ++ (comma_number row.place ++ (comma_number row.customer ++ (flat_map comma_number row.early ++ 93 ∷ []))))
+-- the numbers of a row, without its brackets
+abbrev pub cells_text : RowShown → List ℕ
+cells_text row = decimal row.vehicle ++ (comma_number row.place ++ (comma_number row.customer ++ flat_map comma_number row.early))
 
-abbrev pub comma_row : RowShown → List ℕ
-comma_row row = 44 ∷ row_json row
+-- those of a row after another, with what stands between the two
+abbrev pub next_cells : RowShown → List ℕ
+next_cells row = codes "],[" ++ cells_text row
 
 -- rows, separated by commas
 abbrev pub rows_json : List RowShown → List ℕ
 rows_json [] = []
-rows_json (row ∷ rows) = row_json row ++ flat_map comma_row rows
+rows_json (row ∷ rows) = 91 ∷ (cells_text row ++ (flat_map next_cells rows ++ 93 ∷ []))
 
 abbrev pub in_pieces : List RowShown → List ℕ
 in_pieces rows = codes "{\"rows\":[" ++ (rows_json rows ++ codes "]}")

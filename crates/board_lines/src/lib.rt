@@ -23,7 +23,8 @@ pub use reading::{
     read_proposal, read_words,
 };
 pub use replies::{
-    push_ask_fault, push_committed, push_fault, push_line_fault, push_reply, reply_text,
+    push_ask_fault, push_committed, push_denied, push_fault, push_line_fault, push_reply,
+    reply_text,
 };
 pub use spelling::{event_text, push_event};
 pub use word::{AskWord, HoldWord, ManageWord, MoveWord, SessionWord, SetWord, Word};

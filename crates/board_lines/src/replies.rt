@@ -3,7 +3,7 @@
 ghost use Rattle.std.specs.Prelude.{◌≡◌, ◌≢◌, ◌++◌, IfOk, OnOk, OnErr, string_bytes};
 ghost use Rattle.std.specs.Fmt.{decimal};
 ghost use Rattle.board_journal.specs.Records.{reply_of};
-ghost use Rattle.board_rules.specs.declared.reply.Reply.TheVariants.{Committed};
+ghost use Rattle.board_rules.specs.declared.reply.Reply.TheVariants.{Committed, Denied};
 ghost use Rattle.board_rules.specs.declared.reply.Fault.TheVariants as faults;
 ghost use Rattle.board_rules.specs.declared.reply.AskFault.TheVariants as asks;
 ghost use Rattle.board_lines.specs.Replies.{AppendsPrefix, spaced, denial_text, refusal_text, reply_text, fault_text, ask_fault_text, line_fault_text};
@@ -121,6 +121,15 @@ pub fn push_committed(out: &mut String, version: u32) -> Result<(), AllocError>
 {
     push_text(out, "committed ")?;
     push_decimal(out, u64::from(version))
+}
+
+/// Appends the text of the reply to a proposal that was denied, without a line end. It does so at less cost than `push_reply`.
+#[inline(always)]
+pub fn push_denied(out: &mut String, denial: Denial) -> Result<(), AllocError>
+    ensures ok { OnOk result (string_bytes out.new ≡ string_bytes out.old ++ reply_text (Denied denial)) }
+    ensures left { OnErr result (AppendsPrefix (string_bytes out.old) (reply_text (Denied denial)) (string_bytes out.new)) }
+{
+    push_denial(out, denial)
 }
 
 /// Appends the text of the reply to a proposal, as the journal keeps it.

@@ -1,16 +1,22 @@
 //! Calls, judged and put in place at once.
-ghost use Rattle.std.specs.Prelude.{◌≡◌, IfOk, OnErr};
+ghost use Rattle.std.specs.Prelude.{◌≡◌, ◌+◌, length, IfOk, IfErr, OnOk, OnErr};
 ghost use Rattle.dimension_core.specs.Setting.{Setting};
 ghost use Rattle.dimension_core.specs.Setup.{setting};
 ghost use Rattle.permission_table.specs.Compiled.{AreCompiled, HasSizes};
+ghost use Rattle.permission_table.specs.Tables.{rows_at, rows_of};
+ghost use Rattle.move_core.specs.Moves.{named_by};
+ghost use Rattle.move_core.specs.Touched.{touched_by};
+ghost use Rattle.board_rules.specs.Rules.{PassesEffect, PassesAll};
 ghost use Rattle.board_rules.specs.State.{BoardState};
 ghost use Rattle.board_rules.specs.Holds.{call_of, reply_to};
 ghost use Rattle.board_rules.specs.Step.{reply_by};
 ghost use Rattle.board_rules.specs.declared.call.Call.TheVariants.{Propose, Policy};
+ghost use Rattle.board_rules.specs.declared.reply.Reply.TheVariants.{Committed};
 ghost use Rattle.board_state.specs.declared.change.Change.TheVariants.{Pins};
-ghost use Rattle.board_state.specs.Held.{Holds, IsReady};
+ghost use Rattle.board_state.specs.Held.{Holds, IsReady, held_basis};
 ghost use Rattle.board_state.specs.Changes.{Tries, WillHoldPins, IsSettleable};
 ghost use Rattle.board_state.specs.Replies.{hold_reply, IsRightReply, HoldsAfter, RepliesRightly, HoldsNext};
+ghost use Rattle.board_state.specs.Verdicts.{IsStop, IsWorkOfMove};
 ghost use Rattle.board_state.specs.Work.{WorksJust, IsWorkOn, IsWithinCost};
 
 use crate::change::{Change, PinChange};
@@ -50,17 +56,86 @@ impl State {
     {
         self.agrees();
         verdicts_by_agreeing_facts();
+        let place = self.tables.place_of(session);
+        let proposal = Proposal {
+            session,
+            place,
+            base,
+            mv,
+        };
+        match self.take_proposal(alloc, setup, &proposal, meter) {
+            Ok(version) => Ok(Ok(version)),
+            Err(Stop::Denied(denial)) => Ok(Err(denial)),
+            Err(Stop::NoMemory) => Err(AllocError),
+        }
+    }
+
+    /// Judges a proposal and puts it in place: the version that it commits, or what stops it.
+    #[inline(always)]
+    fn take_proposal(
+        &mut self,
+        alloc: Global,
+        setup: &Setup,
+        proposal: &Proposal,
+        meter: &mut Meter,
+    ) -> Result<u32, Stop>
+        requires ready { IsReady (setting setup.now) self.old }
+        requires place { rows_at self.old.tables proposal.now.place ≡ rows_of self.old.tables proposal.now.session }
+        ensures version { IfOk result (λ version. version ≡ self.old.plan.version + 1) }
+        ensures passes { OnOk result
+            (PassesAll (setting setup.now) (held_basis self.old proposal.now.session) proposal.now.base proposal.now.mv.now) }
+        ensures stop { IfErr result
+            (IsStop (setting setup.now) (held_basis self.old proposal.now.session) proposal.now.base proposal.now.mv.now) }
+        ensures holds { HoldsNext (setting setup.now) self.old self.new
+            (Propose proposal.now.session proposal.now.base proposal.now.mv.now) result (λ version. Committed version) }
+        ensures err { OnErr result (self.new ≡ self.old) }
+        ensures untried { self.old.policy.tried ≡ self.old.policy.now → self.new.policy.tried ≡ self.new.policy.now }
+        ensures work { IsWorkOfMove (setting setup.now) self.old proposal.now.mv.now (length (named_by proposal.now.mv.now))
+            (length (touched_by self.old.plan.routes proposal.now.mv.now)) result meter.old meter.new }
+        ensures most { IsWithinCost (setting setup.now) self.old
+            (Propose proposal.now.session proposal.now.base proposal.now.mv.now) meter.old meter.new }
+    {
+        if let Some(denial) = self.early_denial(setup, proposal, meter) {
+            return Err(Stop::Denied(denial));
+        }
+        self.take_move(alloc, setup, proposal, meter)
+    }
+
+    /// The same for a move that has an effect, which the rules up to that let pass. Out of line, so that a proposal that an earlier rule denies
+    /// pays nothing for the stack space of new routes.
+    #[inline(never)]
+    fn take_move(
+        &mut self,
+        alloc: Global,
+        setup: &Setup,
+        proposal: &Proposal,
+        meter: &mut Meter,
+    ) -> Result<u32, Stop>
+        requires ready { IsReady (setting setup.now) self.old }
+        requires place { rows_at self.old.tables proposal.now.place ≡ rows_of self.old.tables proposal.now.session }
+        requires passes { PassesEffect (setting setup.now) (held_basis self.old proposal.now.session)
+            proposal.now.base proposal.now.mv.now }
+        ensures version { IfOk result (λ version. version ≡ self.old.plan.version + 1) }
+        ensures passes { OnOk result
+            (PassesAll (setting setup.now) (held_basis self.old proposal.now.session) proposal.now.base proposal.now.mv.now) }
+        ensures stop { IfErr result
+            (IsStop (setting setup.now) (held_basis self.old proposal.now.session) proposal.now.base proposal.now.mv.now) }
+        ensures holds { HoldsNext (setting setup.now) self.old self.new
+            (Propose proposal.now.session proposal.now.base proposal.now.mv.now) result (λ version. Committed version) }
+        ensures err { OnErr result (self.new ≡ self.old) }
+        ensures untried { self.old.policy.tried ≡ self.old.policy.now → self.new.policy.tried ≡ self.new.policy.now }
+        ensures work { IsWorkOfMove (setting setup.now) self.old proposal.now.mv.now
+            0 (length (touched_by self.old.plan.routes proposal.now.mv.now)) result meter.old meter.new }
+    {
         moves_name_vehicles();
         stamps_by_one_more();
         let version = self.plan.version();
-        let proposal = Proposal { session, base, mv };
-        match self.judge_proposal(alloc, setup, &proposal, meter) {
+        match self.judge_move(alloc, setup, proposal, meter) {
             Ok(new) => {
                 self.replace(new);
-                Ok(Ok(version + 1))
+                Ok(version + 1)
             }
-            Err(Stop::Denied(denial)) => Ok(Err(denial)),
-            Err(Stop::NoMemory) => Err(AllocError),
+            Err(stop) => Err(stop),
         }
     }
 

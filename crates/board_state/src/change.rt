@@ -8,7 +8,6 @@ use range_cache::{Pending, Room};
 use rbac_core::Command;
 use std::alloc::Global;
 use std::marker::Model;
-use std::mem::replace;
 use std::snapshot::Snapshot;
 use std::sync::Arc;
 
@@ -16,7 +15,8 @@ use std::sync::Arc;
 #[derive(Drop)]
 pub(crate) struct Workspace {
     pub(crate) touched: Vec<Touch>,
-    changes: Vec<(u32, Arc<Route>)>,
+    /// None while a move is judged: a list that is put back then takes no other's place.
+    changes: Option<Vec<(u32, Arc<Route>)>>,
     /// The second route of a move of two vehicles, while moves of one vehicle come.
     spare: Option<(u32, Arc<Route>)>,
     pub(crate) rows: Room,
@@ -27,32 +27,35 @@ impl Workspace {
     pub(crate) fn new(alloc: Global) -> Workspace {
         Workspace {
             touched: Vec::new(alloc),
-            changes: Vec::new(alloc),
+            changes: None,
             spare: None,
             rows: Room::new(alloc),
         }
     }
 
     /// Keeps the lists of a move that is not taken, and its new routes, whose memory serves the next move's.
+    #[inline(always)]
     pub(crate) fn keep(&mut self, touched: Vec<Touch>, changes: Vec<(u32, Arc<Route>)>) {
         self.touched = touched;
-        self.changes = changes;
+        self.changes = Some(changes);
     }
 
     /// Takes out the routes whose memory serves the new ones of a move of one vehicle, or of two. What a move does not need it drops, so
     /// for a move of one the second route stays here, and the next move of two gets it.
+    #[inline(always)]
     pub(crate) fn take_routes(&mut self, alloc: Global, two: bool) -> Vec<(u32, Arc<Route>)> {
-        if !two && self.changes.len() > 1 {
-            self.spare = self.changes.pop();
+        let mut changes = self.changes.take().unwrap_or(Vec::new(alloc));
+        if !two && changes.len() > 1 {
+            self.spare = changes.pop();
         }
-        if two && self.changes.len() < 2 {
+        if two && changes.len() < 2 {
             if let Some(route) = self.spare.take() {
-                if let Err(failed) = self.changes.push(route) {
+                if let Err(failed) = changes.push(route) {
                     self.spare = Some(failed.value);
                 }
             }
         }
-        replace(&mut self.changes, Vec::new(alloc))
+        changes
     }
 }
 

@@ -124,7 +124,13 @@ impl State {
         moves_name_vehicles();
         stamps_by_one_more();
         let version = self.plan.version();
-        let proposal = Proposal { session, base, mv };
+        let place = self.tables.place_of(session);
+        let proposal = Proposal {
+            session,
+            place,
+            base,
+            mv,
+        };
         match self.judge_proposal(alloc, setup, &proposal, meter) {
             Ok(new) => {
                 let (former, other) = self.former_routes(mv)?;

@@ -10,6 +10,7 @@ ghost use Rattle.plan_core.specs.Commits.{named_vehicles};
 ghost use Rattle.pin_core.specs.Pins.{DoPinsHold, DoFrontsFit};
 ghost use Rattle.move_core.specs.Moves.{vehicles_of, named_by, changes_by, effect};
 ghost use Rattle.move_core.specs.Touched.{touched_by};
+ghost use Rattle.permission_table.specs.Tables.{rows_at, rows_of};
 ghost use Rattle.range_cache.specs.Pending.{AreNewRows};
 ghost use Rattle.board_rules.specs.Rules.{is_one_of, IsVerdictBy, PassesEffect, PassesCustomers, PassesAll};
 ghost use Rattle.board_rules.specs.declared.call.Call.TheVariants.{Propose};
@@ -33,10 +34,12 @@ use std::alloc::{AllocError, Global};
 use std::mem::replace;
 use std::sync::Arc;
 
-/// What a proposal says: the session that gives it, the version on which it is based, and the move.
+/// What a proposal says: the session that gives it, the version on which it is based, and the move; and where the session's permissions are,
+/// so that they are looked up once.
 #[derive(Clone, Copy)]
 pub(crate) struct Proposal<'a> {
     pub(crate) session: u32,
+    pub(crate) place: Option<usize>,
     pub(crate) base: u32,
     pub(crate) mv: &'a Move,
 }
@@ -52,7 +55,8 @@ impl State {
         proposal: &Proposal,
         meter: &mut Meter,
     ) -> Result<NewRoutes, Stop>
-        requires { IsReady (setting setup.now) self.old }
+        requires ready { IsReady (setting setup.now) self.old }
+        requires place { rows_at self.old.tables proposal.now.place ≡ rows_of self.old.tables proposal.now.session }
         ensures same { self.new ≡ self.old }
         ensures passes { OnOk result
             (PassesAll (setting setup.now) (held_basis self.old proposal.now.session) proposal.now.base proposal.now.mv.now) }
@@ -76,8 +80,14 @@ impl State {
 
     /// The denial of a proposal by a rule that needs no list of touched customers and no new route.
     #[inline(always)]
-    fn early_denial(&self, setup: &Setup, proposal: &Proposal, meter: &mut Meter) -> Option<Denial>
-        requires { IsReady (setting setup.now) self.now }
+    pub(crate) fn early_denial(
+        &self,
+        setup: &Setup,
+        proposal: &Proposal,
+        meter: &mut Meter,
+    ) -> Option<Denial>
+        requires ready { IsReady (setting setup.now) self.now }
+        requires place { rows_at self.now.tables proposal.now.place ≡ rows_of self.now.tables proposal.now.session }
         ensures denial { MatchOption result
             (PassesEffect (setting setup.now) (held_basis self.now proposal.now.session) proposal.now.base proposal.now.mv.now)
             (λ d. IsVerdictBy (setting setup.now) (held_basis self.now proposal.now.session)
@@ -86,11 +96,17 @@ impl State {
         ensures work { Works meter.old meter.new 0 0
             (early_least (length (named_by proposal.now.mv.now)) result) (length (named_by proposal.now.mv.now)) }
     {
-        let Proposal { session, base, mv } = *proposal;
+        let Proposal {
+            session,
+            place,
+            base,
+            mv,
+        } = *proposal;
+        let found = self.tables.rows_at(place);
         let named = mv.vehicles();
         // The access to the vehicles is asked first: a session that has it exists, and need not be looked for. The denial is still that of
         // the first rule that fails.
-        let barred = self.first_barred_vehicle(session, named, meter);
+        let barred = self.first_barred_vehicle(session, found, named, meter);
         if !self.is_open(session, barred.is_none()) {
             return Some(Denial::NoSession);
         }
@@ -112,10 +128,9 @@ impl State {
         None
     }
 
-    /// The rules from the touched customers on, of a move that has an effect. Out of line, so that a proposal that an earlier rule denies
-    /// pays nothing for the stack space of new routes.
-    #[inline(never)]
-    fn judge_move(
+    /// The rules from the touched customers on, of a move that has an effect.
+    #[inline(always)]
+    pub(crate) fn judge_move(
         &mut self,
         alloc: Global,
         setup: &Setup,
@@ -123,6 +138,7 @@ impl State {
         meter: &mut Meter,
     ) -> Result<NewRoutes, Stop>
         requires ready { IsReady (setting setup.now) self.old }
+        requires place { rows_at self.old.tables proposal.now.place ≡ rows_of self.old.tables proposal.now.session }
         requires passes { PassesEffect (setting setup.now) (held_basis self.old proposal.now.session)
             proposal.now.base proposal.now.mv.now }
         ensures same { self.new ≡ self.old }
@@ -138,12 +154,18 @@ impl State {
         ensures work { IsWorkOfMove (setting setup.now) self.old proposal.now.mv.now
             0 (length (touched_by self.old.plan.routes proposal.now.mv.now)) result meter.old meter.new }
     {
-        let Proposal { session, mv, .. } = *proposal;
+        let Proposal {
+            session,
+            place,
+            mv,
+            ..
+        } = *proposal;
         let kept = replace(&mut self.workspace.touched, Vec::new(alloc));
         let Ok(touched) = mv.touches_in(kept, &self.plan) else {
             return Err(Stop::NoMemory);
         };
-        if let Some(touch) = self.first_barred_customer(session, &touched, meter) {
+        let found = self.tables.rows_at(place);
+        if let Some(touch) = self.first_barred_customer(session, found, &touched, meter) {
             self.workspace.touched = touched;
             return Err(Stop::Denied(Denial::AccessCustomer(touch.vehicle, touch.place)));
         }
@@ -151,6 +173,7 @@ impl State {
     }
 
     /// The rules on the new routes: fronts, pins and bounds.
+    #[inline(always)]
     fn judge_routes(
         &mut self,
         alloc: Global,
@@ -207,6 +230,7 @@ impl State {
     }
 
     /// The new routes of a move that has an effect, with the customers that it touches.
+    #[inline(always)]
     fn new_routes(
         &self,
         alloc: Global,

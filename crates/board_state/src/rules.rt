@@ -2,10 +2,10 @@
 //! that the new plan is feasible. Effect is `Move::is_possible`, and the last is `Cache::judge_in`.
 ghost use Rattle.std.specs.Prelude.{◌≡◌, ◌≤◌, ◌<◌, ◌↔◌, ◌+◌, ℕ, ◌∷◌, length, find, not, Some, None, nat_lt, true, IsTrue, IfNone, OnSome, IfOk, IfErr, OnOk, MatchResult};
 ghost use Rattle.std.specs.List.{list_all};
-ghost use Rattle.std.specs.Option.{option_to_list};
+ghost use Rattle.std.specs.Option.{option_map, option_to_list};
 ghost use Rattle.permission_core.specs.declared.objects.Operation.TheVariants as operations;
 ghost use Rattle.permission_core.specs.declared.objects.Object.TheVariants as objects;
-ghost use Rattle.permission_table.specs.Tables.{allows};
+ghost use Rattle.permission_table.specs.Tables.{allows, rows_of};
 ghost use Rattle.policy_core.specs.State.{is_session};
 ghost use Rattle.plan_core.specs.Plan.{changes_of, stamp_of};
 ghost use Rattle.pin_core.specs.Pins.{AreFreezesKept};
@@ -20,6 +20,7 @@ use crate::state::State;
 use crate::stop::Stop;
 use board_rules::Denial;
 use callback_store::Meter;
+use permission_table::SessionRows;
 use pin_core::{PinFault, pins_after_commits};
 use plan_core::{Route, Touch};
 use rbac_core::{Object, Operation};
@@ -60,20 +61,21 @@ impl State {
         may || self.is_session(session)
     }
 
-    /// Vehicles: the first that the session may not move.
+    /// Vehicles: the first that the session, whose permissions were found, may not move.
     pub(crate) fn first_barred_vehicle(
         &self,
         session: u32,
+        found: Option<&SessionRows>,
         named: Named,
         meter: &mut Meter,
     ) -> Option<u32>
+        requires { option_map (λ rows. rows.now) found ≡ rows_of self.now.tables session }
         ensures first { result
             ≡ find (λ v. not (allows self.now.tables session operations.Move (objects.Vehicle v))) (named.0 ∷ option_to_list named.1) }
         ensures work { Works meter.old meter.new 0 0 1 (length (named.0 ∷ option_to_list named.1)) }
         ensures whole { IfNone result (WorksJust meter.old meter.new 0 (length (named.0 ∷ option_to_list named.1))) }
     {
         let (first, second) = named;
-        let found = self.session_rows(session);
         if !self.may_by(
             session,
             found,
@@ -120,20 +122,21 @@ impl State {
         None
     }
 
-    /// Customers: the first touched one that the session may not move.
+    /// Customers: the first touched one that the session, whose permissions were found, may not move.
     #[tactic(auto, using(crate::proofs::WorkLaws::probe_more))]
     pub(crate) fn first_barred_customer(
         &self,
         session: u32,
+        found: Option<&SessionRows>,
         touched: &[Touch],
         meter: &mut Meter,
     ) -> Option<Touch>
+        requires { option_map (λ rows. rows.now) found ≡ rows_of self.now.tables session }
         ensures first { result
             ≡ find (λ t. not (allows self.now.tables session operations.Move (objects.Customer t.customer))) touched.now }
         ensures some { OnSome result (Works meter.old meter.new 0 0 1 (length touched.now)) }
         ensures whole { IfNone result (WorksJust meter.old meter.new 0 (length touched.now)) }
     {
-        let found = self.session_rows(session);
         for touch in touched {
             if !self.may_by(
                 session,
@@ -150,6 +153,7 @@ impl State {
 
     /// Fronts and Pins: whether new routes keep the frozen fronts, and no pin forbids them. The session is asked for `override` only where a pinned customer
     /// would leave its vehicle. The answer marks the touched customers that leave the vehicle of their pin, and is empty where none does.
+    #[inline(always)]
     pub(crate) fn judge_pins(
         &self,
         alloc: Global,

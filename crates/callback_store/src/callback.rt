@@ -1,11 +1,9 @@
 //! A callback of any kind, as a type parameter.
 
 ghost use Rattle.std.specs.Prelude.{◌≡◌, ◌<◌, ◌≤◌};
-ghost use Rattle.callback_store.specs.Meter.{AsksJust};
 ghost use Rattle.callback_store.specs.Tables.{Table, entry};
 
 use crate::matrix::Matrix;
-use crate::meter::Meter;
 use crate::stay_matrix::StayMatrix;
 use crate::transit::Transit;
 use crate::unary::Unary;
@@ -16,13 +14,13 @@ pub trait Callback {
     // How many nodes it knows, and its answers.
     ghost table: { Self → Table };
 
-    /// The answer on the way from node `i` to node `j`. It counts one ask.
-    fn ask_way(&self, meter: &mut Meter, i: u32, j: u32) -> u64
+    /// The answer on the way from node `i` to node `j`. It is an ask, which the caller counts together with its others
+    /// (`Meter::ask_many`).
+    fn answer_way(&self, i: u32, j: u32) -> u64
         requires from { i < (table self.now).size }
         requires to { j < (table self.now).size }
         ensures answer { result ≡ entry (table self.now) i j }
-        ensures small { result ≤ 1000000000 }
-        ensures one { AsksJust meter.old meter.new 1 };
+        ensures small { result ≤ 1000000000 };
 }
 
 impl Callback for Transit {
@@ -31,8 +29,8 @@ impl Callback for Transit {
     ghost table = { λ transit. pair_table transit };
 
     #[inline(always)]
-    fn ask_way(&self, meter: &mut Meter, i: u32, j: u32) -> u64 {
-        self.ask(meter, i, j)
+    fn answer_way(&self, i: u32, j: u32) -> u64 {
+        self.answer(i, j)
     }
 }
 
@@ -42,8 +40,8 @@ impl Callback for Unary {
     ghost table = { λ unary. node_table unary };
 
     #[inline(always)]
-    fn ask_way(&self, meter: &mut Meter, i: u32, _j: u32) -> u64 {
-        self.ask(meter, i)
+    fn answer_way(&self, i: u32, _j: u32) -> u64 {
+        self.answer(i)
     }
 }
 
@@ -53,8 +51,8 @@ impl Callback for Matrix {
     ghost table = { λ matrix. matrix_table matrix };
 
     #[inline(always)]
-    fn ask_way(&self, meter: &mut Meter, i: u32, j: u32) -> u64 {
-        self.ask(meter, i, j)
+    fn answer_way(&self, i: u32, j: u32) -> u64 {
+        u64::from(self.answer(i, j))
     }
 }
 
@@ -64,8 +62,8 @@ impl Callback for Vector {
     ghost table = { λ vector. vector_table vector };
 
     #[inline(always)]
-    fn ask_way(&self, meter: &mut Meter, i: u32, _j: u32) -> u64 {
-        self.ask(meter, i)
+    fn answer_way(&self, i: u32, _j: u32) -> u64 {
+        u64::from(self.answer(i))
     }
 }
 
@@ -75,7 +73,7 @@ impl Callback for StayMatrix {
     ghost table = { λ matrix. stay_table matrix };
 
     #[inline(always)]
-    fn ask_way(&self, meter: &mut Meter, i: u32, j: u32) -> u64 {
-        self.ask(meter, i, j)
+    fn answer_way(&self, i: u32, j: u32) -> u64 {
+        u64::from(self.answer(i, j))
     }
 }

@@ -36,7 +36,7 @@ impl StayMatrix {
 
     /// The answer for the way from node `i` to node `j`.
     #[inline(always)]
-    fn answer(&self, i: u32, j: u32) -> u32
+    pub(crate) fn answer(&self, i: u32, j: u32) -> u32
         requires from { i < (stay_table self.now).size }
         requires to { j < (stay_table self.now).size }
         ensures answer { result ≡ entry (stay_table self.now) i j }

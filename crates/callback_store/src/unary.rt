@@ -42,6 +42,16 @@ impl Unary {
         self.size
     }
 
+    /// The answer for node `i`.
+    #[inline(always)]
+    pub(crate) fn answer(&self, i: u32) -> u64
+        requires { i < (node_table self.now).size }
+        ensures answer { result ≡ slice_index (node_table self.now).entries i }
+        ensures small { result ≤ 1000000000 }
+    {
+        (self.call)(i)
+    }
+
     /// The answer for node `i`, which is below `size()`. It counts one ask.
     pub fn ask(&self, meter: &mut Meter, i: u32) -> u64
         requires { i < (node_table self.now).size }
@@ -51,7 +61,7 @@ impl Unary {
         ensures one { AsksJust meter.old meter.new 1 }
     {
         meter.ask();
-        (self.call)(i)
+        self.answer(i)
     }
 
     /// The answers for each of some nodes, in their order. It counts one ask for each.

@@ -34,7 +34,7 @@ impl Vector {
 
     /// The answer for a node.
     #[inline(always)]
-    fn answer(&self, i: u32) -> u32
+    pub(crate) fn answer(&self, i: u32) -> u32
         requires { i < (vector_table self.now).size }
         ensures answer { result ≡ slice_index (vector_table self.now).entries i }
         ensures small { result ≤ 1000000000 }

@@ -87,6 +87,32 @@ fn is_sized(registry: &Registry, caps: &[u64], ranges: &[Range]) -> bool
     1 <= caps.len() && caps.len() <= 1000 && ranges.len() == registry.nodes() as usize
 }
 
+/// The cumuls that a vehicle may have at a node after one of a range: `Dimension::after` for a caller that asks it along a whole route, and
+/// has looked up the greatest slack and the vehicle's capacity before.
+///
+/// The caller must pass a range that is not empty and does not end above 1,000,000,000,000, an answer of at most 1,000,000,000, the range of
+/// the node, and the slack and a capacity of its dimension.
+#[inline(always)]
+pub fn range_after(range: Range, way: u64, node: Range, slack_max: u64, cap: u64) -> Option<Range>
+    requires filled { range.lo ≤ range.hi }
+    requires range { range.hi ≤ 1000000000000 }
+    requires way { way ≤ 1000000000 }
+    requires slack { slack_max ≤ 1000000000000 }
+    requires cap { cap ≤ 1000000000000 }
+    ensures span { (t : Table) (d : Bounds) (vehicle i j : ℕ) → way ≡ entry t i j → node ≡ range_of d j → slack_max ≡ d.slack_max
+        → cap ≡ cap_of d vehicle → IsSpan result (λ y. (x : ℕ) × IsWithin (Some range) x × IsStep t d vehicle i x j y) }
+    ensures small { IfSome result (λ r. r.hi ≤ 1000000000000) }
+{
+    let lo = (range.lo + way).max(node.lo);
+    let most = range.hi + way + slack_max;
+    let hi = most.min(node.hi).min(cap);
+    if lo <= hi {
+        Some(Range { lo, hi })
+    } else {
+        None
+    }
+}
+
 impl Dimension {
     /// A dimension over a callback of the registry: the greatest slack, a capacity for each vehicle (the first is that of vehicle 1),
     /// whether the first cumul is 0, and a range for each node. It takes no memory.
@@ -175,6 +201,13 @@ impl Dimension {
         ensures small { result ≤ 1000000000000 }
     {
         self.caps[vehicle as usize - 1]
+    }
+
+    /// The range of each node, the depot's first.
+    pub fn ranges(&self) -> &[Range]
+        ensures { result.now ≡ self.now.ranges }
+    {
+        self.ranges.as_slice()
     }
 
     /// The range of a node.
@@ -268,15 +301,13 @@ impl Dimension {
             → IsSpan result (λ y. (x : ℕ) × IsWithin (Some range) x × IsStep t self.now vehicle i x j y) }
         ensures small { IfSome result (λ r. r.hi ≤ 1000000000000) }
     {
-        let node = self.range(j);
-        let lo = (range.lo + way).max(node.lo);
-        let most = range.hi + way + self.slack_max();
-        let hi = most.min(node.hi).min(self.cap(vehicle));
-        if lo <= hi {
-            Some(Range { lo, hi })
-        } else {
-            None
-        }
+        range_after(
+            range,
+            way,
+            self.range(j),
+            self.slack_max(),
+            self.cap(vehicle),
+        )
     }
 
     /// The cumuls that a vehicle may have at node `i` before one of the range at node `j`, which must not be empty, and none where there

@@ -10,7 +10,6 @@ use crate::fault::SetupFault;
 use callback_store::{Registry, TransitId};
 
 /// What a board is opened with: its numbers, its callbacks and its dimensions.
-#[derive(Drop)]
 pub struct Setup {
     customers: u32,
     vehicles: u32,
@@ -26,6 +25,20 @@ pub struct Setup {
       cost = cost;
       max_events = max_events;
     }) },
+}
+
+// Written by hand: a derived drop is expanded, down to each list, at every place where a value is dropped.
+impl Drop for Setup {
+    fn drop(self) {
+        let Setup {
+            customers: _,
+            vehicles: _,
+            registry: _,
+            dimensions: _,
+            cost: _,
+            max_events: _,
+        } = self;
+    }
 }
 
 /// Whether each dimension is over this many customers and vehicles.

@@ -13,8 +13,8 @@ ghost use Rattle.std.specs.Prelude.{◌≢◌};
 use crate::front::Front;
 use crate::mark::Mark;
 use board_lines::{
-    Command, ReadFault, push_ask_fault, push_committed, push_fault, push_json, push_list,
-    push_reply, push_review,
+    Command, ReadFault, push_ask_fault, push_committed, push_denied, push_fault, push_json,
+    push_list, push_reply, push_review,
 };
 use board_rules::{AskFault, Call, Denial, Fault, Reply, Review};
 use move_core::Move;
@@ -62,6 +62,14 @@ fn committed_line(text: &mut String, version: u32) -> Result<(), AllocError>
     ensures { OnOk result (string_bytes text.new ≡ string_bytes text.old ++ ended (reply_text (Reply.Committed version))) }
 {
     push_committed(text, version)?;
+    end_line(text)
+}
+
+// And this one, since no reply has to be built for it.
+fn denied_line(text: &mut String, denial: Denial) -> Result<(), AllocError>
+    ensures { OnOk result (string_bytes text.new ≡ string_bytes text.old ++ ended (reply_text (Reply.Denied denial))) }
+{
+    push_denied(text, denial)?;
     end_line(text)
 }
 
@@ -140,7 +148,7 @@ pub(crate) fn propose<R, F: Front<R>>(
         }
         Ok(Err(Denial::NoSession)) => Ok(Mark::NoSession),
         Ok(Err(denial)) => {
-            reply_line(text, Reply::Denied(denial))?;
+            denied_line(text, denial)?;
             Ok(Mark::Text(true))
         }
         Err(Fault::NoMemory) => Err(OutOfMemory),

@@ -11,17 +11,6 @@ use std::sync::Arc;
 /// Vehicles with their new routes.
 pub(crate) type Changes = Vec<(u32, Arc<Route>)>;
 
-/// Appends a part of a route. Parts at the ends are often empty, and then nothing is called.
-#[inline(always)]
-fn push_part(customers: &mut Vec<u32>, part: &[u32]) -> Result<(), AllocError>
-    ensures { OnOk result (customers.new.items ≡ customers.old.items ++ part.now) }
-{
-    if part.is_empty() {
-        return Ok(());
-    }
-    customers.extend_from_slice(part)
-}
-
 /// A route in the making: the list of its customers, and beside it the route to which the list's memory belongs, if it is not new.
 #[derive(Drop)]
 struct Draft {
@@ -41,7 +30,7 @@ fn drafted(room: &mut Changes, alloc: Global, count: usize) -> Result<Draft, All
     if let Some((_, mut owner)) = room.pop() {
         if let Some(route) = Arc::get_mut(&mut owner) {
             let mut customers = route.take_customers();
-            if (customers.capacity() / 4).saturating_sub(SPARE) <= count {
+            if is_near(customers.capacity(), count) {
                 customers.clear();
                 customers.reserve(count)?;
                 return Ok(Draft {
@@ -73,25 +62,16 @@ fn finished(draft: Draft, alloc: Global) -> Result<Arc<Route>, AllocError>
     Ok(route)
 }
 
-/// A route of three parts. Its memory is taken at once.
-fn joined(
-    room: &mut Changes,
-    alloc: Global,
-    first: &[u32],
-    second: &[u32],
-    third: &[u32],
-) -> Result<Arc<Route>, AllocError>
-    ensures { IfOk result (λ route. route.value ≡ first.now ++ (second.now ++ third.now)) }
-{
-    let mut draft = drafted(room, alloc, first.len() + second.len() + third.len())?;
-    push_part(&mut draft.customers, first)?;
-    push_part(&mut draft.customers, second)?;
-    push_part(&mut draft.customers, third)?;
-    finished(draft, alloc)
+/// Whether a route with room for `room` customers may be given `count`.
+#[inline(always)]
+fn is_near(room: usize, count: usize) -> bool {
+    (room / 4).saturating_sub(SPARE) <= count
 }
 
-/// A route of four parts. Its memory is taken at once.
-fn joined_four(
+/// A route of four parts: in the memory of a route of the list, where nobody else has that route, and else in new memory, which is taken at
+/// once.
+#[inline(always)]
+fn joined_of(
     room: &mut Changes,
     alloc: Global,
     first: &[u32],
@@ -102,12 +82,45 @@ fn joined_four(
     ensures { IfOk result (λ route. route.value ≡ first.now ++ (second.now ++ (third.now ++ last.now))) }
 {
     let count = first.len() + second.len() + third.len() + last.len();
-    let mut draft = drafted(room, alloc, count)?;
-    draft.customers.extend_from_slice(first)?;
-    draft.customers.extend_from_slice(second)?;
-    draft.customers.extend_from_slice(third)?;
-    draft.customers.extend_from_slice(last)?;
-    finished(draft, alloc)
+    if let Some((_, mut owner)) = room.pop() {
+        if let Some(route) = Arc::get_mut(&mut owner) {
+            if is_near(route.capacity(), count) {
+                route.refill(first, second, third, last)?;
+                return Ok(owner);
+            }
+        }
+    }
+    let mut route = Route::new(Vec::with_capacity(alloc, count)?);
+    route.refill(first, second, third, last)?;
+    let made = Arc::new(alloc, route)?;
+    Ok(made)
+}
+
+/// A route of three parts.
+fn joined(
+    room: &mut Changes,
+    alloc: Global,
+    first: &[u32],
+    second: &[u32],
+    third: &[u32],
+) -> Result<Arc<Route>, AllocError>
+    ensures { IfOk result (λ route. route.value ≡ first.now ++ (second.now ++ third.now)) }
+{
+    joined_of(room, alloc, first, second, third, &[])
+}
+
+/// A route of four parts.
+fn joined_four(
+    room: &mut Changes,
+    alloc: Global,
+    first: &[u32],
+    second: &[u32],
+    third: &[u32],
+    last: &[u32],
+) -> Result<Arc<Route>, AllocError>
+    ensures { IfOk result (λ route. route.value ≡ first.now ++ (second.now ++ (third.now ++ last.now))) }
+{
+    joined_of(room, alloc, first, second, third, last)
 }
 
 /// The draft of a route that is to differ from another one in some places.
@@ -287,13 +300,17 @@ pub(crate) fn one_change(
     ensures { IfOk result (λ changes. changes_of changes.items ≡ (vehicle, route.value) ∷ []) }
 {
     let mut changes = room;
-    changes.clear();
+    // Nearly always it is empty by now, and then nothing is called.
+    if !changes.is_empty() {
+        changes.clear();
+    }
     changes.reserve(1)?;
-    changes.push((vehicle, route))?;
+    changes.push_reserved((vehicle, route));
     Ok(changes)
 }
 
 /// New routes for two vehicles, in the memory of another list.
+#[inline(always)]
 pub(crate) fn two_changes(
     room: Changes,
     vehicle: u32,
@@ -304,10 +321,12 @@ pub(crate) fn two_changes(
     ensures { IfOk result (λ changes. changes_of changes.items ≡ (vehicle, route.value) ∷ (other, other_route.value) ∷ []) }
 {
     let mut changes = room;
-    changes.clear();
+    if !changes.is_empty() {
+        changes.clear();
+    }
     changes.reserve(2)?;
-    changes.push((vehicle, route))?;
-    changes.push((other, other_route))?;
+    changes.push_reserved((vehicle, route));
+    changes.push_reserved((other, other_route));
     Ok(changes)
 }
 
@@ -322,6 +341,7 @@ pub(crate) fn emptied(room: Vec<Touch>, count: usize) -> Result<Vec<Touch>, Allo
 }
 
 /// Appends customers that stand on a vehicle one after the other, the first of them at `place`.
+#[inline(always)]
 pub(crate) fn push_touches(
     touched: &mut Vec<Touch>,
     vehicle: u32,

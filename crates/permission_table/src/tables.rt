@@ -10,7 +10,7 @@ ghost use Rattle.permission_core.specs.Objects.{first_of, size_of, is_bad_range}
 ghost use Rattle.policy_core.specs.State.{PolicyState, slot_of};
 ghost use Rattle.policy_core.specs.Commands.{granted, grant_refusal, revoked, inherited, uninherited, role_gone};
 ghost use Rattle.permission_table.specs.Bits.{allowed_by};
-ghost use Rattle.permission_table.specs.Tables.{TablesState, RowsState, no_rows, rows_of, allows, rows_after, will_allow, is_among};
+ghost use Rattle.permission_table.specs.Tables.{TablesState, RowsState, no_rows, rows_of, rows_at, allows, rows_after, will_allow, is_among};
 ghost use Rattle.permission_table.specs.Rights.{granted_to, revoked_from, refreshed, refreshed_above, made_anew, refreshed_without, changed_at, all_changed};
 ghost use Rattle.permission_table.specs.Compiled.{AreCompiled, WillBeCompiled, SameAccessBut, HasSizes, AreRowsOf, AreChangesOf};
 
@@ -197,6 +197,24 @@ impl Tables {
         ensures { option_map (λ rows. rows.now) result ≡ rows_of self.now session }
     {
         self.rows.get(&session)
+    }
+
+    /// Where the session's rows are, and none where it has none: a number for `rows_at`, for a caller that asks about a few objects now and
+    /// then. It holds until something is put into the tables.
+    #[inline(always)]
+    pub fn place_of(&self, session: u32) -> Option<usize>
+        ensures { rows_at self.now result ≡ rows_of self.now session }
+    {
+        self.rows.get_index_of(&session)
+    }
+
+    /// The rows at a place that `place_of` gave.
+    #[inline(always)]
+    pub fn rows_at(&self, place: Option<usize>) -> Option<&SessionRows>
+        ensures { option_map (λ rows. rows.now) result ≡ rows_at self.now place }
+    {
+        let (_, rows) = self.rows.get_index(place?)?;
+        Some(rows)
     }
 
     /// What `check` answers for a session with these rows, without looking them up again, and without a count.

@@ -27,6 +27,15 @@ impl Model for Pins {
     ghost view = { λ a. record { pins = a.pins.items; fronts = a.fronts.items } };
 }
 
+/// Whether a route begins with the first customers of another. Out of line, since few vehicles have a frozen front.
+#[inline(never)]
+fn begin_alike(count: usize, route: &[u32], other: &[u32]) -> bool
+    requires { count ≤ length other.now }
+    ensures { IsTrue result ↔ (take count route.now ≡ take count other.now) }
+{
+    route.starts_with(&other[..count])
+}
+
 impl Pins {
     /// No customer is pinned and no stop is frozen. Both numbers are at most 1,000.
     pub fn new(alloc: Global, customers: u32, vehicles: u32) -> Result<Pins, AllocError>
@@ -102,6 +111,7 @@ impl Pins {
     /// The caller must ensure that the plan has as many customers and vehicles as the pins, that the pins hold in it, and that no frozen
     /// length is above its route's; that there are one or two new routes, for different vehicles of the plan; that each touched customer is
     /// one of the plan's; and that each customer that stands on a vehicle stays on it in the new routes or is touched.
+    #[inline(always)]
     pub fn allows(
         &self,
         plan: &Plan,
@@ -131,6 +141,7 @@ impl Pins {
     }
 
     /// Whether a route begins with the frozen front of a vehicle.
+    #[inline(always)]
     fn keeps_front(&self, plan: &Plan, vehicle: u32, route: &[u32]) -> bool
         requires low { 1 ≤ vehicle }
         requires high { vehicle ≤ length plan.now.routes }
@@ -140,11 +151,14 @@ impl Pins {
             ≡ take (front_of self.now vehicle) (route_at plan.now.routes vehicle)) }
     {
         let frozen = self.frozen(vehicle) as usize;
-        let old = plan.route(vehicle).customers();
-        route.starts_with(&old[..frozen])
+        if frozen == 0 {
+            return true;
+        }
+        begin_alike(frozen, route, plan.route(vehicle).customers())
     }
 
     /// The first named vehicle whose frozen front differs.
+    #[inline(always)]
     pub(crate) fn first_thawed(&self, plan: &Plan, new_routes: &[(u32, Arc<Route>)]) -> Option<u32>
         requires vehicles { length self.now.fronts ≡ length plan.now.routes }
         requires fitting { DoFrontsFit self.now plan.now.routes }
@@ -199,6 +213,7 @@ impl Pins {
     }
 
     /// The first touch whose customer is pinned to a vehicle on which it would not stand.
+    #[inline(always)]
     fn first_loose(
         &self,
         plan: &Plan,

@@ -1,6 +1,7 @@
 //! The plan of a fleet: one route for each vehicle, which commit changed each of them last, and what the routes cost.
 #![tactic(auto)]
 
+mod append;
 mod cost;
 mod front;
 mod laws;
@@ -9,6 +10,7 @@ mod replace;
 mod route;
 mod touch;
 
+pub use append::append_part;
 pub use cost::route_cost;
 pub use front::common_front;
 pub use laws::{

@@ -1,5 +1,7 @@
-ghost use Rattle.std.specs.Prelude.{◌≡◌, ◌==◌, ◌-◌, ◌≤◌, ℕ, List, length, [], slice_get, Some, MatchOption, Contains};
+ghost use Rattle.std.specs.Prelude.{◌≡◌, ◌==◌, ◌-◌, ◌≤◌, ◌++◌, ℕ, List, length, [], slice_get, Some, MatchOption, Contains, OnOk};
 
+use crate::append::append_part;
+use std::alloc::AllocError;
 use std::marker::Model;
 use std::mem::replace;
 
@@ -52,6 +54,32 @@ impl Route {
         ensures { self.new ≡ customers.items }
     {
         self.customers = customers;
+    }
+
+    /// For how many customers it has room.
+    pub fn capacity(&self) -> usize {
+        self.customers.capacity()
+    }
+
+    /// Gives the route the customers of these parts in its own memory, one part after the other. More memory is taken where that is too
+    /// small.
+    #[inline(always)]
+    pub fn refill(
+        &mut self,
+        first: &[u32],
+        second: &[u32],
+        third: &[u32],
+        last: &[u32],
+    ) -> Result<(), AllocError>
+        ensures { OnOk result (self.new ≡ first.now ++ (second.now ++ (third.now ++ last.now))) }
+    {
+        let count = first.len() + second.len() + third.len() + last.len();
+        self.customers.clear();
+        self.customers.reserve(count)?;
+        append_part(&mut self.customers, first)?;
+        append_part(&mut self.customers, second)?;
+        append_part(&mut self.customers, third)?;
+        append_part(&mut self.customers, last)
     }
 
     /// How many customers there are.

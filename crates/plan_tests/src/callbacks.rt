@@ -3,7 +3,9 @@ ghost use Rattle.callback_store.specs.Registry.{tables};
 ghost use Rattle.callback_store.specs.Tables.{nodes_of};
 
 use crate::comparing::{compare, compare_meter};
-use callback_store::{Matrix, Meter, RegisterFault, Registry, Transit, TransitId, Unary};
+use callback_store::{
+    Matrix, Meter, RegisterFault, Registry, StayMatrix, Transit, TransitId, Unary, Vector,
+};
 use std::process::Abort;
 use std::sync::Arc;
 use std::sync::atomic::{AtomicU64, Ordering};
@@ -130,6 +132,48 @@ fn answers_from_a_matrix(rt: HostRuntime) {
     let wide = Matrix::new(3, Arc::new(rt.alloc(), wide).expect(&rt, "memory"));
     let refused = registry.register_matrix(wide).map(|id| id.index());
     compare_name(&rt, refused, Err(RegisterFault::Size), 0);
+}
+
+fn ask_stays_and_values(rt: &impl Abort, registry: &Registry, time: TransitId, load: TransitId)
+    requires time { time < length (tables registry.now) }
+    requires load { load < length (tables registry.now) }
+    requires nodes { nodes_of (tables registry.now) ≡ 2 }
+{
+    let mut meter = Meter::new();
+    let nodes = &[1, 0, 0, 1];
+    compare(rt, registry.ask(time, &mut meter, 0, 1), 13, "out");
+    compare(rt, registry.ask(time, &mut meter, 1, 0), 25, "back");
+    compare_answers(rt, registry, time, &mut meter, true, nodes, &[5, 25, 25, 5]);
+    compare_answers(
+        rt,
+        registry,
+        time,
+        &mut meter,
+        false,
+        nodes,
+        &[5, 13, 13, 5],
+    );
+    compare(rt, registry.ask(load, &mut meter, 1, 0), 4, "load");
+    compare_answers(rt, registry, load, &mut meter, true, nodes, &[4, 4, 4, 4]);
+    compare_answers(rt, registry, load, &mut meter, false, nodes, &[4, 0, 0, 4]);
+    compare(rt, meter.asks, 19, "asks");
+}
+
+/// Callbacks that are given as stays and ways, and as one answer for each node, are asked as any other.
+#[test]
+fn answers_from_stays_and_values(rt: HostRuntime) {
+    let mut registry = Registry::new(rt.alloc());
+    let ways = vec![in rt.alloc(); 0u32, 10, 20, 0].expect(&rt, "memory");
+    let ways = Matrix::new(2, Arc::new(rt.alloc(), ways).expect(&rt, "memory"));
+    let stays = vec![in rt.alloc(); 3u32, 5].expect(&rt, "memory");
+    let time = registry
+        .register_stays(StayMatrix::new(stays, ways))
+        .expect(&rt, "room");
+    let demands = vec![in rt.alloc(); 0u32, 4].expect(&rt, "memory");
+    let load = registry
+        .register_vector(Vector::new(demands))
+        .expect(&rt, "room");
+    ask_stays_and_values(&rt, &registry, time, load);
 }
 
 /// Whether the callback for pairs is asked, whether a row is, and what is answered.

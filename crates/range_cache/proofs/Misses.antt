@@ -48,21 +48,21 @@ module _ (law : MissesAreFound) (s : Setting) (d v : ℕ) (route : List ℕ) (pl
       missed_stop within (subst (λ (js : List ℕ). IsSpanAt s d v js None) (sym (take_all (place + 1) (route ++ 0 ∷ []) (omega arith))) none)
   missed_return (Some x) within end none e = absurd cc
 
--- one more ask, at the first miss
-missed_ask : (s : Setting) (d v : ℕ) (route : List ℕ) (place kept : ℕ) (a b c : Meter) → kept ≤ place → AsksJust a b (place - kept) → AsksJust b c 1
-    → IsFirstMissIn s d v route (place + 1) → Missed s d v route kept a c
-missed_ask s d v route place kept a b c behind p q miss = (place + 1, miss, asks_both a b c _ _ _ _ _ _ p q (omega arith) (omega arith))
+-- the asks up to it
+missed_ask : (s : Setting) (d v : ℕ) (route : List ℕ) (place kept : ℕ) (from to : Meter) → AsksJust from to (place + 1 - kept)
+    → IsFirstMissIn s d v route (place + 1) → Missed s d v route kept from to
+missed_ask s d v route place kept from to asked miss = (place + 1, miss, asked)
 
-pub missed_at : MissesAreFound → (s : Setting) (d v : ℕ) (route : List ℕ) (place kept : ℕ) (r : Range) (a b c : Meter) → IsSpanOf s d v (take place route) r
-    → place < length route → IsSpanAt s d v (take (place + 1) route) None → kept ≤ place → AsksJust a b (place - kept) → AsksJust b c 1 → Missed s d v route kept a c
-missed_at law s d v route place kept r a b c span within none behind p q =
-    missed_ask s d v route place kept a b c behind p q (missed_customer law s d v route place r span within none)
+pub missed_at : MissesAreFound → (s : Setting) (d v : ℕ) (route : List ℕ) (place kept : ℕ) (r : Range) (from to : Meter) → IsSpanOf s d v (take place route) r
+    → place < length route → IsSpanAt s d v (take (place + 1) route) None → AsksJust from to (place + 1 - kept) → Missed s d v route kept from to
+missed_at law s d v route place kept r from to span within none asked =
+    missed_ask s d v route place kept from to asked (missed_customer law s d v route place r span within none)
 
-pub missed_back : MissesAreFound → (s : Setting) (d v : ℕ) (route : List ℕ) (place kept : ℕ) (r : Range) (o : Option Range) (a b c : Meter) → IsSpanOf s d v (take place route) r
-    → place ≤ length route → length route ≤ place → IsSpanAt s d v (route ++ 0 ∷ []) o → is_some o ≡ false → kept ≤ place
-    → AsksJust a b (place - kept) → AsksJust b c 1 → Missed s d v route kept a c
-missed_back law s d v route place kept r o a b c span within end none e behind p q =
-    missed_ask s d v route place kept a b c behind p q (missed_return law s d v route place r span o within end none e)
+pub missed_back : MissesAreFound → (s : Setting) (d v : ℕ) (route : List ℕ) (place kept : ℕ) (r : Range) (o : Option Range) (from to : Meter) → IsSpanOf s d v (take place route) r
+    → place ≤ length route → length route ≤ place → IsSpanAt s d v (route ++ 0 ∷ []) o → is_some o ≡ false
+    → AsksJust from to (place + 1 - kept) → Missed s d v route kept from to
+missed_back law s d v route place kept r o from to span within end none e asked =
+    missed_ask s d v route place kept from to asked (missed_return law s d v route place r span o within end none e)
 
 -- a row, where a walk in one dimension missed
 pub row_missed : (s : Setting) (v d front kept : ℕ) (old new : List ℕ) (a b c : Meter) → AsksJust a b (d * walk_asks old new) → Missed s d v new kept b c

@@ -5,7 +5,7 @@ use Rattle.std.proofs.lemmas.Bool.{cases_eq}
 use Rattle.std.proofs.lemmas.List.{get_or_default, get_or_append_left, get_or-append_right, length_push, take_all, take-append-drop}
 use Rattle.callback_store.specs.Tables.{Table, entry, table_at}
 use Rattle.dimension_core.specs.declared.range.Range.{Range}
-use Rattle.dimension_core.specs.Cumuls.{Bounds, IsStart, IsStep, IsWithin, IsSpan, Reaches, last_of, table_of}
+use Rattle.dimension_core.specs.Cumuls.{Bounds, cap_of, range_of, IsStart, IsStep, IsWithin, IsSpan, Reaches, last_of, table_of}
 use Rattle.dimension_core.specs.Feasible.{FitsIn}
 use Rattle.dimension_core.specs.Laws.{SpansGoOn}
 use Rattle.dimension_core.specs.Setting.{Setting, dimension_at, no_bounds}
@@ -119,7 +119,10 @@ small_at s k v nodes ds d r ed h e law span known =
     (subst (λ (b : Bounds). IsSpan (Some r) (Reaches (table_of s.tables (dimension_at s k)) b v nodes)) (sym (dim_at s ds d k ed h e)) span) known
 
 -- what comes after the numbers of an interval, by the answer of the dimension's callback
-pub after_at : (ts : List Table) (d : Bounds) (id way i j v : ℕ) (r : Range) (o : Option Range)
-    → ((t : Table) (n : ℕ) → way ≡ entry t n j → IsSpan o (λ y. (x : ℕ) × IsWithin (Some r) x × IsStep t d v n x j y))
-    → id ≡ d.id → way ≡ entry (table_at ts id) i j → IsSpan o (λ y. (x : ℕ) × IsWithin (Some r) x × IsStep (table_of ts d) d v i x j y)
-after_at ts d id way i j v r o span e answer = span (table_of ts d) i (answer ∙ ap (λ (n : ℕ). entry (table_at ts n) i j) e)
+pub after_at : (ts : List Table) (d : Bounds) (nodes : List Range) (slack cap way i j v : ℕ) (r : Range) (o : Option Range)
+    → ((t : Table) (b : Bounds) (vehicle m n : ℕ) → way ≡ entry t m n → slice_index_or nodes j no_range ≡ range_of b n → slack ≡ b.slack_max → cap ≡ cap_of b vehicle
+    → IsSpan o (λ y. (x : ℕ) × IsWithin (Some r) x × IsStep t b vehicle m x n y))
+    → nodes ≡ d.ranges → slack ≡ d.slack_max → cap ≡ cap_of d v
+    → way ≡ entry (table_at ts d.id) i j → IsSpan o (λ y. (x : ℕ) × IsWithin (Some r) x × IsStep (table_of ts d) d v i x j y)
+after_at ts d nodes slack cap way i j v r o span same most capped answer =
+    span (table_of ts d) d v i j answer (ap (λ (rs : List Range). slice_index_or rs j no_range) same) most capped

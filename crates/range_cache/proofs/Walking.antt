@@ -3,7 +3,7 @@ use Rattle.std.proofs.Common.{◌≡◌, ◌∙◌, ℕ, ◌+◌, ◌-◌, ◌*�
 use Rattle.std.specs.Prelude.{MatchOption}
 use Rattle.std.proofs.lemmas.Bool.{false≢true}
 use Rattle.callback_store.specs.declared.meter.Meter.{Meter}
-use Rattle.callback_store.specs.Meter.{AsksJust, AsksAtMost, none_asked, no_ask, asks_both, asks_wider}
+use Rattle.callback_store.specs.Meter.{AsksJust, AsksAtMost, no_ask, asks_wider}
 use Rattle.callback_store.specs.Tables.{Table, entry, nodes_of, table_at}
 use Rattle.dimension_core.specs.declared.range.Range.{Range}
 use Rattle.dimension_core.specs.Cumuls.{Bounds, IsSpan, Reaches, last_of, table_of}
@@ -55,20 +55,8 @@ pub no_less : (n : ℕ) → n ≤ n
 no_less n = omega arith
 
 -- asks along the way
-pub asks_first : (m : Meter) (n : ℕ) → AsksJust m m (n - n)
-asks_first m n = let none : n - n ≡ 0 = omega arith in subst (λ (k : ℕ). AsksJust m m k) (sym none) (none_asked m)
-
-next_low : (kept place : ℕ) → kept ≤ place → place + 1 - kept ≤ place - kept + 1
-next_low kept place behind = omega arith
-
-next_high : (kept place : ℕ) → kept ≤ place → place - kept + 1 ≤ place + 1 - kept
-next_high kept place behind = omega arith
-
-next_most : (kept place n : ℕ) → kept ≤ place → place < n → place - kept + 1 ≤ n + 1 - kept
-next_most kept place n behind h = omega arith
-
-pub asks_next : (a b c : Meter) (kept place : ℕ) → kept ≤ place → AsksJust a b (place - kept) → AsksJust b c 1 → AsksJust a c (place + 1 - kept)
-asks_next a b c kept place behind p q = asks_both a b c _ _ _ _ _ _ p q (next_low kept place behind) (next_high kept place behind)
+few_next : (kept place n : ℕ) → place < n → place + 1 - kept ≤ n + 1 - kept
+few_next kept place n h = omega arith
 
 pub asks_few : (a b : Meter) (n : ℕ) → AsksJust a b n → AsksAtMost a b n
 asks_few a b n p = asks_wider a b n n 0 n p (none_least n) (no_less n)
@@ -164,23 +152,24 @@ pub walked_none : SpansGoOn → MissesAreFound → (s : Setting) (k v : ℕ) (ro
 walked_none law misses s k v route kept old new m some none =
     walked_out s k v route kept old new m m (never law s k v route 0 some none) (no_ask m _) (missed_start misses s k v route kept m none)
 
-pub walked_to : SpansGoOn → MissesAreFound → (s : Setting) (k v : ℕ) (route : List ℕ) (kept : ℕ) (old new : List Range) (a b c : Meter) (place : ℕ) (r : Range) → 0 < length route → place < length route → kept ≤ place
-    → IsSpanOf s k v (take place route) r → IsSpanAt s k v (take (place + 1) route) None → AsksJust a b (place - kept) → AsksJust b c 1 → IsWalked s k v route kept old new a c {E = ℕ} (Ok false)
-walked_to law misses s k v route kept old new a b c place r some h behind span none p q =
-    walked_out s k v route kept old new a c (never law s k v route (place + 1) some none) (asks_both a b c _ _ _ _ _ _ p q (none_least _) (next_most kept place (length route) behind h))
-    (missed_at misses s k v route place kept r a b c span h none behind p q)
+pub walked_to : SpansGoOn → MissesAreFound → (s : Setting) (k v : ℕ) (route : List ℕ) (kept : ℕ) (old new : List Range) (from to : Meter) (place : ℕ) (r : Range) → 0 < length route → place < length route
+    → IsSpanOf s k v (take place route) r → IsSpanAt s k v (take (place + 1) route) None → AsksJust from to (place + 1 - kept) → IsWalked s k v route kept old new from to {E = ℕ} (Ok false)
+walked_to law misses s k v route kept old new from to place r some h span none asked =
+    walked_out s k v route kept old new from to (never law s k v route (place + 1) some none)
+    (asks_wider from to _ _ _ _ asked (none_least _) (few_next kept place (length route) h))
+    (missed_at misses s k v route place kept r from to span h none asked)
 
-pub walked_all : MissesAreFound → (s : Setting) (k v : ℕ) (route : List ℕ) (kept : ℕ) (old new : List Range) (a b c : Meter) (place : ℕ) (r : Range) (o : Option Range) (found : Bool) → length route ≤ place
-    → (kept ≤ length route → place ≤ length route) → kept ≤ length route → kept ≤ place → found ≡ is_some o → IsTrue (is_some o) ↔ FitsIn s k v route → IsSpanAt s k v (route ++ 0 ∷ []) o → IsSpanOf s k v (take place route) r
-    → (more : List Range) × (new ≡ old ++ more) × (length more ≡ place) × IsTrack s k v route more → AsksJust a b (place - kept) → AsksJust b c 1 → IsWalked s k v route kept old new a c {E = ℕ} (Ok found)
-walked_all misses s k v route kept old new a b c place r o found end ends few behind e answer back span m p q =
+pub walked_all : MissesAreFound → (s : Setting) (k v : ℕ) (route : List ℕ) (kept : ℕ) (old new : List Range) (from to : Meter) (place : ℕ) (r : Range) (o : Option Range) (found : Bool) → length route ≤ place
+    → (kept ≤ length route → place ≤ length route) → kept ≤ length route → found ≡ is_some o → IsTrue (is_some o) ↔ FitsIn s k v route → IsSpanAt s k v (route ++ 0 ∷ []) o → IsSpanOf s k v (take place route) r
+    → (more : List Range) × (new ≡ old ++ more) × (length more ≡ place) × IsTrack s k v route more → AsksJust from to (length route + 1 - kept) → IsWalked s k v route kept old new from to {E = ℕ} (Ok found)
+walked_all misses s k v route kept old new from to place r o found end ends few e answer back span m asked =
     let within : place ≤ length route = ends few in
     let all : place ≡ length route = same_end place (length route) within end in
-    let asked : AsksJust a c (length route + 1 - kept) = subst (λ (n : ℕ). AsksJust a c (n + 1 - kept)) all (asks_next a b c kept place behind p q) in
+    let there : AsksJust from to (place + 1 - kept) = subst (λ (n : ℕ). AsksJust from to (n + 1 - kept)) (sym all) asked in
     record {
       bounds = subst (λ (x : Bool). IsTrue x ↔ FitsIn s k v route) (sym e) answer;
       ranges = λ _. (m.0, m.1, m.2 ∙ all, m.3);
-      asks = asks_few a c _ asked;
+      asks = asks_few from to _ asked;
       whole = λ _. asked;
-      missed = λ none. missed_back misses s k v route place kept r o a b c span within end back (sym e ∙ none) behind p q;
+      missed = λ none. missed_back misses s k v route place kept r o from to span within end back (sym e ∙ none) there;
     }

@@ -113,6 +113,7 @@ impl Cache {
 
     /// What `judge` answers, with the new ranges in the memory of earlier ones: more memory is taken only where that is too small. Where
     /// a new route is out of bounds, the memory stays in the room, and else that of a row which the new routes do not need.
+    #[inline(always)]
     pub fn judge_in(
         &self,
         room: &mut Room,
@@ -148,6 +149,7 @@ impl Cache {
     }
 
     /// Makes a row that of a vehicle's new route, from the row of its route in the plan.
+    #[inline(always)]
     fn change_row(
         &self,
         row: &mut Row,

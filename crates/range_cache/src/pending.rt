@@ -34,6 +34,7 @@ impl Room {
     }
 
     /// Makes it hold at least this many rows, whatever they contain.
+    #[inline(always)]
     pub(crate) fn hold(&mut self, count: usize) -> Result<(), AllocError>
         ensures { OnOk result (count ≤ length self.new.rows.items) }
     {
@@ -47,6 +48,7 @@ impl Room {
     }
 
     /// Takes out the first `count` rows. One that is left over becomes the spare row.
+    #[inline(always)]
     pub(crate) fn take_rows(&mut self, count: usize) -> Vec<(u32, Row)>
         ensures { result.items ≡ take count self.old.rows.items }
     {

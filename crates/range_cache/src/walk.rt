@@ -11,7 +11,8 @@ ghost use Rattle.dimension_core.specs.declared.range.Range.{Range};
 ghost use Rattle.range_cache.specs.Track.{IsSpanAt, IsTrack};
 
 use callback_store::{Callback, Meter, Slot};
-use dimension_core::{Range, Setup, misses_are_found, spans_go_on};
+use dimension_core::{Range, Setup, misses_are_found, range_after, spans_go_on};
+use plan_core::append_part;
 use std::alloc::AllocError;
 
 /// A vehicle (from 1) in a dimension (from 0).
@@ -47,19 +48,6 @@ fn begin(setup: &Setup, axis: Axis, route: &[u32], kept: &[Range]) -> Option<(Ra
     Some((kept[last], route[last]))
 }
 
-/// Appends the kept ranges. Often there is none, and then nothing is called.
-#[inline(always)]
-fn push_kept(ranges: &mut Vec<Range>, kept: &[Range]) -> Result<(), AllocError>
-    ensures items { OnOk result (ranges.new.items ≡ ranges.old.items ++ kept.now) }
-    ensures len { OnOk result (vec_len ranges.new ≡ vec_len ranges.old + length kept.now) }
-    ensures capacity { vec_capacity ranges.old ≤ vec_capacity ranges.new }
-{
-    if kept.is_empty() {
-        return Ok(());
-    }
-    ranges.extend_from_slice(kept)
-}
-
 /// A route, and the ranges that are kept along its first customers.
 #[derive(Clone, Copy)]
 pub(crate) struct Course<'a> {
@@ -91,9 +79,11 @@ pub(crate) fn walk(
         × (length more ≡ length course.now.route.now) × IsTrack (setting setup.now) axis.dimension axis.vehicle course.now.route.now more) }
     ensures capacity { vec_capacity ranges.old ≤ vec_capacity ranges.new }
     ensures asks { AsksAtMost meter.old meter.new (length course.now.route.now + 1 - length course.now.kept.now) }
-    ensures whole { IfOk result (λ is_in. IsTrue is_in → AsksJust meter.old meter.new (length course.now.route.now + 1 - length course.now.kept.now)) }
+    ensures whole { IfOk result (λ is_in. IsTrue is_in
+        → AsksJust meter.old meter.new (length course.now.route.now + 1 - length course.now.kept.now)) }
     ensures missed { IfOk result (λ is_in. is_in ≡ false → (k : ℕ)
-        × IsFirstMissIn (setting setup.now) axis.dimension axis.vehicle course.now.route.now k × AsksJust meter.old meter.new (k - length course.now.kept.now)) }
+        × IsFirstMissIn (setting setup.now) axis.dimension axis.vehicle course.now.route.now k
+        × AsksJust meter.old meter.new (k - length course.now.kept.now)) }
 {
     let bounds = &setup.dimensions()[axis.dimension];
     match setup.registry().callback(bounds.id()) {
@@ -129,9 +119,11 @@ fn walk_by<C: Callback>(
         × (length more ≡ length course.now.route.now) × IsTrack (setting setup.now) axis.dimension axis.vehicle course.now.route.now more) }
     ensures capacity { vec_capacity ranges.old ≤ vec_capacity ranges.new }
     ensures asks { AsksAtMost meter.old meter.new (length course.now.route.now + 1 - length course.now.kept.now) }
-    ensures whole { IfOk result (λ is_in. IsTrue is_in → AsksJust meter.old meter.new (length course.now.route.now + 1 - length course.now.kept.now)) }
+    ensures whole { IfOk result (λ is_in. IsTrue is_in
+        → AsksJust meter.old meter.new (length course.now.route.now + 1 - length course.now.kept.now)) }
     ensures missed { IfOk result (λ is_in. is_in ≡ false → (k : ℕ)
-        × IsFirstMissIn (setting setup.now) axis.dimension axis.vehicle course.now.route.now k × AsksJust meter.old meter.new (k - length course.now.kept.now)) }
+        × IsFirstMissIn (setting setup.now) axis.dimension axis.vehicle course.now.route.now k
+        × AsksJust meter.old meter.new (k - length course.now.kept.now)) }
 {
     spans_go_on();
     misses_are_found();
@@ -140,19 +132,24 @@ fn walk_by<C: Callback>(
     let Some((mut range, mut from)) = begin(setup, axis, route, kept) else {
         return Ok(false);
     };
-    push_kept(ranges, kept)?;
+    append_part(ranges, kept)?;
     let bounds = &setup.dimensions()[dimension];
+    let nodes = bounds.ranges();
+    let slack_max = bounds.slack_max();
+    let cap = bounds.cap(vehicle);
     for place in kept.len()..route.len() {
         let node = route[place];
-        let way = callback.ask_way(meter, from, node);
-        let Some(next) = bounds.after(range, way, node, vehicle) else {
+        let way = callback.answer_way(from, node);
+        let Some(next) = range_after(range, way, nodes[node as usize], slack_max, cap) else {
+            meter.ask_many((place + 1 - kept.len()) as u64);
             return Ok(false);
         };
         ranges.push_reserved(next);
         range = next;
         from = node;
     }
-    let back = callback.ask_way(meter, from, 0);
-    let end = bounds.after(range, back, 0, vehicle);
+    let back = callback.answer_way(from, 0);
+    meter.ask_many((route.len() + 1 - kept.len()) as u64);
+    let end = range_after(range, back, nodes[0], slack_max, cap);
     Ok(end.is_some())
 }

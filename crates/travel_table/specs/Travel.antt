@@ -2,6 +2,7 @@ use Rattle.std.specs.Prelude.{◌≡◌, ℕ, ◌+◌, ◌*◌, ◌<◌, ◌≤�
 use Rattle.std.specs.Int.{abs_diff}
 use Rattle.solomon_reader.specs.declared.instance.Node.{Node}
 use Rattle.travel_table.specs.Root.{IsRoot, root_of}
+use Rattle.travel_table.specs.declared.travel.Point.{Point}
 
 -- the node at a number, and one at the origin where there is none
 abbrev pub node_at : List Node → ℕ → Node
@@ -44,10 +45,31 @@ pub record IsNear (node : Node) : Type 0 where
   pub x : node.x ≤ 9999999
   pub y : node.y ≤ 9999999
 
--- Each pair of a node and itself or a later one, in the order of the rows, up to this many entries, has its travel both ways.
-pub record AreKnown (nodes : List Node) (entries : List ℕ) (count : ℕ) : Type 0 where
-  pub counted : length entries ≡ length nodes * length nodes
+-- where a node is
+abbrev pub point_of : Node → Point
+point_of node = record { x = node.x; y = node.y }
+
+-- no coordinate is above 9,999,999
+pub record IsNearPoint (point : Point) : Type 0 where
+  pub x : point.x ≤ 9999999
+  pub y : point.y ≤ 9999999
+
+-- the point at a number, and the origin where there is none
+abbrev pub point_at : List Point → ℕ → Point
+point_at points i = slice_index_or points i (record { x = 0; y = 0 })
+
+-- how far two points are apart, squared, in hundredths of a squared unit
+abbrev pub square_apart : Point → Point → ℕ
+square_apart a b = 100 * (abs_diff a.x b.x * abs_diff a.x b.x + abs_diff a.y b.y * abs_diff a.y b.y)
+
+-- t is the way from point i to point j: the greatest whole number that is at most the straight way
+abbrev pub IsWay : List Point → ℕ → ℕ → ℕ → Type 0
+IsWay points i j t = IsRoot (square_apart (point_at points i) (point_at points j)) t
+
+-- Each pair of a point and itself or a later one, in the order of the rows, up to this many entries, has its way both ways.
+pub record AreKnown (points : List Point) (entries : List ℕ) (count : ℕ) : Type 0 where
+  pub counted : length entries ≡ length points * length points
   pub small : (k : ℕ) → k < length entries → slice_index entries k ≤ 141421342
-  pub own : (a : ℕ) → a < length nodes → a * length nodes + a < count → slice_index entries (a * length nodes + a) ≡ 0
-  pub there : (a b : ℕ) → a < b → b < length nodes → a * length nodes + b < count → IsTravel nodes a b (slice_index entries (a * length nodes + b))
-  pub back : (a b : ℕ) → a < b → b < length nodes → a * length nodes + b < count → IsTravel nodes a b (slice_index entries (b * length nodes + a))
+  pub own : (a : ℕ) → a < length points → a * length points + a < count → slice_index entries (a * length points + a) ≡ 0
+  pub there : (a b : ℕ) → a < b → b < length points → a * length points + b < count → IsWay points a b (slice_index entries (a * length points + b))
+  pub back : (a b : ℕ) → a < b → b < length points → a * length points + b < count → IsWay points a b (slice_index entries (b * length points + a))

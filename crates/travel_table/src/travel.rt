@@ -1,8 +1,8 @@
-ghost use Rattle.std.specs.Prelude.{◌≡◌, ℕ, ◌+◌, ◌*◌, ◌<◌, ◌≤◌, All, IfOk, OnErr, List, length};
+ghost use Rattle.std.specs.Prelude.{◌≡◌, ℕ, ◌+◌, ◌*◌, ◌<◌, ◌≤◌, All, IfOk, OnErr, List, length, map};
 ghost use Rattle.std.specs.Int.{abs_diff};
 ghost use Rattle.solomon_reader.specs.declared.instance.Node.{Node};
 ghost use Rattle.travel_table.specs.Root.{IsRoot};
-ghost use Rattle.travel_table.specs.Travel.{square_between, IsNear, IsTravel, IsTravelOf, AreKnown, Distances, node_at, travel_at, travel_between};
+ghost use Rattle.travel_table.specs.Travel.{square_between, point_of, square_apart, IsNearPoint, IsNear, IsTravel, IsTravelOf, AreKnown, Distances, node_at, travel_at, travel_between};
 
 use crate::square_root::{TEN_UP, root_near, whole_part};
 use solomon_reader::{Instance, Node};
@@ -30,6 +30,26 @@ impl Model for Travel {
     ghost invariant = { λ a. AreDistances (record { size = a.size; entries = a.entries.value.items }) };
 }
 
+/// The coordinates of a node alone.
+#[derive(Clone, Copy)]
+pub(crate) struct Point {
+    x: u32,
+    y: u32,
+}
+
+/// Where a node is.
+#[inline(always)]
+fn point_of(node: &Node) -> Point
+    requires { IsNear node.now }
+    ensures value { result ≡ point_of node.now }
+    ensures near { IsNearPoint result }
+{
+    Point {
+        x: node.x,
+        y: node.y,
+    }
+}
+
 /// How far two coordinates are apart. The square of this signed form costs no branch.
 #[inline(always)]
 fn between(a: u32, b: u32) -> u64
@@ -39,17 +59,30 @@ fn between(a: u32, b: u32) -> u64
     (i64::from(b) - i64::from(a)).unsigned_abs()
 }
 
-/// The square of how many units two nodes are apart.
+/// The square of how many units two points are apart.
 #[inline(always)]
-fn apart(a: &Node, b: &Node) -> u64
-    requires from { IsNear a.now }
-    requires to { IsNear b.now }
-    ensures value { 100 * result ≡ square_between a.now b.now }
+fn apart(a: Point, b: Point) -> u64
+    requires from { IsNearPoint a }
+    requires to { IsNearPoint b }
+    ensures value { 100 * result ≡ square_apart a b }
     ensures small { result ≤ 199999960000002 }
 {
     let dx = between(a.x, b.x);
     let dy = between(a.y, b.y);
     dx * dx + dy * dy
+}
+
+/// The travel from one point to another.
+#[inline(always)]
+fn way_between(a: Point, b: Point) -> u32
+    requires from { IsNearPoint a }
+    requires to { IsNearPoint b }
+    ensures root { IsRoot (square_apart a b) result }
+    ensures small { result ≤ 141421342 }
+{
+    let square = apart(a, b);
+    let guess = whole_part((square as i64 as f64).sqrt() * TEN_UP);
+    root_near(100 * square, guess)
 }
 
 /// The travel from one node to another, of which no coordinate may be above 9,999,999, in tenths of a distance unit. It needs no table, and
@@ -62,23 +95,34 @@ pub fn travel_between(a: &Node, b: &Node) -> u32
     ensures root { IsRoot (square_between a.now b.now) result }
     ensures small { result ≤ 141421342 }
 {
-    let square = apart(a, b);
-    let guess = whole_part((square as i64 as f64).sqrt() * TEN_UP);
-    root_near(100 * square, guess)
+    way_between(point_of(a), point_of(b))
 }
 
-/// Fills in the travel between node `i` and itself and each later one, both ways.
-fn fill_node(entries: &mut [u32], nodes: &[Node], i: usize)
-    requires near { All IsNear nodes.now }
-    requires node { i < length nodes.now }
-    requires filled { AreKnown nodes.now entries.old (i * length nodes.now) }
-    ensures { AreKnown nodes.now entries.new ((i + 1) * length nodes.now) }
+/// Where some nodes are. A table of travel is made from these: they take a third of the room of nodes, all of which are read for each node.
+fn points_of(alloc: Global, nodes: &[Node]) -> Result<Vec<Point>, AllocError>
+    requires { All IsNear nodes.now }
+    ensures value { IfOk result (λ points. points.items ≡ map point_of nodes.now) }
+    ensures near { IfOk result (λ points. All IsNearPoint points.items) }
 {
-    let size = nodes.len();
-    let from = nodes[i];
+    let mut points = Vec::with_capacity(alloc, nodes.len())?;
+    for node in nodes {
+        points.push(point_of(node))?;
+    }
+    Ok(points)
+}
+
+/// Fills in the travel between point `i` and itself and each later one, both ways.
+fn fill_node(entries: &mut [u32], points: &[Point], i: usize)
+    requires near { All IsNearPoint points.now }
+    requires point { i < length points.now }
+    requires filled { AreKnown points.now entries.old (i * length points.now) }
+    ensures { AreKnown points.now entries.new ((i + 1) * length points.now) }
+{
+    let size = points.len();
+    let from = points[i];
     entries[i * size + i] = 0;
     for j in i + 1..size {
-        let travel = travel_between(&from, &nodes[j]);
+        let travel = way_between(from, points[j]);
         entries[i * size + j] = travel;
         entries[j * size + i] = travel;
     }
@@ -94,16 +138,17 @@ impl Travel {
         requires { All IsNear instance.now.nodes.items }
         ensures { IfOk result (IsTravelOf instance.now.nodes.items) }
     {
-        let nodes = instance.nodes.as_slice();
-        let Some(room) = nodes.len().checked_mul(nodes.len()) else {
+        let points = points_of(alloc, instance.nodes.as_slice())?;
+        let size = points.len();
+        let Some(room) = size.checked_mul(size) else {
             return Err(AllocError);
         };
         let mut entries = vec![in alloc; UNFILLED; room]?;
-        for i in 0..nodes.len() {
-            fill_node(entries.as_mut_slice(), nodes, i);
+        for i in 0..size {
+            fill_node(entries.as_mut_slice(), points.as_slice(), i);
         }
         Ok(Travel {
-            size: nodes.len(),
+            size,
             entries: Arc::new(alloc, entries)?,
         })
     }

@@ -74,8 +74,9 @@ pub fn scripted<
 >(rt: W, task: Task<'_>, script: &mut I, live: &mut L, writer: &mut O, faults: &mut F) -> u8
     ensures status { (result ≡ 0) ⊎ (result ≡ 1) ⊎ (result ≡ 3) }
     ensures reported { AgreesWithStatus (F.contents faults.old) (F.contents faults.new) result }
-    ensures run { IsRunOfBytes (read_of task.entry.instance.now) task.entry.orders (flow_of (I.remaining script.old) (I.remaining script.new)
-        (L.remaining live.old) (L.remaining live.new) (O.contents writer.old) (O.contents writer.new))
+    ensures run { IsRunOfBytes (read_of task.entry.instance.now) task.entry.orders
+        (flow_of (I.remaining script.old) (I.remaining script.new) (L.remaining live.old) (L.remaining live.new)
+        (O.contents writer.old) (O.contents writer.new))
         (F.contents faults.old) (F.contents faults.new) result }
 {
     match read(rt.alloc(), task.instance) {

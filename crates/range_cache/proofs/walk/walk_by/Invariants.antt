@@ -1,6 +1,5 @@
-use Rattle.std.proofs.Common.{◌≡◌, ◌≤◌, ◌-◌, ◌+◌, List, ◌++◌, length, take}
+use Rattle.std.proofs.Common.{◌≡◌, ◌≤◌, ◌+◌, List, ◌++◌, length, take}
 use Rattle.std.specs.Prelude.{vec_len, vec_capacity}
-use Rattle.callback_store.specs.Meter.{AsksJust}
 use Rattle.dimension_core.specs.Cumuls.{last_of}
 use Rattle.dimension_core.specs.Setup.{setting}
 use Rattle.dimension_core.specs.Spans.{IsSpanOf}
@@ -18,5 +17,5 @@ invariant-loop-place g l = record {
   room : vec_len l.ranges + length l.route ≤ vec_capacity l.ranges + l.place;
   capacity : vec_capacity l.fn.ranges ≤ vec_capacity l.ranges;
   known : l.from ≤ (setting l.setup).customers;
-  asks : AsksJust l.fn.meter l.meter (l.place - length l.course.kept.now);
+  told : l.meter ≡ l.fn.meter;
 }

@@ -1,23 +1,14 @@
-use Rattle.std.proofs.Common.{◌<◌, ℕ, arith, refl, sym, subst, w64}
-use Rattle.std.proofs.lemmas.Float.{le_right}
-use Rattle.std.proofs.lemmas.Int.{to_z_pos}
-use Rattle.std.specs.Float.{binary64, float_zero, ◌≤ᶠ◌}
-use lib.Ieee.{of_bits, of_int}
+use Rattle.std.proofs.Common.{ℕ, ◌∙◌, ap, subst}
 use Rattle.travel_table.specs.Root.{IsRoot}
-use Rattle.travel_table.specs.Travel.{square_between}
-use Rattle.travel_table.proofs.Numbers.{NotNan-mul, zero_le-of_int}
+use Rattle.travel_table.specs.Travel.{square_between, square_apart, point_of}
+use Rattle.travel_table.specs.declared.travel.Point.{Point}
 use Rattle.travel_table.proofs.Squares.{root_is_only}
 use Rattle.travel_table.proofs.travel.travel_between.Goals as goal
 
-pub returns-clause-value : goal.returns-clause-value
-returns-clause-value c =
-    let root = subst (λ (n : ℕ). IsRoot n c.root_near.result) c.apart-square.ensures.value c.root_near.ensures in
-    root_is_only (square_between c.args.a.now c.args.b.now) c.root_near.result root
-
-pub whole_part-guess-requires : goal.whole_part-guess-requires
-unfolding of_bits
-whole_part-guess-requires c =
-    let square = c.apart-square.result in
-    let small : square < 9223372036854775808 = omega (arith, c.apart-square.ensures.small) in
-    let from_zero = subst (λ z. float_zero ≤ᶠ of_int binary64 z) (sym (to_z_pos w64 square small)) (zero_le-of_int square) in
-    NotNan-mul binary64 c.sqrt.result _ _ _ (le_right float_zero c.sqrt.result (c.sqrt.ensures.bound from_zero)) refl
+pub returns : goal.returns
+returns c =
+    let a = c.args.a.now in
+    let b = c.args.b.now in
+    let there = ap (λ (p : Point). square_apart p c.point_of-2.result) c.point_of.ensures.value ∙ ap (λ (p : Point). square_apart (point_of a) p) c.point_of-2.ensures.value in
+    let root = subst (λ (n : ℕ). IsRoot n c.way_between.result) there c.way_between.ensures.root in
+    record { value = root_is_only (square_between a b) c.way_between.result root; root = root; small = c.way_between.ensures.small }

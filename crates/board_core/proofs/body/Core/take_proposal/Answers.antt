@@ -36,7 +36,7 @@ pub returns-clause-kept : goal.returns-clause-kept
 returns-clause-kept g c =
     let s = setting c.args.setup.now in
     let core = c.args.self.now in
-    let p = c.args.proposal in
+    let p = c.args.proposal.now in
     let kept = c.requires.kept in
     let taken = c.requires.taken in
     let state = state_after s core.journal in
@@ -55,7 +55,7 @@ returns-clause-work g c =
     let s = setting c.args.setup.now in
     let state = state_after s c.args.self.now.journal in
     let inside = c.self.inside.state in
-    let call = call_of c.args.proposal in
+    let call = call_of c.args.proposal.now in
     let reply = reply_by c.in_ok-verdict.verdict in
     let holds = subst (λ (x : CoreState). Holds s x.held state) (sym c.self.view_is) c.requires.kept.held in
     subst (λ (rs : List (List ℕ)). IsWorkOf s state.pins rs call reply c.args.meter.now c.propose.new.meter) holds.routes
@@ -66,7 +66,7 @@ returns-clause-most g c =
     let s = setting c.args.setup.now in
     let state = state_after s c.args.self.now.journal in
     let inside = c.self.inside.state in
-    let call = call_of c.args.proposal in
+    let call = call_of c.args.proposal.now in
     let holds = subst (λ (x : CoreState). Holds s x.held state) (sym c.self.view_is) c.requires.kept.held in
     subst (λ (rs : List (List ℕ)). WorksAtMost c.args.meter.now c.propose.new.meter (call_asks s rs call) (call_probes state.pins rs call)) holds.routes
     (subst (λ (p : PinState). WorksAtMost c.args.meter.now c.propose.new.meter (call_asks s inside.plan.routes call) (call_probes p inside.plan.routes call)) holds.pins c.propose.ensures.most)

@@ -10,6 +10,6 @@ pub is_open-requires : goal.is_open-requires
 is_open-requires g c = λ e.
     let held = c.args.self.now in
     let named = c.vehicles-named.result in
-    allowed_open held.tables held.policy.now c.requires.compiled c.args.proposal.now.session operations.Move (objects.Vehicle named.0)
+    allowed_open held.tables held.policy.now c.requires.ready.compiled c.args.proposal.now.session operations.Move (objects.Vehicle named.0)
     (first_allowed (λ v. allows held.tables c.args.proposal.now.session operations.Move (objects.Vehicle v)) named.0 (option_to_list named.1)
     (sym c.first_barred_vehicle-barred.ensures.first ∙ none_there c.first_barred_vehicle-barred.result c.is_none.result c.is_none.ensures e))

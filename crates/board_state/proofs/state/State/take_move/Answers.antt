@@ -1,0 +1,27 @@
+use Rattle.std.proofs.Common.{◌∙◌, ℕ, sym, ap, subst}
+use Rattle.dimension_core.specs.Setup.{setting}
+use Rattle.plan_core.specs.Plan.{AreApart, AreSizes, changes_of, replaced, with_routes}
+use Rattle.move_core.specs.Moves.{changes_by}
+use Rattle.pin_core.specs.Override.{after_commit}
+use Rattle.range_cache.specs.Cache.{IsCacheOf}
+use Rattle.board_state.specs.Held.{HeldState}
+use Rattle.board_state.proofs.Stepping.{new_holds}
+use Rattle.board_state.proofs.state.State.take_move.Goals as goal
+
+pub returns-in-Ok-clause-holds : goal.returns-in-Ok-clause-holds
+returns-in-Ok-clause-holds g c state holds =
+    let a = c.args in
+    let s = setting a.setup.now in
+    let held = a.self.now in
+    let sizes = subst (λ (h : HeldState). AreSizes h.plan) c.self.view_is c.version-version.ensures.sizes in
+    let effect = c.in-Ok.ensures.passes.0.0.0.0.1 in
+    let put = c.replace.ensures in
+    let is = c.judge_move.ensures.same in
+    new_holds s held c.replace.new.self state c.in-Ok.new a.proposal.now.mv.now holds c.in-Ok.ensures.changes
+    (c.moves_name_vehicles.ensures.named s.customers held.plan.routes a.proposal.now.mv.now (changes_by held.plan.routes a.proposal.now.mv.now) effect)
+    c.in-Ok.ensures.ranges (subst (λ (n : ℕ). AreApart n (changes_of c.in-Ok.new.changes.items)) (sym sizes.stamps) c.in-Ok.ensures.ready.changes.apart)
+    c.stamps_by_one_more.ensures
+    (put.policy ∙ ap (λ (h : HeldState). h.policy) is) (put.tables ∙ ap (λ (h : HeldState). h.tables) is)
+    (put.plan ∙ ap (λ (h : HeldState). replaced (changes_of c.in-Ok.new.changes.items) h.plan) is)
+    (put.pins ∙ ap (λ (h : HeldState). after_commit (with_routes (changes_of c.in-Ok.new.changes.items) h.plan.routes) h.pins) is)
+    (λ routes changes was rows. put.cache s routes changes (subst (λ (h : HeldState). IsCacheOf s routes h.cache) (sym is) was) rows)
