@@ -263,6 +263,7 @@ impl Registry {
 
     /// The answer of a callback on the way from node `i` to node `j`: that for the ordered pair, or that for `i` where it is a one-node
     /// callback. The callback must be registered here and know both nodes. It counts one ask.
+    #[inline(always)]
     pub fn ask(&self, id: TransitId, meter: &mut Meter, i: u32, j: u32) -> u64
         requires registered { id < length (tables self.now) }
         requires from { i < nodes_of (tables self.now) }

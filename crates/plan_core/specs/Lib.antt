@@ -1,6 +1,7 @@
 pub mod Among
 pub mod Commits
 pub mod Cost
+pub mod Drafts
 pub mod Front
 pub mod Homes
 pub mod Laws

@@ -22,3 +22,23 @@ pub fn append_part<T: Copy>(list: &mut Vec<T>, part: &[T]) -> Result<(), AllocEr
     }
     Ok(())
 }
+
+/// Makes a list hold four parts, one after the other, in its own memory. More memory is taken where that is too small.
+#[inline(always)]
+pub(crate) fn refill(
+    list: &mut Vec<u32>,
+    first: &[u32],
+    second: &[u32],
+    third: &[u32],
+    last: &[u32],
+) -> Result<(), AllocError>
+    ensures { OnOk result (list.new.items ≡ first.now ++ (second.now ++ (third.now ++ last.now))) }
+{
+    let count = first.len() + second.len() + third.len() + last.len();
+    list.clear();
+    list.reserve(count)?;
+    append_part(list, first)?;
+    append_part(list, second)?;
+    append_part(list, third)?;
+    append_part(list, last)
+}

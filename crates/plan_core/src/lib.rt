@@ -3,6 +3,7 @@
 
 mod append;
 mod cost;
+mod draft;
 mod front;
 mod laws;
 mod plan;
@@ -12,6 +13,7 @@ mod touch;
 
 pub use append::append_part;
 pub use cost::route_cost;
+pub use draft::{Draft, Drafts};
 pub use front::common_front;
 pub use laws::{
     among_is_tested, commits_by_one_more, costs_differ_by_named, currency_by_stamps,

@@ -1,6 +1,6 @@
 ghost use Rattle.std.specs.Prelude.{◌≡◌, ◌==◌, ◌-◌, ◌≤◌, ◌++◌, ℕ, List, length, [], slice_get, Some, MatchOption, Contains, OnOk};
 
-use crate::append::append_part;
+use crate::append::refill;
 use std::alloc::AllocError;
 use std::marker::Model;
 use std::mem::replace;
@@ -73,13 +73,7 @@ impl Route {
     ) -> Result<(), AllocError>
         ensures { OnOk result (self.new ≡ first.now ++ (second.now ++ (third.now ++ last.now))) }
     {
-        let count = first.len() + second.len() + third.len() + last.len();
-        self.customers.clear();
-        self.customers.reserve(count)?;
-        append_part(&mut self.customers, first)?;
-        append_part(&mut self.customers, second)?;
-        append_part(&mut self.customers, third)?;
-        append_part(&mut self.customers, last)
+        refill(&mut self.customers, first, second, third, last)
     }
 
     /// How many customers there are.

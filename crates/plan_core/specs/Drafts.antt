@@ -1,0 +1,21 @@
+-- New routes as drafts: what stays of a vehicle's route, and what follows.
+use Rattle.std.specs.Prelude.{ℕ, ◌≤◌, List, ◌++◌, length, map, take, All}
+use Rattle.plan_core.specs.Plan.{Changes, route_at}
+
+-- the new route of a vehicle: this many of the first customers of its route, and the rest
+pub record DraftState : Type 0 where
+  pub vehicle : ℕ
+  pub kept : ℕ
+  pub rest : List ℕ
+
+-- the new route that a draft makes of the vehicle's
+abbrev pub drafted : List (List ℕ) → DraftState → List ℕ
+drafted routes d = take d.kept (route_at routes d.vehicle) ++ d.rest
+
+-- drafts as new routes
+abbrev pub drafts_of : List (List ℕ) → List DraftState → Changes
+drafts_of routes drafts = map (λ d. (d.vehicle, drafted routes d)) drafts
+
+-- each draft keeps no more customers than its vehicle's route has
+abbrev pub AreFrontsWithin : List (List ℕ) → List DraftState → Type 0
+AreFrontsWithin routes drafts = All (λ d. d.kept ≤ length (route_at routes d.vehicle)) drafts
