@@ -5,6 +5,7 @@ pub mod Placed
 pub mod Effects
 pub mod Untouched
 pub mod Moved
+pub mod Exchanged
 pub mod Tally
 pub mod Rearranging
 pub mod Carried

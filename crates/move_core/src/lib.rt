@@ -1,9 +1,9 @@
 //! The six moves of a plan: which vehicles they name, which customers they touch, and the new routes that they make.
 #![tactic(auto)]
 
+mod drafting;
 mod fault;
 mod laws;
-mod made;
 mod moves;
 mod parts;
 mod possible;

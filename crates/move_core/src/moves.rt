@@ -1,11 +1,13 @@
 ghost use Rattle.std.specs.Prelude.{◌≡◌, ◌↔◌, ◌==◌, if◌then◌else◌, true, Some, None, IsSome, IfOk, IsErrOf};
+ghost use Rattle.plan_core.specs.Drafts.{AreFrontsWithin, drafts_of};
 ghost use Rattle.plan_core.specs.Plan.{changes_of};
 
+use crate::drafting::Drafting;
 use crate::fault::MoveFault;
-use crate::made::Making;
+use crate::laws::moves_name_vehicles;
 use crate::possible;
 use crate::touches::Touching;
-use plan_core::{Plan, Route, Touch};
+use plan_core::{Drafts, Plan, Route, Touch};
 use std::alloc::{AllocError, Global};
 use std::sync::Arc;
 
@@ -203,54 +205,52 @@ impl Move {
         requires { is_possible plan.now.customers plan.now.routes self.now ≡ true }
         ensures { IfOk result (λ changes. changes_of changes.items ≡ changes_by plan.now.routes self.now) }
     {
-        self.routes_in(Vec::new(alloc), alloc, plan)
+        moves_name_vehicles();
+        let drafts = self.drafts_in(Drafts::new(alloc), plan)?;
+        drafts.routes_in(Vec::new(alloc), alloc, plan)
     }
 
-    /// What `routes` gives, in the memory of a list that the caller gives up, and of the routes in it that nobody else has: more memory is
-    /// taken only where that is too small, or some of it given back where it is far too large.
+    /// The drafts of the new routes of a move that has an effect, in the memory of others that the caller gives up: more memory is taken
+    /// only where that is too small. Only what follows the first changed place of a route is copied.
     // Inlined, with what it calls, as `touches_in` is.
     #[inline(always)]
-    pub fn routes_in(
-        &self,
-        room: Vec<(u32, Arc<Route>)>,
-        alloc: Global,
-        plan: &Plan,
-    ) -> Result<Vec<(u32, Arc<Route>)>, AllocError>
+    pub fn drafts_in(&self, room: Drafts, plan: &Plan) -> Result<Drafts, AllocError>
         requires { is_possible plan.now.customers plan.now.routes self.now ≡ true }
-        ensures { IfOk result (λ changes. changes_of changes.items ≡ changes_by plan.now.routes self.now) }
+        ensures drafts { IfOk result (λ drafts. drafts_of plan.now.routes drafts ≡ changes_by plan.now.routes self.now) }
+        ensures fronts { IfOk result (AreFrontsWithin plan.now.routes) }
     {
-        let making = Making { room, alloc, plan };
+        let drafting = Drafting { room, plan };
         match *self {
             Move::Insert {
                 customer,
                 vehicle,
                 place,
-            } => making.by_insert(customer, vehicle, place),
-            Move::Remove { vehicle, place } => making.by_remove(vehicle, place),
+            } => drafting.by_insert(customer, vehicle, place),
+            Move::Remove { vehicle, place } => drafting.by_remove(vehicle, place),
             Move::Shift {
                 vehicle,
                 place,
                 length,
                 to,
                 at,
-            } => making.by_shift(vehicle, place, length, to, at),
+            } => drafting.by_shift(vehicle, place, length, to, at),
             Move::Swap {
                 vehicle,
                 place,
                 other,
                 at,
-            } => making.by_swap(vehicle, place, other, at),
+            } => drafting.by_swap(vehicle, place, other, at),
             Move::Reverse {
                 vehicle,
                 first,
                 last,
-            } => making.by_reverse(vehicle, first, last),
+            } => drafting.by_reverse(vehicle, first, last),
             Move::Cross {
                 vehicle,
                 keep,
                 other,
                 keep_other,
-            } => making.by_cross(vehicle, keep, other, keep_other),
+            } => drafting.by_cross(vehicle, keep, other, keep_other),
         }
     }
 }

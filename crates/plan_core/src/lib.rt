@@ -10,6 +10,7 @@ mod plan;
 mod replace;
 mod route;
 mod touch;
+mod written;
 
 pub use append::append_part;
 pub use cost::route_cost;

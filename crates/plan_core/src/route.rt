@@ -1,6 +1,6 @@
 ghost use Rattle.std.specs.Prelude.{◌≡◌, ◌==◌, ◌-◌, ◌≤◌, ◌++◌, ℕ, List, length, [], slice_get, Some, MatchOption, Contains, OnOk};
 
-use crate::append::refill;
+use crate::append::append_part;
 use std::alloc::AllocError;
 use std::marker::Model;
 use std::mem::replace;
@@ -61,19 +61,15 @@ impl Route {
         self.customers.capacity()
     }
 
-    /// Gives the route the customers of these parts in its own memory, one part after the other. More memory is taken where that is too
-    /// small.
+    /// Gives the route the customers of two parts in its own memory, one part after the other. More memory is taken where that is too small.
     #[inline(always)]
-    pub fn refill(
-        &mut self,
-        first: &[u32],
-        second: &[u32],
-        third: &[u32],
-        last: &[u32],
-    ) -> Result<(), AllocError>
-        ensures { OnOk result (self.new ≡ first.now ++ (second.now ++ (third.now ++ last.now))) }
+    pub fn refill(&mut self, front: &[u32], rest: &[u32]) -> Result<(), AllocError>
+        ensures { OnOk result (self.new ≡ front.now ++ rest.now) }
     {
-        refill(&mut self.customers, first, second, third, last)
+        self.customers.clear();
+        self.customers.reserve(front.len() + rest.len())?;
+        append_part(&mut self.customers, front)?;
+        append_part(&mut self.customers, rest)
     }
 
     /// How many customers there are.
