@@ -1,15 +1,13 @@
 -- New routes that are in bounds keep a plan feasible.
-use Rattle.std.specs.declared.sync.Arc.{Arc}
-use Rattle.std.proofs.Common.{◌≡◌, ℕ, ◌-◌, ◌<◌, ◌≤◌, Bool, true, false, None, refl, inl, inr, List, [], ◌∷◌, length, get_or, Some, All, sym, ap, ◌∙◌, subst, arith, length-set}
+use Rattle.std.proofs.Common.{◌≡◌, ℕ, ◌-◌, ◌<◌, ◌≤◌, Bool, true, false, None, refl, inl, inr, List, [], ◌∷◌, length, get_or, Some, All, sym, ap, ◌∙◌, map, subst, arith, length-set}
 use Rattle.std.specs.Prelude.{slice_get, slice_index_or, slice_set, if◌then◌else◌}
-use Rattle.std.specs.Option.{option_map}
-use Rattle.std.proofs.lemmas.Option.{slice_get-get_or, slice_get-map}
+use Rattle.std.proofs.lemmas.Option.{slice_get-get_or}
 use Rattle.std.proofs.lemmas.Bool.{cases_eq}
-use Rattle.std.proofs.lemmas.List.{get_or-set_same, get_or-set_other}
+use Rattle.std.proofs.lemmas.List.{get_or-set_same, get_or-set_other, get_or-map, length-map}
 use Rattle.dimension_core.specs.Setting.{Setting}
 use Rattle.dimension_core.specs.Feasible.{FitsAll, IsFeasible}
 use Rattle.dimension_core.specs.NewRoutes.{AllFit}
-use Rattle.plan_core.specs.Plan.{Changes, IsPlan, AreApart, changes_of, with_routes}
+use Rattle.plan_core.specs.Plan.{Changes, IsPlan, AreApart, with_routes}
 
 feasible_one : (s : Setting) (routes : List (List ℕ)) (v : ℕ) (r : List ℕ) → length routes ≡ s.vehicles → 1 ≤ v → v ≤ s.vehicles → FitsAll s v r
     → IsFeasible s routes → IsFeasible s (slice_set routes (v - 1) r)
@@ -32,16 +30,20 @@ feasible_all s (c ∷ cs) routes sized apart fits old =
     (feasible_one s routes c.0 c.1 sized apart.0 apart.1 fits.0 old)
 
 -- no new route that makes a plan is longer than there are customers
-pub short_routes : {Z : Type 0} (customers limit : ℕ) (changes : List (ℕ × Arc (List ℕ) Z)) (routes : List (List ℕ)) → customers ≤ limit → IsPlan customers (with_routes (changes_of changes) routes)
-    → AreApart (length routes) (changes_of changes)
+pub short_routes : (customers limit : ℕ) (changes : Changes) (routes : List (List ℕ)) → customers ≤ limit → IsPlan customers (with_routes changes routes)
+    → AreApart (length routes) changes
     → ((n : ℕ) (cs : Changes) (rs : List (List ℕ)) (k : ℕ) (c : ℕ × List ℕ) → IsPlan n (with_routes cs rs) → AreApart (length rs) cs → slice_get cs k ≡ Some c → length c.1 ≤ n)
-    → All (λ c. length c.1.value ≤ limit) changes
+    → All (λ c. length c.1 ≤ limit) changes
 short_routes customers limit changes routes few plan apart law k d below =
-    let c = get_or changes k d in
-    let at : slice_get (changes_of changes) k ≡ Some (c.0, c.1.value) =
-    slice_get-map (λ e. (e.0, e.1.value)) changes k ∙ ap (option_map (λ e. (e.0, e.1.value))) (slice_get-get_or changes k d below) in
-    let short = law customers (changes_of changes) routes k (c.0, c.1.value) plan apart at in
+    let short = law customers changes routes k (get_or changes k d) plan apart (slice_get-get_or changes k d below) in
     omega (arith, short, few)
+
+-- what holds of all images holds of that of each
+pub all_under : {X Y : Type 0} (f : Y → X) (P : X → Type 0) (ys : List Y) (xs : List X) → map f ys ≡ xs → All P xs → All (λ y. P (f y)) ys
+all_under f P ys xs e h k d below =
+    let all : All P (map f ys) = subst (λ zs. All P zs) (sym e) h in
+    let within : k < length (map f ys) = omega (arith, below, length-map f ys) in
+    subst P (get_or-map f ys k d (f d) below) (all k (f d) within)
 
 -- new routes are an effect only of a move that is possible
 pub has_effect : (possible : Bool) (changes : Changes) → (if possible then Some changes else None) ≡ Some changes → possible ≡ true

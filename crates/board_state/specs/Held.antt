@@ -3,6 +3,7 @@ use Rattle.std.specs.declared.sync.Arc.{Arc}
 use Rattle.std.specs.Prelude.{◌≡◌, ℕ, ◌<◌, nat_lt, List, [], length, replicate, Bool, None}
 use Rattle.dimension_core.specs.Setting.{Setting}
 use Rattle.dimension_core.specs.Feasible.{IsFeasible}
+use Rattle.plan_core.specs.Drafts.{DraftState, with_drafts}
 use Rattle.plan_core.specs.Plan.{PlanState, changes_of, stamp_of, with_routes}
 use Rattle.plan_core.specs.Commits.{AreStamps}
 use Rattle.pin_core.specs.Pins.{PinState, DoPinsHold, DoFrontsFit}
@@ -53,6 +54,10 @@ may_free held session = may_override (held_basis held session)
 -- the routes with new ones in their places
 abbrev pub routes_with : {Z : Type 0} → HeldState → List (ℕ × Arc (List ℕ) Z) → List (List ℕ)
 routes_with held changes = with_routes (changes_of changes) held.plan.routes
+
+-- the same by the drafts of new ones
+abbrev pub routes_drafted : HeldState → List DraftState → List (List ℕ)
+routes_drafted held drafts = with_drafts drafts held.plan.routes
 
 -- What judging requires of what is held: the plan has the setup's sizes, with a row for each customer's pin and each vehicle's frozen
 -- front; the pins hold; the fronts are within their routes; the routes are feasible; the ranges are those of the plan; the tables are those

@@ -1,11 +1,11 @@
 -- How much work one call counts.
-use Rattle.std.specs.declared.sync.Arc.{Arc}
 use Rattle.std.specs.Prelude.{◌≡◌, ℕ, ◌+◌, ◌≤◌, min, Bool, ◌&&◌, is_some, is_none, List, length, count_by}
 use Rattle.callback_store.specs.declared.meter.Meter.{Meter}
 use Rattle.plan_core.specs.declared.touch.Touch.{Touch}
 use Rattle.pin_core.specs.Pins.{PinState, pin_of}
 use Rattle.pin_core.specs.Override.{after_commit}
 use Rattle.dimension_core.specs.Setting.{Setting}
+use Rattle.plan_core.specs.Drafts.{DraftState}
 use Rattle.plan_core.specs.Plan.{Changes}
 use Rattle.range_cache.specs.Asks.{judge_asks, asks_before}
 use Rattle.move_core.specs.declared.moves.Move.{Move}
@@ -18,7 +18,7 @@ use Rattle.board_rules.specs.declared.reply.Denial.TheVariants.{Ahead, Stale, Ba
 use Rattle.board_rules.specs.declared.reply.Reply.{Reply}
 use Rattle.board_rules.specs.declared.reply.Reply.TheVariants.{Committed, Denied}
 use Rattle.board_rules.specs.Rules.{routes_after}
-use Rattle.board_state.specs.Held.{HeldState, routes_with}
+use Rattle.board_state.specs.Held.{HeldState, routes_drafted}
 
 -- From the old meter to the new one between these many asks and between these many probes were counted, and no walk. A count that stops
 -- at its greatest value shows as many as it can.
@@ -47,9 +47,9 @@ is_leaving pins others c = is_some (pin_of pins c) && is_none (pin_of (after_com
 abbrev pub leaving : PinState → List (List ℕ) → List Touch → ℕ
 leaving pins others touched = count_by (λ t. is_leaving pins others t.customer) touched
 
--- how many of them new routes would take off that vehicle
-abbrev pub leaving_with : {Z : Type 0} → HeldState → List (ℕ × Arc (List ℕ) Z) → List Touch → ℕ
-leaving_with held changes touched = leaving held.pins (routes_with held changes) touched
+-- how many of them the new routes of some drafts would take off that vehicle
+abbrev pub leaving_with : HeldState → List DraftState → List Touch → ℕ
+leaving_with held drafts touched = leaving held.pins (routes_drafted held drafts) touched
 
 -- how many of those that a move touches it would take off that vehicle
 abbrev pub leaving_by : PinState → List (List ℕ) → Move → ℕ

@@ -3,7 +3,7 @@ use crate::state::State;
 use board_rules::Reply;
 use move_core::Move;
 use permission_table::Rows;
-use plan_core::{Route, Touch};
+use plan_core::{Drafts, Route, Touch};
 use range_cache::{Pending, Room};
 use rbac_core::Command;
 use std::alloc::Global;
@@ -11,11 +11,12 @@ use std::marker::Model;
 use std::snapshot::Snapshot;
 use std::sync::Arc;
 
-/// The memory of one proposal's lists, and of the routes that it did not leave in the plan, kept for those of the next.
+/// The memory of one proposal's lists and drafts, and of the routes that its commit replaced, kept for those of the next.
 #[derive(Drop)]
 pub(crate) struct Workspace {
     pub(crate) touched: Vec<Touch>,
-    /// None while a move is judged: a list that is put back then takes no other's place.
+    pub(crate) drafts: Drafts,
+    /// None while new routes are written: a list that is put back then takes no other's place.
     changes: Option<Vec<(u32, Arc<Route>)>>,
     /// The second route of a move of two vehicles, while moves of one vehicle come.
     spare: Option<(u32, Arc<Route>)>,
@@ -27,17 +28,24 @@ impl Workspace {
     pub(crate) fn new(alloc: Global) -> Workspace {
         Workspace {
             touched: Vec::new(alloc),
+            drafts: Drafts::new(alloc),
             changes: None,
             spare: None,
             rows: Room::new(alloc),
         }
     }
 
-    /// Keeps the lists of a move that is not taken, and its new routes, whose memory serves the next move's.
+    /// Keeps the lists of a move that is denied.
     #[inline(always)]
-    pub(crate) fn keep(&mut self, touched: Vec<Touch>, changes: Vec<(u32, Arc<Route>)>) {
+    pub(crate) fn keep(&mut self, touched: Vec<Touch>, drafts: Drafts) {
         self.touched = touched;
-        self.changes = Some(changes);
+        self.drafts = drafts;
+    }
+
+    /// Keeps the routes that a commit replaced: their memory serves the next new ones.
+    #[inline(always)]
+    pub(crate) fn keep_routes(&mut self, replaced: Vec<(u32, Arc<Route>)>) {
+        self.changes = Some(replaced);
     }
 
     /// Takes out the routes whose memory serves the new ones of a move of one vehicle, or of two. What a move does not need it drops, so

@@ -5,7 +5,8 @@ ghost use Rattle.dimension_core.specs.Setting.{Setting};
 ghost use Rattle.dimension_core.specs.Setup.{setting};
 ghost use Rattle.std.specs.List.{list_all};
 ghost use Rattle.std.specs.Option.{option_map};
-ghost use Rattle.plan_core.specs.Plan.{IsPlan, changes_of, route_at};
+ghost use Rattle.plan_core.specs.Drafts.{AreFrontsWithin, drafts_of};
+ghost use Rattle.plan_core.specs.Plan.{AreChanges, IsPlan, changes_of, route_at};
 ghost use Rattle.plan_core.specs.Commits.{named_vehicles};
 ghost use Rattle.pin_core.specs.Pins.{DoPinsHold, DoFrontsFit};
 ghost use Rattle.move_core.specs.Moves.{vehicles_of, named_by, changes_by, effect};
@@ -28,7 +29,7 @@ use callback_store::Meter;
 use dimension_core::Setup;
 use move_core::{Move, moves_keep_plans, moves_keep_the_untouched, moves_name_vehicles};
 use pin_core::pins_after_commits;
-use plan_core::{Route, Touch, routes_are_known};
+use plan_core::{Drafts, Route, Touch, routes_are_known};
 use range_cache::JudgeFault;
 use std::alloc::{AllocError, Global};
 use std::mem::replace;
@@ -201,43 +202,42 @@ impl State {
     {
         pins_after_commits();
         let Proposal { session, mv, .. } = *proposal;
-        let kept = self.workspace.take_routes(alloc, mv.vehicles().1.is_some());
-        let Ok(changes) = self.new_routes(alloc, kept, mv, &touched) else {
+        let kept = replace(&mut self.workspace.drafts, Drafts::new(alloc));
+        let Ok(drafts) = self.drafted(kept, mv, &touched) else {
             return Err(Stop::NoMemory);
         };
-        let freed = match self.judge_pins(alloc, session, &changes, &touched, meter) {
+        let freed = match self.judge_pins(alloc, session, drafts.as_slice(), &touched, meter) {
             Ok(freed) => freed,
             Err(stop) => {
-                self.workspace.keep(touched, changes);
+                self.workspace.keep(touched, drafts);
                 return Err(stop);
             }
         };
         let cache = &self.cache;
         let rows = &mut self.workspace.rows;
-        match cache.judge_in(rows, setup, &self.plan, &changes, meter) {
-            Ok(pending) => Ok(NewRoutes {
-                changes,
-                touched,
-                freed,
-                pending,
-            }),
+        match cache.judge_in(rows, setup, &self.plan, drafts.as_slice(), meter) {
+            Ok(pending) => {
+                let Ok(changes) = self.written(alloc, drafts) else {
+                    return Err(Stop::NoMemory);
+                };
+                Ok(NewRoutes {
+                    changes,
+                    touched,
+                    freed,
+                    pending,
+                })
+            }
             Err(JudgeFault::Bound(vehicle, dimension)) => {
-                self.workspace.keep(touched, changes);
+                self.workspace.keep(touched, drafts);
                 Err(Stop::Denied(Denial::Bound(vehicle, dimension)))
             }
             Err(JudgeFault::NoMemory) => Err(Stop::NoMemory),
         }
     }
 
-    /// The new routes of a move that has an effect, with the customers that it touches.
+    /// The drafts of the new routes of a move that has an effect, with the customers that it touches.
     #[inline(always)]
-    fn new_routes(
-        &self,
-        alloc: Global,
-        room: Vec<(u32, Arc<Route>)>,
-        mv: &Move,
-        touched: &[Touch],
-    ) -> Result<Vec<(u32, Arc<Route>)>, AllocError>
+    fn drafted(&self, room: Drafts, mv: &Move, touched: &[Touch]) -> Result<Drafts, AllocError>
         requires pinned { length self.now.pins.pins ≡ self.now.plan.customers }
         requires frozen { length self.now.pins.fronts ≡ length self.now.plan.routes }
         requires holding { DoPinsHold self.now.pins self.now.plan.routes }
@@ -245,12 +245,13 @@ impl State {
         requires touched { touched.now ≡ touched_by self.now.plan.routes mv.now }
         requires effect { effect self.now.plan.customers self.now.plan.routes mv.now ≡ Some (changes_by self.now.plan.routes mv.now) }
         ensures sound { IsPlan self.now.plan.customers self.now.plan.routes }
-        ensures changes { IfOk result (λ changes. changes_of changes.items ≡ changes_by self.now.plan.routes mv.now) }
+        ensures changes { IfOk result (λ drafts. drafts_of self.now.plan.routes drafts ≡ changes_by self.now.plan.routes mv.now) }
+        ensures within { IfOk result (AreFrontsWithin self.now.plan.routes) }
         ensures named { named_vehicles (changes_by self.now.plan.routes mv.now) ≡ named_by mv.now }
         ensures known { (s : Setting) → length self.now.plan.routes ≡ s.vehicles → self.now.plan.customers ≡ s.customers
             → AllKnown s (changes_by self.now.plan.routes mv.now) }
-        ensures short { IfOk result (λ changes. All (λ c. length c.1.value ≤ 1000) changes.items) }
-        ensures placeable { OnOk result (ArePlaceable self.now (changes_by self.now.plan.routes mv.now) touched.now) }
+        ensures short { All (λ c. length c.1 ≤ 1000) (changes_by self.now.plan.routes mv.now) }
+        ensures placeable { ArePlaceable self.now (changes_by self.now.plan.routes mv.now) touched.now }
     {
         moves_name_vehicles();
         moves_keep_plans();
@@ -258,10 +259,30 @@ impl State {
         plans_are_judged_by_new_routes();
         routes_are_known();
         let _sound = self.plan.customers();
-        match mv.routes_in(room, alloc, &self.plan) {
-            Ok(changes) => Ok(changes),
+        match mv.drafts_in(room, &self.plan) {
+            Ok(drafts) => Ok(drafts),
             Err(error) => Err(error),
         }
+    }
+
+    /// The new routes of drafts that pass every rule. The memory of the drafts is kept.
+    #[inline(always)]
+    fn written(
+        &mut self,
+        alloc: Global,
+        drafts: Drafts,
+    ) -> Result<Vec<(u32, Arc<Route>)>, AllocError>
+        requires changes { AreChanges (length self.old.plan.routes) (drafts_of self.old.plan.routes drafts) }
+        requires within { AreFrontsWithin self.old.plan.routes drafts }
+        ensures same { self.new ≡ self.old }
+        ensures changes { IfOk result (λ changes. changes_of changes.items ≡ drafts_of self.old.plan.routes drafts) }
+    {
+        let room = self
+            .workspace
+            .take_routes(alloc, drafts.as_slice().len() > 1);
+        let changes = drafts.routes_in(room, alloc, &self.plan)?;
+        self.workspace.drafts = drafts;
+        Ok(changes)
     }
 
     /// The routes of the vehicles that the move names, as they are.

@@ -7,12 +7,13 @@ ghost use Rattle.permission_core.specs.declared.objects.Operation.TheVariants as
 ghost use Rattle.permission_core.specs.declared.objects.Object.TheVariants as objects;
 ghost use Rattle.permission_table.specs.Tables.{allows, rows_of};
 ghost use Rattle.policy_core.specs.State.{is_session};
-ghost use Rattle.plan_core.specs.Plan.{changes_of, stamp_of};
+ghost use Rattle.plan_core.specs.Drafts.{AreFrontsWithin, drafts_of};
+ghost use Rattle.plan_core.specs.Plan.{stamp_of};
 ghost use Rattle.pin_core.specs.Pins.{AreFreezesKept};
 ghost use Rattle.board_rules.specs.Override.{DoPinsAllow};
 ghost use Rattle.board_rules.specs.Rules.{is_one_of};
 ghost use Rattle.board_state.specs.Deltas.{AreFreed};
-ghost use Rattle.board_state.specs.Held.{may_free, routes_with};
+ghost use Rattle.board_state.specs.Held.{may_free, routes_drafted};
 ghost use Rattle.board_state.specs.Verdicts.{ArePlaceable, IsPinStop, IsLate, IsWorkOfPins};
 ghost use Rattle.board_state.specs.Work.{Works, WorksJust, leaving_with};
 
@@ -22,10 +23,9 @@ use board_rules::Denial;
 use callback_store::Meter;
 use permission_table::SessionRows;
 use pin_core::{PinFault, pins_after_commits};
-use plan_core::{Route, Touch};
+use plan_core::{Draft, Touch};
 use rbac_core::{Object, Operation};
 use std::alloc::Global;
-use std::sync::Arc;
 
 /// One vehicle, or two.
 pub(crate) type Named = (u32, Option<u32>);
@@ -158,25 +158,27 @@ impl State {
         &self,
         alloc: Global,
         session: u32,
-        changes: &[(u32, Arc<Route>)],
+        drafts: &[Draft],
         touched: &[Touch],
         meter: &mut Meter,
     ) -> Result<Vec<bool>, Stop>
-        requires { ArePlaceable self.now (changes_of changes.now) touched.now }
-        ensures freed { IfOk result (λ freed. AreFreed self.now.pins (routes_with self.now changes.now) touched.now freed.items) }
-        ensures fronts { OnOk result (AreFreezesKept self.now.pins self.now.plan.routes (routes_with self.now changes.now)) }
-        ensures pins { OnOk result (DoPinsAllow self.now.pins (may_free self.now session) (routes_with self.now changes.now)) }
+        requires placeable { ArePlaceable self.now (drafts_of self.now.plan.routes drafts.now) touched.now }
+        requires within { AreFrontsWithin self.now.plan.routes drafts.now }
+        ensures freed { IfOk result (λ freed. AreFreed self.now.pins (routes_drafted self.now drafts.now) touched.now freed.items) }
+        ensures fronts { OnOk result (AreFreezesKept self.now.pins self.now.plan.routes (routes_drafted self.now drafts.now)) }
+        ensures pins { OnOk result (DoPinsAllow self.now.pins (may_free self.now session) (routes_drafted self.now drafts.now)) }
         ensures stop { IfErr result
-            (IsPinStop self.now.pins (may_free self.now session) self.now.plan.routes (changes_of changes.now) touched.now) }
+            (IsPinStop self.now.pins (may_free self.now session) self.now.plan.routes
+            (drafts_of self.now.plan.routes drafts.now) touched.now) }
         ensures late { IfErr result IsLate }
-        ensures work { IsWorkOfPins (leaving_with self.now changes.now touched.now) result meter.old meter.new }
+        ensures work { IsWorkOfPins (leaving_with self.now drafts.now touched.now) result meter.old meter.new }
     {
         pins_after_commits();
-        match self.pins.allows(&self.plan, changes, touched) {
+        match self.pins.allows(&self.plan, drafts, touched) {
             Ok(()) => Ok(Vec::new(alloc)),
             Err(PinFault::Frozen(vehicle)) => Err(Stop::Denied(Denial::Frozen(vehicle))),
             Err(PinFault::Pinned(..)) => {
-                self.judge_overrides(alloc, session, changes, touched, meter)
+                self.judge_overrides(alloc, session, drafts, touched, meter)
             }
         }
     }

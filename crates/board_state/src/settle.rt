@@ -98,7 +98,8 @@ impl State {
         let changes = self.plan.replace(changes);
         self.pins.release(&self.plan, &touched);
         let rows = self.cache.take(pending);
-        self.workspace.keep(touched, changes);
+        self.workspace.touched = touched;
+        self.workspace.keep_routes(changes);
         self.workspace.rows.refill(rows);
     }
 }

@@ -1,5 +1,6 @@
 pub mod Standing
 pub mod Fronts
+pub mod Drafted
 pub mod Holding
 pub mod Nearing
 pub mod Opening

@@ -4,10 +4,10 @@ use Rattle.std.proofs.lemmas.Bool.{eqb-true, eq-eqb, cases_eq}
 use Rattle.std.proofs.lemmas.List.{get_or_default, length-map}
 use Rattle.std.proofs.lemmas.List.Folds.{Any-from_list_any, list_any_at}
 use Rattle.std.proofs.lemmas.Option.{slice_get_within, get_or_from_slice_get, slice_get-get_or, slice_get-map, slice_get_read}
-use Rattle.std.specs.declared.sync.Arc.{Arc}
 use Rattle.std.specs.Option.{option_map}
-use Rattle.plan_core.specs.Plan.{Changes, changes_of, IsNamed, AreApart, route_at, with_routes}
+use Rattle.plan_core.specs.Plan.{Changes, IsNamed, AreApart, route_at, with_routes}
 use Rattle.plan_core.specs.Commits.{named_vehicles}
+use Rattle.plan_core.specs.Drafts.{DraftState, drafted, drafts_of}
 use Rattle.pin_core.specs.Pins.{StandsOn}
 
 -- the laws of new routes, as plans state them
@@ -115,28 +115,28 @@ before_more {X} P xs i x e p before j y h f = split (cases_eq j i)
 pub before_all : {X : Type 0} (P : X → Type 0) (xs : List X) (i : ℕ) → length xs ≤ i → AllBefore P xs i → (j : ℕ) (y : X) → slice_get xs j ≡ Some y → P y
 before_all P xs i h before j y e = let inside : j < length xs = slice_get_within xs j y e in before j y (omega arith) e
 
--- a vehicle that no change is for is not named
-pub not_named : (changes : Changes) (v : ℕ) → ((k : ℕ) (c : ℕ × List ℕ) → slice_get changes k ≡ Some c → c.0 ≡ v → ⊥) → ¬ IsNamed changes v
-not_named [] v each h = h
-not_named (c ∷ cs) v each (inl e) = each zero c refl (sym e)
-not_named (c ∷ cs) v each (inr h) = not_named cs v (λ k d. each (suc k) d) h
+-- a vehicle that no draft is for is not named
+pub not_drafted : (routes : List (List ℕ)) (drafts : List DraftState) (v : ℕ) → ((k : ℕ) (d : DraftState) → slice_get drafts k ≡ Some d → d.vehicle ≡ v → ⊥)
+    → ¬ IsNamed (drafts_of routes drafts) v
+not_drafted routes [] v each h = h
+not_drafted routes (d ∷ ds) v each (inl e) = each zero d refl (sym e)
+not_drafted routes (d ∷ ds) v each (inr h) = not_drafted routes ds v (λ k x. each (suc k) x) h
 
--- the new route that is read at a place, seen as a list
-pub change_read : {Z : Type 0} (xs : List (ℕ × Arc (List ℕ) Z)) (i : ℕ) (x : ℕ × Arc (List ℕ) Z) → i < length xs → x ≡ get_or xs i x
-    → slice_get (changes_of xs) i ≡ Some (x.0, x.1.value)
-change_read {Z} xs i x h e =
-    slice_get-map (λ (c : ℕ × Arc (List ℕ) Z). (c.0, c.1.value)) xs i
-    ∙ ap (λ (o : Option (ℕ × Arc (List ℕ) Z)). option_map (λ (c : ℕ × Arc (List ℕ) Z). (c.0, c.1.value)) o) (slice_get_read xs (length xs) i x refl h e)
+-- the draft that is read at a place, seen as a new route
+pub draft_read : (routes : List (List ℕ)) (drafts : List DraftState) (i : ℕ) (d : DraftState) → i < length drafts → d ≡ get_or drafts i d
+    → slice_get (drafts_of routes drafts) i ≡ Some (d.vehicle, drafted routes d)
+draft_read routes drafts i d h e =
+    slice_get-map (λ (x : DraftState). (x.vehicle, drafted routes x)) drafts i
+    ∙ ap (λ (o : Option DraftState). option_map (λ (x : DraftState). (x.vehicle, drafted routes x)) o) (slice_get_read drafts (length drafts) i d refl h e)
 
 -- and its vehicle
-pub named_read : {Z : Type 0} (xs : List (ℕ × Arc (List ℕ) Z)) (i : ℕ) (x : ℕ × Arc (List ℕ) Z) → i < length xs → x ≡ get_or xs i x
-    → slice_get (named_vehicles (changes_of xs)) i ≡ Some x.0
-named_read xs i x h e =
-    slice_get-map (λ (c : ℕ × List ℕ). c.0) (changes_of xs) i
-    ∙ ap (λ (o : Option (ℕ × List ℕ)). option_map (λ (c : ℕ × List ℕ). c.0) o) (change_read xs i x h e)
+pub named_read : (routes : List (List ℕ)) (drafts : List DraftState) (i : ℕ) (d : DraftState) → i < length drafts → d ≡ get_or drafts i d
+    → slice_get (named_vehicles (drafts_of routes drafts)) i ≡ Some d.vehicle
+named_read routes drafts i d h e =
+    slice_get-map (λ (c : ℕ × List ℕ). c.0) (drafts_of routes drafts) i
+    ∙ ap (λ (o : Option (ℕ × List ℕ)). option_map (λ (c : ℕ × List ℕ). c.0) o) (draft_read routes drafts i d h e)
 
-pub length-changes_of : {Z : Type 0} (xs : List (ℕ × Arc (List ℕ) Z)) → length (changes_of xs) ≡ length xs
-length-changes_of {Z} xs = length-map xs (λ (c : ℕ × Arc (List ℕ) Z). let read : ℕ × List ℕ = (c.0, c.1.value) in read)
-
-pub length-named : {Z : Type 0} (xs : List (ℕ × Arc (List ℕ) Z)) → length (named_vehicles (changes_of xs)) ≡ length xs
-length-named xs = length-map (changes_of xs) (λ (c : ℕ × List ℕ). c.0) ∙ length-changes_of xs
+pub length-named : (routes : List (List ℕ)) (drafts : List DraftState) → length (named_vehicles (drafts_of routes drafts)) ≡ length drafts
+length-named routes drafts =
+    length-map (drafts_of routes drafts) (λ (c : ℕ × List ℕ). c.0)
+    ∙ length-map drafts (λ (d : DraftState). let new : ℕ × List ℕ = (d.vehicle, drafted routes d) in new)

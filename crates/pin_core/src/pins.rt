@@ -1,14 +1,14 @@
-ghost use Rattle.std.specs.Prelude.{◌≡◌, ℕ, ◌≤◌, ◌<◌, ◌↔◌, [], length, take, replicate, Some, None, IsTrue, IfOk, MatchBool, MatchOption, MatchResult, slice_get, All, Contains};
-ghost use Rattle.plan_core.specs.Plan.{AreApart, AreChanges, IsNamed, changes_of, route_at, with_routes};
+ghost use Rattle.std.specs.Prelude.{◌≡◌, ℕ, ◌≤◌, ◌<◌, ◌↔◌, List, [], length, take, replicate, Some, None, IsTrue, IfOk, IfSome, MatchBool, MatchOption, MatchResult, slice_get, All, Contains};
+ghost use Rattle.plan_core.specs.Plan.{AreApart, AreChanges, IsNamed, route_at};
+ghost use Rattle.plan_core.specs.Drafts.{AreFrontsWithin, drafted, drafts_of, with_drafts};
 ghost use Rattle.plan_core.specs.Commits.{named_vehicles};
 ghost use Rattle.pin_core.specs.Pins.{StandsOn, IsHeld, DoPinsHold, AreFreezesKept, DoFrontsFit, pin_of, front_of, with_pin, with_front};
 ghost use Rattle.pin_core.specs.Allowed.{AreAllTouched, IsFirstThawed, IsFirstLoose, IsPinFault};
 
 use crate::fault::PinFault;
-use plan_core::{Plan, Route, Touch, routes_replaced};
+use plan_core::{Draft, Plan, Touch, routes_replaced};
 use std::alloc::{AllocError, Global};
 use std::marker::Model;
-use std::sync::Arc;
 
 /// Which customers are pinned to which vehicles, and how many of the first stops of each route are frozen.
 ///
@@ -109,127 +109,127 @@ impl Pins {
     /// touched customers are looked at.
     ///
     /// The caller must ensure that the plan has as many customers and vehicles as the pins, that the pins hold in it, and that no frozen
-    /// length is above its route's; that there are one or two new routes, for different vehicles of the plan; that each touched customer is
-    /// one of the plan's; and that each customer that stands on a vehicle stays on it in the new routes or is touched.
+    /// length is above its route's; that there are one or two drafts of new routes, for different vehicles of the plan, and each keeps no
+    /// more customers than the vehicle's route has; that each touched customer is one of the plan's; and that each customer that stands on a
+    /// vehicle stays on it in the new routes or is touched.
     #[inline(always)]
-    pub fn allows(
-        &self,
-        plan: &Plan,
-        new_routes: &[(u32, Arc<Route>)],
-        touched: &[Touch],
-    ) -> Result<(), PinFault>
+    pub fn allows(&self, plan: &Plan, drafts: &[Draft], touched: &[Touch]) -> Result<(), PinFault>
         requires customers { length self.now.pins ≡ plan.now.customers }
         requires vehicles { length self.now.fronts ≡ length plan.now.routes }
         requires holding { DoPinsHold self.now plan.now.routes }
         requires fitting { DoFrontsFit self.now plan.now.routes }
-        requires changes { AreChanges (length plan.now.routes) (changes_of new_routes.now) }
+        requires fronts { AreFrontsWithin plan.now.routes drafts.now }
+        requires changes { AreChanges (length plan.now.routes) (drafts_of plan.now.routes drafts.now) }
         requires known { All (λ t. (1 ≤ t.customer) × (t.customer ≤ plan.now.customers)) touched.now }
-        requires touched { AreAllTouched plan.now.routes (with_routes (changes_of new_routes.now) plan.now.routes) touched.now }
+        requires touched { AreAllTouched plan.now.routes (with_drafts drafts.now plan.now.routes) touched.now }
         ensures { MatchResult result
-            (λ _. AreFreezesKept self.now plan.now.routes (with_routes (changes_of new_routes.now) plan.now.routes)
-            × DoPinsHold self.now (with_routes (changes_of new_routes.now) plan.now.routes))
-            (IsPinFault self.now plan.now.routes (with_routes (changes_of new_routes.now) plan.now.routes)
-            (named_vehicles (changes_of new_routes.now)) touched.now) }
+            (λ _. AreFreezesKept self.now plan.now.routes (with_drafts drafts.now plan.now.routes)
+            × DoPinsHold self.now (with_drafts drafts.now plan.now.routes))
+            (IsPinFault self.now plan.now.routes (with_drafts drafts.now plan.now.routes)
+            (named_vehicles (drafts_of plan.now.routes drafts.now)) touched.now) }
     {
-        if let Some(vehicle) = self.first_thawed(plan, new_routes) {
+        if let Some(vehicle) = self.first_thawed(plan, drafts) {
             return Err(PinFault::Frozen(vehicle));
         }
-        match self.first_loose(plan, new_routes, touched) {
+        match self.first_loose(plan, drafts, touched) {
             Some(touch) => Err(PinFault::Pinned(touch.vehicle, touch.place)),
             None => Ok(()),
         }
     }
 
-    /// Whether a route begins with the frozen front of a vehicle.
+    /// Whether the new route of a draft begins with the frozen front of its vehicle. The customers that it keeps stay where they are, so that
+    /// only frozen customers after them are compared.
     #[inline(always)]
-    fn keeps_front(&self, plan: &Plan, vehicle: u32, route: &[u32]) -> bool
-        requires low { 1 ≤ vehicle }
-        requires high { vehicle ≤ length plan.now.routes }
+    fn keeps_front(&self, plan: &Plan, draft: &Draft) -> bool
+        requires low { 1 ≤ draft.now.vehicle }
+        requires high { draft.now.vehicle ≤ length plan.now.routes }
         requires vehicles { length self.now.fronts ≡ length plan.now.routes }
         requires fitting { DoFrontsFit self.now plan.now.routes }
-        ensures { IsTrue result ↔ (take (front_of self.now vehicle) route.now
-            ≡ take (front_of self.now vehicle) (route_at plan.now.routes vehicle)) }
+        requires front { draft.now.kept ≤ length (route_at plan.now.routes draft.now.vehicle) }
+        ensures { IsTrue result ↔ (take (front_of self.now draft.now.vehicle) (drafted plan.now.routes draft.now)
+            ≡ take (front_of self.now draft.now.vehicle) (route_at plan.now.routes draft.now.vehicle)) }
     {
-        let frozen = self.frozen(vehicle) as usize;
-        if frozen == 0 {
+        let frozen = self.frozen(draft.vehicle()) as usize;
+        let kept = draft.kept();
+        if frozen <= kept {
             return true;
         }
-        begin_alike(frozen, route, plan.route(vehicle).customers())
+        let old = plan.route(draft.vehicle()).customers();
+        begin_alike(frozen - kept, draft.rest(), &old[kept..])
     }
 
     /// The first named vehicle whose frozen front differs.
     #[inline(always)]
-    pub(crate) fn first_thawed(&self, plan: &Plan, new_routes: &[(u32, Arc<Route>)]) -> Option<u32>
+    pub(crate) fn first_thawed(&self, plan: &Plan, drafts: &[Draft]) -> Option<u32>
         requires vehicles { length self.now.fronts ≡ length plan.now.routes }
         requires fitting { DoFrontsFit self.now plan.now.routes }
-        requires apart { AreApart (length plan.now.routes) (changes_of new_routes.now) }
-        ensures { MatchOption result (AreFreezesKept self.now plan.now.routes (with_routes (changes_of new_routes.now) plan.now.routes))
-            (IsFirstThawed self.now plan.now.routes (with_routes (changes_of new_routes.now) plan.now.routes)
-            (named_vehicles (changes_of new_routes.now))) }
+        requires fronts { AreFrontsWithin plan.now.routes drafts.now }
+        requires apart { AreApart (length plan.now.routes) (drafts_of plan.now.routes drafts.now) }
+        ensures { MatchOption result (AreFreezesKept self.now plan.now.routes (with_drafts drafts.now plan.now.routes))
+            (IsFirstThawed self.now plan.now.routes (with_drafts drafts.now plan.now.routes)
+            (named_vehicles (drafts_of plan.now.routes drafts.now))) }
     {
         routes_replaced();
-        for (vehicle, route) in new_routes {
-            if !self.keeps_front(plan, *vehicle, route.customers()) {
-                return Some(*vehicle);
+        for draft in drafts {
+            if !self.keeps_front(plan, draft) {
+                return Some(draft.vehicle());
             }
         }
         None
     }
 
-    /// Whether a customer is pinned to a vehicle on which it would not stand. The pins must hold in the plan, and the new routes be for
-    /// different vehicles of it. It walks the new route of the customer's vehicle once, and nothing where that vehicle keeps its route: a
-    /// pinned customer stands where it is pinned.
-    pub fn leaves(&self, plan: &Plan, new_routes: &[(u32, Arc<Route>)], customer: u32) -> bool
+    /// Whether a customer is pinned to a vehicle on which it would not stand. The pins must hold in the plan, and the drafts be for different
+    /// vehicles of it and keep no more customers than their routes have. It walks the new route of the customer's vehicle once, and nothing
+    /// where that vehicle keeps its route: a pinned customer stands where it is pinned.
+    pub fn leaves(&self, plan: &Plan, drafts: &[Draft], customer: u32) -> bool
         requires low { 1 ≤ customer }
         requires high { customer ≤ length self.now.pins }
         requires holding { DoPinsHold self.now plan.now.routes }
-        requires apart { AreApart (length plan.now.routes) (changes_of new_routes.now) }
-        ensures { MatchBool result (¬ IsHeld self.now (with_routes (changes_of new_routes.now) plan.now.routes) customer)
-            (IsHeld self.now (with_routes (changes_of new_routes.now) plan.now.routes) customer) }
+        requires fronts { AreFrontsWithin plan.now.routes drafts.now }
+        requires apart { AreApart (length plan.now.routes) (drafts_of plan.now.routes drafts.now) }
+        ensures { MatchBool result (¬ IsHeld self.now (with_drafts drafts.now plan.now.routes) customer)
+            (IsHeld self.now (with_drafts drafts.now plan.now.routes) customer) }
     {
-        self.leaves_near(plan, new_routes, customer, &mut 0)
+        self.leaves_near(plan, drafts, customer, &mut 0)
     }
 
-    /// The same, where the customer is searched from an index of the new route outwards. The index where it is found is the start for the
-    /// next customer: a move keeps or reverses the order of those that stay, so that all of them together cost one walk.
+    /// The same, where the customer is searched in the rest of the draft first, from an index outwards. The index where it is found there is
+    /// the start for the next customer: a move keeps or reverses the order of those that stay, so that all of them together cost one walk.
     pub(crate) fn leaves_near(
         &self,
         plan: &Plan,
-        new_routes: &[(u32, Arc<Route>)],
+        drafts: &[Draft],
         customer: u32,
         near: &mut usize,
     ) -> bool
         requires low { 1 ≤ customer }
         requires high { customer ≤ length self.now.pins }
         requires holding { DoPinsHold self.now plan.now.routes }
-        requires apart { AreApart (length plan.now.routes) (changes_of new_routes.now) }
-        ensures { MatchBool result (¬ IsHeld self.now (with_routes (changes_of new_routes.now) plan.now.routes) customer)
-            (IsHeld self.now (with_routes (changes_of new_routes.now) plan.now.routes) customer) }
+        requires fronts { AreFrontsWithin plan.now.routes drafts.now }
+        requires apart { AreApart (length plan.now.routes) (drafts_of plan.now.routes drafts.now) }
+        ensures { MatchBool result (¬ IsHeld self.now (with_drafts drafts.now plan.now.routes) customer)
+            (IsHeld self.now (with_drafts drafts.now plan.now.routes) customer) }
     {
         match self.pinned(customer) {
             None => false,
-            Some(vehicle) => !would_stay(plan, new_routes, customer, vehicle, near),
+            Some(vehicle) => !would_stay(plan, drafts, customer, vehicle, near),
         }
     }
 
     /// The first touch whose customer is pinned to a vehicle on which it would not stand.
     #[inline(always)]
-    fn first_loose(
-        &self,
-        plan: &Plan,
-        new_routes: &[(u32, Arc<Route>)],
-        touched: &[Touch],
-    ) -> Option<Touch>
+    fn first_loose(&self, plan: &Plan, drafts: &[Draft], touched: &[Touch]) -> Option<Touch>
         requires holding { DoPinsHold self.now plan.now.routes }
-        requires apart { AreApart (length plan.now.routes) (changes_of new_routes.now) }
+        requires fronts { AreFrontsWithin plan.now.routes drafts.now }
+        requires apart { AreApart (length plan.now.routes) (drafts_of plan.now.routes drafts.now) }
         requires known { All (λ t. (1 ≤ t.customer) × (t.customer ≤ length self.now.pins)) touched.now }
         ensures { MatchOption result ((k : ℕ) (t : Touch) → slice_get touched.now k ≡ Some t
-            → IsHeld self.now (with_routes (changes_of new_routes.now) plan.now.routes) t.customer)
-            (IsFirstLoose self.now (with_routes (changes_of new_routes.now) plan.now.routes) touched.now) }
+            → IsHeld self.now (with_drafts drafts.now plan.now.routes) t.customer)
+            (IsFirstLoose self.now (with_drafts drafts.now plan.now.routes) touched.now) }
     {
         let mut near = 0;
         for touch in touched {
-            if self.leaves_near(plan, new_routes, touch.customer, &mut near) {
+            if self.leaves_near(plan, drafts, touch.customer, &mut near) {
                 return Some(*touch);
             }
         }
@@ -238,35 +238,53 @@ impl Pins {
 }
 
 /// Whether a customer that stands on a vehicle stays on it once the new routes are in place.
-fn would_stay(
-    plan: &Plan,
-    new_routes: &[(u32, Arc<Route>)],
-    customer: u32,
-    vehicle: u32,
-    near: &mut usize,
-) -> bool
+fn would_stay(plan: &Plan, drafts: &[Draft], customer: u32, vehicle: u32, near: &mut usize) -> bool
     requires stands { StandsOn plan.now.routes customer vehicle }
-    requires apart { AreApart (length plan.now.routes) (changes_of new_routes.now) }
-    ensures { IsTrue result ↔ StandsOn (with_routes (changes_of new_routes.now) plan.now.routes) customer vehicle }
+    requires fronts { AreFrontsWithin plan.now.routes drafts.now }
+    requires apart { AreApart (length plan.now.routes) (drafts_of plan.now.routes drafts.now) }
+    ensures { IsTrue result ↔ StandsOn (with_drafts drafts.now plan.now.routes) customer vehicle }
 {
     routes_replaced();
-    match new_route(new_routes, vehicle) {
-        Some(route) => is_on(route.customers(), customer, near),
+    match new_route(drafts, vehicle) {
+        Some(draft) => is_drafted(plan, draft, customer, near),
         None => true,
     }
 }
 
-/// The new route of a vehicle, if it has one.
-fn new_route(new_routes: &[(u32, Arc<Route>)], vehicle: u32) -> Option<&Arc<Route>>
-    ensures { MatchOption result (¬ IsNamed (changes_of new_routes.now) vehicle) (λ route. (k : ℕ)
-        × (slice_get (changes_of new_routes.now) k ≡ Some (vehicle, route.now.value))) }
+/// The draft of a vehicle's new route, if it has one.
+fn new_route(drafts: &[Draft], vehicle: u32) -> Option<&Draft>
+    ensures named { (routes : List (List ℕ)) → MatchOption result (¬ IsNamed (drafts_of routes drafts.now) vehicle) (λ draft. (k : ℕ)
+        × (slice_get (drafts_of routes drafts.now) k ≡ Some (vehicle, drafted routes draft.now))) }
+    ensures own { IfSome result (λ draft. (draft.now.vehicle ≡ vehicle) × Contains drafts.now draft.now) }
 {
-    for (named, route) in new_routes {
-        if *named == vehicle {
-            return Some(route);
+    for draft in drafts {
+        if draft.vehicle() == vehicle {
+            return Some(draft);
         }
     }
     None
+}
+
+/// Whether a customer is on the new route that a draft makes. The rest is searched first, from an index outwards, since the customers that a
+/// move touches are mostly there.
+fn is_drafted(plan: &Plan, draft: &Draft, customer: u32, near: &mut usize) -> bool
+    requires low { 1 ≤ draft.now.vehicle }
+    requires high { draft.now.vehicle ≤ length plan.now.routes }
+    requires front { draft.now.kept ≤ length (route_at plan.now.routes draft.now.vehicle) }
+    ensures { IsTrue result ↔ Contains (drafted plan.now.routes draft.now) customer }
+{
+    is_on(draft.rest(), customer, near) || is_kept(plan, draft, customer)
+}
+
+/// Whether a customer is among those that a draft keeps.
+fn is_kept(plan: &Plan, draft: &Draft, customer: u32) -> bool
+    requires low { 1 ≤ draft.now.vehicle }
+    requires high { draft.now.vehicle ≤ length plan.now.routes }
+    requires front { draft.now.kept ≤ length (route_at plan.now.routes draft.now.vehicle) }
+    ensures { IsTrue result ↔ Contains (take draft.now.kept (route_at plan.now.routes draft.now.vehicle)) customer }
+{
+    let old = plan.route(draft.vehicle()).customers();
+    old[..draft.kept()].contains(&customer)
 }
 
 /// Whether a customer stands on a vehicle.

@@ -1,6 +1,6 @@
 -- New routes as drafts: what stays of a vehicle's route, and what follows.
 use Rattle.std.specs.Prelude.{ℕ, ◌≤◌, List, ◌++◌, length, map, take, All}
-use Rattle.plan_core.specs.Plan.{Changes, route_at}
+use Rattle.plan_core.specs.Plan.{Changes, route_at, with_routes}
 
 -- the new route of a vehicle: this many of the first customers of its route, and the rest
 pub record DraftState : Type 0 where
@@ -15,6 +15,10 @@ drafted routes d = take d.kept (route_at routes d.vehicle) ++ d.rest
 -- drafts as new routes
 abbrev pub drafts_of : List (List ℕ) → List DraftState → Changes
 drafts_of routes drafts = map (λ d. (d.vehicle, drafted routes d)) drafts
+
+-- the routes after each named vehicle got its new one
+abbrev pub with_drafts : List DraftState → List (List ℕ) → List (List ℕ)
+with_drafts drafts routes = with_routes (drafts_of routes drafts) routes
 
 -- each draft keeps no more customers than its vehicle's route has
 abbrev pub AreFrontsWithin : List (List ℕ) → List DraftState → Type 0

@@ -3,7 +3,7 @@ ghost use Rattle.std.specs.Prelude.{◌≡◌, ◌≤◌, [], ◌∷◌, length,
 ghost use Rattle.plan_core.specs.Plan.{changes_of};
 ghost use Rattle.plan_core.specs.Tested.{is_plan};
 
-use plan_core::{Plan, Route, plans_are_tested};
+use plan_core::{Drafts, Plan, Route, plans_are_tested};
 use std::alloc::Global;
 use std::process::Abort;
 use std::sync::Arc;
@@ -14,6 +14,33 @@ fn shared(rt: &impl Abort, alloc: Global, customers: &[u32]) -> Arc<Route>
 {
     let customers = Vec::from_slice(alloc, customers).expect(rt, "memory");
     Arc::new(alloc, Route::new(customers)).expect(rt, "memory")
+}
+
+/// The draft of one new route alone, of which nothing stays.
+pub(crate) fn one_draft(rt: &impl Abort, alloc: Global, vehicle: u32, customers: &[u32]) -> Drafts
+    ensures { result ≡ record { vehicle = vehicle; kept = 0; rest = customers.now } ∷ [] }
+{
+    let mut drafts = Drafts::new(alloc);
+    drafts
+        .add(vehicle, 0, customers, &[], &[], &[])
+        .expect(rt, "memory");
+    drafts
+}
+
+/// The drafts of new routes for two vehicles, of which nothing stays.
+pub(crate) fn two_drafts(
+    rt: &impl Abort,
+    alloc: Global,
+    v: u32,
+    first: &[u32],
+    w: u32,
+    second: &[u32],
+) -> Drafts
+    ensures { result ≡ record { vehicle = v; kept = 0; rest = first.now } ∷ record { vehicle = w; kept = 0; rest = second.now } ∷ [] }
+{
+    let mut drafts = one_draft(rt, alloc, v, first);
+    drafts.add(w, 0, second, &[], &[], &[]).expect(rt, "memory");
+    drafts
 }
 
 /// One new route alone.

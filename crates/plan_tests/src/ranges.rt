@@ -1,14 +1,15 @@
 ghost use Rattle.std.specs.Prelude.{◌≡◌, ◌+◌, ◌*◌, ◌<◌, ◌≤◌, [], ◌∷◌, length, replicate, slice_index, All, IfOk, IfSome};
 ghost use Rattle.dimension_core.specs.NewRoutes.{AllKnown};
 ghost use Rattle.dimension_core.specs.Setup.{setting};
-ghost use Rattle.plan_core.specs.Plan.{IsPlan, changes_of, replaced, with_routes};
+ghost use Rattle.plan_core.specs.Drafts.{AreFrontsWithin, drafted, drafts_of};
+ghost use Rattle.plan_core.specs.Plan.{IsPlan, replaced, with_routes};
 ghost use Rattle.range_cache.specs.Cache.{IsCacheOf};
 
 use crate::comparing::{compare, compare_meter};
-use crate::new_routes::{one_change, pair};
+use crate::new_routes::{one_change, one_draft, two_drafts};
 use callback_store::{Meter, Registry, Transit, TransitId, Unary};
 use dimension_core::{Dimension, Range, Setup, first_out};
-use plan_core::{Plan, Route, plans_are_tested};
+use plan_core::{Drafts, Plan, plans_are_tested};
 use range_cache::{Cache, JudgeFault, Room};
 use std::alloc::{AllocError, Global};
 use std::process::Abort;
@@ -58,11 +59,14 @@ fn commit(
     ensures plan { held.new.plan ≡ replaced ((vehicle, customers.now) ∷ []) held.old.plan }
 {
     let Held { plan, cache, room } = held;
-    let changes = one_change(rt, alloc, vehicle, customers);
+    let drafts = one_draft(rt, alloc, vehicle, customers);
     let pending = cache
-        .judge_in(room, setup, plan, &changes, meter)
+        .judge_in(room, setup, plan, drafts.as_slice(), meter)
         .expect(rt, "in bounds");
     *room = cache.take(pending);
+    let changes = drafts
+        .routes_in(Vec::new(alloc), alloc, plan)
+        .expect(rt, "memory");
     plan.replace(changes);
 }
 
@@ -97,14 +101,15 @@ fn fault_of(
     setup: &Setup,
     cache: &Cache,
     plan: &Plan,
-    changes: &[(u32, Arc<Route>)],
+    drafts: &Drafts,
     meter: &mut Meter,
 ) -> Option<JudgeFault>
     requires cache { IsCacheOf (setting setup.now) plan.now.routes cache.now }
-    requires known { AllKnown (setting setup.now) (changes_of changes.now) }
-    requires short { All (λ c. length c.1.value ≤ 1000) changes.now }
+    requires known { AllKnown (setting setup.now) (drafts_of plan.now.routes drafts.now) }
+    requires short { All (λ d. length (drafted plan.now.routes d) ≤ 1000) drafts.now }
+    requires within { AreFrontsWithin plan.now.routes drafts.now }
 {
-    cache.judge(setup, plan, changes, meter).err()
+    cache.judge(setup, plan, drafts.as_slice(), meter).err()
 }
 
 fn compare_fault(rt: &impl Abort, found: Option<JudgeFault>, wanted: Option<JudgeFault>) {
@@ -199,7 +204,7 @@ fn removals(rt: &impl Abort, alloc: Global, setup: &Setup, meter: &mut Meter)
     let mut held = empty(rt, alloc, setup);
     commit(rt, alloc, setup, &mut held, 1, &[1, 2, 3], meter);
     let begun = meter.asks;
-    let late = one_change(rt, alloc, 1, &[1, 3]);
+    let late = one_draft(rt, alloc, 1, &[1, 3]);
     let answer = fault_of(setup, &held.cache, &held.plan, &late, meter);
     compare_fault(rt, answer, Some(JudgeFault::Bound(1, 2)));
     compare(rt, meter.asks.wrapping_sub(begun), 3, "asks");
@@ -217,8 +222,8 @@ fn the_second_is_out(rt: &impl Abort, alloc: Global, setup: &Setup, meter: &mut 
     requires vehicles { (setting setup.now).vehicles ≡ 2 }
 {
     let held = empty(rt, alloc, setup);
-    let changes = pair(rt, alloc, 2, &[4], 1, &[1, 2, 3, 4]);
-    let answer = fault_of(setup, &held.cache, &held.plan, &changes, meter);
+    let drafts = two_drafts(rt, alloc, 2, &[4], 1, &[1, 2, 3, 4]);
+    let answer = fault_of(setup, &held.cache, &held.plan, &drafts, meter);
     compare_fault(rt, answer, Some(JudgeFault::Bound(1, 1)));
 }
 

@@ -1,17 +1,16 @@
-use Rattle.std.proofs.Common.{◌≡◌, ℕ, List, length, ◌≤◌}
-use Rattle.plan_core.specs.Plan.{changes_of}
-use Rattle.pin_core.proofs.Standing.{before_more, before_all, change_read, not_named, length-changes_of}
+use Rattle.std.proofs.Common.{◌≡◌, ◌∙◌, refl, length}
+use Rattle.std.proofs.lemmas.Option.{slice_get_read}
+use Rattle.plan_core.specs.Drafts.{DraftState}
+use Rattle.pin_core.proofs.Standing.{before_more, before_all, not_drafted}
 use Rattle.pin_core.proofs.pins.new_route.Goals as goal
 
-pub loop-named-preserved : goal.loop-named-preserved
-loop-named-preserved c =
-    before_more (λ (x : ℕ × List ℕ). x.0 ≡ c.args.vehicle → ⊥) (changes_of c.args.new_routes.now) c.loop-named.named-index _
-    (change_read c.args.new_routes.now c.loop-named.named-index c.loop-named-item.result c.loop-named-test.true c.loop-named-item.is)
-    c.if-named-vehicle.false c.loop-named.invariant
+pub loop-draft-preserved : goal.loop-draft-preserved
+loop-draft-preserved c =
+    before_more (λ (d : DraftState). d.vehicle ≡ c.args.vehicle → ⊥) c.args.drafts.now c.loop-draft.draft-index c.draft-item.result
+    (slice_get_read c.args.drafts.now (length c.args.drafts.now) c.loop-draft.draft-index c.draft-item.result refl c.loop-draft-test.true c.draft-item.is)
+    (λ e. c.if-vehicle.false (c.vehicle.ensures ∙ e)) c.loop-draft.invariant
 
-pub returns : goal.returns
-returns c =
-    let long : length (changes_of c.args.new_routes.now) ≤ c.loop-named.named-index =
-    rw (length-changes_of c.args.new_routes.now) c.loop-named-test.false in
-    not_named (changes_of c.args.new_routes.now) c.args.vehicle
-    (before_all (λ (x : ℕ × List ℕ). x.0 ≡ c.args.vehicle → ⊥) (changes_of c.args.new_routes.now) c.loop-named.named-index long c.loop-named.invariant)
+pub returns-clause-named : goal.returns-clause-named
+returns-clause-named c = λ routes.
+    not_drafted routes c.args.drafts.now c.args.vehicle
+    (before_all (λ (d : DraftState). d.vehicle ≡ c.args.vehicle → ⊥) c.args.drafts.now c.loop-draft.draft-index c.loop-draft-test.false c.loop-draft.invariant)

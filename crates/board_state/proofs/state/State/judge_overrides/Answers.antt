@@ -1,6 +1,7 @@
 use Rattle.std.proofs.Common.{◌≡◌, sym, subst, List, Bool, arith}
 use Rattle.plan_core.specs.declared.touch.Touch.{Touch}
-use Rattle.plan_core.specs.Plan.{changes_of, with_routes}
+use Rattle.plan_core.specs.Drafts.{drafts_of}
+use Rattle.plan_core.specs.Plan.{with_routes}
 use Rattle.pin_core.specs.Pins.{AreFreezesKept}
 use Rattle.pin_core.specs.Allowed.{AreAllTouched}
 use Rattle.pin_core.specs.Override.{DoPinsPass, IsFirstForbidden}
@@ -12,36 +13,36 @@ use Rattle.board_state.proofs.state.State.judge_overrides.Goals as goal
 
 pub allows_with-requires-clause-touched : goal.allows_with-requires-clause-touched
 allows_with-requires-clause-touched c =
-    subst (λ (h : HeldState). AreAllTouched h.plan.routes (with_routes (changes_of c.args.changes.now) h.plan.routes) c.args.touched.now) (sym c.self.view_is) c.requires.touched
+    subst (λ (h : HeldState). AreAllTouched h.plan.routes (with_routes (drafts_of h.plan.routes c.args.drafts.now) h.plan.routes) c.args.touched.now) (sym c.self.view_is) c.requires.placeable.touched
 
 pub returns-in-Ok-allows_with-clause-freed : goal.returns-in-Ok-allows_with-clause-freed
 returns-in-Ok-allows_with-clause-freed c =
     let held = c.args.self.now in
-    let others = with_routes (changes_of c.args.changes.now) held.plan.routes in
+    let others = with_routes (drafts_of held.plan.routes c.args.drafts.now) held.plan.routes in
     let passes : DoPinsPass held.pins others c.args.touched.now c.in-Ok.free.items =
     subst (λ (free : List Bool). DoPinsPass held.pins others c.args.touched.now free) c.deref.ensures.value
-    (subst (λ (h : HeldState). DoPinsPass h.pins (with_routes (changes_of c.args.changes.now) h.plan.routes) c.args.touched.now c.deref.result.now) c.self.view_is c.in-Ok-allows_with.ensures.1) in
+    (subst (λ (h : HeldState). DoPinsPass h.pins (with_routes (drafts_of h.plan.routes c.args.drafts.now) h.plan.routes) c.args.touched.now c.deref.result.now) c.self.view_is c.in-Ok-allows_with.ensures.1) in
     record { short = omega (arith, c.in-Ok.ensures.answers.sized); leave = c.in-Ok.ensures.leave; stay = passes }
 
 pub returns-in-Ok-allows_with-clause-pins : goal.returns-in-Ok-allows_with-clause-pins
 returns-in-Ok-allows_with-clause-pins c =
     let held = c.args.self.now in
-    let others = with_routes (changes_of c.args.changes.now) held.plan.routes in
+    let others = with_routes (drafts_of held.plan.routes c.args.drafts.now) held.plan.routes in
     let passes : DoPinsPass held.pins others c.args.touched.now c.in-Ok.free.items =
     subst (λ (free : List Bool). DoPinsPass held.pins others c.args.touched.now free) c.deref.ensures.value
-    (subst (λ (h : HeldState). DoPinsPass h.pins (with_routes (changes_of c.args.changes.now) h.plan.routes) c.args.touched.now c.deref.result.now) c.self.view_is c.in-Ok-allows_with.ensures.1) in
+    (subst (λ (h : HeldState). DoPinsPass h.pins (with_routes (drafts_of h.plan.routes c.args.drafts.now) h.plan.routes) c.args.touched.now c.deref.result.now) c.self.view_is c.in-Ok-allows_with.ensures.1) in
     passed_allow held.pins (may_override (held_basis held c.args.session)) others c.args.touched.now c.in-Ok.free.items c.in-Ok.ensures.answers
-    held.plan.routes c.requires.holding c.requires.touched passes
+    held.plan.routes c.requires.placeable.holding c.requires.placeable.touched passes
 
 pub returns-clause-stop : goal.returns-clause-stop
 returns-clause-stop c =
     let held = c.args.self.now in
-    let others = with_routes (changes_of c.args.changes.now) held.plan.routes in
+    let others = with_routes (drafts_of held.plan.routes c.args.drafts.now) held.plan.routes in
     let v = c.in-Err-Pinned.vehicle in
     let p = c.in-Err-Pinned.place in
     let fault = rw c.in-Err-Pinned.field-0-is at c.in-Err-Pinned.ensures in
-    let here = subst (λ (h : HeldState). AreFreezesKept h.pins h.plan.routes (with_routes (changes_of c.args.changes.now) h.plan.routes)
-    × ((t : Touch) × IsFirstForbidden h.pins (with_routes (changes_of c.args.changes.now) h.plan.routes) c.args.touched.now c.deref.result.now t × (t.vehicle ≡ v) × (t.place ≡ p))) c.self.view_is fault in
+    let here = subst (λ (h : HeldState). AreFreezesKept h.pins h.plan.routes (with_routes (drafts_of h.plan.routes c.args.drafts.now) h.plan.routes)
+    × ((t : Touch) × IsFirstForbidden h.pins (with_routes (drafts_of h.plan.routes c.args.drafts.now) h.plan.routes) c.args.touched.now c.deref.result.now t × (t.vehicle ≡ v) × (t.place ≡ p))) c.self.view_is fault in
     let first = subst (λ (free : List Bool). (t : Touch) × IsFirstForbidden held.pins others c.args.touched.now free t × (t.vehicle ≡ v) × (t.place ≡ p)) c.deref.ensures.value here.1 in
     (here.0, (first.0, forbidden_held held.pins (may_override (held_basis held c.args.session)) others c.args.touched.now c.in-Ok.free.items c.in-Ok.ensures.answers first.0 first.1, first.2, first.3))
 

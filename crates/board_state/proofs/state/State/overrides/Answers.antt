@@ -3,7 +3,8 @@ use Rattle.std.specs.Prelude.{slice_get, if◌then◌else◌}
 use Rattle.std.proofs.lemmas.List.{drop_all}
 use Rattle.std.proofs.lemmas.Option.{slice_get-get_or, slice_get_within}
 use Rattle.plan_core.specs.declared.touch.Touch.{Touch}
-use Rattle.plan_core.specs.Plan.{changes_of, with_routes}
+use Rattle.plan_core.specs.Drafts.{drafts_of}
+use Rattle.plan_core.specs.Plan.{with_routes}
 use Rattle.pin_core.specs.Pins.{IsHeld}
 use Rattle.permission_table.specs.Tables.{allows}
 use Rattle.permission_core.specs.declared.objects.Operation.TheVariants as operations
@@ -18,7 +19,7 @@ loop-touch-preserved c =
     let held = c.args.self.now in
     let touched = c.args.touched.now in
     let l = c.loop-touch in
-    let others = with_routes (changes_of c.args.changes.now) held.plan.routes in
+    let others = with_routes (drafts_of held.plan.routes c.args.drafts.now) held.plan.routes in
     let d : Touch = record { vehicle = 0; place = 0; customer = 0 } in
     let left = leaving_left held.pins others touched l.touch-index d c.loop-touch-test.true in
     let so_far = l.invariant.work.2 in
@@ -59,7 +60,7 @@ loop-touch-init c = record {
 pub returns-clause-whole : goal.returns-clause-whole
 returns-clause-whole c =
     let l = c.loop-touch in
-    let none = ap (λ ts. leaving c.args.self.now.pins (with_routes (changes_of c.args.changes.now) c.args.self.now.plan.routes) ts) (drop_all l.touch-index c.args.touched.now c.loop-touch-test.false) in
+    let none = ap (λ ts. leaving c.args.self.now.pins (with_routes (drafts_of c.args.self.now.plan.routes c.args.drafts.now) c.args.self.now.plan.routes) ts) (drop_all l.touch-index c.args.touched.now c.loop-touch-test.false) in
     let all = l.invariant.work.2 in
     within _ _ _ _ _ _ _ _ _ _ l.invariant.work.1 (omega arith) (omega arith) (omega (arith, none, all)) (omega (arith, none, all))
 
@@ -75,6 +76,6 @@ returns-in_err-push-clause-work c =
     let touched = c.args.touched.now in
     let l = c.loop-touch in
     let d : Touch = record { vehicle = 0; place = 0; customer = 0 } in
-    let left = leaving_left held.pins (with_routes (changes_of c.args.changes.now) held.plan.routes) touched l.touch-index d c.loop-touch-test.true in
+    let left = leaving_left held.pins (with_routes (drafts_of held.plan.routes c.args.drafts.now) held.plan.routes) touched l.touch-index d c.loop-touch-test.true in
     let all = l.invariant.work.2 in
     both_within _ _ _ _ _ _ _ _ _ _ _ _ _ _ _ l.invariant.work.1 c.may_leave-may.ensures.work (omega arith) (omega arith) (omega arith) (omega (arith, left, all))
