@@ -42,7 +42,7 @@ short_routes customers limit changes routes few plan apart law k d below =
 pub all_under : {X Y : Type 0} (f : Y → X) (P : X → Type 0) (ys : List Y) (xs : List X) → map f ys ≡ xs → All P xs → All (λ y. P (f y)) ys
 all_under f P ys xs e h k d below =
     let all : All P (map f ys) = subst (λ zs. All P zs) (sym e) h in
-    let within : k < length (map f ys) = omega (arith, below, length-map f ys) in
+    let within : k < length (map f ys) = omega (arith, below, length-map ys f) in
     subst P (get_or-map f ys k d (f d) below) (all k (f d) within)
 
 -- new routes are an effect only of a move that is possible

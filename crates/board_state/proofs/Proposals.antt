@@ -1,5 +1,5 @@
 -- What follows from judging the new routes of a proposal.
-use Rattle.std.proofs.Common.{◌≡◌, ℕ, List, Some, subst}
+use Rattle.std.proofs.Common.{◌≡◌, ℕ, List, Some, subst, sym}
 use Rattle.dimension_core.specs.Setting.{Setting}
 use Rattle.dimension_core.specs.NewRoutes.{AllFit, IsOut}
 use Rattle.plan_core.specs.declared.touch.Touch.{Touch}
@@ -18,6 +18,10 @@ use Rattle.board_state.specs.declared.stop.Stop.TheVariants.{Denied, NoMemory}
 use Rattle.board_state.specs.Held.{HeldState, IsReady, held_basis}
 use Rattle.board_state.specs.Verdicts.{IsStop, IsPinStop, ArePlaceable}
 use Rattle.board_state.proofs.NewPlans.{feasible_all}
+
+-- what holds of two numbers holds of their equals
+pub both_are : (P : ℕ → ℕ → Type 0) (v w d e : ℕ) → v ≡ w → d ≡ e → P w e → P v d
+both_are P v w d e same alike h = subst (λ (n : ℕ). P n d) (sym same) (subst (λ (n : ℕ). P w n) (sym alike) h)
 
 module _ (s : Setting) (held : HeldState) (session base : ℕ) (mv : Move) (ready : IsReady s held)
     (passes : PassesCustomers s (held_basis held session) base mv) (names : named_vehicles (changes_by held.plan.routes mv) ≡ named_by mv) where

@@ -80,13 +80,7 @@ impl State {
     }
 
     /// Whether a customer would leave the vehicle to which it is pinned, and the session may override that.
-    fn may_leave(
-        &self,
-        session: u32,
-        drafts: &[Draft],
-        customer: u32,
-        meter: &mut Meter,
-    ) -> bool
+    fn may_leave(&self, session: u32, drafts: &[Draft], customer: u32, meter: &mut Meter) -> bool
         requires low { 1 ≤ customer }
         requires high { customer ≤ length self.now.pins.pins }
         requires holding { DoPinsHold self.now.pins self.now.plan.routes }

@@ -250,8 +250,8 @@ impl State {
         ensures named { named_vehicles (changes_by self.now.plan.routes mv.now) ≡ named_by mv.now }
         ensures known { (s : Setting) → length self.now.plan.routes ≡ s.vehicles → self.now.plan.customers ≡ s.customers
             → AllKnown s (changes_by self.now.plan.routes mv.now) }
-        ensures short { All (λ c. length c.1 ≤ 1000) (changes_by self.now.plan.routes mv.now) }
-        ensures placeable { ArePlaceable self.now (changes_by self.now.plan.routes mv.now) touched.now }
+        ensures short { OnOk result (All (λ c. length c.1 ≤ 1000) (changes_by self.now.plan.routes mv.now)) }
+        ensures placeable { OnOk result (ArePlaceable self.now (changes_by self.now.plan.routes mv.now) touched.now) }
     {
         moves_name_vehicles();
         moves_keep_plans();

@@ -1,19 +1,45 @@
-use Rattle.std.proofs.Common.{◌≡◌, ◌∙◌, ℕ, ◌+◌, ◌-◌, ◌<◌, ◌≤◌, inl, refl, sym, ap, subst, arith, List, [], ◌∷◌, ◌++◌, length, take, drop, reverse, slice_index, slice_index_or, append_assoc, take_all, Option, Some, None, Bool, true, false, ◌==◌, All}
+use Rattle.std.proofs.Common.{◌≡◌, ◌∙◌, ℕ, ◌+◌, ◌-◌, ◌<◌, ◌≤◌, inl, refl, sym, ap, subst, arith, List, [], ◌∷◌, ◌++◌, length, take, drop, reverse, slice_index, slice_index_or, append_assoc, take_all, Option, Some, None, Bool, true, false, ◌==◌, ◌↔◌, All, IsTrue}
 use Rattle.std.proofs.lemmas.Bool.{eqb-true}
 use Rattle.std.proofs.lemmas.List.{take_more, take-append-drop, get_or_append_left, get_or-append-add, get_or-reverse, length-append, length-reverse}
 use Rattle.callback_store.specs.Tables.{Table, entry, table_at}
 use Rattle.dimension_core.specs.declared.range.Range.{Range}
-use Rattle.dimension_core.specs.Cumuls.{Bounds, IsStep, IsWithin, IsSpan, Reaches, last_of, table_of}
+use Rattle.dimension_core.specs.Cumuls.{Bounds, IsInBounds, IsStep, IsWithin, IsSpan, Reaches, cap_of, last_of, range_of, table_of}
+use Rattle.dimension_core.specs.Spans.{no_range}
 use Rattle.dimension_core.specs.Setting.{Setting}
 use Rattle.dimension_core.specs.Feasible.{FitsAll}
 use Rattle.move_judge.specs.Parts.{way_of}
 use Rattle.move_judge.specs.Given.{Laws}
 
--- what comes after the numbers of an interval, by the answer of the dimension's callback
-pub after_at : (ts : List Table) (d : Bounds) (id way i j v : ℕ) (r : Range) (o : Option Range)
-    → ((t : Table) (n : ℕ) → way ≡ entry t n j → IsSpan o (λ y. (x : ℕ) × IsWithin (Some r) x × IsStep t d v n x j y))
-    → id ≡ d.id → way ≡ entry (table_at ts id) i j → IsSpan o (λ y. (x : ℕ) × IsWithin (Some r) x × IsStep (table_of ts d) d v i x j y)
-after_at ts d id way i j v r o span e answer = span (table_of ts d) i (answer ∙ ap (λ (n : ℕ). entry (table_at ts n) i j) e)
+-- what comes after the numbers of an interval, by the answer of a callback and what the dimension bounds, looked up before
+pub after_by : (t : Table) (d : Bounds) (nodes : List Range) (slack cap way i j v : ℕ) (r : Range) (o : Option Range)
+    → ((t : Table) (b : Bounds) (vehicle m n : ℕ) → way ≡ entry t m n → slice_index_or nodes j no_range ≡ range_of b n → slack ≡ b.slack_max → cap ≡ cap_of b vehicle
+    → IsSpan o (λ y. (x : ℕ) × IsWithin (Some r) x × IsStep t b vehicle m x n y))
+    → nodes ≡ d.ranges → slack ≡ d.slack_max → cap ≡ cap_of d v → way ≡ entry t i j → IsSpan o (λ y. (x : ℕ) × IsWithin (Some r) x × IsStep t d v i x j y)
+after_by t d nodes slack cap way i j v r o span same most capped answer =
+    span t d v i j answer (ap (λ (rs : List Range). slice_index_or rs j no_range) same) most capped
+
+-- a node that a callback knows
+pub asked_node : (n m i : ℕ) → n ≡ m → i < m → i < n
+asked_node n m i e h = omega arith
+
+-- a node's range is among those of the dimension
+pub in_ranges : (i : ℕ) (xs ys : List Range) → xs ≡ ys → i < length ys → i < length xs
+in_ranges i xs ys e h = subst (λ (zs : List Range). i < length zs) (sym e) h
+
+-- the table of a callback, which was looked up by the name that the dimension has for it
+pub looked_up : (t : Table) (ts : List Table) (d : Bounds) (id : ℕ) → t ≡ table_at ts id → id ≡ d.id → t ≡ table_of ts d
+looked_up t ts d id e same = e ∙ ap (λ (n : ℕ). table_at ts n) same
+
+pub as_looked_up : (t u : Table) (P : Table → Type 0) → t ≡ u → P u → P t
+as_looked_up t u P e p = subst P (sym e) p
+
+pub home_as : (t u : Table) (d : Bounds) (v : ℕ) (route : List ℕ) (b : Bool) → t ≡ u → IsTrue b ↔ IsInBounds t d v route → IsTrue b ↔ IsInBounds u d v route
+home_as t u d v route b e h = subst (λ (x : Table). IsTrue b ↔ IsInBounds x d v route) e h
+
+-- the cumuls at a stop after some parts
+pub arrived : (t : Table) (d : Bounds) (v : ℕ) (js route : List ℕ) (next : ℕ) (o : Option Range) → js ≡ route
+    → IsSpan o (Reaches t d v (js ++ next ∷ [])) → IsSpan o (Reaches t d v (route ++ next ∷ []))
+arrived t d v js route next o e s = subst (λ (xs : List ℕ). IsSpan o (Reaches t d v (xs ++ next ∷ []))) e s
 
 module _ (law : Laws) where
   pub last_push : (n : ℕ) (ms : List ℕ) (m : ℕ) → last_of n (ms ++ m ∷ []) ≡ m

@@ -3,6 +3,7 @@ pub mod Near
 pub mod Allowed
 pub mod Scope
 pub mod Parts
+pub mod Lane
 pub mod Kept
 pub mod Between
 pub mod Given

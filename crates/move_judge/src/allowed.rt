@@ -155,63 +155,63 @@ fn is_skipped(skip: &[Move], mv: &Move) -> bool
     skip.contains(mv)
 }
 
-/// Two vehicles, and what is kept of each beside the other.
+/// Two vehicles, which may be one and count from 1, and what is kept of each beside the other: what `Kept::keep_between` or
+/// `Kept::keep_alone` kept last, or nothing.
 #[derive(Clone, Copy)]
-struct Pair<'a> {
-    v: u32,
-    w: u32,
-    v_kept: &'a Kept,
-    w_kept: &'a Kept,
+pub struct Pair<'a> {
+    pub v: u32,
+    pub w: u32,
+    pub v_kept: &'a Kept,
+    pub w_kept: &'a Kept,
+}
+
+/// Some customers of a route, from a place on.
+#[derive(Clone, Copy)]
+struct Moved {
+    place: u32,
+    length: u32,
+}
+
+/// What is kept of the cumuls at the ends of a new route.
+#[derive(Clone, Copy)]
+struct Ends<'a> {
+    ahead: &'a Spans,
+    behind: &'a Spans,
 }
 
 /// Whether a new route of three parts is in bounds.
 #[inline(always)]
-fn parts_fit(
-    setup: &Setup,
-    v: u32,
-    ahead: &Spans,
-    front: &[u32],
-    first: &[u32],
-    back: &[u32],
-    behind: &Spans,
-) -> bool
+fn parts_fit(setup: &Setup, v: u32, ends: Ends, front: &[u32], first: &[u32], back: &[u32]) -> bool
     requires laws { Laws }
     requires known { All (λ c. c ≤ (setting setup.now).customers) (front.now ++ (first.now ++ back.now)) }
     requires low { 1 ≤ v }
     requires high { v ≤ (setting setup.now).vehicles }
-    requires ahead { 0 < ahead.now.width → HasAhead (setting setup.now) v front.now ahead.now }
-    requires behind { 0 < behind.now.width → HasBehind (setting setup.now) v back.now behind.now }
+    requires ahead { 0 < ends.ahead.now.width → HasAhead (setting setup.now) v front.now ends.ahead.now }
+    requires behind { 0 < ends.behind.now.width → HasBehind (setting setup.now) v back.now ends.behind.now }
     ensures { IsTrue result ↔ FitsAll (setting setup.now) v (front.now ++ (first.now ++ back.now)) }
 {
     let parts = Parts {
-        ahead,
+        ahead: ends.ahead,
         front,
         turned: false,
         first,
         second: &[],
         third: &[],
         back,
-        behind,
+        behind: ends.behind,
     };
     fits(setup, v, &parts)
 }
 
 /// Whether the new route of a shift inside a vehicle is in bounds.
-fn shift_inside_fits(
-    view: &View,
-    setup: &Setup,
-    v: u32,
-    place: u32,
-    length: u32,
-    at: u32,
-    kept: &Kept,
-) -> bool
+fn shift_inside_fits(view: &View, setup: &Setup, v: u32, moved: Moved, at: u32, kept: &Kept) -> bool
     requires laws { Laws }
     requires kept { AreKept (setting setup.now) view.now.routes v v kept.now }
     requires view { IsViewOf (setting setup.now) view.now }
-    requires possible { is_possible (setting setup.now).customers view.now.routes (Shift v place length v at) ≡ true }
-    ensures { IsTrue result ↔ AllFit (setting setup.now) (changes_by view.now.routes (Shift v place length v at)) }
+    requires possible { is_possible (setting setup.now).customers view.now.routes (Shift v moved.place moved.length v at) ≡ true }
+    ensures { IsTrue result ↔ AllFit (setting setup.now) (changes_by view.now.routes (Shift v moved.place moved.length v at)) }
 {
+    let Moved { place, length } = moved;
     let route = view.customers(v);
     let stretch = part(route, place, place + length);
     if at < place {
@@ -316,11 +316,13 @@ fn shift_fits(view: &View, setup: &Setup, pair: Pair, place: u32, length: u32, a
     if !parts_fit(
         setup,
         pair.v,
-        &v_kept.ahead,
+        Ends {
+            ahead: &v_kept.ahead,
+            behind: &v_kept.behind,
+        },
         front,
         &[],
         rest,
-        &v_kept.behind,
     ) {
         return false;
     }
@@ -331,11 +333,13 @@ fn shift_fits(view: &View, setup: &Setup, pair: Pair, place: u32, length: u32, a
     parts_fit(
         setup,
         pair.w,
-        &w_kept.ahead,
+        Ends {
+            ahead: &w_kept.ahead,
+            behind: &w_kept.behind,
+        },
         before,
         stretch,
         after,
-        &w_kept.behind,
     )
 }
 
@@ -358,11 +362,13 @@ fn swap_fits(view: &View, setup: &Setup, pair: Pair, place: u32, at: u32) -> boo
     if !parts_fit(
         setup,
         pair.v,
-        &v_kept.ahead,
+        Ends {
+            ahead: &v_kept.ahead,
+            behind: &v_kept.behind,
+        },
         front,
         there,
         rest,
-        &v_kept.behind,
     ) {
         return false;
     }
@@ -372,11 +378,13 @@ fn swap_fits(view: &View, setup: &Setup, pair: Pair, place: u32, at: u32) -> boo
     parts_fit(
         setup,
         pair.w,
-        &w_kept.ahead,
+        Ends {
+            ahead: &w_kept.ahead,
+            behind: &w_kept.behind,
+        },
         before,
         here,
         after,
-        &w_kept.behind,
     )
 }
 
@@ -393,33 +401,45 @@ fn cross_fits(view: &View, setup: &Setup, pair: Pair, keep: u32, keep_other: u32
     let (v_kept, w_kept) = (pair.v_kept, pair.w_kept);
     let (front, tail) = view.customers(pair.v).split_at(keep as usize);
     let (before, end) = view.customers(pair.w).split_at(keep_other as usize);
-    if !parts_fit(setup, pair.v, &v_kept.ahead, front, &[], end, &v_kept.over) {
+    if !parts_fit(
+        setup,
+        pair.v,
+        Ends {
+            ahead: &v_kept.ahead,
+            behind: &v_kept.over,
+        },
+        front,
+        &[],
+        end,
+    ) {
         return false;
     }
     parts_fit(
         setup,
         pair.w,
-        &w_kept.ahead,
+        Ends {
+            ahead: &w_kept.ahead,
+            behind: &w_kept.over,
+        },
         before,
         &[],
         tail,
-        &w_kept.over,
     )
 }
 
 /// Whether a shift between two vehicles keeps the frozen fronts and the pins.
 #[inline(always)]
-fn may_shift(view: &View, setup: &Setup, v: u32, place: u32, length: u32, w: u32, at: u32) -> bool
+fn may_shift(view: &View, setup: &Setup, v: u32, moved: Moved, w: u32, at: u32) -> bool
     requires laws { Laws }
     requires view { IsViewOf (setting setup.now) view.now }
-    requires possible { is_possible (setting setup.now).customers view.now.routes (Shift v place length w at) ≡ true }
+    requires possible { is_possible (setting setup.now).customers view.now.routes (Shift v moved.place moved.length w at) ≡ true }
     requires apart { v ≢ w }
-    ensures { IsTrue result ↔ IsAllowed (scope false (setting setup.now)) view.now [] (Shift v place length w at) }
+    ensures { IsTrue result ↔ IsAllowed (scope false (setting setup.now)) view.now [] (Shift v moved.place moved.length w at) }
 {
     if at < first_free(view, setup, w) {
         return false;
     }
-    may_leave(view, setup, v, place, length)
+    may_leave(view, setup, v, moved.place, moved.length)
 }
 
 /// Whether a shift inside a vehicle keeps its frozen front.
@@ -537,7 +557,7 @@ fn may_go(view: &View, setup: &Setup, mv: Move) -> bool
             if vehicle == to {
                 may_shift_inside(view, setup, vehicle, place, at)
             } else {
-                may_shift(view, setup, vehicle, place, length, to, at)
+                may_shift(view, setup, vehicle, Moved { place, length }, to, at)
             }
         }
         Move::Swap {
@@ -579,32 +599,17 @@ pub fn is_free(view: &View, setup: &Setup, skip: &[Move], v: u32, w: u32, mv: Mo
     may_go(view, setup, mv)
 }
 
-/// Whether the new routes of a move near two vehicles, or near one, that has an effect are in bounds. What is kept for each vehicle is what
-/// `Kept::keep_between` or `Kept::keep_alone` kept last, or nothing.
+/// Whether the new routes of a move near two vehicles, or near one, that has an effect are in bounds.
 #[inline(never)]
-pub fn fits_after(
-    view: &View,
-    setup: &Setup,
-    v: u32,
-    w: u32,
-    v_kept: &Kept,
-    w_kept: &Kept,
-    mv: Move,
-) -> bool
-    requires v_kept { AreKept (setting setup.now) view.now.routes v w v_kept.now }
-    requires w_kept { AreKept (setting setup.now) view.now.routes w v w_kept.now }
+pub fn fits_after(view: &View, setup: &Setup, pair: Pair, mv: Move) -> bool
+    requires v_kept { AreKept (setting setup.now) view.now.routes pair.v pair.w pair.v_kept.now }
+    requires w_kept { AreKept (setting setup.now) view.now.routes pair.w pair.v pair.w_kept.now }
     requires view { IsViewOf (setting setup.now) view.now }
     requires possible { is_possible (setting setup.now).customers view.now.routes mv ≡ true }
-    requires near { IsNear v w mv }
+    requires near { IsNear pair.v pair.w mv }
     ensures { IsTrue result ↔ AllFit (setting setup.now) (changes_by view.now.routes mv) }
 {
     laws_below();
-    let pair = Pair {
-        v,
-        w,
-        v_kept,
-        w_kept,
-    };
     match mv {
         Move::Shift {
             vehicle,
@@ -614,7 +619,14 @@ pub fn fits_after(
             at,
         } => {
             if vehicle == to {
-                shift_inside_fits(view, setup, vehicle, place, length, at, v_kept)
+                shift_inside_fits(
+                    view,
+                    setup,
+                    vehicle,
+                    Moved { place, length },
+                    at,
+                    pair.v_kept,
+                )
             } else {
                 shift_fits(view, setup, pair, place, length, at)
             }
@@ -626,7 +638,7 @@ pub fn fits_after(
             at,
         } => {
             if vehicle == other {
-                swap_inside_fits(view, setup, vehicle, place, at, v_kept)
+                swap_inside_fits(view, setup, vehicle, place, at, pair.v_kept)
             } else {
                 swap_fits(view, setup, pair, place, at)
             }
@@ -635,7 +647,7 @@ pub fn fits_after(
             vehicle,
             first,
             last,
-        } => reverse_fits(view, setup, vehicle, first, last, v_kept),
+        } => reverse_fits(view, setup, vehicle, first, last, pair.v_kept),
         Move::Cross {
             keep,
             keep_other,

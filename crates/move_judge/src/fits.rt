@@ -6,46 +6,57 @@ ghost use Rattle.dimension_core.specs.Feasible.{FitsAll};
 ghost use Rattle.dimension_core.specs.Setup.{setting};
 ghost use Rattle.move_judge.specs.Kept.{GoesOn, HasAhead, HasBehind};
 ghost use Rattle.move_judge.specs.Given.{Laws};
+ghost use Rattle.move_judge.specs.Lane.{IsLane, Knows, Gets};
 ghost use Rattle.move_judge.specs.Scope.{scope};
 ghost use Rattle.move_judge.specs.Parts.{begun_of, route_of, way_of};
 
 use crate::parts::Parts;
-use callback_store::{Meter, Registry};
-use dimension_core::{Dimension, Range, Setup};
+use callback_store::{Callback, Registry, Slot};
+use dimension_core::{Dimension, Range, Setup, range_after};
+
+/// A vehicle in a dimension, and what is looked up of both once for a whole route: the ranges of the nodes, the greatest slack and the
+/// vehicle's capacity.
+#[derive(Clone, Copy)]
+pub(crate) struct Lane<'a> {
+    dimension: &'a Dimension,
+    vehicle: u32,
+    ranges: &'a [Range],
+    slack_max: u64,
+    cap: u64,
+}
 
 /// The cumuls at the last of some more nodes that are visited in the opposite order, and that node: none where there are none.
-fn carry_back(
-    dimension: &Dimension,
-    registry: &Registry,
+#[inline(always)]
+fn carry_back<C: Callback>(
+    callback: &C,
+    lane: &Lane,
     range: Range,
     from: u32,
     nodes: &[u32],
-    vehicle: u32,
 ) -> Option<(Range, u32)>
     requires laws { Laws }
-    requires served { IsServed (tables registry.now) dimension.now }
+    requires lane { IsLane lane.now }
+    requires sized { Knows (C.table callback.now) lane.now }
     requires filled { range.lo ≤ range.hi }
     requires small { range.hi ≤ 1000000000000 }
-    requires from { from < length dimension.now.ranges }
-    requires known { All (λ node. node < length dimension.now.ranges) nodes.now }
-    requires low { 1 ≤ vehicle }
-    requires high { vehicle ≤ length dimension.now.caps }
-    ensures span { (done : List ℕ) → IsSpan (Some range) (Reaches (table_of (tables registry.now) dimension.now) dimension.now vehicle done)
+    requires from { from < length lane.now.dimension.now.ranges }
+    requires known { All (λ node. node < length lane.now.dimension.now.ranges) nodes.now }
+    ensures span { (done : List ℕ) → IsSpan (Some range) (Gets (C.table callback.now) lane.now done)
         → from ≡ last_of 0 done
-        → MatchOption result
-        (IsSpan None (Reaches (table_of (tables registry.now) dimension.now) dimension.now vehicle (done ++ reverse nodes.now)))
-        (λ r. IsSpan (Some r.0) (Reaches (table_of (tables registry.now) dimension.now) dimension.now vehicle (done ++ reverse nodes.now))
+        → MatchOption result (IsSpan None (Gets (C.table callback.now) lane.now (done ++ reverse nodes.now)))
+        (λ r. IsSpan (Some r.0) (Gets (C.table callback.now) lane.now (done ++ reverse nodes.now))
         × (r.1 ≡ last_of 0 (done ++ reverse nodes.now))) }
     ensures filled { IfSome result (λ r. r.0.lo ≤ r.0.hi) }
     ensures small { IfSome result (λ r. r.0.hi ≤ 1000000000000) }
-    ensures known { IfSome result (λ r. r.1 < length dimension.now.ranges) }
+    ensures known { IfSome result (λ r. r.1 < length lane.now.dimension.now.ranges) }
 {
+    let (ranges, slack_max, cap) = (lane.ranges, lane.slack_max, lane.cap);
     let mut range = range;
     let mut from = from;
     for k in 0..nodes.len() {
         let node = nodes[nodes.len() - 1 - k];
-        let way = registry.ask(dimension.id(), &mut Meter::new(), from, node);
-        range = dimension.after(range, way, node, vehicle)?;
+        let way = callback.answer_way(from, node);
+        range = range_after(range, way, ranges[node as usize], slack_max, cap)?;
         from = node;
     }
     Some((range, from))
@@ -53,37 +64,35 @@ fn carry_back(
 
 /// The cumuls at the last of some more nodes, and that node: none where there are none.
 #[inline(always)]
-fn carry_on(
-    dimension: &Dimension,
-    registry: &Registry,
+fn carry_on<C: Callback>(
+    callback: &C,
+    lane: &Lane,
     range: Range,
     from: u32,
     nodes: &[u32],
-    vehicle: u32,
 ) -> Option<(Range, u32)>
     requires laws { Laws }
-    requires served { IsServed (tables registry.now) dimension.now }
+    requires lane { IsLane lane.now }
+    requires sized { Knows (C.table callback.now) lane.now }
     requires filled { range.lo ≤ range.hi }
     requires small { range.hi ≤ 1000000000000 }
-    requires from { from < length dimension.now.ranges }
-    requires known { All (λ node. node < length dimension.now.ranges) nodes.now }
-    requires low { 1 ≤ vehicle }
-    requires high { vehicle ≤ length dimension.now.caps }
-    ensures span { (done : List ℕ) → IsSpan (Some range) (Reaches (table_of (tables registry.now) dimension.now) dimension.now vehicle done)
+    requires from { from < length lane.now.dimension.now.ranges }
+    requires known { All (λ node. node < length lane.now.dimension.now.ranges) nodes.now }
+    ensures span { (done : List ℕ) → IsSpan (Some range) (Gets (C.table callback.now) lane.now done)
         → from ≡ last_of 0 done
-        → MatchOption result
-        (IsSpan None (Reaches (table_of (tables registry.now) dimension.now) dimension.now vehicle (done ++ nodes.now)))
-        (λ r. IsSpan (Some r.0) (Reaches (table_of (tables registry.now) dimension.now) dimension.now vehicle (done ++ nodes.now))
+        → MatchOption result (IsSpan None (Gets (C.table callback.now) lane.now (done ++ nodes.now)))
+        (λ r. IsSpan (Some r.0) (Gets (C.table callback.now) lane.now (done ++ nodes.now))
         × (r.1 ≡ last_of 0 (done ++ nodes.now))) }
     ensures filled { IfSome result (λ r. r.0.lo ≤ r.0.hi) }
     ensures small { IfSome result (λ r. r.0.hi ≤ 1000000000000) }
-    ensures known { IfSome result (λ r. r.1 < length dimension.now.ranges) }
+    ensures known { IfSome result (λ r. r.1 < length lane.now.dimension.now.ranges) }
 {
+    let (ranges, slack_max, cap) = (lane.ranges, lane.slack_max, lane.cap);
     let mut range = range;
     let mut from = from;
     for node in nodes {
-        let way = registry.ask(dimension.id(), &mut Meter::new(), from, *node);
-        range = dimension.after(range, way, *node, vehicle)?;
+        let way = callback.answer_way(from, *node);
+        range = range_after(range, way, ranges[*node as usize], slack_max, cap)?;
         from = *node;
     }
     Some((range, from))
@@ -91,37 +100,34 @@ fn carry_on(
 
 /// The cumuls at the last of some more nodes, as they stand or driven back, and that node: none where there are none.
 #[inline(always)]
-fn carry_way(
-    dimension: &Dimension,
-    registry: &Registry,
+fn carry_way<C: Callback>(
+    callback: &C,
+    lane: &Lane,
     range: Range,
     from: u32,
     turned: bool,
     nodes: &[u32],
-    vehicle: u32,
 ) -> Option<(Range, u32)>
     requires laws { Laws }
-    requires served { IsServed (tables registry.now) dimension.now }
+    requires lane { IsLane lane.now }
+    requires sized { Knows (C.table callback.now) lane.now }
     requires filled { range.lo ≤ range.hi }
     requires small { range.hi ≤ 1000000000000 }
-    requires from { from < length dimension.now.ranges }
-    requires known { All (λ node. node < length dimension.now.ranges) nodes.now }
-    requires low { 1 ≤ vehicle }
-    requires high { vehicle ≤ length dimension.now.caps }
-    ensures span { (done : List ℕ) → IsSpan (Some range) (Reaches (table_of (tables registry.now) dimension.now) dimension.now vehicle done)
+    requires from { from < length lane.now.dimension.now.ranges }
+    requires known { All (λ node. node < length lane.now.dimension.now.ranges) nodes.now }
+    ensures span { (done : List ℕ) → IsSpan (Some range) (Gets (C.table callback.now) lane.now done)
         → from ≡ last_of 0 done
-        → MatchOption result
-        (IsSpan None (Reaches (table_of (tables registry.now) dimension.now) dimension.now vehicle (done ++ way_of turned nodes.now)))
-        (λ r. IsSpan (Some r.0) (Reaches (table_of (tables registry.now) dimension.now) dimension.now vehicle
-        (done ++ way_of turned nodes.now)) × (r.1 ≡ last_of 0 (done ++ way_of turned nodes.now))) }
+        → MatchOption result (IsSpan None (Gets (C.table callback.now) lane.now (done ++ way_of turned nodes.now)))
+        (λ r. IsSpan (Some r.0) (Gets (C.table callback.now) lane.now (done ++ way_of turned nodes.now))
+        × (r.1 ≡ last_of 0 (done ++ way_of turned nodes.now))) }
     ensures filled { IfSome result (λ r. r.0.lo ≤ r.0.hi) }
     ensures small { IfSome result (λ r. r.0.hi ≤ 1000000000000) }
-    ensures known { IfSome result (λ r. r.1 < length dimension.now.ranges) }
+    ensures known { IfSome result (λ r. r.1 < length lane.now.dimension.now.ranges) }
 {
     if turned {
-        carry_back(dimension, registry, range, from, nodes, vehicle)
+        carry_back(callback, lane, range, from, nodes)
     } else {
-        carry_on(dimension, registry, range, from, nodes, vehicle)
+        carry_on(callback, lane, range, from, nodes)
     }
 }
 
@@ -143,34 +149,55 @@ fn next_stop(back: &[u32]) -> u32
     if back.is_empty() { 0 } else { back[0] }
 }
 
+/// The cumuls at a stop after those at another one: none where there are none.
+#[inline(always)]
+fn step_to<C: Callback>(
+    callback: &C,
+    lane: &Lane,
+    range: Range,
+    from: u32,
+    next: u32,
+) -> Option<Range>
+    requires laws { Laws }
+    requires lane { IsLane lane.now }
+    requires sized { Knows (C.table callback.now) lane.now }
+    requires filled { range.lo ≤ range.hi }
+    requires small { range.hi ≤ 1000000000000 }
+    requires from { from < length lane.now.dimension.now.ranges }
+    requires next { next < length lane.now.dimension.now.ranges }
+    ensures { (route : List ℕ) → IsSpan (Some range) (Gets (C.table callback.now) lane.now route) → from ≡ last_of 0 route
+        → IsSpan result (Gets (C.table callback.now) lane.now (route ++ next ∷ [])) }
+{
+    let (ranges, slack_max, cap) = (lane.ranges, lane.slack_max, lane.cap);
+    let way = callback.answer_way(from, next);
+    range_after(range, way, ranges[next as usize], slack_max, cap)
+}
+
 /// The cumuls at the next stop after the parts of a new route but its last one, by those after its first part: none where there are none.
-fn arrival(
-    dimension: &Dimension,
-    registry: &Registry,
-    vehicle: u32,
+#[inline(always)]
+fn arrival<C: Callback>(
+    callback: &C,
+    lane: &Lane,
     here: Range,
     parts: &Parts,
     next: u32,
 ) -> Option<Range>
     requires laws { Laws }
-    requires served { IsServed (tables registry.now) dimension.now }
-    requires here { IsSpan (Some here) (Reaches (table_of (tables registry.now) dimension.now) dimension.now vehicle parts.now.front.now) }
-    requires known { All (λ node. node < length dimension.now.ranges) (begun_of parts.now) }
-    requires next { next < length dimension.now.ranges }
-    requires low { 1 ≤ vehicle }
-    requires high { vehicle ≤ length dimension.now.caps }
-    ensures { IsSpan result (Reaches (table_of (tables registry.now) dimension.now) dimension.now vehicle
-        (begun_of parts.now ++ next ∷ [])) }
+    requires lane { IsLane lane.now }
+    requires sized { Knows (C.table callback.now) lane.now }
+    requires here { IsSpan (Some here) (Gets (C.table callback.now) lane.now parts.now.front.now) }
+    requires known { All (λ node. node < length lane.now.dimension.now.ranges) (begun_of parts.now) }
+    requires next { next < length lane.now.dimension.now.ranges }
+    ensures { IsSpan result (Gets (C.table callback.now) lane.now (begun_of parts.now ++ next ∷ [])) }
 {
-    let _nodes = dimension.nodes();
-    dimension.spans_are_small();
+    let _nodes = lane.dimension.nodes();
+    lane.dimension.spans_are_small();
     let from = last_stop(parts.front);
     let (turned, first) = (parts.turned, parts.first);
-    let (range, from) = carry_way(dimension, registry, here, from, turned, first, vehicle)?;
-    let (range, from) = carry_on(dimension, registry, range, from, parts.second, vehicle)?;
-    let (range, from) = carry_on(dimension, registry, range, from, parts.third, vehicle)?;
-    let way = registry.ask(dimension.id(), &mut Meter::new(), from, next);
-    dimension.after(range, way, next, vehicle)
+    let (range, from) = carry_way(callback, lane, here, from, turned, first)?;
+    let (range, from) = carry_on(callback, lane, range, from, parts.second)?;
+    let (range, from) = carry_on(callback, lane, range, from, parts.third)?;
+    step_to(callback, lane, range, from, next)
 }
 
 /// Whether two ranges have a number in common.
@@ -180,7 +207,45 @@ fn overlap(here: Range, there: Range) -> bool
     here.lo.max(there.lo) <= here.hi.min(there.hi)
 }
 
-/// Whether a new route is in bounds in a dimension, by the cumuls after its first part and those before its last one.
+/// Whether a new route is in bounds in a dimension, by the cumuls after its first part and those before its last one, with the callback of
+/// the dimension at hand.
+fn joins_by<C: Callback>(
+    callback: &C,
+    dimension: &Dimension,
+    vehicle: u32,
+    here: Range,
+    parts: &Parts,
+    there: Range,
+) -> bool
+    requires laws { Laws }
+    requires sized { (C.table callback.now).size ≡ length dimension.now.ranges }
+    requires here { IsSpan (Some here) (Reaches (C.table callback.now) dimension.now vehicle parts.now.front.now) }
+    requires there { IsSpan (Some there) (GoesOn (C.table callback.now) dimension.now vehicle (parts.now.back.now ++ 0 ∷ [])) }
+    requires some { 0 < length (route_of parts.now) }
+    requires known { All (λ node. node < length dimension.now.ranges) (route_of parts.now) }
+    requires low { 1 ≤ vehicle }
+    requires high { vehicle ≤ length dimension.now.caps }
+    ensures { IsTrue result ↔ IsInBounds (C.table callback.now) dimension.now vehicle (route_of parts.now) }
+{
+    let _nodes = dimension.nodes();
+    let ranges = dimension.ranges();
+    let slack_max = dimension.slack_max();
+    let cap = dimension.cap(vehicle);
+    let lane = Lane {
+        dimension,
+        vehicle,
+        ranges,
+        slack_max,
+        cap,
+    };
+    let next = next_stop(parts.back);
+    match arrival(callback, &lane, here, parts, next) {
+        None => false,
+        Some(arrived) => overlap(arrived, there),
+    }
+}
+
+/// The same. What kind of callback the dimension has is looked at once.
 fn joins(
     dimension: &Dimension,
     registry: &Registry,
@@ -200,11 +265,12 @@ fn joins(
     requires high { vehicle ≤ length dimension.now.caps }
     ensures { IsTrue result ↔ IsInBounds (table_of (tables registry.now) dimension.now) dimension.now vehicle (route_of parts.now) }
 {
-    let _nodes = dimension.nodes();
-    let next = next_stop(parts.back);
-    match arrival(dimension, registry, vehicle, here, parts, next) {
-        None => false,
-        Some(arrived) => overlap(arrived, there),
+    match registry.callback(dimension.id()) {
+        Slot::Pair(callback) => joins_by(callback, dimension, vehicle, here, parts, there),
+        Slot::Node(callback) => joins_by(callback, dimension, vehicle, here, parts, there),
+        Slot::Listed(callback) => joins_by(callback, dimension, vehicle, here, parts, there),
+        Slot::Values(callback) => joins_by(callback, dimension, vehicle, here, parts, there),
+        Slot::Stayed(callback) => joins_by(callback, dimension, vehicle, here, parts, there),
     }
 }
 
@@ -257,34 +323,62 @@ fn is_nothing(parts: &Parts) -> bool
 }
 
 /// The cumuls with which a vehicle returns from a new route, by those with which it leaves.
-fn homecoming(
-    dimension: &Dimension,
-    registry: &Registry,
-    vehicle: u32,
-    here: Range,
-    parts: &Parts,
-) -> Option<Range>
+#[inline(always)]
+fn homecoming<C: Callback>(callback: &C, lane: &Lane, here: Range, parts: &Parts) -> Option<Range>
     requires laws { Laws }
-    requires served { IsServed (tables registry.now) dimension.now }
-    requires here { IsSpan (Some here) (Reaches (table_of (tables registry.now) dimension.now) dimension.now vehicle []) }
+    requires lane { IsLane lane.now }
+    requires sized { Knows (C.table callback.now) lane.now }
+    requires here { IsSpan (Some here) (Gets (C.table callback.now) lane.now []) }
     requires small { here.hi ≤ 1000000000000 }
+    requires known { All (λ node. node < length lane.now.dimension.now.ranges) (route_of parts.now) }
+    ensures { IsSpan result (Gets (C.table callback.now) lane.now (route_of parts.now ++ 0 ∷ [])) }
+{
+    let _nodes = lane.dimension.nodes();
+    let (turned, first) = (parts.turned, parts.first);
+    let (range, from) = carry_on(callback, lane, here, 0, parts.front)?;
+    let (range, from) = carry_way(callback, lane, range, from, turned, first)?;
+    let (range, from) = carry_on(callback, lane, range, from, parts.second)?;
+    let (range, from) = carry_on(callback, lane, range, from, parts.third)?;
+    let (range, from) = carry_on(callback, lane, range, from, parts.back)?;
+    step_to(callback, lane, range, from, 0)
+}
+
+/// Whether a new route is in bounds in a dimension, by its whole way, with the callback of the dimension at hand.
+fn comes_home_by<C: Callback>(
+    callback: &C,
+    dimension: &Dimension,
+    vehicle: u32,
+    parts: &Parts,
+) -> bool
+    requires laws { Laws }
+    requires sized { (C.table callback.now).size ≡ length dimension.now.ranges }
+    requires some { 0 < length (route_of parts.now) }
     requires known { All (λ node. node < length dimension.now.ranges) (route_of parts.now) }
     requires low { 1 ≤ vehicle }
     requires high { vehicle ≤ length dimension.now.caps }
-    ensures { IsSpan result (Reaches (table_of (tables registry.now) dimension.now) dimension.now vehicle (route_of parts.now ++ 0 ∷ [])) }
+    ensures { IsTrue result ↔ IsInBounds (C.table callback.now) dimension.now vehicle (route_of parts.now) }
 {
-    let _nodes = dimension.nodes();
-    let (turned, first) = (parts.turned, parts.first);
-    let (range, from) = carry_on(dimension, registry, here, 0, parts.front, vehicle)?;
-    let (range, from) = carry_way(dimension, registry, range, from, turned, first, vehicle)?;
-    let (range, from) = carry_on(dimension, registry, range, from, parts.second, vehicle)?;
-    let (range, from) = carry_on(dimension, registry, range, from, parts.third, vehicle)?;
-    let (range, from) = carry_on(dimension, registry, range, from, parts.back, vehicle)?;
-    let way = registry.ask(dimension.id(), &mut Meter::new(), from, 0);
-    dimension.after(range, way, 0, vehicle)
+    match dimension.start(vehicle) {
+        None => false,
+        Some(here) => {
+            let ranges = dimension.ranges();
+            let slack_max = dimension.slack_max();
+            let cap = dimension.cap(vehicle);
+            let lane = Lane {
+                dimension,
+                vehicle,
+                ranges,
+                slack_max,
+                cap,
+            };
+            let home = homecoming(callback, &lane, here, parts);
+            home.is_some()
+        }
+    }
 }
 
-/// Whether a new route is in bounds in a dimension, by its whole way.
+/// The same. What kind of callback the dimension has is looked at once.
+#[inline(always)]
 fn comes_home(dimension: &Dimension, registry: &Registry, vehicle: u32, parts: &Parts) -> bool
     requires laws { Laws }
     requires served { IsServed (tables registry.now) dimension.now }
@@ -294,12 +388,12 @@ fn comes_home(dimension: &Dimension, registry: &Registry, vehicle: u32, parts: &
     requires high { vehicle ≤ length dimension.now.caps }
     ensures { IsTrue result ↔ IsInBounds (table_of (tables registry.now) dimension.now) dimension.now vehicle (route_of parts.now) }
 {
-    match dimension.start(vehicle) {
-        None => false,
-        Some(here) => {
-            let home = homecoming(dimension, registry, vehicle, here, parts);
-            home.is_some()
-        }
+    match registry.callback(dimension.id()) {
+        Slot::Pair(callback) => comes_home_by(callback, dimension, vehicle, parts),
+        Slot::Node(callback) => comes_home_by(callback, dimension, vehicle, parts),
+        Slot::Listed(callback) => comes_home_by(callback, dimension, vehicle, parts),
+        Slot::Values(callback) => comes_home_by(callback, dimension, vehicle, parts),
+        Slot::Stayed(callback) => comes_home_by(callback, dimension, vehicle, parts),
     }
 }
 

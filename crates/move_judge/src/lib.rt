@@ -8,6 +8,6 @@ mod kept;
 mod laws;
 mod parts;
 
-pub use allowed::{first_free, fits_after, is_free, loose_from, may_leave, must_keep};
+pub use allowed::{Pair, first_free, fits_after, is_free, loose_from, may_leave, must_keep};
 pub use kept::Kept;
 pub use laws::{allowed_moves_are_free, bounds_only_forbid};

@@ -8,7 +8,7 @@ ghost use Rattle.neighbourhood.specs.Searched.{searched, CountsIn, IsPossible, I
 
 use crate::searched::Search;
 use move_core::Move;
-use move_judge::{fits_after, is_free};
+use move_judge::{Pair, fits_after, is_free};
 
 /// Whether a move near the two vehicles, or near the one, that has an effect is allowed; where `bounded` is false, with the dimensions
 /// left out.
@@ -26,14 +26,23 @@ fn is_allowed(search: &Search, mv: Move) -> bool
     if !search.bounded {
         return true;
     }
-    fits_after(view, setup, v, w, search.v_kept, search.w_kept, mv)
+    let pair = Pair {
+        v,
+        w,
+        v_kept: search.v_kept,
+        w_kept: search.w_kept,
+    };
+    fits_after(view, setup, pair, mv)
 }
 
-/// The best move so far and what it gains, if there is one.
+/// The best move so far and what it gains, if there is one. The gain stands beside it too, 0 where there is none, since it is asked for at
+/// each row.
 #[derive(Clone, Copy)]
 pub(crate) struct Best {
     pub(crate) found: Option<(Move, u64)>,
-    ghost small: { gain_of found < 2 ^ 60 },
+    gain: u64,
+    ghost gained: { gain ≡ gain_of found },
+    ghost small: { gain < 2 ^ 60 },
 }
 
 impl Best {
@@ -42,7 +51,10 @@ impl Best {
     pub(crate) fn none() -> Best
         ensures { result.found ≡ None }
     {
-        Best { found: None }
+        Best {
+            found: None,
+            gain: 0,
+        }
     }
 
     /// What it gains.
@@ -51,10 +63,7 @@ impl Best {
         ensures value { result ≡ gain_of self.found }
         ensures small { result < 2 ^ 60 }
     {
-        match self.found {
-            None => 0,
-            Some((_, gain)) => gain,
-        }
+        self.gain
     }
 
     /// What a candidate has to gain over what it gains already, to be better.
@@ -88,6 +97,7 @@ impl Best {
         }
         Best {
             found: Some((mv, gain)),
+            gain,
         }
     }
 }

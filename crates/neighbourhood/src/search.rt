@@ -18,7 +18,7 @@ use crate::shift::{best_shift, best_shift_inside};
 use crate::swap::{best_swap, best_swap_inside};
 use dimension_core::Setup;
 use move_core::Move;
-use move_judge::{Kept, fits_after};
+use move_judge::{Kept, Pair, fits_after};
 use pin_core::View;
 use std::alloc::{AllocError, Global};
 use way_costs::{Along, Sides, Ways, fill_stops, most_of, parts_of};
@@ -90,9 +90,15 @@ fn holds_up(search: Search, found: Option<(Move, u64)>) -> bool
         w_kept,
         ..
     } = search;
+    let pair = Pair {
+        v,
+        w,
+        v_kept,
+        w_kept,
+    };
     match found {
         None => true,
-        Some((mv, _)) => fits_after(view, setup, v, w, v_kept, w_kept, mv),
+        Some((mv, _)) => fits_after(view, setup, pair, mv),
     }
 }
 

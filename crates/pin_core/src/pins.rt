@@ -276,7 +276,8 @@ fn is_drafted(plan: &Plan, draft: &Draft, customer: u32, near: &mut usize) -> bo
     is_on(draft.rest(), customer, near) || is_kept(plan, draft, customer)
 }
 
-/// Whether a customer is among those that a draft keeps.
+/// Whether a customer is among those that a draft keeps. Out of line, since few customers are pinned.
+#[inline(never)]
 fn is_kept(plan: &Plan, draft: &Draft, customer: u32) -> bool
     requires low { 1 ≤ draft.now.vehicle }
     requires high { draft.now.vehicle ≤ length plan.now.routes }

@@ -1,20 +1,20 @@
 -- What is answered where a row of a new route is made.
-use Rattle.std.proofs.Common.{◌≡◌, ◌∙◌, ℕ, ◌+◌, ◌*◌, ◌==◌, ◌<◌, ◌≤◌, Fits, w32, w64, Bool, true, false, inl, refl, ap, sym, subst, arith, List, [], ◌∷◌, length, take, Result, Ok, Err, IfErr, eqb-true, mul-le-mul}
-use Rattle.std.specs.Prelude.{OnOk, slice_index_or}
-use Rattle.std.proofs.Math.Nat.{mul-le-mul_right}
+use Rattle.std.proofs.Common.{◌≡◌, ◌∙◌, ℕ, ◌+◌, ◌*◌, ◌<◌, ◌≤◌, Fits, w32, w64, inl, refl, ap, sym, subst, arith, List, [], ◌∷◌, length, Result, Ok, Err, IfErr, mul-le-mul, ◌++◌, ◌-◌, length-append}
+use Rattle.std.specs.Prelude.{OnOk}
 use Rattle.callback_store.specs.declared.meter.Meter.{Meter}
 use Rattle.callback_store.specs.Meter.{Asks, AsksJust, AsksAtMost, none_asked}
 use Rattle.dimension_core.specs.declared.range.Range.{Range}
 use Rattle.dimension_core.specs.Cumuls.{Bounds}
 use Rattle.dimension_core.specs.Feasible.{FitsAll, FitsIn}
 use Rattle.dimension_core.specs.Setting.{Setting}
-use Rattle.dimension_core.specs.Spans.{IsSpanOf, no_range}
+use Rattle.plan_core.specs.Front.{common_front}
 use Rattle.range_cache.specs.Asks.{walk_asks}
-use Rattle.range_cache.specs.Cache.{RowState, IsRowOf}
+use Rattle.range_cache.specs.Cache.{RowState}
 use Rattle.range_cache.specs.Row.{IsRowFault, AsksToRowFault, row_asks}
 use Rattle.range_cache.specs.declared.fault.JudgeFault.{JudgeFault}
-use Rattle.range_cache.specs.declared.fault.JudgeFault.TheVariants.{NoMemory}
-use Rattle.range_cache.proofs.Rows.{AreFilled, filled_none}
+use Rattle.range_cache.specs.declared.fault.JudgeFault.TheVariants.{Bound, NoMemory}
+use Rattle.range_cache.specs.Parts.{IsTailOf}
+use Rattle.range_cache.proofs.Rows.{AreFilled, IsFound}
 use Rattle.range_cache.proofs.Walking.{asks_few}
 
 -- numbers that fit
@@ -40,19 +40,17 @@ count_fits k xs ys e most h = let same = ap length e in omega arith
 pub in_place : (k : ℕ) (xs ys : List Bounds) → xs ≡ ys → k < length xs → k < length ys
 in_place k xs ys e h = subst (λ (zs : List Bounds). k < length zs) e h
 
--- the test whether a route is empty
-pub some_from : (r : List ℕ) (b : Bool) → b ≡ (length r == 0) → b ≡ false → 0 < length r
-some_from [] b e f = let both : false ≡ true = sym f ∙ e in absurd cc
-some_from (x ∷ r) b e f = omega arith
+-- the parts of a route
+pub part_short : (before after : List ℕ) → length (before ++ after) ≤ 1000 → length after ≤ 1000
+part_short before after short = let e = length-append before after in omega (arith, e, short)
 
--- the first ranges of a dimension are within the row
-pub front_within : (s : Setting) (v : ℕ) (old : List ℕ) (row : RowState) (d front : ℕ) → IsRowOf s v old row → d < length s.dimensions → front ≤ length old
-    → d * row.stops + front ≤ length row.ranges
-front_within s v old row d front kept h few =
-    let below : (d + 1) * row.stops ≤ length s.dimensions * row.stops = mul-le-mul_right row.stops (omega arith) in
-    let stops = kept.counted in
-    let sized = kept.sized in
-    omega arith
+pub both_fit : (before after : List ℕ) → length (before ++ after) ≤ 1000 → Fits w64 (length before + length after)
+both_fit before after short = let e = length-append before after in omega (arith, e, short)
+
+pub some_route : (before after : List ℕ) → (length before + length after ≡ 0 → ⊥) → 0 < length (before ++ after)
+some_route [] [] none = absurd (none (omega arith))
+some_route [] (x ∷ after) none = omega arith
+some_route (x ∷ before) after none = omega arith
 
 -- what a change of a row answers, where R says that the row is the new one
 pub record IsChange (s : Setting) (v : ℕ) (old new : List ℕ) (from to : Meter) (r : Result (Unit {0}) JudgeFault) (R : Type 0) : Type 0 where
@@ -80,39 +78,43 @@ none_last : (m : Meter) (n : ℕ) → AsksJust m m (n * 0)
 none_last m n = let none : n * 0 ≡ 0 = omega arith in subst (λ (k : ℕ). AsksJust m m k) (sym none) (none_asked m)
 
 -- an empty route
-pub nothing_left : (s : Setting) (v : ℕ) (old new : List ℕ) (m : Meter) (b : Bool) (ranges : List Range) → b ≡ (length new == 0) → b ≡ true → ranges ≡ []
-    → IsChange s v old new m m (Ok tt) (IsRowOf s v new (record { stops = length new; ranges = ranges }))
-nothing_left s v old [] m b ranges e t none =
+pub nothing_left : (s : Setting) (v : ℕ) (before after : List ℕ) (m : Meter) (ranges : List Range) → length before + length after ≡ 0 → ranges ≡ []
+    → IsChange s v before (before ++ after) m m (Ok tt) (IsTailOf s v (length before) (before ++ after) (record { stops = length after; ranges = ranges }))
+nothing_left s v [] [] m ranges e none =
     let asked : AsksJust m m (length s.dimensions * 0) = none_last m (length s.dimensions) in
     record {
       fits = λ k h. ∣ inl refl ∣₁;
-      row = subst (λ (xs : List Range). IsRowOf s v [] (record { stops = 0; ranges = xs })) (sym none)
-          (record { counted = refl; sized = omega arith; spans = λ d k h l. absurd (omega arith) });
+      row = subst (λ (xs : List Range). IsTailOf s v 0 [] (record { stops = 0; ranges = xs })) (sym none)
+          (record { counted = omega arith; sized = omega arith; spans = λ d k h l. absurd (omega arith) });
       fault = tt;
       asks = asks_few m m _ asked;
       whole = asked;
       least = tt;
       missed = tt;
     }
-nothing_left s v old (x ∷ new) m b ranges e t none = let n : length (x ∷ new) ≡ 0 = eqb-true (length (x ∷ new)) 0 (sym e ∙ t) in absurd (omega arith)
+nothing_left s v [] (x ∷ after) m ranges e none = absurd (omega arith)
+nothing_left s v (x ∷ before) after m ranges e none = absurd (omega arith)
 
 all_places : (d n m : ℕ) → n ≡ m → n ≤ d → d ≤ n → d ≡ m
 all_places d n m e last first = omega arith
 
 -- a route that is in bounds in each dimension
-pub all_filled : (s : Setting) (v : ℕ) (old new : List ℕ) (from to : Meter) (row : RowState) (d : ℕ) (xs : List Bounds) → xs ≡ s.dimensions → length xs ≤ d → d ≤ length xs
-    → row.stops ≡ length new → AreFilled s v new d row.ranges → ((k : ℕ) → k < d → FitsIn s k v new) → AsksJust from to (d * walk_asks old new)
-    → IsChange s v old new from to (Ok tt) (IsRowOf s v new row)
-all_filled s v old new from to row d xs is last first counted filled fits asked =
+pub all_filled : (s : Setting) (v : ℕ) (before after : List ℕ) (from to : Meter) (row : RowState) (d : ℕ) (xs : List Bounds) → xs ≡ s.dimensions → length xs ≤ d → d ≤ length xs
+    → row.stops ≡ length after → AreFilled (IsFound s v (length before) (before ++ after)) (length after) d row.ranges → ((k : ℕ) → k < d → FitsIn s k v (before ++ after))
+    → AsksJust from to (d * walk_asks before (before ++ after)) → IsChange s v before (before ++ after) from to (Ok tt) (IsTailOf s v (length before) (before ++ after) row)
+all_filled s v before after from to row d xs is last first counted filled fits asked =
     let all : d ≡ length s.dimensions = all_places d (length xs) (length s.dimensions) (ap length is) last first in
-    let whole : AsksJust from to (length s.dimensions * walk_asks old new) = subst (λ (n : ℕ). AsksJust from to (n * walk_asks old new)) all asked in
-    let done : AreFilled s v new (length s.dimensions) row.ranges = subst (λ (n : ℕ). AreFilled s v new n row.ranges) all filled in
+    let whole : AsksJust from to (length s.dimensions * walk_asks before (before ++ after)) = subst (λ (n : ℕ). AsksJust from to (n * walk_asks before (before ++ after))) all asked in
+    let same : AreFilled (IsFound s v (length before) (before ++ after)) (length after) (length s.dimensions) row.ranges =
+    subst (λ (n : ℕ). AreFilled (IsFound s v (length before) (before ++ after)) (length after) n row.ranges) all filled in
+    let done : AreFilled (IsFound s v (length before) (before ++ after)) row.stops (length s.dimensions) row.ranges =
+    subst (λ (n : ℕ). AreFilled (IsFound s v (length before) (before ++ after)) n (length s.dimensions) row.ranges) (sym counted) same in
     record {
-      fits = subst (λ (m : ℕ). (k : ℕ) → k < m → FitsIn s k v new) all fits;
+      fits = subst (λ (m : ℕ). (k : ℕ) → k < m → FitsIn s k v (before ++ after)) all fits;
       row = record {
-        counted = counted;
-        sized = done.sized ∙ ap (λ (n : ℕ). length s.dimensions * n) (sym counted);
-        spans = subst (λ (n : ℕ). (d k : ℕ) → d < length s.dimensions → k < length new → IsSpanOf s d v (take (k + 1) new) (slice_index_or row.ranges (d * n + k) no_range)) (sym counted) done.each;
+        counted = ap (λ (n : ℕ). length before + n) counted ∙ sym (length-append before after);
+        sized = done.sized;
+        spans = done.each;
       };
       fault = tt;
       asks = asks_few from to _ whole;
@@ -120,9 +122,6 @@ all_filled s v old new from to row d xs is last first counted filled fits asked 
       least = tt;
       missed = tt;
     }
-
-pub filled_first : (s : Setting) (v : ℕ) (route : List ℕ) (xs : List Range) → xs ≡ [] → AreFilled s v route 0 xs
-filled_first s v route xs e = subst (λ (ys : List Range). AreFilled s v route 0 ys) (sym e) (filled_none s v route)
 
 -- room for all ranges
 pub room_first : (n room : ℕ) (xs ys : List Bounds) → xs ≡ ys → length xs * n ≤ room → length ys * n ≤ room
@@ -134,8 +133,35 @@ room_kept n a b enough more = omega arith
 pub fits_none : (s : Setting) (v : ℕ) (route : List ℕ) (d : ℕ) → d < 0 → FitsIn s d v route
 fits_none s v route d h = absurd (omega arith)
 
--- the same of equal routes
-pub changed_as : (s : Setting) (v : ℕ) (old old' new new' : List ℕ) (from to : Meter) (r : Result (Unit {0}) JudgeFault) (row : RowState) → old ≡ old' → new ≡ new'
-    → IsChange s v old new from to r (IsRowOf s v new row) → IsChange s v old' new' from to r (IsRowOf s v new' row)
-changed_as s v old old' new new' from to r row e f change =
-    subst (λ (xs : List ℕ). IsChange s v xs new' from to r (IsRowOf s v new' row)) e (subst (λ (xs : List ℕ). IsChange s v old xs from to r (IsRowOf s v xs row)) f change)
+-- the same of another old route, which the new one leaves at the same place
+walk_asks_as : (old other new : List ℕ) → common_front other new ≡ common_front old new → walk_asks other new ≡ walk_asks old new
+walk_asks_as old other [] e = refl
+walk_asks_as old other (c ∷ cs) e = ap (λ (n : ℕ). length (c ∷ cs) + 1 - n) e
+
+miss_as : (s : Setting) (v : ℕ) (old other new : List ℕ) (from to : Meter) (f : JudgeFault) → common_front other new ≡ common_front old new
+    → AsksToRowFault s other v new from to f → AsksToRowFault s old v new from to f
+miss_as s v old other new from to NoMemory e p = subst (λ (n : ℕ). AsksAtMost from to (length s.dimensions * n)) (walk_asks_as old other new e) p
+miss_as s v old other new from to (Bound w d) e p =
+    let k : ℕ = p.1.0 in
+    let all = walk_asks_as old other new e in
+    let same : (d - 1) * walk_asks other new + (k - common_front other new) ≡ (d - 1) * walk_asks old new + (k - common_front old new) =
+    λ i. (d - 1) * all i + (k - e i) in
+    (p.0, (k, p.1.1, p.1.2 ∙ same), p.2)
+
+pub changed_from : (s : Setting) (v : ℕ) (old other new : List ℕ) (from to : Meter) (r : Result (Unit {0}) JudgeFault) (R : Type 0) → common_front other new ≡ common_front old new
+    → IsChange s v other new from to r R → IsChange s v old new from to r R
+changed_from s v old other new from to r R e change =
+    let all = walk_asks_as old other new e in
+    record {
+      fits = change.fits;
+      row = change.row;
+      fault = change.fault;
+      asks = subst (λ (n : ℕ). AsksAtMost from to (length s.dimensions * n)) all change.asks;
+      whole = subst (λ (n : ℕ). OnOk r (AsksJust from to (length s.dimensions * n))) all change.whole;
+      least = subst (λ (n : ℕ). IfErr r (λ f. Asks from to (row_asks n f) (length s.dimensions * n))) all change.least;
+      missed = missed_as r change.missed;
+    }
+  where
+    missed_as : (r : Result (Unit {0}) JudgeFault) → IfErr r (AsksToRowFault s other v new from to) → IfErr r (AsksToRowFault s old v new from to)
+    missed_as (Ok x) p = tt
+    missed_as (Err f) p = miss_as s v old other new from to f e p

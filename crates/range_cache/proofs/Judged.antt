@@ -20,48 +20,63 @@ use Rattle.range_cache.specs.declared.fault.JudgeFault.TheVariants.{Bound, NoMem
 use Rattle.range_cache.specs.Row.{IsRowFault, row_asks}
 use Rattle.range_cache.proofs.Caches.{not_out}
 
--- the new routes that are left, after those of these rows
-pub record IsRest (s : Setting) (all rest : Changes) (rows : NewRows) : Type 0 where
+-- the new routes that are left to be walked
+pub record IsRest (s : Setting) (all rest : Changes) : Type 0 where
   pub fits : AllFit s rest → AllFit s all
   pub outs : (v d : ℕ) → IsOut s rest v d → IsOut s all v d
   pub known : AllKnown s rest
-  pub made : (more : NewRows) → AreNewRows s rest more → AreNewRows s all (rows ++ more)
 
-pub rest_all : (s : Setting) (all : Changes) → AllKnown s all → IsRest s all all []
-rest_all s all known = record { fits = λ f. f; outs = λ v d o. o; known = known; made = λ more m. m }
+pub rest_all : (s : Setting) (all : Changes) → AllKnown s all → IsRest s all all
+rest_all s all known = record { fits = λ f. f; outs = λ v d o. o; known = known }
 
-pub rest_next : (s : Setting) (all rest next : Changes) (rows : NewRows) (c : ℕ × List ℕ) (row : RowState) → IsRest s all rest rows → rest ≡ c ∷ next → FitsAll s c.0 c.1
-    → IsRowOf s c.0 c.1 row → IsRest s all next (rows ++ (c.0, row) ∷ [])
-rest_next s all rest next rows c row r e fits new =
-    let r' = subst (λ (cs : Changes). IsRest s all cs rows) e r in
+pub rest_next : (s : Setting) (all rest next : Changes) (c : ℕ × List ℕ) → IsRest s all rest → rest ≡ c ∷ next → FitsAll s c.0 c.1 → IsRest s all next
+rest_next s all rest next c r e fits =
+    let r' = subst (λ (cs : Changes). IsRest s all cs) e r in
     record {
       fits = λ f. r'.fits (fits, f);
       outs = λ v d o. r'.outs v d ((λ none. absurd (none fits)), (λ yes. o));
+      known = r'.known.1;
+    }
+
+rest_out : (s : Setting) (all rest next : Changes) (c : ℕ × List ℕ) (d : ℕ) → IsRest s all rest → rest ≡ c ∷ next → IsFirstOut s c.0 c.1 d → IsOut s all c.0 d
+rest_out s all rest next c d r e out =
+    let r' = subst (λ (cs : Changes). IsRest s all cs) e r in
+    r'.outs c.0 d ((λ none. (refl, out)), (λ fits. absurd (not_out s c.0 c.1 d fits out)))
+
+pub first_known : (s : Setting) (rest next : Changes) (c : ℕ × List ℕ) → AllKnown s rest → rest ≡ c ∷ next
+    → (1 ≤ c.0) × (c.0 ≤ s.vehicles) × All (λ customer. customer ≤ s.customers) c.1
+first_known s rest next c known e = (subst (λ (cs : Changes). AllKnown s cs) e known).0
+
+pub rest_none : (s : Setting) (all rest : Changes) → IsRest s all rest → rest ≡ [] → AllFit s all
+rest_none s all rest r e = (subst (λ (cs : Changes). IsRest s all cs) e r).fits tt
+
+pub rest_fault : (s : Setting) (all rest next : Changes) (c : ℕ × List ℕ) (e : JudgeFault) → IsRest s all rest → rest ≡ c ∷ next → IsRowFault s c.0 c.1 e → IsJudgeFault s all e
+rest_fault s all rest next c (Bound v d) r e f = subst (λ (w : ℕ). IsOut s all w d) (sym f.0) (rest_out s all rest next c d r e f.1)
+rest_fault s all rest next c NoMemory r e f = tt
+
+-- these rows, and those of the new routes that are left, are the rows of all new routes
+pub record RowsGoOn (s : Setting) (all rest : Changes) (rows : NewRows) : Type 0 where
+  pub known : AllKnown s rest
+  pub made : (more : NewRows) → AreNewRows s rest more → AreNewRows s all (rows ++ more)
+
+pub go_on_all : (s : Setting) (all : Changes) → AllKnown s all → RowsGoOn s all all []
+go_on_all s all known = record { known = known; made = λ more m. m }
+
+pub go_on_next : (s : Setting) (all rest next : Changes) (rows : NewRows) (c : ℕ × List ℕ) (row : RowState) → RowsGoOn s all rest rows → rest ≡ c ∷ next
+    → IsRowOf s c.0 c.1 row → RowsGoOn s all next (rows ++ (c.0, row) ∷ [])
+go_on_next s all rest next rows c row r e new =
+    let r' = subst (λ (cs : Changes). RowsGoOn s all cs rows) e r in
+    record {
       known = r'.known.1;
       made = λ more m.
           subst (λ (xs : NewRows). AreNewRows s all xs) (sym (append_assoc rows ((c.0, row) ∷ []) more))
           (r'.made ((c.0, row) ∷ more) ((r'.known.0.0, r'.known.0.1, refl, new), m));
     }
 
-pub rest_out : (s : Setting) (all rest next : Changes) (rows : NewRows) (c : ℕ × List ℕ) (d : ℕ) → IsRest s all rest rows → rest ≡ c ∷ next → IsFirstOut s c.0 c.1 d → IsOut s all c.0 d
-rest_out s all rest next rows c d r e out =
-    let r' = subst (λ (cs : Changes). IsRest s all cs rows) e r in
-    r'.outs c.0 d ((λ none. (refl, out)), (λ fits. absurd (not_out s c.0 c.1 d fits out)))
-
-pub rest_known : (s : Setting) (all rest next : Changes) (rows : NewRows) (c : ℕ × List ℕ) → IsRest s all rest rows → rest ≡ c ∷ next
-    → (1 ≤ c.0) × (c.0 ≤ s.vehicles) × All (λ customer. customer ≤ s.customers) c.1
-rest_known s all rest next rows c r e = (subst (λ (cs : Changes). AllKnown s cs) e r.known).0
-
-pub rest_none : (s : Setting) (all rest : Changes) (rows : NewRows) → IsRest s all rest rows → rest ≡ [] → AllFit s all × AreNewRows s all rows
-rest_none s all rest rows r e =
-    let r' = subst (λ (cs : Changes). IsRest s all cs rows) e r in
-    (r'.fits tt, subst (λ (xs : NewRows). AreNewRows s all xs) (append-nil rows) (r'.made [] tt))
-
-pub rest_fault : (s : Setting) (all rest next : Changes) (rows : NewRows) (c : ℕ × List ℕ) (e : JudgeFault) → IsRest s all rest rows → rest ≡ c ∷ next → IsRowFault s c.0 c.1 e
-    → IsJudgeFault s all e
-rest_fault s all rest next rows c (Bound v d) r e f =
-    subst (λ (w : ℕ). IsOut s all w d) (sym f.0) (rest_out s all rest next rows c d r e f.1)
-rest_fault s all rest next rows c NoMemory r e f = tt
+pub go_on_none : (s : Setting) (all rest : Changes) (rows : NewRows) → RowsGoOn s all rest rows → rest ≡ [] → AreNewRows s all rows
+go_on_none s all rest rows r e =
+    let r' = subst (λ (cs : Changes). RowsGoOn s all cs rows) e r in
+    subst (λ (xs : NewRows). AreNewRows s all xs) (append-nil rows) (r'.made [] tt)
 
 -- the rows are for vehicles of the cache
 pub rows_within : (s : Setting) (changes : Changes) (rows : NewRows) (cache : CacheState) → length cache.rows ≡ s.vehicles → AreNewRows s changes rows → AreWithin cache rows

@@ -1,6 +1,9 @@
 pub mod Caches
 pub mod Changing
+pub mod Drafting
 pub mod FirstAsks
+pub mod Fronts
+pub mod Joins
 pub mod Judged
 pub mod Judging
 pub mod Misses

@@ -1,5 +1,5 @@
 -- How many asks are made up to the first stop at which no cumul is left.
-use Rattle.std.proofs.Common.{◌≡◌, ℕ, ◌+◌, ◌-◌, ◌*◌, ◌<◌, ◌≤◌, ◌∙◌, refl, ap, sym, subst, arith, List, [], ◌∷◌, ◌++◌, length, take, Option, Some, None, is_some, false}
+use Rattle.std.proofs.Common.{◌≡◌, ℕ, ◌+◌, ◌-◌, ◌*◌, ◌<◌, ◌≤◌, refl, ap, sym, subst, arith, List, [], ◌∷◌, ◌++◌, length, take, Option, Some, None, is_some, false}
 use Rattle.std.proofs.lemmas.List.{take-append-le, take_all, length_push}
 use Rattle.callback_store.specs.declared.meter.Meter.{Meter}
 use Rattle.callback_store.specs.Meter.{AsksJust, none_asked, asks_both, asks_wider}
@@ -17,6 +17,7 @@ use Rattle.range_cache.specs.Track.{IsSpanAt}
 use Rattle.range_cache.specs.declared.fault.JudgeFault.{JudgeFault}
 use Rattle.range_cache.specs.declared.fault.JudgeFault.TheVariants.{Bound, NoMemory}
 use Rattle.range_cache.proofs.Caches.{not_out}
+use Rattle.range_cache.proofs.Fronts.{front_whole}
 use Rattle.range_cache.proofs.Judged.{AreAsked, asked_out}
 
 -- a walk that missed: its first miss, and the asks after the kept ranges up to it
@@ -65,16 +66,16 @@ missed_back law s d v route place kept r o from to span within end none e asked 
     missed_ask s d v route place kept from to asked (missed_return law s d v route place r span o within end none e)
 
 -- a row, where a walk in one dimension missed
-pub row_missed : (s : Setting) (v d front kept : ℕ) (old new : List ℕ) (a b c : Meter) → AsksJust a b (d * walk_asks old new) → Missed s d v new kept b c
-    → kept ≡ front → front ≡ common_front old new → AsksToRowFault s old v new a c (Bound v (d + 1))
-row_missed s v d front kept old new a b c p q e f =
+pub row_missed : (s : Setting) (v d : ℕ) (before after : List ℕ) (a b c : Meter) → AsksJust a b (d * walk_asks before (before ++ after)) → Missed s d v (before ++ after) (length before) b c
+    → AsksToRowFault s before v (before ++ after) a c (Bound v (d + 1))
+row_missed s v d before after a b c p q =
     let k : ℕ = q.0 in
     let back : d ≡ d + 1 - 1 = omega arith in
-    let each : (d + 1 - 1) * walk_asks old new ≡ d * walk_asks old new = ap (λ (n : ℕ). n * walk_asks old new) (sym back) in
-    let after : k - kept ≡ k - common_front old new = ap (λ (n : ℕ). k - n) (e ∙ f) in (
-      (d + 1 - 1) * walk_asks old new + (k - common_front old new),
-      (k, subst (λ (n : ℕ). IsFirstMissIn s n v new k) back q.1, refl),
-      asks_both a b c _ _ _ _ _ _ p q.2 (omega (arith, each, after)) (omega (arith, each, after)),
+    let each : (d + 1 - 1) * walk_asks before (before ++ after) ≡ d * walk_asks before (before ++ after) = ap (λ (n : ℕ). n * walk_asks before (before ++ after)) (sym back) in
+    let rest : k - common_front before (before ++ after) ≡ k - length before = ap (λ (n : ℕ). k - n) (front_whole before after) in (
+      (d + 1 - 1) * walk_asks before (before ++ after) + (k - common_front before (before ++ after)),
+      (k, subst (λ (n : ℕ). IsFirstMissIn s n v (before ++ after) k) back q.1, refl),
+      asks_both a b c _ _ _ _ _ _ p q.2 (omega (arith, each, rest)) (omega (arith, each, rest)),
     )
 
 -- what is asked for the new routes that are left, after the asks so far, is what is asked for all of them

@@ -1,5 +1,5 @@
 -- What is answered where a cache is opened, and where a row of it is changed.
-use Rattle.std.proofs.Common.{◌≡◌, ◌∙◌, ℕ, ◌+◌, ◌-◌, ◌*◌, ◌<◌, ◌≤◌, Fits, w32, w64, ap, sym, subst, arith, List, [], ◌∷◌, ◌++◌, length, replicate, Result, Ok, Err, IfOk}
+use Rattle.std.proofs.Common.{◌≡◌, ◌∙◌, ℕ, ◌+◌, ◌-◌, ◌*◌, ◌<◌, ◌≤◌, Fits, w32, w64, ap, sym, subst, arith, List, [], ◌∷◌, ◌++◌, length, take, replicate, Result, Ok, Err, IfOk}
 use Rattle.std.specs.Prelude.{OnOk, IsErrAnd, All, slice_index_or}
 use Rattle.std.proofs.lemmas.List.{get_or_default, replicate-append-replicate}
 use Rattle.callback_store.specs.declared.meter.Meter.{Meter}
@@ -8,8 +8,10 @@ use Rattle.dimension_core.specs.Setting.{Setting}
 use Rattle.plan_core.specs.Cost.{route_asks, asks_of}
 use Rattle.plan_core.specs.Plan.{route_at}
 use Rattle.range_cache.specs.Asks.{walk_asks}
-use Rattle.range_cache.specs.Cache.{RowState, CacheState, no_row, row_at, IsRowOf, IsCacheOf}
-use Rattle.range_cache.proofs.Caches.{AreMade, made_none, empty_row}
+use Rattle.dimension_core.specs.Spans.{IsSpanOf}
+use Rattle.range_cache.specs.Cache.{RowState, CacheState, no_row, row_at, range_at, IsRowOf, IsCacheOf}
+use Rattle.range_cache.specs.Parts.{HasFront, IsTailOf}
+use Rattle.range_cache.proofs.Caches.{AreMade, made_none}
 use Rattle.range_cache.proofs.FirstAsks.{walk_first}
 
 -- numbers
@@ -71,8 +73,19 @@ first_asked m n k e = let none : n * k ≡ 0 = ap (λ (j : ℕ). n * j) e ∙ no
     nothing n = omega arith
 
 -- the row of a vehicle
-pub none_kept : (s : Setting) (v : ℕ) (row : RowState) → row ≡ no_row → IsRowOf s v [] row
-none_kept s v row e = subst (λ (x : RowState). IsRowOf s v [] x) (sym e) (empty_row s v)
+pub none_kept : (s : Setting) (v : ℕ) (route : List ℕ) (row : RowState) → row ≡ no_row → HasFront s v 0 route row
+none_kept s v route row e =
+    subst (λ (x : RowState). HasFront s v 0 route x) (sym e) (record { stops = omega arith; within = omega arith; sized = omega arith; spans = λ d k h l. absurd (omega arith) })
+
+pub tail_whole : (s : Setting) (v : ℕ) (route : List ℕ) (row : RowState) → IsTailOf s v 0 route row → IsRowOf s v route row
+tail_whole s v route row tail =
+    let counted = tail.counted in
+    record {
+      counted = omega (arith, counted);
+      sized = tail.sized;
+      spans = λ d k h l. let none : 0 + k + 1 ≡ k + 1 = omega arith in
+          subst (λ (n : ℕ). IsSpanOf s d v (take n route) (range_at row d k)) none (tail.spans d k h (omega (arith, counted, l)));
+    }
 
 pub kept_row : (s : Setting) (routes : List (List ℕ)) (v : ℕ) (old : List ℕ) (cache opened : CacheState) (row : RowState) → opened ≡ cache → IsCacheOf s routes cache → 1 ≤ v → v ≤ s.vehicles
     → old ≡ route_at routes v → row ≡ slice_index_or opened.rows (v - 1) row → v - 1 < length opened.rows → IsRowOf s v old row

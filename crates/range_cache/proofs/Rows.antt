@@ -14,20 +14,23 @@ use Rattle.dimension_core.specs.Spans.{IsSpanOf, no_range}
 use Rattle.plan_core.specs.Front.{IsCommonFront, common_front}
 use Rattle.range_cache.specs.Asks.{walk_asks}
 use Rattle.range_cache.specs.Cache.{RowState, IsRowOf, range_at}
+use Rattle.range_cache.specs.Parts.{IsTrackAfter, HasFront}
 use Rattle.range_cache.specs.Track.{IsTrack}
+use Rattle.range_cache.proofs.Fronts.{front_whole}
 
--- the ranges of the first dimensions, one for each customer of the route
-pub record AreFilled (s : Setting) (vehicle : ℕ) (route : List ℕ) (n : ℕ) (ranges : List Range) : Type 0 where
-  pub sized : length ranges ≡ n * length route
-  pub each : (d k : ℕ) → d < n → k < length route → IsSpanOf s d vehicle (take (k + 1) route) (slice_index_or ranges (d * length route + k) no_range)
+-- the ranges of the first dimensions, so many in each, of which P holds by dimension and place
+pub record AreFilled (P : ℕ → ℕ → Range → Type 0) (stops n : ℕ) (ranges : List Range) : Type 0 where
+  pub sized : length ranges ≡ n * stops
+  pub each : (d k : ℕ) → d < n → k < stops → P d k (slice_index_or ranges (d * stops + k) no_range)
 
-pub filled_none : (s : Setting) (v : ℕ) (route : List ℕ) → AreFilled s v route 0 []
-filled_none s v route = record { sized = omega arith; each = λ d k h l. absurd (omega arith) }
+pub filled_none : (P : ℕ → ℕ → Range → Type 0) (stops : ℕ) (ranges : List Range) → ranges ≡ [] → AreFilled P stops 0 ranges
+filled_none P stops ranges e =
+    subst (λ (xs : List Range). AreFilled P stops 0 xs) (sym e) (record { sized = omega arith; each = λ d k h l. absurd (omega arith) })
 
 -- those of one more dimension
-pub filled_more : (s : Setting) (v : ℕ) (route : List ℕ) (n : ℕ) (ranges more : List Range) → AreFilled s v route n ranges → length more ≡ length route
-    → IsTrack s n v route more → AreFilled s v route (n + 1) (ranges ++ more)
-filled_more s v route n ranges more filled sized track =
+pub filled_more : (P : ℕ → ℕ → Range → Type 0) (stops n : ℕ) (ranges more : List Range) → AreFilled P stops n ranges → length more ≡ stops
+    → ((k : ℕ) → k < stops → P n k (slice_index_or more k no_range)) → AreFilled P stops (n + 1) (ranges ++ more)
+filled_more P stops n ranges more filled sized last =
     let old = filled.sized in
     let long : length (ranges ++ more) ≡ length ranges + length more = length-append ranges more in
     record {
@@ -35,48 +38,62 @@ filled_more s v route n ranges more filled sized track =
       each = λ d k h l. at d k (cases_eq d n) h l;
     }
   where
-    at : (d k : ℕ) → (d ≡ n) ⊎ (d ≡ n → ⊥) → d < n + 1 → k < length route
-        → IsSpanOf s d v (take (k + 1) route) (slice_index_or (ranges ++ more) (d * length route + k) no_range)
+    at : (d k : ℕ) → (d ≡ n) ⊎ (d ≡ n → ⊥) → d < n + 1 → k < stops → P d k (slice_index_or (ranges ++ more) (d * stops + k) no_range)
     at d k (inl e) h l =
-        let z : n * length route + k - n * length route ≡ k = omega arith in
-        let here : slice_index_or (ranges ++ more) (n * length route + k) no_range ≡ slice_index_or more k no_range =
-        get_or-append_right ranges more (n * length route) (n * length route + k) no_range filled.sized (omega arith)
+        let z : n * stops + k - n * stops ≡ k = omega arith in
+        let here : slice_index_or (ranges ++ more) (n * stops + k) no_range ≡ slice_index_or more k no_range =
+        get_or-append_right ranges more (n * stops) (n * stops + k) no_range filled.sized (omega arith)
         ∙ ap (λ (m : ℕ). slice_index_or more m no_range) z in
-        subst (λ (m : ℕ). IsSpanOf s m v (take (k + 1) route) (slice_index_or (ranges ++ more) (m * length route + k) no_range)) (sym e)
-        (subst (λ (x : Range). IsSpanOf s n v (take (k + 1) route) x) (sym here) (track.each k (omega arith)))
+        subst (λ (m : ℕ). P m k (slice_index_or (ranges ++ more) (m * stops + k) no_range)) (sym e)
+        (subst (λ (x : Range). P n k x) (sym here) (last k l))
     at d k (inr o) h l =
         let below : d < n = omega arith in
-        let inside : d * length route + k < length route * n = mul-add-lt d (length route) k n below l in
+        let inside : d * stops + k < stops * n = mul-add-lt d stops k n below l in
         let within = filled.sized in
-        subst (λ (x : Range). IsSpanOf s d v (take (k + 1) route) x) (sym (get_or_append_left ranges more no_range (d * length route + k) (omega arith)))
-        (filled.each d k (omega arith) l)
+        subst (λ (x : Range). P d k x) (sym (get_or_append_left ranges more no_range (d * stops + k) (omega arith))) (filled.each d k (omega arith) l)
 
--- the first ranges of a dimension, which are those of the new route too
-pub kept_long : (s : Setting) (v : ℕ) (old : List ℕ) (row : RowState) (d front : ℕ) (xs : List Range) → IsRowOf s v old row → d < length s.dimensions → front ≤ length old
+-- the first ranges of a row, where the new route begins as the old one
+pub row_front : (s : Setting) (v : ℕ) (old new : List ℕ) (row : RowState) (front : ℕ) → IsRowOf s v old row → IsCommonFront old new front → HasFront s v front new row
+row_front s v old new row front kept common =
+    let counted = kept.counted in
+    let left = common.left in
+    record {
+      stops = omega (arith, counted, left);
+      within = common.right;
+      sized = kept.sized;
+      spans = λ d k h l.
+          let same : take (k + 1) old ≡ take (k + 1) new =
+          sym (take-take (k + 1) front old (omega arith)) ∙ ap (take (k + 1)) common.same ∙ take-take (k + 1) front new (omega arith) in
+          subst (λ (js : List ℕ). IsSpanOf s d v js (range_at row d k)) same (kept.spans d k h (omega arith));
+    }
+
+-- the ranges of one dimension that a row begins with
+pub part_long : (row : RowState) (n d front : ℕ) (xs : List Range) → front ≤ row.stops → length row.ranges ≡ n * row.stops → d < n
     → xs ≡ take front (drop (d * row.stops) row.ranges) → length xs ≡ front
-kept_long s v old row d front xs kept h few e =
-    let below : (d + 1) * row.stops ≤ length s.dimensions * row.stops = mul-le-mul_right row.stops (omega arith) in
-    let stops = kept.counted in
-    let sized = kept.sized in
+part_long row n d front xs few sized h e =
+    let below : (d + 1) * row.stops ≤ n * row.stops = mul-le-mul_right row.stops (omega arith) in
     let rest : length (drop (d * row.stops) row.ranges) ≡ length row.ranges - d * row.stops = length-drop (d * row.stops) row.ranges in
     ap length e ∙ length-take-le front (drop (d * row.stops) row.ranges) (omega arith)
 
-pub kept_track : (s : Setting) (v : ℕ) (old new : List ℕ) (row : RowState) (d front : ℕ) (xs : List Range) → IsRowOf s v old row → d < length s.dimensions
-    → IsCommonFront old new front → xs ≡ take front (drop (d * row.stops) row.ranges) → IsTrack s d v new xs
-kept_track s v old new row d front xs kept h common e =
-    let long = kept_long s v old row d front xs kept h common.left e in
-    let few = common.right in
-    let less = common.left in
+pub part_within : (row : RowState) (n d front : ℕ) → front ≤ row.stops → length row.ranges ≡ n * row.stops → d < n → d * row.stops + front ≤ length row.ranges
+part_within row n d front few sized h =
+    let below : (d + 1) * row.stops ≤ n * row.stops = mul-le-mul_right row.stops (omega arith) in
+    omega arith
+
+pub part_at : (row : RowState) (d front k : ℕ) (xs : List Range) → xs ≡ take front (drop (d * row.stops) row.ranges) → k < front → slice_index_or xs k no_range ≡ range_at row d k
+part_at row d front k xs e h =
+    ap (λ (ys : List Range). slice_index_or ys k no_range) e ∙ get_or-take front (drop (d * row.stops) row.ranges) k no_range h
+    ∙ get_or-drop (d * row.stops) row.ranges k no_range
+
+-- are those at the first customers of the route
+pub front_track : (s : Setting) (v : ℕ) (route : List ℕ) (row : RowState) (d front : ℕ) (xs : List Range) → HasFront s v front route row → d < length s.dimensions
+    → xs ≡ take front (drop (d * row.stops) row.ranges) → IsTrack s d v route xs
+front_track s v route row d front xs has h e =
+    let long = part_long row (length s.dimensions) d front xs has.stops has.sized h e in
+    let few = has.within in
     record {
       within = omega arith;
-      each = λ k l.
-          let here : slice_index_or xs k no_range ≡ range_at row d k =
-          ap (λ (ys : List Range). slice_index_or ys k no_range) e ∙ get_or-take front (drop (d * row.stops) row.ranges) k no_range (omega arith)
-          ∙ get_or-drop (d * row.stops) row.ranges k no_range in
-          let same : take (k + 1) old ≡ take (k + 1) new =
-          sym (take-take (k + 1) front old (omega arith)) ∙ ap (take (k + 1)) common.same ∙ take-take (k + 1) front new (omega arith) in
-          subst (λ (js : List ℕ). IsSpanOf s d v js (slice_index_or xs k no_range)) same
-          (subst (λ (r : Range). IsSpanOf s d v (take (k + 1) old) r) (sym here) (kept.spans d k h (omega arith)));
+      each = λ k l. subst (λ (r : Range). IsSpanOf s d v (take (k + 1) route) r) (sym (part_at row d front k xs e (omega arith))) (has.spans d k h (omega arith));
     }
 
 -- the first dimension that is out of bounds
@@ -95,36 +112,47 @@ walk_asks-some : (old new : List ℕ) → 0 < length new → walk_asks old new �
 walk_asks-some old [] h = absurd (omega arith)
 walk_asks-some old (c ∷ cs) h = refl
 
+-- in one dimension, where the old route is the front of the new one
+pub walk_asks_on : (before after : List ℕ) → 0 < length (before ++ after) → walk_asks before (before ++ after) ≡ length after + 1
+walk_asks_on before after some =
+    let one = walk_asks-some before (before ++ after) some in
+    let front = front_whole before after in
+    let long = length-append before after in
+    omega (arith, one, front, long)
+
 -- asks for one more dimension
-pub asks_more : (a b c : Meter) (d front kept : ℕ) (old new : List ℕ) → AsksJust a b (d * walk_asks old new) → AsksJust b c (length new + 1 - kept)
-    → kept ≡ front → front ≡ common_front old new → 0 < length new → AsksJust a c ((d + 1) * walk_asks old new)
-asks_more a b c d front kept old new p q e f some =
-    let each : length new + 1 - kept ≡ walk_asks old new = ap (λ (n : ℕ). length new + 1 - n) (e ∙ f) ∙ sym (walk_asks-some old new some) in
-    asks_both a b c _ _ _ _ _ _ p (subst (λ (n : ℕ). AsksJust b c n) each q) (omega arith) (omega arith)
+module _ (a b c : Meter) (d : ℕ) (before after : List ℕ) (some : 0 < length (before ++ after)) (asked : AsksJust a b (d * walk_asks before (before ++ after))) where
+  pub asks_more : AsksJust b c (length after + 1) → AsksJust a c ((d + 1) * walk_asks before (before ++ after))
+  asks_more q =
+      let each = walk_asks_on before after some in
+      asks_both a b c _ _ _ _ _ _ asked (subst (λ (n : ℕ). AsksJust b c n) (sym each) q) (omega arith) (omega arith)
 
--- and where it stops in one
-pub asks_out : (a b c : Meter) (count d front kept : ℕ) (old new : List ℕ) → d < count → AsksJust a b (d * walk_asks old new) → AsksAtMost b c (length new + 1 - kept)
-    → kept ≡ front → front ≡ common_front old new → 0 < length new → Asks a c ((d + 1 - 1) * walk_asks old new) (count * walk_asks old new)
-asks_out a b c count d front kept old new h p q e f some =
-    let each : length new + 1 - kept ≡ walk_asks old new = ap (λ (n : ℕ). length new + 1 - n) (e ∙ f) ∙ sym (walk_asks-some old new some) in
-    let within : (d + 1) * walk_asks old new ≤ count * walk_asks old new = mul-le-mul_right (walk_asks old new) (omega arith) in
-    let before : (d + 1 - 1) * walk_asks old new ≤ d * walk_asks old new = mul-le-mul_right (walk_asks old new) (omega arith) in
-    asks_both a b c _ _ _ _ _ _ p (subst (λ (n : ℕ). AsksAtMost b c n) each q) (omega (arith, before)) (omega arith)
+  -- and where it stops in one
+  pub asks_out : (count : ℕ) → d < count → AsksAtMost b c (length after + 1) → Asks a c ((d + 1 - 1) * walk_asks before (before ++ after)) (count * walk_asks before (before ++ after))
+  asks_out count h q =
+      let each = walk_asks_on before after some in
+      let within : (d + 1) * walk_asks before (before ++ after) ≤ count * walk_asks before (before ++ after) = mul-le-mul_right (walk_asks before (before ++ after)) (omega arith) in
+      let first : (d + 1 - 1) * walk_asks before (before ++ after) ≤ d * walk_asks before (before ++ after) = mul-le-mul_right (walk_asks before (before ++ after)) (omega arith) in
+      asks_both a b c _ _ _ _ _ _ asked (subst (λ (n : ℕ). AsksAtMost b c n) (sym each) q) (omega (arith, first)) (omega (arith, within))
 
-pub asks_stop : (a b c : Meter) (count d front kept : ℕ) (old new : List ℕ) → d < count → AsksJust a b (d * walk_asks old new) → AsksAtMost b c (length new + 1 - kept)
-    → kept ≡ front → front ≡ common_front old new → 0 < length new → AsksAtMost a c (count * walk_asks old new)
-asks_stop a b c count d front kept old new h p q e f some =
-    let out = asks_out a b c count d front kept old new h p q e f some in
-    asks_wider a c _ _ _ _ out (omega arith) (omega arith)
+  pub asks_stop : (count : ℕ) → d < count → AsksAtMost b c (length after + 1) → AsksAtMost a c (count * walk_asks before (before ++ after))
+  asks_stop count h q =
+      let out = asks_out count h q in
+      asks_wider a c _ _ _ _ out (omega arith) (omega arith)
 
--- and the ranges of one more dimension, where they were found
-pub ranges_more : (s : Setting) (v : ℕ) (route : List ℕ) (n : ℕ) (old new : List Range) → AreFilled s v route n old
-    → (more : List Range) × (new ≡ old ++ more) × (length more ≡ length route) × IsTrack s n v route more → AreFilled s v route (n + 1) new
-ranges_more s v route n old new filled m =
-    subst (λ (xs : List Range). AreFilled s v route (n + 1) xs) (sym m.1) (filled_more s v route n old m.0 filled m.2 m.3)
+-- the ranges that a walk finds, dimension by dimension
+abbrev pub IsFound : Setting → ℕ → ℕ → List ℕ → ℕ → ℕ → Range → Type 0
+IsFound s v front route d k r = IsSpanOf s d v (take (front + k + 1) route) r
+
+pub ranges_more : (s : Setting) (v front stops : ℕ) (route : List ℕ) (n : ℕ) (old new : List Range) → AreFilled (IsFound s v front route) stops n old
+    → (more : List Range) × (new ≡ old ++ more) × (length more ≡ stops) × IsTrackAfter s n v front route more → AreFilled (IsFound s v front route) stops (n + 1) new
+ranges_more s v front stops route n old new filled m =
+    let sized : length m.0 ≡ stops = m.2 in
+    subst (λ (xs : List Range). AreFilled (IsFound s v front route) stops (n + 1) xs) (sym m.1)
+    (filled_more (IsFound s v front route) stops n old m.0 filled sized (λ k h. m.3.each k (omega arith)))
 
 -- there is room for the ranges of one more dimension
-pub room_for : (count n room : ℕ) (route : List ℕ) → n < count → (used : ℕ) → used ≡ n * length route → count * length route ≤ room → used + length route ≤ room
-room_for count n room route h used e enough =
-    let below : (n + 1) * length route ≤ count * length route = mul-le-mul_right (length route) (omega arith) in
+pub room_for : (count n room stops : ℕ) → n < count → (used : ℕ) → used ≡ n * stops → count * stops ≤ room → used + stops ≤ room
+room_for count n room stops h used e enough =
+    let below : (n + 1) * stops ≤ count * stops = mul-le-mul_right stops (omega arith) in
     omega (arith, e, enough, below)

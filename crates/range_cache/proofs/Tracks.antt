@@ -2,7 +2,7 @@
 use Rattle.std.proofs.Common.{◌≡◌, ℕ, ◌+◌, ◌-◌, ◌<◌, ◌≤◌, ◌↔◌, ◌⊎◌, ◌∙◌, inl, inr, refl, ap, sym, subst, arith, List, [], ◌∷◌, ◌++◌, append_assoc, length, take, drop, slice_index, Option, Some, None, IsTrue, is_some, false}
 use Rattle.std.specs.Prelude.{slice_index_or}
 use Rattle.std.proofs.lemmas.Bool.{cases_eq}
-use Rattle.std.proofs.lemmas.List.{get_or_default, get_or_append_left, get_or-append_right, length_push, take_all, take-append-drop}
+use Rattle.std.proofs.lemmas.List.{get_or_default, get_or_append_left, get_or-append_right, length_push, take_all, take-append-drop, take-append-le}
 use Rattle.callback_store.specs.Tables.{Table, entry, table_at}
 use Rattle.dimension_core.specs.declared.range.Range.{Range}
 use Rattle.dimension_core.specs.Cumuls.{Bounds, cap_of, range_of, IsStart, IsStep, IsWithin, IsSpan, Reaches, last_of, table_of}
@@ -10,6 +10,7 @@ use Rattle.dimension_core.specs.Feasible.{FitsIn}
 use Rattle.dimension_core.specs.Laws.{SpansGoOn}
 use Rattle.dimension_core.specs.Setting.{Setting, dimension_at, no_bounds}
 use Rattle.dimension_core.specs.Spans.{IsSpanOf, no_range}
+use Rattle.range_cache.specs.Parts.{IsTrackAfter}
 use Rattle.range_cache.specs.Track.{IsSpanAt, IsTrack}
 
 -- the dimension that was read at a place
@@ -75,40 +76,51 @@ never law s k v route n some none fits =
 pub no_answer : (P : Type 0) → (P → ⊥) → IsTrue false ↔ P
 no_answer P out = (λ p. absurd cc, λ p. absurd (out p))
 
--- one more range
-pub track_push : (s : Setting) (d v : ℕ) (route : List ℕ) (more : List Range) (r : Range) → length more < length route → IsTrack s d v route more
-    → IsSpanOf s d v (take (length more + 1) route) r → IsTrack s d v route (more ++ r ∷ [])
-track_push s d v route more r within track new =
+-- no range yet, and one more
+pub track_none : (s : Setting) (d v front : ℕ) (route : List ℕ) → front ≤ length route → IsTrackAfter s d v front route []
+track_none s d v front route within = record { within = omega arith; each = λ k h. absurd (omega arith) }
+
+track_push : (s : Setting) (d v front : ℕ) (route : List ℕ) (more : List Range) (r : Range) → front + length more < length route → IsTrackAfter s d v front route more
+    → IsSpanOf s d v (take (front + length more + 1) route) r → IsTrackAfter s d v front route (more ++ r ∷ [])
+track_push s d v front route more r within track new =
     let long : length (more ++ r ∷ []) ≡ length more + 1 = length_push more r in
     record {
       within = omega arith;
       each = λ k h. at k (cases_eq k (length more)) (omega arith);
     }
   where
-    at : (k : ℕ) → (k ≡ length more) ⊎ (k ≡ length more → ⊥) → k < length more + 1 → IsSpanOf s d v (take (k + 1) route) (slice_index_or (more ++ r ∷ []) k no_range)
+    at : (k : ℕ) → (k ≡ length more) ⊎ (k ≡ length more → ⊥) → k < length more + 1
+        → IsSpanOf s d v (take (front + k + 1) route) (slice_index_or (more ++ r ∷ []) k no_range)
     at k (inl e) h =
         let here : slice_index_or (more ++ r ∷ []) (length more) no_range ≡ r =
         get_or-append_right more (r ∷ []) (length more) (length more) no_range refl (omega arith)
         ∙ ap (λ (m : ℕ). slice_index_or (r ∷ []) m no_range) (let z : length more - length more ≡ 0 = omega arith in z) in
-        subst (λ (m : ℕ). IsSpanOf s d v (take (m + 1) route) (slice_index_or (more ++ r ∷ []) m no_range)) (sym e)
-        (subst (λ (x : Range). IsSpanOf s d v (take (length more + 1) route) x) (sym here) new)
+        subst (λ (m : ℕ). IsSpanOf s d v (take (front + m + 1) route) (slice_index_or (more ++ r ∷ []) m no_range)) (sym e)
+        (subst (λ (x : Range). IsSpanOf s d v (take (front + length more + 1) route) x) (sym here) new)
     at k (inr o) h =
         let below : k < length more = omega arith in
-        subst (λ (x : Range). IsSpanOf s d v (take (k + 1) route) x) (sym (get_or_append_left more (r ∷ []) no_range k below)) (track.each k below)
+        subst (λ (x : Range). IsSpanOf s d v (take (front + k + 1) route) x) (sym (get_or_append_left more (r ∷ []) no_range k below)) (track.each k below)
 
 -- the ranges so far and one more, after others
-pub more_push : (s : Setting) (d v : ℕ) (route : List ℕ) (place : ℕ) (old now after : List Range) (r : Range) → place < length route
-    → (more : List Range) × (now ≡ old ++ more) × (length more ≡ place) × IsTrack s d v route more
-    → after ≡ now ++ r ∷ [] → IsSpanOf s d v (take (place + 1) route) r
-    → (more : List Range) × (after ≡ old ++ more) × (length more ≡ place + 1) × IsTrack s d v route more
-more_push s d v route place old now after r h m e new =
+pub more_push : (s : Setting) (d v front : ℕ) (route : List ℕ) (place : ℕ) (old now after : List Range) (r : Range) → front + place < length route
+    → (more : List Range) × (now ≡ old ++ more) × (length more ≡ place) × IsTrackAfter s d v front route more
+    → after ≡ now ++ r ∷ [] → IsSpanOf s d v (take (front + place + 1) route) r
+    → (more : List Range) × (after ≡ old ++ more) × (length more ≡ place + 1) × IsTrackAfter s d v front route more
+more_push s d v front route place old now after r h m e new =
     let more : List Range = m.0 in
     let sized : length more ≡ place = m.2 in (
       more ++ r ∷ [],
       e ∙ ap (λ (xs : List Range). xs ++ r ∷ []) m.1 ∙ append_assoc old more (r ∷ []),
       length_push more r ∙ ap (λ (n : ℕ). n + 1) sized,
-      track_push s d v route more r (omega arith) m.3 (subst (λ (n : ℕ). IsSpanOf s d v (take (n + 1) route) r) (sym sized) new),
+      track_push s d v front route more r (omega arith) m.3 (subst (λ (n : ℕ). IsSpanOf s d v (take (front + n + 1) route) r) (sym sized) new),
     )
+
+-- the ranges that are kept at the first customers of a route are those of these customers alone
+pub track_first : (s : Setting) (d v : ℕ) (before after : List ℕ) (kept : List Range) → length kept ≡ length before → IsTrack s d v (before ++ after) kept → IsTrack s d v before kept
+track_first s d v before after kept each track = record {
+  within = omega (arith, each);
+  each = λ k h. subst (λ (js : List ℕ). IsSpanOf s d v js (slice_index_or kept k no_range)) (take-append-le (k + 1) before after (omega (arith, each, h))) (track.each k h);
+}
 
 -- what is kept does not end above the limit
 pub small_at : (s : Setting) (k v : ℕ) (nodes : List ℕ) (ds : List Bounds) (d : Bounds) (r : Range) → ds ≡ s.dimensions → k < length s.dimensions → d ≡ slice_index_or ds k d

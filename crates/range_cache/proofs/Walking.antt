@@ -1,7 +1,8 @@
 -- What is answered where a route is walked along in one dimension, and what is known of what the walk reads.
-use Rattle.std.proofs.Common.{◌≡◌, ◌∙◌, ℕ, ◌+◌, ◌-◌, ◌*◌, ◌==◌, ◌<◌, ◌≤◌, ◌↔◌, Fits, w64, Bool, true, false, zero, suc, refl, ap, sym, subst, arith, List, [], ◌∷◌, ◌++◌, length, take, slice_index_or, Option, Some, None, Result, Ok, Err, IfOk, IfSome, IsTrue, is_some, eqb-true}
-use Rattle.std.specs.Prelude.{MatchOption}
+use Rattle.std.proofs.Common.{◌≡◌, ◌∙◌, ℕ, ◌+◌, ◌-◌, ◌*◌, ◌==◌, ◌<◌, ◌≤◌, ◌↔◌, Fits, w64, Bool, true, false, zero, suc, refl, ap, sym, subst, arith, List, [], ◌∷◌, ◌++◌, length, take, slice_index_or, Option, Some, None, IfSome, IsTrue, is_some, eqb-true, length-append}
+use Rattle.std.specs.Prelude.{MatchOption, All}
 use Rattle.std.proofs.lemmas.Bool.{false≢true}
+use Rattle.std.proofs.lemmas.List.{get_or-append-add, get_or_append_left, take-append-le}
 use Rattle.callback_store.specs.declared.meter.Meter.{Meter}
 use Rattle.callback_store.specs.Meter.{AsksJust, AsksAtMost, no_ask, asks_wider}
 use Rattle.callback_store.specs.Tables.{Table, entry, nodes_of, table_at}
@@ -9,9 +10,10 @@ use Rattle.dimension_core.specs.declared.range.Range.{Range}
 use Rattle.dimension_core.specs.Cumuls.{Bounds, IsSpan, Reaches, last_of, table_of}
 use Rattle.dimension_core.specs.Feasible.{FitsIn}
 use Rattle.dimension_core.specs.Laws.{SpansGoOn}
-use Rattle.dimension_core.specs.Misses.{MissesAreFound, IsFirstMissIn}
+use Rattle.dimension_core.specs.Misses.{MissesAreFound}
 use Rattle.dimension_core.specs.Setting.{Setting, IsSetting, dimension_at}
 use Rattle.dimension_core.specs.Spans.{IsSpanOf, no_range}
+use Rattle.range_cache.specs.Parts.{IsTrackAfter}
 use Rattle.range_cache.specs.Track.{IsSpanAt, IsTrack}
 use Rattle.range_cache.proofs.Misses.{Missed, missed_start, missed_at, missed_back}
 use Rattle.range_cache.proofs.Tracks.{dim_at, never, no_answer, small_at}
@@ -33,8 +35,8 @@ last_below n some = omega arith
 pub last_within : (n m : ℕ) → 1 ≤ n → n ≤ m → n - 1 < m
 last_within n m some few = omega arith
 
-pub room_first : (old now cap_old cap_now route kept : ℕ) → old + route ≤ cap_old → now ≡ old + kept → cap_old ≤ cap_now → now + route ≤ cap_now + kept
-room_first old now cap_old cap_now route kept room long more = omega arith
+pub room_first : (old cap after : ℕ) → old + after ≤ cap → old + after ≤ cap + 0
+room_first old cap after room = omega arith
 
 pub room_next : (now after cap_now cap_after route place : ℕ) → now + route ≤ cap_now + place → after ≡ now + 1 → cap_after ≡ cap_now → after + route ≤ cap_after + (place + 1)
 room_next now after cap_now cap_after route place room long same = omega arith
@@ -48,15 +50,12 @@ same_room old now after less same = omega arith
 pub none_least : (n : ℕ) → 0 ≤ n
 none_least n = omega arith
 
-same_end : (n m : ℕ) → n ≤ m → m ≤ n → n ≡ m
-same_end n m less more = omega arith
-
 pub no_less : (n : ℕ) → n ≤ n
 no_less n = omega arith
 
 -- asks along the way
-few_next : (kept place n : ℕ) → place < n → place + 1 - kept ≤ n + 1 - kept
-few_next kept place n h = omega arith
+few_next : (place n : ℕ) → place < n → place + 1 ≤ n + 1
+few_next place n h = omega arith
 
 pub asks_few : (a b : Meter) (n : ℕ) → AsksJust a b n → AsksAtMost a b n
 asks_few a b n p = asks_wider a b n n 0 n p (none_least n) (no_less n)
@@ -129,47 +128,92 @@ begun_last law s k v route kept ds d set ed h e small all track some =
       small = small_at s k v (take (length kept) route) ds d _ ed h e small span (subst (λ (n : ℕ). n < length d.ranges) node (known_there s k ds d set ed h e _ known));
     }
 
+-- places in the whole route
+module _ (before after : List ℕ) (place : ℕ) where
+  long : length (before ++ after) ≡ length before + length after
+  long = length-append before after
+
+  pub within_route : place < length after → length before + place < length (before ++ after)
+  within_route h = let e = long in omega (arith, e)
+
+  pub past_route : length after ≤ place → length (before ++ after) ≤ length before + place
+  past_route h = let e = long in omega (arith, e)
+
+  pub route_within : length (before ++ after) ≤ length before + place → place ≤ length after → length before + place ≤ length (before ++ after)
+  route_within h l = let e = long in omega (arith, e)
+
+  pub node_there : (d : ℕ) → slice_index_or after place d ≡ slice_index_or (before ++ after) (length before + place) d
+  node_there d = sym (get_or-append-add before after place d)
+
+  pub one_after : length before + place + 1 ≡ length before + (place + 1)
+  one_after = omega arith
+
+  pub asked_from : place + 1 ≡ length before + place + 1 - length before
+  asked_from = omega arith
+
+pub front_within : (before after : List ℕ) → length before ≤ length (before ++ after)
+front_within before after = let e = length-append before after in omega (arith, e)
+
+-- what is known of all customers of a route is known of its first ones, and of those after them
+pub known_first : (m : ℕ) (before after : List ℕ) → All (λ c. c ≤ m) (before ++ after) → All (λ c. c ≤ m) before
+known_first m before after all k d h =
+    let e = length-append before after in
+    subst (λ (n : ℕ). n ≤ m) (get_or_append_left before after d k h) (all k d (omega (arith, e, h)))
+
+pub known_next : (m : ℕ) (before after : List ℕ) → All (λ c. c ≤ m) (before ++ after) → All (λ c. c ≤ m) after
+known_next m before after all k d h =
+    subst (λ (n : ℕ). n ≤ m) (get_or-append-add before after k d) (all (length before + k) d (within_route before after k h))
+
+-- the span at the end of the kept ranges, by the whole route
+pub whole_first : (before after : List ℕ) (kept : ℕ) → kept ≡ length before → take kept before ≡ take (length before + 0) (before ++ after)
+whole_first before after kept e =
+    let z : length before + 0 ≡ length before = omega arith in
+    let same : take (length before) (before ++ after) ≡ take (length before) before = take-append-le (length before) before after (no_less (length before)) in
+    ap (λ (n : ℕ). take n before) e ∙ sym same ∙ ap (λ (n : ℕ). take n (before ++ after)) (sym z)
+
 -- what a walk answers
-pub record IsWalked (s : Setting) (k v : ℕ) (route : List ℕ) (kept : ℕ) (old new : List Range) (from to : Meter) {E : Type 0} (r : Result Bool E) : Type 0 where
-  pub bounds : IfOk r (λ is_in. IsTrue is_in ↔ FitsIn s k v route)
-  pub ranges : IfOk r (λ is_in. IsTrue is_in → (more : List Range) × (new ≡ old ++ more) × (length more ≡ length route) × IsTrack s k v route more)
-  pub asks : AsksAtMost from to (length route + 1 - kept)
-  pub whole : IfOk r (λ is_in. IsTrue is_in → AsksJust from to (length route + 1 - kept))
-  pub missed : IfOk r (λ is_in. is_in ≡ false → (i : ℕ) × IsFirstMissIn s k v route i × AsksJust from to (i - kept))
+pub record IsWalked (s : Setting) (k v : ℕ) (before after : List ℕ) (old new : List Range) (from to : Meter) (r : Bool) : Type 0 where
+  pub bounds : IsTrue r ↔ FitsIn s k v (before ++ after)
+  pub ranges : IsTrue r → (more : List Range) × (new ≡ old ++ more) × (length more ≡ length after) × IsTrackAfter s k v (length before) (before ++ after) more
+  pub asks : AsksAtMost from to (length after + 1)
+  pub whole : IsTrue r → AsksJust from to (length after + 1)
+  pub missed : r ≡ false → Missed s k v (before ++ after) (length before) from to
 
-pub walked_full : (s : Setting) (k v : ℕ) (route : List ℕ) (kept : ℕ) (old new : List Range) (m : Meter) {E : Type 0} (r : Result Bool E) (y : E) → r ≡ Err y
-    → IsWalked s k v route kept old new m m r
-walked_full s k v route kept old new m {E} r y e =
-    subst (λ (x : Result Bool E). IsWalked s k v route kept old new m m x) (sym e) (record { bounds = tt; ranges = tt; asks = no_ask m _; whole = tt; missed = tt })
+module _ (s : Setting) (k v : ℕ) (before after : List ℕ) (old new : List Range) (from to : Meter) where
+  walked_out : (FitsIn s k v (before ++ after) → ⊥) → AsksAtMost from to (length after + 1)
+      → Missed s k v (before ++ after) (length before) from to → IsWalked s k v before after old new from to false
+  walked_out out asked missed =
+      record { bounds = no_answer (FitsIn s k v (before ++ after)) out; ranges = λ t. absurd (false≢true t); asks = asked; whole = λ t. absurd (false≢true t); missed = λ _. missed }
 
-walked_out : (s : Setting) (k v : ℕ) (route : List ℕ) (kept : ℕ) (old new : List Range) (from to : Meter) → (FitsIn s k v route → ⊥) → AsksAtMost from to (length route + 1 - kept)
-    → Missed s k v route kept from to → IsWalked s k v route kept old new from to {E = ℕ} (Ok false)
-walked_out s k v route kept old new from to out asked missed =
-    record { bounds = no_answer (FitsIn s k v route) out; ranges = λ t. absurd (false≢true t); asks = asked; whole = λ t. absurd (false≢true t); missed = λ _. missed }
+  pub walked_to : SpansGoOn → MissesAreFound → (place : ℕ) (r : Range) → 0 < length (before ++ after) → place < length after
+      → IsSpanOf s k v (take (length before + place) (before ++ after)) r → IsSpanAt s k v (take (length before + place + 1) (before ++ after)) None
+      → AsksJust from to (place + 1) → IsWalked s k v before after old new from to false
+  walked_to law misses place r some h span none asked =
+      walked_out (never law s k v (before ++ after) (length before + place + 1) some none)
+      (asks_wider from to _ _ _ _ asked (none_least _) (few_next place (length after) h))
+      (missed_at misses s k v (before ++ after) (length before + place) (length before) r from to span (within_route before after place h) none
+      (subst (λ (n : ℕ). AsksJust from to n) (asked_from before after place) asked))
 
-pub walked_none : SpansGoOn → MissesAreFound → (s : Setting) (k v : ℕ) (route : List ℕ) (kept : ℕ) (old new : List Range) (m : Meter) → 0 < length route → IsSpanAt s k v [] None
-    → IsWalked s k v route kept old new m m {E = ℕ} (Ok false)
-walked_none law misses s k v route kept old new m some none =
-    walked_out s k v route kept old new m m (never law s k v route 0 some none) (no_ask m _) (missed_start misses s k v route kept m none)
+  pub walked_all : MissesAreFound → (place : ℕ) (r : Range) (o : Option Range) (found : Bool) → length after ≤ place → place ≤ length after
+      → found ≡ is_some o → IsTrue (is_some o) ↔ FitsIn s k v (before ++ after) → IsSpanAt s k v ((before ++ after) ++ 0 ∷ []) o
+      → IsSpanOf s k v (take (length before + place) (before ++ after)) r
+      → (more : List Range) × (new ≡ old ++ more) × (length more ≡ place) × IsTrackAfter s k v (length before) (before ++ after) more
+      → AsksJust from to (length after + 1) → IsWalked s k v before after old new from to found
+  walked_all misses place r o found end few e answer back span m asked =
+      let all : place ≡ length after = omega arith in
+      let last : length (before ++ after) ≤ length before + place = past_route before after place end in
+      let there : AsksJust from to (length before + place + 1 - length before) =
+      subst (λ (n : ℕ). AsksJust from to n) (asked_from before after place) (subst (λ (n : ℕ). AsksJust from to (n + 1)) (sym all) asked) in
+      record {
+        bounds = subst (λ (x : Bool). IsTrue x ↔ FitsIn s k v (before ++ after)) (sym e) answer;
+        ranges = λ _. (m.0, m.1, m.2 ∙ all, m.3);
+        asks = asks_few from to _ asked;
+        whole = λ _. asked;
+        missed = λ none. missed_back misses s k v (before ++ after) (length before + place) (length before) r o from to span (route_within before after place last few) last back
+            (sym e ∙ none) there;
+      }
 
-pub walked_to : SpansGoOn → MissesAreFound → (s : Setting) (k v : ℕ) (route : List ℕ) (kept : ℕ) (old new : List Range) (from to : Meter) (place : ℕ) (r : Range) → 0 < length route → place < length route
-    → IsSpanOf s k v (take place route) r → IsSpanAt s k v (take (place + 1) route) None → AsksJust from to (place + 1 - kept) → IsWalked s k v route kept old new from to {E = ℕ} (Ok false)
-walked_to law misses s k v route kept old new from to place r some h span none asked =
-    walked_out s k v route kept old new from to (never law s k v route (place + 1) some none)
-    (asks_wider from to _ _ _ _ asked (none_least _) (few_next kept place (length route) h))
-    (missed_at misses s k v route place kept r from to span h none asked)
-
-pub walked_all : MissesAreFound → (s : Setting) (k v : ℕ) (route : List ℕ) (kept : ℕ) (old new : List Range) (from to : Meter) (place : ℕ) (r : Range) (o : Option Range) (found : Bool) → length route ≤ place
-    → (kept ≤ length route → place ≤ length route) → kept ≤ length route → found ≡ is_some o → IsTrue (is_some o) ↔ FitsIn s k v route → IsSpanAt s k v (route ++ 0 ∷ []) o → IsSpanOf s k v (take place route) r
-    → (more : List Range) × (new ≡ old ++ more) × (length more ≡ place) × IsTrack s k v route more → AsksJust from to (length route + 1 - kept) → IsWalked s k v route kept old new from to {E = ℕ} (Ok found)
-walked_all misses s k v route kept old new from to place r o found end ends few e answer back span m asked =
-    let within : place ≤ length route = ends few in
-    let all : place ≡ length route = same_end place (length route) within end in
-    let there : AsksJust from to (place + 1 - kept) = subst (λ (n : ℕ). AsksJust from to (n + 1 - kept)) (sym all) asked in
-    record {
-      bounds = subst (λ (x : Bool). IsTrue x ↔ FitsIn s k v route) (sym e) answer;
-      ranges = λ _. (m.0, m.1, m.2 ∙ all, m.3);
-      asks = asks_few from to _ asked;
-      whole = λ _. asked;
-      missed = λ none. missed_back misses s k v route place kept r o from to span within end back (sym e ∙ none) there;
-    }
+pub walked_none : SpansGoOn → MissesAreFound → (s : Setting) (k v : ℕ) (before after : List ℕ) (old new : List Range) (m : Meter) → 0 < length (before ++ after) → IsSpanAt s k v [] None
+    → IsWalked s k v before after old new m m false
+walked_none law misses s k v before after old new m some none =
+    walked_out s k v before after old new m m (never law s k v (before ++ after) 0 some none) (no_ask m _) (missed_start misses s k v (before ++ after) (length before) m none)

@@ -6,22 +6,24 @@ ghost use Rattle.dimension_core.specs.NewRoutes.{Changes, AllFit, AllKnown};
 ghost use Rattle.dimension_core.specs.Setting.{Setting, dimension_at};
 ghost use Rattle.dimension_core.specs.Setup.{setting};
 ghost use Rattle.plan_core.specs.Cost.{route_asks, asks_of};
-ghost use Rattle.plan_core.specs.Plan.{route_at, changes_of, with_routes};
+ghost use Rattle.plan_core.specs.Drafts.{drafted, drafts_of, AreFrontsWithin};
+ghost use Rattle.plan_core.specs.Plan.{route_at, with_routes};
 ghost use Rattle.range_cache.specs.Asks.{judge_asks, walk_asks, fault_asks, AsksToFault};
 ghost use Rattle.range_cache.specs.Cache.{IsRowOf, IsCacheOf, HasEarly};
+ghost use Rattle.range_cache.specs.Parts.{IsFreshOf, AreFreshOf};
 ghost use Rattle.range_cache.specs.Pending.{AreNewRows, IsJudgeFault, with_rows};
 ghost use Rattle.range_cache.specs.Row.{IsRowFault, AsksToRowFault, row_asks};
 
 use crate::fault::JudgeFault;
+use crate::fresh::Fresh;
 use crate::pending::{Pending, Room};
 use crate::row::Row;
 use callback_store::Meter;
 use dimension_core::{Setup, spans_go_on};
-use plan_core::{Plan, Route};
+use plan_core::{Draft, Plan, common_front, fronts_are_common};
 use std::alloc::{AllocError, Global};
 use std::marker::Model;
 use std::mem::swap;
-use std::sync::Arc;
 
 /// For each vehicle, in each dimension, the range of the cumuls that it may have at each customer of its route.
 ///
@@ -78,37 +80,41 @@ impl Cache {
 
     /// Judges new routes of some vehicles of the plan whose cache this is, in their order: `Bound` names the first vehicle whose new route
     /// is out of bounds, and the first dimension in which it is. The answer is ready to be taken. The new routes must be of vehicles and
-    /// customers of the setup, with at most 1,000 customers each.
+    /// customers of the setup, with at most 1,000 customers each, and each draft keeps at most the customers that the old route has.
     ///
     /// Each dimension of a new route is walked from the end of the longest common prefix of the old and the new route on, and no other
     /// vehicle's route is looked at. It asks the callback of each dimension once for each customer after the common prefix and once for the
     /// return, and not at all for an empty route. Where a new route is out of bounds it has asked for all that comes before that dimension of
     /// that route, and in it up to the first stop at which no cumul is left. It also stops where memory runs out.
+    ///
+    /// Of what the drafts keep, only the last customer and its ranges are read before all new routes are in bounds, and nothing is copied.
     pub fn judge(
         &self,
         setup: &Setup,
         plan: &Plan,
-        changes: &[(u32, Arc<Route>)],
+        drafts: &[Draft],
         meter: &mut Meter,
     ) -> Result<Pending, JudgeFault>
         requires cache { IsCacheOf (setting setup.now) plan.now.routes self.now }
-        requires known { AllKnown (setting setup.now) (changes_of changes.now) }
-        requires short { All (λ c. length c.1.value ≤ 1000) changes.now }
+        requires known { AllKnown (setting setup.now) (drafts_of plan.now.routes drafts.now) }
+        requires short { All (λ d. length (drafted plan.now.routes d) ≤ 1000) drafts.now }
+        requires fronts { AreFrontsWithin plan.now.routes drafts.now }
         ensures of { IfOk result (λ pending. pending.of ≡ self.now) }
-        ensures fits { IfOk result (λ pending. AllFit (setting setup.now) (changes_of changes.now)) }
-        ensures rows { IfOk result (λ pending. AreNewRows (setting setup.now) (changes_of changes.now) pending.rows) }
-        ensures fault { IfErr result (IsJudgeFault (setting setup.now) (changes_of changes.now)) }
+        ensures fits { IfOk result (λ pending. AllFit (setting setup.now) (drafts_of plan.now.routes drafts.now)) }
+        ensures rows { IfOk result (λ pending. AreNewRows (setting setup.now) (drafts_of plan.now.routes drafts.now) pending.rows) }
+        ensures fault { IfErr result (IsJudgeFault (setting setup.now) (drafts_of plan.now.routes drafts.now)) }
         ensures asks { AsksAtMost meter.old meter.new
-            (judge_asks (length (setting setup.now).dimensions) plan.now.routes (changes_of changes.now)) }
+            (judge_asks (length (setting setup.now).dimensions) plan.now.routes (drafts_of plan.now.routes drafts.now)) }
         ensures whole { OnOk result (AsksJust meter.old meter.new
-            (judge_asks (length (setting setup.now).dimensions) plan.now.routes (changes_of changes.now))) }
+            (judge_asks (length (setting setup.now).dimensions) plan.now.routes (drafts_of plan.now.routes drafts.now))) }
         ensures least { IfErr result (λ f. Asks meter.old meter.new
-            (fault_asks (length (setting setup.now).dimensions) plan.now.routes (changes_of changes.now) f)
-            (judge_asks (length (setting setup.now).dimensions) plan.now.routes (changes_of changes.now))) }
-        ensures missed { IfErr result (AsksToFault (setting setup.now) plan.now.routes (changes_of changes.now) meter.old meter.new) }
+            (fault_asks (length (setting setup.now).dimensions) plan.now.routes (drafts_of plan.now.routes drafts.now) f)
+            (judge_asks (length (setting setup.now).dimensions) plan.now.routes (drafts_of plan.now.routes drafts.now))) }
+        ensures missed { IfErr result (AsksToFault (setting setup.now) plan.now.routes (drafts_of plan.now.routes drafts.now)
+            meter.old meter.new) }
     {
         let alloc = *self.rows.allocator();
-        self.judge_in(&mut Room::new(alloc), setup, plan, changes, meter)
+        self.judge_in(&mut Room::new(alloc), setup, plan, drafts, meter)
     }
 
     /// What `judge` answers, with the new ranges in the memory of earlier ones: more memory is taken only where that is too small. Where
@@ -119,66 +125,118 @@ impl Cache {
         room: &mut Room,
         setup: &Setup,
         plan: &Plan,
-        changes: &[(u32, Arc<Route>)],
+        drafts: &[Draft],
         meter: &mut Meter,
     ) -> Result<Pending, JudgeFault>
         requires cache { IsCacheOf (setting setup.now) plan.now.routes self.now }
-        requires known { AllKnown (setting setup.now) (changes_of changes.now) }
-        requires short { All (λ c. length c.1.value ≤ 1000) changes.now }
+        requires known { AllKnown (setting setup.now) (drafts_of plan.now.routes drafts.now) }
+        requires short { All (λ d. length (drafted plan.now.routes d) ≤ 1000) drafts.now }
+        requires fronts { AreFrontsWithin plan.now.routes drafts.now }
         ensures of { IfOk result (λ pending. pending.of ≡ self.now) }
-        ensures fits { IfOk result (λ pending. AllFit (setting setup.now) (changes_of changes.now)) }
-        ensures rows { IfOk result (λ pending. AreNewRows (setting setup.now) (changes_of changes.now) pending.rows) }
-        ensures fault { IfErr result (IsJudgeFault (setting setup.now) (changes_of changes.now)) }
+        ensures fits { IfOk result (λ pending. AllFit (setting setup.now) (drafts_of plan.now.routes drafts.now)) }
+        ensures rows { IfOk result (λ pending. AreNewRows (setting setup.now) (drafts_of plan.now.routes drafts.now) pending.rows) }
+        ensures fault { IfErr result (IsJudgeFault (setting setup.now) (drafts_of plan.now.routes drafts.now)) }
         ensures asks { AsksAtMost meter.old meter.new
-            (judge_asks (length (setting setup.now).dimensions) plan.now.routes (changes_of changes.now)) }
+            (judge_asks (length (setting setup.now).dimensions) plan.now.routes (drafts_of plan.now.routes drafts.now)) }
         ensures whole { OnOk result (AsksJust meter.old meter.new
-            (judge_asks (length (setting setup.now).dimensions) plan.now.routes (changes_of changes.now))) }
+            (judge_asks (length (setting setup.now).dimensions) plan.now.routes (drafts_of plan.now.routes drafts.now))) }
         ensures least { IfErr result (λ f. Asks meter.old meter.new
-            (fault_asks (length (setting setup.now).dimensions) plan.now.routes (changes_of changes.now) f)
-            (judge_asks (length (setting setup.now).dimensions) plan.now.routes (changes_of changes.now))) }
-        ensures missed { IfErr result (AsksToFault (setting setup.now) plan.now.routes (changes_of changes.now) meter.old meter.new) }
+            (fault_asks (length (setting setup.now).dimensions) plan.now.routes (drafts_of plan.now.routes drafts.now) f)
+            (judge_asks (length (setting setup.now).dimensions) plan.now.routes (drafts_of plan.now.routes drafts.now))) }
+        ensures missed { IfErr result (AsksToFault (setting setup.now) plan.now.routes (drafts_of plan.now.routes drafts.now)
+            meter.old meter.new) }
     {
-        room.hold(changes.len())?;
-        for k in 0..changes.len() {
-            let (vehicle, route) = &changes[k];
+        self.walk_drafts(room, setup, plan, drafts, meter)?;
+        room.hold(drafts.len())?;
+        for k in 0..drafts.len() {
+            let vehicle = drafts[k].vehicle();
+            let fresh = &room.fresh[k];
             let (named, row) = &mut room.rows[k];
-            *named = *vehicle;
-            self.change_row(row, setup, plan, *vehicle, route, meter)?;
+            *named = vehicle;
+            let old = &self.rows[vehicle as usize - 1];
+            old.join(row, setup, fresh.front, &fresh.row)?;
         }
-        Ok(Pending::new(self, room.take_rows(changes.len())))
+        Ok(Pending::new(self, room.take_rows(drafts.len())))
     }
 
-    /// Makes a row that of a vehicle's new route, from the row of its route in the plan.
+    /// Walks new routes in their order, up to the first that is out of bounds.
     #[inline(always)]
-    fn change_row(
+    fn walk_drafts(
         &self,
-        row: &mut Row,
+        room: &mut Room,
         setup: &Setup,
         plan: &Plan,
-        vehicle: u32,
-        route: &Route,
+        drafts: &[Draft],
         meter: &mut Meter,
     ) -> Result<(), JudgeFault>
         requires cache { IsCacheOf (setting setup.now) plan.now.routes self.now }
-        requires low { 1 ≤ vehicle }
-        requires high { vehicle ≤ (setting setup.now).vehicles }
-        requires known { All (λ c. c ≤ (setting setup.now).customers) route.now }
-        requires short { length route.now ≤ 1000 }
-        ensures fits { OnOk result (FitsAll (setting setup.now) vehicle route.now) }
-        ensures row { OnOk result (IsRowOf (setting setup.now) vehicle route.now row.new) }
-        ensures fault { IfErr result (IsRowFault (setting setup.now) vehicle route.now) }
+        requires known { AllKnown (setting setup.now) (drafts_of plan.now.routes drafts.now) }
+        requires short { All (λ d. length (drafted plan.now.routes d) ≤ 1000) drafts.now }
+        requires fronts { AreFrontsWithin plan.now.routes drafts.now }
+        ensures fits { OnOk result (AllFit (setting setup.now) (drafts_of plan.now.routes drafts.now)) }
+        ensures fresh { OnOk result (AreFreshOf (setting setup.now) plan.now.routes drafts.now room.new.fresh.items (length drafts.now)) }
+        ensures held { OnOk result (length drafts.now ≤ length room.new.fresh.items) }
+        ensures fault { IfErr result (IsJudgeFault (setting setup.now) (drafts_of plan.now.routes drafts.now)) }
         ensures asks { AsksAtMost meter.old meter.new
-            (length (setting setup.now).dimensions * walk_asks (route_at plan.now.routes vehicle) route.now) }
+            (judge_asks (length (setting setup.now).dimensions) plan.now.routes (drafts_of plan.now.routes drafts.now)) }
         ensures whole { OnOk result (AsksJust meter.old meter.new
-            (length (setting setup.now).dimensions * walk_asks (route_at plan.now.routes vehicle) route.now)) }
-        ensures least { IfErr result (λ f. Asks meter.old meter.new (row_asks (walk_asks (route_at plan.now.routes vehicle) route.now) f)
-            (length (setting setup.now).dimensions * walk_asks (route_at plan.now.routes vehicle) route.now)) }
-        ensures missed { IfErr result (AsksToRowFault (setting setup.now)
-            (route_at plan.now.routes vehicle) vehicle route.now meter.old meter.new) }
+            (judge_asks (length (setting setup.now).dimensions) plan.now.routes (drafts_of plan.now.routes drafts.now))) }
+        ensures least { IfErr result (λ f. Asks meter.old meter.new
+            (fault_asks (length (setting setup.now).dimensions) plan.now.routes (drafts_of plan.now.routes drafts.now) f)
+            (judge_asks (length (setting setup.now).dimensions) plan.now.routes (drafts_of plan.now.routes drafts.now))) }
+        ensures missed { IfErr result (AsksToFault (setting setup.now) plan.now.routes (drafts_of plan.now.routes drafts.now)
+            meter.old meter.new) }
     {
+        room.hold_fresh(drafts.len())?;
+        for k in 0..drafts.len() {
+            let fresh = &mut room.fresh[k];
+            self.walk_draft(fresh, setup, plan, &drafts[k], meter)?;
+        }
+        Ok(())
+    }
+
+    /// Walks a new route from the end of the longest common prefix of the old and the new route on, which is looked for only after what the
+    /// draft keeps.
+    #[inline(always)]
+    fn walk_draft(
+        &self,
+        fresh: &mut Fresh,
+        setup: &Setup,
+        plan: &Plan,
+        draft: &Draft,
+        meter: &mut Meter,
+    ) -> Result<(), JudgeFault>
+        requires cache { IsCacheOf (setting setup.now) plan.now.routes self.now }
+        requires low { 1 ≤ draft.now.vehicle }
+        requires high { draft.now.vehicle ≤ (setting setup.now).vehicles }
+        requires known { All (λ c. c ≤ (setting setup.now).customers) (drafted plan.now.routes draft.now) }
+        requires short { length (drafted plan.now.routes draft.now) ≤ 1000 }
+        requires front { draft.now.kept ≤ length (route_at plan.now.routes draft.now.vehicle) }
+        ensures fits { OnOk result (FitsAll (setting setup.now) draft.now.vehicle (drafted plan.now.routes draft.now)) }
+        ensures fresh { OnOk result (IsFreshOf (setting setup.now) plan.now.routes draft.now fresh.new) }
+        ensures fault { IfErr result (IsRowFault (setting setup.now) draft.now.vehicle (drafted plan.now.routes draft.now)) }
+        ensures asks { AsksAtMost meter.old meter.new (length (setting setup.now).dimensions
+            * walk_asks (route_at plan.now.routes draft.now.vehicle) (drafted plan.now.routes draft.now)) }
+        ensures whole { OnOk result (AsksJust meter.old meter.new (length (setting setup.now).dimensions
+            * walk_asks (route_at plan.now.routes draft.now.vehicle) (drafted plan.now.routes draft.now))) }
+        ensures least { IfErr result (λ f. Asks meter.old meter.new
+            (row_asks (walk_asks (route_at plan.now.routes draft.now.vehicle) (drafted plan.now.routes draft.now)) f)
+            (length (setting setup.now).dimensions
+            * walk_asks (route_at plan.now.routes draft.now.vehicle) (drafted plan.now.routes draft.now))) }
+        ensures missed { IfErr result (AsksToRowFault (setting setup.now) (route_at plan.now.routes draft.now.vehicle)
+            draft.now.vehicle (drafted plan.now.routes draft.now) meter.old meter.new) }
+    {
+        fronts_are_common();
+        let vehicle = draft.vehicle();
         let old = plan.route(vehicle).customers();
-        let kept = &self.rows[vehicle as usize - 1];
-        kept.change(row, setup, vehicle, old, route.customers(), meter)
+        let kept = draft.kept();
+        let rest = draft.rest();
+        let more = common_front(&old[kept..], rest);
+        fresh.front = kept + more;
+        let before = &old[..kept + more];
+        let after = &rest[more..];
+        let row = &self.rows[vehicle as usize - 1];
+        row.walk_on(&mut fresh.row, setup, vehicle, before, after, meter)
     }
 
     /// Takes what was judged: this is then the cache of the plan with the new routes. It takes no memory, and gives back that of the rows
@@ -232,7 +290,7 @@ fn first_row(
     let route = plan.route(vehicle).customers();
     let none = Row::empty(alloc);
     let mut row = Row::empty(alloc);
-    match none.change(&mut row, setup, vehicle, &[], route, meter) {
+    match none.walk_on(&mut row, setup, vehicle, &[], route, meter) {
         Ok(()) => Ok(row),
         Err(JudgeFault::Bound(_, _)) => unreachable!(),
         Err(JudgeFault::NoMemory) => Err(AllocError),

@@ -3,6 +3,7 @@
 
 mod cache;
 mod fault;
+mod fresh;
 mod pending;
 mod row;
 mod walk;

@@ -2,16 +2,19 @@
 ghost use Rattle.std.specs.Prelude.{◌≡◌, ◌≤◌, length, take, OnOk};
 
 use crate::cache::Cache;
+use crate::fresh::Fresh;
 use crate::row::Row;
 use std::alloc::{AllocError, Global};
 use std::marker::Model;
 use std::mem::replace;
 use std::snapshot::Snapshot;
 
-/// The memory of rows that were replaced, kept for the rows of the next judgement.
+/// The memory of rows that were replaced, kept for the rows of the next judgement, and that in which new routes are walked.
 #[derive(Drop)]
 pub struct Room {
     pub(crate) rows: Vec<(u32, Row)>,
+    /// At least one for each new route of the last judgement. They stay when the rows are taken out.
+    pub(crate) fresh: Vec<Fresh>,
     /// A row that a judgement of fewer new routes left over, for one of more.
     spare: Option<(u32, Row)>,
 }
@@ -24,10 +27,15 @@ impl Room {
 
     /// The room of these rows.
     pub(crate) fn of(rows: Vec<(u32, Row)>) -> Room {
-        Room { rows, spare: None }
+        let fresh = Vec::new(*rows.allocator());
+        Room {
+            rows,
+            fresh,
+            spare: None,
+        }
     }
 
-    /// Takes in the memory that `Cache::take` gave back. Its own spare row stays.
+    /// Takes in the memory that `Cache::take` gave back. Its own spare row stays, and the memory in which new routes are walked.
     pub fn refill(&mut self, replaced: Room) {
         let Room { rows, .. } = replaced;
         self.rows = rows;
@@ -36,13 +44,26 @@ impl Room {
     /// Makes it hold at least this many rows, whatever they contain.
     #[inline(always)]
     pub(crate) fn hold(&mut self, count: usize) -> Result<(), AllocError>
-        ensures { OnOk result (count ≤ length self.new.rows.items) }
+        ensures rows { OnOk result (count ≤ length self.new.rows.items) }
+        ensures fresh { self.new.fresh.items ≡ self.old.fresh.items }
     {
         let alloc = *self.rows.allocator();
         'rows: while self.rows.len() < count {
             self.rows.reserve(1)?;
             let row = self.spare.take().unwrap_or((0, Row::empty(alloc)));
             self.rows.push(row)?;
+        }
+        Ok(())
+    }
+
+    /// Makes it have room to walk at least this many new routes.
+    #[inline(always)]
+    pub(crate) fn hold_fresh(&mut self, count: usize) -> Result<(), AllocError>
+        ensures { OnOk result (count ≤ length self.new.fresh.items) }
+    {
+        let alloc = *self.rows.allocator();
+        'fresh: while self.fresh.len() < count {
+            self.fresh.push(Fresh::empty(alloc))?;
         }
         Ok(())
     }

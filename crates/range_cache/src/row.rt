@@ -1,23 +1,24 @@
 //! The ranges along the route of one vehicle.
-ghost use Rattle.std.specs.Prelude.{◌≡◌, ℕ, ◌+◌, ◌*◌, ◌<◌, ◌≤◌, [], length, take, drop, All, IfErr, OnOk, vec_capacity};
+ghost use Rattle.std.specs.Prelude.{◌≡◌, ℕ, ◌+◌, ◌*◌, ◌<◌, ◌≤◌, ◌++◌, [], length, take, drop, All, IfErr, OnOk, vec_capacity};
 ghost use Rattle.callback_store.specs.Meter.{Asks, AsksJust, AsksAtMost};
 ghost use Rattle.dimension_core.specs.Feasible.{FitsAll, IsFirstOut};
 ghost use Rattle.dimension_core.specs.Setup.{setting};
 ghost use Rattle.range_cache.specs.Asks.{walk_asks};
-ghost use Rattle.range_cache.specs.Cache.{IsRowOf, range_at};
+ghost use Rattle.range_cache.specs.Cache.{range_at};
+ghost use Rattle.range_cache.specs.Parts.{HasFront, IsTailOf, IsJoin};
 ghost use Rattle.range_cache.specs.Row.{IsRowFault, AsksToRowFault, row_asks};
 
 use crate::fault::JudgeFault;
 use crate::walk::{Axis, Course, walk};
 use callback_store::Meter;
 use dimension_core::{Range, Setup};
-use plan_core::common_front;
+use plan_core::append_part;
 use std::alloc::{AllocError, Global};
 use std::marker::Model;
 
-/// For each dimension in order a range for each customer of a route in order.
+/// For each dimension in order a range for each customer of a route, or of a part of it, in order.
 ///
-/// It has room for at most four times as many ranges, and 35 more.
+/// That of a whole route has room for at most four times as many ranges, and 35 more.
 #[derive(Drop)]
 pub(crate) struct Row {
     stops: u32,
@@ -60,50 +61,84 @@ impl Row {
         self.ranges[dimension * self.stops as usize + place].lo
     }
 
-    /// Makes a row that of the vehicle's new route, from this row of its old route. Each dimension is walked from the end of the longest
-    /// common prefix on. It stops at the first dimension in which the new route is out of bounds.
+    /// Walks a route of the vehicle whose first customers are `before`, with their ranges at the front of this row, and whose others are
+    /// `after`; the fresh row gets the ranges of these. Each dimension is walked from the customer after `before` on. It stops at the
+    /// first dimension in which the route is out of bounds.
     ///
-    /// It asks the callback of each dimension once for each customer after the common prefix and once for the return, and not at all where
-    /// the new route is empty. Where the new route is out of bounds it asks up to the first stop at which no cumul is left, in the first such
-    /// dimension. Out of line, so that its loops have the registers to themselves.
+    /// It asks the callback of each dimension once for each customer of `after` and once for the return, and not at all where the route is
+    /// empty. Where the route is out of bounds it asks up to the first stop at which no cumul is left, in the first such dimension. Out of
+    /// line, so that its loops have the registers to themselves.
     #[inline(never)]
-    pub(crate) fn change(
+    pub(crate) fn walk_on(
         &self,
-        row: &mut Row,
+        fresh: &mut Row,
         setup: &Setup,
         vehicle: u32,
-        old: &[u32],
-        new: &[u32],
+        before: &[u32],
+        after: &[u32],
         meter: &mut Meter,
     ) -> Result<(), JudgeFault>
         requires low { 1 ≤ vehicle }
         requires high { vehicle ≤ (setting setup.now).vehicles }
-        requires known { All (λ c. c ≤ (setting setup.now).customers) new.now }
-        requires short { length new.now ≤ 1000 }
-        requires row { IsRowOf (setting setup.now) vehicle old.now self.now }
-        ensures fits { OnOk result (FitsAll (setting setup.now) vehicle new.now) }
-        ensures row { OnOk result (IsRowOf (setting setup.now) vehicle new.now row.new) }
-        ensures fault { IfErr result (IsRowFault (setting setup.now) vehicle new.now) }
-        ensures asks { AsksAtMost meter.old meter.new (length (setting setup.now).dimensions * walk_asks old.now new.now) }
-        ensures whole { OnOk result (AsksJust meter.old meter.new (length (setting setup.now).dimensions * walk_asks old.now new.now)) }
-        ensures least { IfErr result (λ f. Asks meter.old meter.new (row_asks (walk_asks old.now new.now) f)
-            (length (setting setup.now).dimensions * walk_asks old.now new.now)) }
-        ensures missed { IfErr result (AsksToRowFault (setting setup.now) old.now vehicle new.now meter.old meter.new) }
+        requires known { All (λ c. c ≤ (setting setup.now).customers) (before.now ++ after.now) }
+        requires short { length (before.now ++ after.now) ≤ 1000 }
+        requires front { HasFront (setting setup.now) vehicle (length before.now) (before.now ++ after.now) self.now }
+        ensures fits { OnOk result (FitsAll (setting setup.now) vehicle (before.now ++ after.now)) }
+        ensures tail { OnOk result (IsTailOf (setting setup.now) vehicle (length before.now) (before.now ++ after.now) fresh.new) }
+        ensures fault { IfErr result (IsRowFault (setting setup.now) vehicle (before.now ++ after.now)) }
+        ensures asks { AsksAtMost meter.old meter.new
+            (length (setting setup.now).dimensions * walk_asks before.now (before.now ++ after.now)) }
+        ensures whole { OnOk result (AsksJust meter.old meter.new
+            (length (setting setup.now).dimensions * walk_asks before.now (before.now ++ after.now))) }
+        ensures least { IfErr result (λ f. Asks meter.old meter.new (row_asks (walk_asks before.now (before.now ++ after.now)) f)
+            (length (setting setup.now).dimensions * walk_asks before.now (before.now ++ after.now))) }
+        ensures missed { IfErr result (AsksToRowFault (setting setup.now) before.now vehicle (before.now ++ after.now) meter.old meter.new) }
     {
         let count = setup.dimensions().len();
-        row.stops = new.len() as u32;
-        make_room(&mut row.ranges, count * new.len())?;
-        if new.is_empty() {
+        let stops = before.len() + after.len();
+        fresh.stops = after.len() as u32;
+        clear_for(&mut fresh.ranges, count * after.len())?;
+        if stops == 0 {
             return Ok(());
         }
-        let front = common_front(old, new);
         for dimension in 0..count {
-            let kept = self.front(dimension, front);
+            let kept = self.front(dimension, before.len());
             let axis = Axis { dimension, vehicle };
-            let course = Course { route: new, kept };
-            if !walk(setup, axis, &course, &mut row.ranges, meter)? {
+            let course = Course {
+                before,
+                after,
+                kept,
+            };
+            if !walk(setup, axis, &course, &mut fresh.ranges, meter) {
                 return Err(JudgeFault::Bound(vehicle, dimension as u32 + 1));
             }
+        }
+        Ok(())
+    }
+
+    /// Makes a row of the first `front` ranges of this row in each dimension, each time followed by those of a fresh row. Out of line, as the
+    /// walk is.
+    #[inline(never)]
+    pub(crate) fn join(
+        &self,
+        row: &mut Row,
+        setup: &Setup,
+        front: usize,
+        fresh: &Row,
+    ) -> Result<(), AllocError>
+        requires within { front ≤ self.now.stops }
+        requires short { front + fresh.now.stops ≤ 1000 }
+        requires sized { length self.now.ranges ≡ length (setting setup.now).dimensions * self.now.stops }
+        requires fresh { length fresh.now.ranges ≡ length (setting setup.now).dimensions * fresh.now.stops }
+        ensures { OnOk result (IsJoin (length (setting setup.now).dimensions) front self.now fresh.now row.new) }
+    {
+        let dimensions = setup.dimensions().len();
+        let rest = fresh.stops as usize;
+        row.stops = (front + rest) as u32;
+        make_room(&mut row.ranges, dimensions * (front + rest))?;
+        for dimension in 0..dimensions {
+            append_part(&mut row.ranges, self.front(dimension, front))?;
+            append_part(&mut row.ranges, fresh.front(dimension, rest))?;
         }
         Ok(())
     }
@@ -112,17 +147,29 @@ impl Row {
 /// Room for ranges is made in steps of this many, so that a row has room for the next few changes of its route.
 const STEP: usize = 8;
 
-/// Empties a list and makes room in it for `count` ranges. Memory that is too small, or more than four times too large, is given up.
+/// Empties a list and makes room in it for `count` ranges. Memory that is too small is replaced.
+#[inline(always)]
+fn clear_for(ranges: &mut Vec<Range>, count: usize) -> Result<(), AllocError>
+    requires { count ≤ 1000000 }
+    ensures items { OnOk result (ranges.new.items ≡ []) }
+    ensures room { OnOk result (count ≤ vec_capacity ranges.new) }
+{
+    if ranges.capacity() < count {
+        *ranges = Vec::with_capacity(*ranges.allocator(), count.div_ceil(STEP) * STEP)?;
+    }
+    ranges.clear();
+    Ok(())
+}
+
+/// As `clear_for`, but memory that is more than four times too large is replaced too.
 #[inline(always)]
 fn make_room(ranges: &mut Vec<Range>, count: usize) -> Result<(), AllocError>
     requires { count ≤ 1000000 }
     ensures items { OnOk result (ranges.new.items ≡ []) }
     ensures room { OnOk result (count ≤ vec_capacity ranges.new) }
 {
-    let room = ranges.capacity();
-    if room < count || room / 4 > count + STEP {
-        *ranges = Vec::with_capacity(*ranges.allocator(), count.div_ceil(STEP) * STEP)?;
+    if ranges.capacity() / 4 > count + STEP {
+        *ranges = Vec::new(*ranges.allocator());
     }
-    ranges.clear();
-    Ok(())
+    clear_for(ranges, count)
 }

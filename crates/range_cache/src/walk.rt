@@ -1,5 +1,5 @@
 //! A walk along a route in one dimension, from a kept range on.
-ghost use Rattle.std.specs.Prelude.{◌≡◌, ℕ, ◌+◌, ◌-◌, ◌<◌, ◌≤◌, ◌↔◌, ◌++◌, [], List, length, take, None, All, IfOk, OnOk, IfSome, IsTrue, false, MatchOption, vec_len, vec_capacity};
+ghost use Rattle.std.specs.Prelude.{◌≡◌, ℕ, ◌+◌, ◌-◌, ◌<◌, ◌≤◌, ◌↔◌, ◌++◌, [], List, length, take, None, All, IfSome, IsTrue, false, MatchOption, vec_len, vec_capacity};
 ghost use Rattle.callback_store.specs.Meter.{AsksJust, AsksAtMost};
 ghost use Rattle.dimension_core.specs.Cumuls.{last_of, table_of};
 ghost use Rattle.dimension_core.specs.Feasible.{FitsIn};
@@ -8,12 +8,11 @@ ghost use Rattle.dimension_core.specs.Setting.{dimension_at};
 ghost use Rattle.dimension_core.specs.Setup.{setting};
 ghost use Rattle.dimension_core.specs.Spans.{IsSpanOf};
 ghost use Rattle.dimension_core.specs.declared.range.Range.{Range};
+ghost use Rattle.range_cache.specs.Parts.{IsTrackAfter};
 ghost use Rattle.range_cache.specs.Track.{IsSpanAt, IsTrack};
 
 use callback_store::{Callback, Meter, Slot};
 use dimension_core::{Range, Setup, misses_are_found, range_after, spans_go_on};
-use plan_core::append_part;
-use std::alloc::AllocError;
 
 /// A vehicle (from 1) in a dimension (from 0).
 #[derive(Clone, Copy)]
@@ -48,15 +47,16 @@ fn begin(setup: &Setup, axis: Axis, route: &[u32], kept: &[Range]) -> Option<(Ra
     Some((kept[last], route[last]))
 }
 
-/// A route, and the ranges that are kept along its first customers.
+/// A route: its first customers, with the ranges that are kept along them, and the customers after those.
 #[derive(Clone, Copy)]
 pub(crate) struct Course<'a> {
-    pub(crate) route: &'a [u32],
+    pub(crate) before: &'a [u32],
+    pub(crate) after: &'a [u32],
     pub(crate) kept: &'a [Range],
 }
 
 /// Walks along a route that is not empty in one dimension, from the customer after the kept ranges to the return. True where the route is
-/// in bounds; the range of each of its customers then follows the others, and there is room for them.
+/// in bounds; the range of each of the customers that it walked to then follows the others in the list, which has room for them.
 ///
 /// It asks the callback once for each customer after the kept ranges and once for the return, up to the first stop at which no cumul is
 /// left, and that one too. What kind of callback it is is looked at once.
@@ -66,24 +66,27 @@ pub(crate) fn walk(
     course: &Course,
     ranges: &mut Vec<Range>,
     meter: &mut Meter,
-) -> Result<bool, AllocError>
+) -> bool
     requires low { 1 ≤ axis.vehicle }
     requires high { axis.vehicle ≤ (setting setup.now).vehicles }
     requires dimension { axis.dimension < length (setting setup.now).dimensions }
-    requires some { 0 < length course.now.route.now }
-    requires known { All (λ c. c ≤ (setting setup.now).customers) course.now.route.now }
-    requires kept { IsTrack (setting setup.now) axis.dimension axis.vehicle course.now.route.now course.now.kept.now }
-    requires room { vec_len ranges.old + length course.now.route.now ≤ vec_capacity ranges.old }
-    ensures bounds { IfOk result (λ is_in. IsTrue is_in ↔ FitsIn (setting setup.now) axis.dimension axis.vehicle course.now.route.now) }
-    ensures ranges { IfOk result (λ is_in. IsTrue is_in → (more : List Range) × (ranges.new.items ≡ ranges.old.items ++ more)
-        × (length more ≡ length course.now.route.now) × IsTrack (setting setup.now) axis.dimension axis.vehicle course.now.route.now more) }
+    requires some { 0 < length (course.now.before.now ++ course.now.after.now) }
+    requires known { All (λ c. c ≤ (setting setup.now).customers) (course.now.before.now ++ course.now.after.now) }
+    requires each { length course.now.kept.now ≡ length course.now.before.now }
+    requires kept { IsTrack (setting setup.now) axis.dimension axis.vehicle (course.now.before.now ++ course.now.after.now)
+        course.now.kept.now }
+    requires room { vec_len ranges.old + length course.now.after.now ≤ vec_capacity ranges.old }
+    ensures bounds { IsTrue result ↔ FitsIn (setting setup.now) axis.dimension axis.vehicle (course.now.before.now ++ course.now.after.now) }
+    ensures ranges { IsTrue result → (more : List Range) × (ranges.new.items ≡ ranges.old.items ++ more)
+        × (length more ≡ length course.now.after.now)
+        × IsTrackAfter (setting setup.now) axis.dimension axis.vehicle (length course.now.before.now)
+        (course.now.before.now ++ course.now.after.now) more }
     ensures capacity { vec_capacity ranges.old ≤ vec_capacity ranges.new }
-    ensures asks { AsksAtMost meter.old meter.new (length course.now.route.now + 1 - length course.now.kept.now) }
-    ensures whole { IfOk result (λ is_in. IsTrue is_in
-        → AsksJust meter.old meter.new (length course.now.route.now + 1 - length course.now.kept.now)) }
-    ensures missed { IfOk result (λ is_in. is_in ≡ false → (k : ℕ)
-        × IsFirstMissIn (setting setup.now) axis.dimension axis.vehicle course.now.route.now k
-        × AsksJust meter.old meter.new (k - length course.now.kept.now)) }
+    ensures asks { AsksAtMost meter.old meter.new (length course.now.after.now + 1) }
+    ensures whole { IsTrue result → AsksJust meter.old meter.new (length course.now.after.now + 1) }
+    ensures missed { result ≡ false → (k : ℕ)
+        × IsFirstMissIn (setting setup.now) axis.dimension axis.vehicle (course.now.before.now ++ course.now.after.now) k
+        × AsksJust meter.old meter.new (k - length course.now.before.now) }
 {
     let bounds = &setup.dimensions()[axis.dimension];
     match setup.registry().callback(bounds.id()) {
@@ -103,53 +106,59 @@ fn walk_by<C: Callback>(
     course: &Course,
     ranges: &mut Vec<Range>,
     meter: &mut Meter,
-) -> Result<bool, AllocError>
+) -> bool
     requires answers { C.table callback.now
         ≡ table_of (setting setup.now).tables (dimension_at (setting setup.now) axis.dimension) }
     requires nodes { (C.table callback.now).size ≡ (setting setup.now).customers + 1 }
     requires low { 1 ≤ axis.vehicle }
     requires high { axis.vehicle ≤ (setting setup.now).vehicles }
     requires dimension { axis.dimension < length (setting setup.now).dimensions }
-    requires some { 0 < length course.now.route.now }
-    requires known { All (λ c. c ≤ (setting setup.now).customers) course.now.route.now }
-    requires kept { IsTrack (setting setup.now) axis.dimension axis.vehicle course.now.route.now course.now.kept.now }
-    requires room { vec_len ranges.old + length course.now.route.now ≤ vec_capacity ranges.old }
-    ensures bounds { IfOk result (λ is_in. IsTrue is_in ↔ FitsIn (setting setup.now) axis.dimension axis.vehicle course.now.route.now) }
-    ensures ranges { IfOk result (λ is_in. IsTrue is_in → (more : List Range) × (ranges.new.items ≡ ranges.old.items ++ more)
-        × (length more ≡ length course.now.route.now) × IsTrack (setting setup.now) axis.dimension axis.vehicle course.now.route.now more) }
+    requires some { 0 < length (course.now.before.now ++ course.now.after.now) }
+    requires known { All (λ c. c ≤ (setting setup.now).customers) (course.now.before.now ++ course.now.after.now) }
+    requires each { length course.now.kept.now ≡ length course.now.before.now }
+    requires kept { IsTrack (setting setup.now) axis.dimension axis.vehicle (course.now.before.now ++ course.now.after.now)
+        course.now.kept.now }
+    requires room { vec_len ranges.old + length course.now.after.now ≤ vec_capacity ranges.old }
+    ensures bounds { IsTrue result ↔ FitsIn (setting setup.now) axis.dimension axis.vehicle (course.now.before.now ++ course.now.after.now) }
+    ensures ranges { IsTrue result → (more : List Range) × (ranges.new.items ≡ ranges.old.items ++ more)
+        × (length more ≡ length course.now.after.now)
+        × IsTrackAfter (setting setup.now) axis.dimension axis.vehicle (length course.now.before.now)
+        (course.now.before.now ++ course.now.after.now) more }
     ensures capacity { vec_capacity ranges.old ≤ vec_capacity ranges.new }
-    ensures asks { AsksAtMost meter.old meter.new (length course.now.route.now + 1 - length course.now.kept.now) }
-    ensures whole { IfOk result (λ is_in. IsTrue is_in
-        → AsksJust meter.old meter.new (length course.now.route.now + 1 - length course.now.kept.now)) }
-    ensures missed { IfOk result (λ is_in. is_in ≡ false → (k : ℕ)
-        × IsFirstMissIn (setting setup.now) axis.dimension axis.vehicle course.now.route.now k
-        × AsksJust meter.old meter.new (k - length course.now.kept.now)) }
+    ensures asks { AsksAtMost meter.old meter.new (length course.now.after.now + 1) }
+    ensures whole { IsTrue result → AsksJust meter.old meter.new (length course.now.after.now + 1) }
+    ensures missed { result ≡ false → (k : ℕ)
+        × IsFirstMissIn (setting setup.now) axis.dimension axis.vehicle (course.now.before.now ++ course.now.after.now) k
+        × AsksJust meter.old meter.new (k - length course.now.before.now) }
 {
     spans_go_on();
     misses_are_found();
     let Axis { dimension, vehicle } = axis;
-    let Course { route, kept } = *course;
-    let Some((mut range, mut from)) = begin(setup, axis, route, kept) else {
-        return Ok(false);
+    let Course {
+        before,
+        after,
+        kept,
+    } = *course;
+    let Some((mut range, mut from)) = begin(setup, axis, before, kept) else {
+        return false;
     };
-    append_part(ranges, kept)?;
     let bounds = &setup.dimensions()[dimension];
     let nodes = bounds.ranges();
     let slack_max = bounds.slack_max();
     let cap = bounds.cap(vehicle);
-    for place in kept.len()..route.len() {
-        let node = route[place];
+    for place in 0..after.len() {
+        let node = after[place];
         let way = callback.answer_way(from, node);
         let Some(next) = range_after(range, way, nodes[node as usize], slack_max, cap) else {
-            meter.ask_many((place + 1 - kept.len()) as u64);
-            return Ok(false);
+            meter.ask_many((place + 1) as u64);
+            return false;
         };
         ranges.push_reserved(next);
         range = next;
         from = node;
     }
     let back = callback.answer_way(from, 0);
-    meter.ask_many((route.len() + 1 - kept.len()) as u64);
+    meter.ask_many((after.len() + 1) as u64);
     let end = range_after(range, back, nodes[0], slack_max, cap);
-    Ok(end.is_some())
+    end.is_some()
 }

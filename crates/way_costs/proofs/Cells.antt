@@ -323,6 +323,31 @@ pub record AreCleared (to old : List ℕ) (n : ℕ) (row : List ℕ) : Type 0 wh
   pub ways : (k : ℕ) → k < n → slice_index row k ≡ (if slice_index to k == 0 then 0 else slice_index old k)
   pub rest : (k : ℕ) → n ≤ k → slice_index row k ≡ slice_index old k
 
+-- the way from the depot to a stop, which may be the depot
+pub stays : (turned : Bool) (t : Table) (j : ℕ) → j ≡ 0 → 0 ≡ hop_by turned t 0 j
+stays true t j e = rw e refl
+stays false t j e = rw e refl
+
+pub way_answered : (turned b : Bool) (t : Table) (j way : ℕ) → turned ≡ b → j ≢ 0 → way ≡ entry_by b t 0 j → way ≡ hop_by turned t 0 j
+way_answered turned b t j way e away answer = subst (λ (x : Bool). way ≡ hop_by x t 0 j) (sym e) (answer ∙ sym (way_away b t 0 j (λ none. away)))
+
+-- the ways of a row, by the table of a callback
+pub ways_of : (b : Bool) (t u : Table) (from stop : ℕ) (to row : List ℕ) → t ≡ u → stop ≡ from
+    → ((k : ℕ) → k < length to → slice_index row k ≡ hop_by b t from (slice_index to k)) → (k : ℕ) → k < length to → slice_index row k ≡ hop_by b u stop (slice_index to k)
+ways_of b t u from stop to row e same all =
+    subst (λ (n : ℕ). (k : ℕ) → k < length to → slice_index row k ≡ hop_by b u n (slice_index to k)) (sym same)
+    (subst (λ (x : Table). (k : ℕ) → k < length to → slice_index row k ≡ hop_by b x from (slice_index to k)) e all)
+
+-- the nodes of a setup are those of its callbacks
+pub depot_asked : (n m : ℕ) → n ≡ m + 1 → 0 < n
+depot_asked n m e = omega arith
+
+pub node_asked : (n m i : ℕ) → n ≡ m + 1 → i ≤ m → i < n
+node_asked n m i e h = omega arith
+
+pub nodes_asked : (n m : ℕ) (xs : List ℕ) → n ≡ m + 1 → All (λ c. c ≤ m) xs → All (λ c. c < n) xs
+nodes_asked n m xs e all k d h = node_asked n m (slice_index_or xs k d) e (all k d h)
+
 -- what is asked of a setup's callbacks, by the registry that it lends
 below_nodes : (i n m : ℕ) → m ≡ n + 1 → i ≤ n → i < m
 below_nodes i n m e h = omega arith

@@ -1,9 +1,10 @@
 -- Rows that are gone through: the places lie in them, the sums fit, and none of the numbers so far wins.
-use Rattle.std.proofs.Common.{Fits, w64, ◌≡◌, ◌^◌, ℕ, ◌+◌, ◌-◌, ◌<◌, ◌≤◌, arith}
+use Rattle.std.proofs.Common.{Fits, w64, ◌≡◌, ◌^◌, ℕ, ◌+◌, ◌-◌, ◌%◌, ◌<◌, ◌≤◌, inl, inr, arith}
+use Rattle.std.proofs.lemmas.Bool.{cases_lt}
 use Rattle.way_costs.specs.declared.gains.CutRow.{CutRow}
 use Rattle.way_costs.specs.declared.gains.SwapRow.{SwapRow}
 use Rattle.way_costs.specs.declared.gains.ReverseRow.{ReverseRow}
-use Rattle.way_costs.specs.Rows.{lost_by_cut, gained_by_cut, lost_by_swap, gained_by_swap, lost_by_reverse, gained_by_reverse}
+use Rattle.way_costs.specs.Rows.{IsCutRow, IsSwapRow, lost_by_cut, gained_by_cut, lost_by_swap, gained_by_swap, lost_by_reverse, gained_by_reverse}
 use borrow.Author.Count.{below_more}
 
 pub never : (k from : ℕ) → k < from → from ≤ k → ⊥
@@ -98,3 +99,43 @@ reverse_loses lost wanted s x u r z a d g e f p h = omega arith
 pub reverses_on : (row : ReverseRow) (lost wanted from k : ℕ) → ((m : ℕ) → m < k → from ≤ m → lost + lost_by_reverse row m ≤ wanted + gained_by_reverse row m)
     → lost + lost_by_reverse row k ≤ wanted + gained_by_reverse row k → (m : ℕ) → m < k + 1 → from ≤ m → lost + lost_by_reverse row m ≤ wanted + gained_by_reverse row m
 reverses_on row lost wanted from k below here = below_more (λ (m : ℕ). from ≤ m → lost + lost_by_reverse row m ≤ wanted + gained_by_reverse row m) k below (λ l. here)
+
+-- a row in steps, of which the last may begin inside the one before
+pub step_low : (from end : ℕ) → from + 8 ≤ end → from ≤ end
+step_low from end h = omega arith
+
+pub step_fits : (from end : ℕ) → from + 8 ≤ end → (end - from) % 8 ≤ end
+step_fits from end h = omega arith
+
+pub step_high : (from end : ℕ) → from + 8 ≤ end → from ≤ end - (end - from) % 8
+step_high from end h = omega arith
+
+pub step_last : (from end : ℕ) → from + 8 ≤ end → end < end - (end - from) % 8 + 8
+step_last from end h = omega arith
+
+pub step_room : (from end : ℕ) → from + 8 ≤ end → 8 ≤ end
+step_room from end h = omega arith
+
+pub step_order : (end : ℕ) → end - 8 ≤ end
+step_order end = omega arith
+
+pub step_begin : (from end : ℕ) → 1 ≤ from → from + 8 ≤ end → 1 ≤ end - 8
+step_begin from end b h = omega arith
+
+pub long_row : (from end : ℕ) → from ≤ end → 10 ≤ end - from → from + 8 ≤ end
+long_row from end order h = omega arith
+
+pub steps_all : (P : ℕ → Type 0) (from whole end : ℕ) → end < whole + 8 → ((k : ℕ) → k < whole → from ≤ k → P k)
+    → ((k : ℕ) → k < end → end - 8 ≤ k → P k) → (k : ℕ) → k < end → from ≤ k → P k
+steps_all P from whole end last some others k h l = elim (cases_lt k whole) [
+  | inl before ↦ some k before l
+  | inr after ↦ others k h (omega arith)
+]
+
+pub cut_shorter : (row : CutRow) (n m : ℕ) → n ≤ m → IsCutRow row m → IsCutRow row n
+cut_shorter row n m h is = let e = is.edges in let t = is.to in let o = is.on in record { edges = omega arith; to = omega arith; on = omega arith }
+
+pub swap_shorter : (row : SwapRow) (n m : ℕ) → n ≤ m → IsSwapRow row m → IsSwapRow row n
+swap_shorter row n m h is =
+    let e = is.edges in let b = is.before in let a = is.here in let x = is.next in let y = is.back in
+    record { edges = omega arith; before = omega arith; here = omega arith; next = omega arith; back = omega arith }

@@ -7,7 +7,13 @@ ghost use Rattle.way_costs.specs.Rows.{IsReverseRow, lost_by_reverse, gained_by_
 use crate::table::way_at;
 
 /// Rows of fewer candidates are not gone through twice.
-const FEW: usize = 16;
+const FEW: usize = 10;
+
+/// The others are gone through in steps of so many candidates at once, of which the last step may begin inside the one before.
+const STEP: usize = 8;
+
+/// The greatest cost of which twice as much fits in 32 bits.
+const HALF: u32 = 2_147_483_647;
 
 /// What the ways of a row of cuts cost: each cut, at a stop, replaces the way from there to the next stop by a way from the stop to something
 /// and a way from something to the next stop.
@@ -175,6 +181,45 @@ fn may_gain_under(less: u32, row: &CutRow, from: usize, end: usize) -> bool
     gains
 }
 
+/// The end of the whole steps of a row.
+#[inline(always)]
+fn steps_end(from: usize, end: usize) -> usize
+    requires long { from + 8 ≤ end }
+    ensures low { from ≤ result }
+    ensures high { result ≤ end }
+    ensures last { end < result + 8 }
+{
+    end - (end - from) % STEP
+}
+
+/// What `may_gain_over` says of a row, in steps.
+#[inline(always)]
+fn may_gain_steps_over(more: u32, row: &CutRow, from: usize, end: usize) -> bool
+    requires long { from + 8 ≤ end }
+    requires row { IsCutRow row.now end }
+    ensures { result ≡ false → (k : ℕ) → k < end → from ≤ k → lost_by_cut row.now k ≤ more + gained_by_cut row.now k }
+{
+    let whole = steps_end(from, end);
+    if may_gain_over(more, row, from, whole) {
+        return true;
+    }
+    may_gain_over(more, row, end - STEP, end)
+}
+
+/// What `may_gain_under` says of a row, in steps.
+#[inline(always)]
+fn may_gain_steps_under(less: u32, row: &CutRow, from: usize, end: usize) -> bool
+    requires long { from + 8 ≤ end }
+    requires row { IsCutRow row.now end }
+    ensures { result ≡ false → (k : ℕ) → k < end → from ≤ k → less + lost_by_cut row.now k ≤ gained_by_cut row.now k }
+{
+    let whole = steps_end(from, end);
+    if may_gain_under(less, row, from, whole) {
+        return true;
+    }
+    may_gain_under(less, row, end - STEP, end)
+}
+
 /// Whether `first_gain` may find an index: by the row's `most`, and else by one pass without branches over a long row; over a short row no
 /// pass is made.
 #[inline(always)]
@@ -194,13 +239,81 @@ pub fn may_gain(lost: u64, wanted: u64, row: &CutRow, from: usize, end: usize) -
     }
     if lost <= wanted {
         let more = (wanted - lost).min(4_294_967_295) as u32;
-        return may_gain_over(more, row, from, end);
+        return may_gain_steps_over(more, row, from, end);
     }
     let less = lost - wanted;
     if less > 4_294_967_295 {
         return true;
     }
-    may_gain_under(less as u32, row, from, end)
+    may_gain_steps_under(less as u32, row, from, end)
+}
+
+/// Whether two ways lost may cost more than `more` and the ways gained, in one pass without branches. The two together fit in 32 bits.
+#[inline(always)]
+fn may_swap_gain_over(more: u32, row: &SwapRow, from: usize, end: usize) -> bool
+    requires begin { 1 ≤ from }
+    requires order { from ≤ end }
+    requires row { IsSwapRow row.now end }
+    requires most { All (λ x. x ≤ row.now.most) row.now.edges.now }
+    requires half { row.now.most ≤ 2147483647 }
+    ensures { result ≡ false → (k : ℕ) → k < end → from ≤ k → lost_by_swap row.now k ≤ more + gained_by_swap row.now k }
+{
+    let (edges, before, here, next, back) = (row.edges, row.before, row.here, row.next, row.back);
+    let mut gains = false;
+    for k in from..end {
+        let both = edges[k - 1] + edges[k];
+        let left = both
+            .saturating_sub(more)
+            .saturating_sub(before[k])
+            .saturating_sub(next[k])
+            .saturating_sub(back[k - 1]);
+        if here[k + 1] < left {
+            gains = true;
+        }
+    }
+    gains
+}
+
+/// What `may_swap_gain_over` says of a row, in steps.
+#[inline(always)]
+fn may_swap_gain_steps(more: u32, row: &SwapRow, from: usize, end: usize) -> bool
+    requires begin { 1 ≤ from }
+    requires long { from + 8 ≤ end }
+    requires row { IsSwapRow row.now end }
+    requires most { All (λ x. x ≤ row.now.most) row.now.edges.now }
+    requires half { row.now.most ≤ 2147483647 }
+    ensures { result ≡ false → (k : ℕ) → k < end → from ≤ k → lost_by_swap row.now k ≤ more + gained_by_swap row.now k }
+{
+    let whole = steps_end(from, end);
+    if may_swap_gain_over(more, row, from, whole) {
+        return true;
+    }
+    may_swap_gain_over(more, row, end - STEP, end)
+}
+
+/// Whether ways of a row of swaps may cost more together with `lost` than `wanted` and the ways gained, in sums of 64 bits.
+fn may_swap_gain_wide(lost: u64, wanted: u64, row: &SwapRow, from: usize, end: usize) -> bool
+    requires lost { lost < 2 ^ 50 }
+    requires wanted { wanted < 2 ^ 61 }
+    requires begin { 1 ≤ from }
+    requires order { from ≤ end }
+    requires row { IsSwapRow row.now end }
+    ensures { result ≡ false → (k : ℕ) → k < end → from ≤ k → lost + lost_by_swap row.now k ≤ wanted + gained_by_swap row.now k }
+{
+    let (edges, before, here, next, back) = (row.edges, row.before, row.here, row.next, row.back);
+    let mut gains = false;
+    for k in from..end {
+        let all_lost = lost + way_at(edges, k - 1) + way_at(edges, k);
+        let all_gained = wanted
+            + way_at(before, k)
+            + way_at(next, k)
+            + way_at(back, k - 1)
+            + way_at(here, k + 1);
+        if all_gained < all_lost {
+            gains = true;
+        }
+    }
+    gains
 }
 
 /// The same for `first_swap_gain`.
@@ -220,20 +333,11 @@ pub fn may_swap_gain(lost: u64, wanted: u64, row: &SwapRow, from: usize, end: us
     if end - from < FEW {
         return true;
     }
-    let (edges, before, here, next, back) = (row.edges, row.before, row.here, row.next, row.back);
-    let mut gains = false;
-    for k in from..end {
-        let all_lost = lost + way_at(edges, k - 1) + way_at(edges, k);
-        let all_gained = wanted
-            + way_at(before, k)
-            + way_at(next, k)
-            + way_at(back, k - 1)
-            + way_at(here, k + 1);
-        if all_gained < all_lost {
-            gains = true;
-        }
+    if lost <= wanted && row.most <= HALF {
+        let more = (wanted - lost).min(4_294_967_295) as u32;
+        return may_swap_gain_steps(more, row, from, end);
     }
-    gains
+    may_swap_gain_wide(lost, wanted, row, from, end)
 }
 
 /// The same for `first_reverse_gain`.

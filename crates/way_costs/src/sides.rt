@@ -8,7 +8,7 @@ ghost use Rattle.way_costs.specs.Sides.{AreSides, AreWaysBetween, AreFloored, Is
 ghost use Rattle.way_costs.specs.Ways.{AreStops, AreEdges, AreHopsFrom};
 
 use crate::hops::fill_stops_of_both;
-use crate::table::{add_edges, fill_edges, fill_sums, fill_turned, fill_ways, most_of};
+use crate::table::{Manner, add_edges, fill_edges, fill_sums, fill_turned, fill_ways, most_of};
 use dimension_core::Setup;
 use pin_core::View;
 use plan_core::routes_are_known;
@@ -139,8 +139,16 @@ impl Ways {
             (table_at (setting setup.now).tables (setting setup.now).cost) from.now to.now self.new) }
         ensures floors { IfOk result (λ _. AreFloored from.now to.now self.new) }
     {
-        fill_ways(setup, true, false, from, to, &mut self.out)?;
-        fill_ways(setup, true, true, from, to, &mut self.into)
+        let out = Manner {
+            floored: true,
+            turned: false,
+        };
+        let into = Manner {
+            floored: true,
+            turned: true,
+        };
+        fill_ways(setup, out, from, to, &mut self.out)?;
+        fill_ways(setup, into, from, to, &mut self.into)
     }
 
     /// Gathers the ways between some stops that a move inside their vehicle goes, each asked once, in place of what was gathered.
@@ -151,7 +159,11 @@ impl Ways {
         ensures { IfOk result (λ _. AreWaysBetween
             (table_at (setting setup.now).tables (setting setup.now).cost) stops.now stops.now self.new) }
     {
-        fill_ways(setup, false, false, stops, stops, &mut self.out)?;
+        let out = Manner {
+            floored: false,
+            turned: false,
+        };
+        fill_ways(setup, out, stops, stops, &mut self.out)?;
         fill_turned(stops, &self.out, &mut self.into)
     }
 }

@@ -1,13 +1,12 @@
 //! What the ways between stops cost, asked once and kept.
 ghost use Rattle.std.specs.Prelude.{◌≡◌, ◌≢◌, ◌≤◌, ◌<◌, ◌+◌, ◌-◌, ◌*◌, ◌^◌, ◌∷◌, ◌==◌, if◌then◌else◌, ℕ, true, false, ◌++◌, List, length, slice_index, take, drop, All, IfOk, IfSome};
-ghost use Rattle.callback_store.specs.Tables.{Table, table_at};
+ghost use Rattle.callback_store.specs.Tables.{Table, matrix_table, table_at};
 ghost use Rattle.dimension_core.specs.Setup.{setting};
 ghost use Rattle.way_costs.specs.Known.{AreAlike, AreAnswers};
-ghost use Rattle.way_costs.specs.Ways.{entry_by, hop_by, AreHopsFrom, AreFloors, AreEdges, ArePicked, AddsSums, AreBothSums, IsTurned};
+ghost use Rattle.way_costs.specs.Ways.{entry_by, hop, hop_by, AreHopsFrom, AreFloors, AreEdges, ArePicked, AddsSums, AreBothSums, IsTurned};
 
-use crate::hops::hop;
 use crate::known::{is_read_across, known_by, known_ways};
-use callback_store::Meter;
+use callback_store::{Callback, Matrix, Meter, Slot};
 use dimension_core::Setup;
 use std::alloc::AllocError;
 
@@ -67,62 +66,96 @@ const NONE: u32 = 4_294_967_295;
 /// Up to so many ways are asked one by one: with the least of them, asking for them together takes longer.
 const FEW: usize = 9;
 
-/// How the ways of a table are had: as they are driven or driven back, from all answers of the cost callback where it was given as these, read
-/// as they are driven or driven back, and whether a floor is wanted of short rows.
+/// How the ways of a table are had: as they are driven or driven back, and whether a floor is wanted of each row.
 #[derive(Clone, Copy)]
-struct Asking<'a> {
-    known: Option<&'a [u32]>,
-    across: bool,
-    floored: bool,
-    turned: bool,
+pub(crate) struct Manner {
+    pub(crate) floored: bool,
+    pub(crate) turned: bool,
 }
 
-// The registry is asked right in the two loops: each function in between would cost one more test after every answer.
+/// Where the ways of a table are had from: the cost callback, or all its answers where it was given as these, read as the ways are driven
+/// or driven back.
+#[derive(Clone, Copy)]
+struct Asking<'a, C> {
+    callback: &'a C,
+    known: Option<&'a [u32]>,
+    across: bool,
+    manner: Manner,
+}
+
+// The callback is asked right in the two loops: each function in between would cost one more test after every answer.
 
 /// What the ways from a customer to each of some stops cost, asked one by one, and a number that none of them is below.
 #[inline(always)]
-fn ask_out(setup: &Setup, stop: u32, to: &[u32], row: &mut [u32]) -> u32
+fn ask_out<C: Callback>(callback: &C, stop: u32, to: &[u32], row: &mut [u32]) -> u32
     requires customer { 1 ≤ stop }
-    requires stop { stop ≤ (setting setup.now).customers }
-    requires to { All (λ c. c ≤ (setting setup.now).customers) to.now }
+    requires stop { stop < (C.table callback.now).size }
+    requires to { All (λ c. c < (C.table callback.now).size) to.now }
     requires room { length row.old ≡ length to.now }
     ensures sized { length row.new ≡ length to.now }
     ensures ways { (k : ℕ) → k < length to.now
-        → slice_index row.new k ≡ hop_by false (table_at (setting setup.now).tables (setting setup.now).cost) stop (slice_index to.now k) }
+        → slice_index row.new k ≡ hop_by false (C.table callback.now) stop (slice_index to.now k) }
     ensures least { All (λ x. result ≤ x) row.new }
 {
     let mut least = NONE;
     for k in 0..to.len() {
-        let way = setup
-            .registry()
-            .ask(setup.cost(), &mut Meter::new(), stop, to[k]);
-        row[k] = way as u32;
-        least = least.min(way as u32);
+        let way = callback.answer_way(stop, to[k]) as u32;
+        row[k] = way;
+        least = least.min(way);
     }
     least
 }
 
 /// What the ways to a customer from each of some stops cost, asked one by one, and a number that none of them is below.
 #[inline(always)]
-fn ask_back(setup: &Setup, stop: u32, to: &[u32], row: &mut [u32]) -> u32
+fn ask_back<C: Callback>(callback: &C, stop: u32, to: &[u32], row: &mut [u32]) -> u32
     requires customer { 1 ≤ stop }
-    requires stop { stop ≤ (setting setup.now).customers }
-    requires to { All (λ c. c ≤ (setting setup.now).customers) to.now }
+    requires stop { stop < (C.table callback.now).size }
+    requires to { All (λ c. c < (C.table callback.now).size) to.now }
     requires room { length row.old ≡ length to.now }
     ensures sized { length row.new ≡ length to.now }
     ensures ways { (k : ℕ) → k < length to.now
-        → slice_index row.new k ≡ hop_by true (table_at (setting setup.now).tables (setting setup.now).cost) stop (slice_index to.now k) }
+        → slice_index row.new k ≡ hop_by true (C.table callback.now) stop (slice_index to.now k) }
     ensures least { All (λ x. result ≤ x) row.new }
 {
     let mut least = NONE;
     for k in 0..to.len() {
-        let way = setup
-            .registry()
-            .ask(setup.cost(), &mut Meter::new(), to[k], stop);
-        row[k] = way as u32;
-        least = least.min(way as u32);
+        let way = callback.answer_way(to[k], stop) as u32;
+        row[k] = way;
+        least = least.min(way);
     }
     least
+}
+
+/// What the way between the depot and a stop costs, as it is driven or driven back. A vehicle that stays there drives no way.
+#[inline(always)]
+fn way_from_depot<C: Callback>(callback: &C, turned: bool, stop: u32) -> u32
+    requires depot { 0 < (C.table callback.now).size }
+    requires stop { stop < (C.table callback.now).size }
+    ensures { result ≡ hop_by turned (C.table callback.now) 0 stop }
+{
+    if stop == 0 {
+        return 0;
+    }
+    if turned {
+        callback.answer_way(stop, 0) as u32
+    } else {
+        callback.answer_way(0, stop) as u32
+    }
+}
+
+/// What the ways from the depot to each of some stops cost, as they are driven or driven back, asked one by one.
+#[inline(always)]
+fn ask_from_depot<C: Callback>(callback: &C, turned: bool, to: &[u32], row: &mut [u32])
+    requires depot { 0 < (C.table callback.now).size }
+    requires to { All (λ c. c < (C.table callback.now).size) to.now }
+    requires room { length row.old ≡ length to.now }
+    ensures sized { length row.new ≡ length to.now }
+    ensures ways { (k : ℕ) → k < length to.now → slice_index row.new k ≡ hop_by turned (C.table callback.now) 0 (slice_index to.now k) }
+{
+    for k in 0..to.len() {
+        row[k] = way_from_depot(callback, turned, to[k]);
+    }
 }
 
 /// What the ways from a stop to each of some others cost, as they are driven or driven back, read from all answers of the cost callback, and a
@@ -156,50 +189,64 @@ fn read_row(
 
 /// What the ways from a stop to each of some others cost, as they are driven or driven back, and a number that none of them is below.
 #[inline(always)]
-fn fill_row(setup: &Setup, asking: &Asking, stop: u32, to: &[u32], row: &mut [u32]) -> u32
+fn fill_row<C: Callback>(
+    setup: &Setup,
+    asking: &Asking<C>,
+    stop: u32,
+    to: &[u32],
+    row: &mut [u32],
+) -> u32
+    requires answers { C.table asking.now.callback.now ≡ table_at (setting setup.now).tables (setting setup.now).cost }
+    requires nodes { (C.table asking.now.callback.now).size ≡ (setting setup.now).customers + 1 }
     requires known { IfSome asking.now.known (λ a. AreAnswers (setting setup.now) a.now) }
-    requires across { AreAlike (setting setup.now) asking.now.across asking.now.turned }
+    requires across { AreAlike (setting setup.now) asking.now.across asking.now.manner.turned }
     requires stop { stop ≤ (setting setup.now).customers }
     requires to { All (λ c. c ≤ (setting setup.now).customers) to.now }
     requires room { length row.old ≡ length to.now }
     ensures sized { length row.new ≡ length to.now }
     ensures ways { (k : ℕ) → k < length to.now → slice_index row.new k
-        ≡ hop_by asking.now.turned (table_at (setting setup.now).tables (setting setup.now).cost) stop (slice_index to.now k) }
+        ≡ hop_by asking.now.manner.turned (table_at (setting setup.now).tables (setting setup.now).cost) stop (slice_index to.now k) }
     ensures least { All (λ x. result ≤ x) row.new }
 {
-    let (floored, turned) = (asking.floored, asking.turned);
+    let Manner { floored, turned } = asking.manner;
     if let Some(answers) = asking.known {
         return read_row(setup, answers, asking.across, stop, to, row);
     }
-    if !floored || stop == 0 || to.len() > FEW {
+    if !floored || to.len() > FEW {
         ask_together(setup, turned, stop, to, row);
         return 0;
     }
+    if stop == 0 {
+        ask_from_depot(asking.callback, turned, to, row);
+        return 0;
+    }
     if turned {
-        ask_back(setup, stop, to, row)
+        ask_back(asking.callback, stop, to, row)
     } else {
-        ask_out(setup, stop, to, row)
+        ask_out(asking.callback, stop, to, row)
     }
 }
 
 /// Fills in a row of a table, from a place on. The result is a number that none of the row's is below.
 #[inline(always)]
-fn fill_at(
+fn fill_at<C: Callback>(
     setup: &Setup,
-    asking: &Asking,
+    asking: &Asking<C>,
     stop: u32,
     to: &[u32],
     cells: &mut [u32],
     at: usize,
 ) -> u32
+    requires answers { C.table asking.now.callback.now ≡ table_at (setting setup.now).tables (setting setup.now).cost }
+    requires nodes { (C.table asking.now.callback.now).size ≡ (setting setup.now).customers + 1 }
     requires known { IfSome asking.now.known (λ a. AreAnswers (setting setup.now) a.now) }
-    requires across { AreAlike (setting setup.now) asking.now.across asking.now.turned }
+    requires across { AreAlike (setting setup.now) asking.now.across asking.now.manner.turned }
     requires stop { stop ≤ (setting setup.now).customers }
     requires to { All (λ c. c ≤ (setting setup.now).customers) to.now }
     requires room { at + length to.now ≤ length cells.old }
     ensures sized { length cells.new ≡ length cells.old }
     ensures ways { (k : ℕ) → k < length to.now → slice_index cells.new (at + k)
-        ≡ hop_by asking.now.turned (table_at (setting setup.now).tables (setting setup.now).cost) stop (slice_index to.now k) }
+        ≡ hop_by asking.now.manner.turned (table_at (setting setup.now).tables (setting setup.now).cost) stop (slice_index to.now k) }
     ensures kept { (k : ℕ) → k < at → slice_index cells.new k ≡ slice_index cells.old k }
     ensures least { (k : ℕ) → k < length to.now → result ≤ slice_index cells.new (at + k) }
 {
@@ -247,14 +294,127 @@ fn spare_column(column: usize, width: usize) -> usize
     if column == 0 { width - 1 } else { 0 }
 }
 
+/// Fills the rows of a table with what the ways from each of some stops to each of others cost.
+#[inline(always)]
+fn fill_rows<C: Callback>(
+    setup: &Setup,
+    asking: &Asking<C>,
+    from: &[u32],
+    to: &[u32],
+    cells: &mut [u32],
+)
+    requires answers { C.table asking.now.callback.now ≡ table_at (setting setup.now).tables (setting setup.now).cost }
+    requires nodes { (C.table asking.now.callback.now).size ≡ (setting setup.now).customers + 1 }
+    requires known { IfSome asking.now.known (λ a. AreAnswers (setting setup.now) a.now) }
+    requires across { AreAlike (setting setup.now) asking.now.across asking.now.manner.turned }
+    requires from { All (λ c. c ≤ (setting setup.now).customers) from.now }
+    requires to { All (λ c. c ≤ (setting setup.now).customers) to.now }
+    requires some { (1 ≤ length from.now) × (1 ≤ length to.now) }
+    requires short { (length from.now ≤ 1002) × (length to.now ≤ 1002) }
+    requires room { length cells.old ≡ length from.now * length to.now }
+    ensures hops { AreHopsFrom asking.now.manner.turned (table_at (setting setup.now).tables (setting setup.now).cost) from.now to.now
+        (if asking.now.manner.turned then 1 else 0) (if asking.now.manner.turned then 0 else 1) cells.new }
+    ensures floors { AreFloors from.now to.now (if asking.now.manner.turned then 1 else 0) (if asking.now.manner.turned then 0 else 1)
+        cells.new }
+{
+    let width = to.len();
+    let first = first_row(asking.manner.turned);
+    let column = first_column(asking.manner.turned);
+    let spare = spare_column(column, width);
+    let asked = all_but_one(to, column);
+    for i in first..first + from.len() - 1 {
+        let least = fill_at(setup, asking, from[i], asked, cells, i * width + column);
+        cells[i * width + spare] = least;
+    }
+}
+
+/// The same, with the cost callback at hand, whose kind is then looked at once and not at each ask.
+fn fill_by<C: Callback>(
+    setup: &Setup,
+    callback: &C,
+    manner: Manner,
+    from: &[u32],
+    to: &[u32],
+    cells: &mut [u32],
+)
+    requires answers { C.table callback.now ≡ table_at (setting setup.now).tables (setting setup.now).cost }
+    requires nodes { (C.table callback.now).size ≡ (setting setup.now).customers + 1 }
+    requires from { All (λ c. c ≤ (setting setup.now).customers) from.now }
+    requires to { All (λ c. c ≤ (setting setup.now).customers) to.now }
+    requires some { (1 ≤ length from.now) × (1 ≤ length to.now) }
+    requires short { (length from.now ≤ 1002) × (length to.now ≤ 1002) }
+    requires room { length cells.old ≡ length from.now * length to.now }
+    ensures hops { AreHopsFrom manner.turned (table_at (setting setup.now).tables (setting setup.now).cost) from.now to.now
+        (if manner.turned then 1 else 0) (if manner.turned then 0 else 1) cells.new }
+    ensures floors { AreFloors from.now to.now (if manner.turned then 1 else 0) (if manner.turned then 0 else 1) cells.new }
+{
+    let asking = Asking {
+        callback,
+        known: None,
+        across: manner.turned,
+        manner,
+    };
+    fill_rows(setup, &asking, from, to, cells)
+}
+
+/// The same, where the cost callback was given as its answers.
+fn fill_known(
+    setup: &Setup,
+    callback: &Matrix,
+    manner: Manner,
+    from: &[u32],
+    to: &[u32],
+    cells: &mut [u32],
+)
+    requires answers { matrix_table callback.now ≡ table_at (setting setup.now).tables (setting setup.now).cost }
+    requires nodes { (matrix_table callback.now).size ≡ (setting setup.now).customers + 1 }
+    requires from { All (λ c. c ≤ (setting setup.now).customers) from.now }
+    requires to { All (λ c. c ≤ (setting setup.now).customers) to.now }
+    requires some { (1 ≤ length from.now) × (1 ≤ length to.now) }
+    requires short { (length from.now ≤ 1002) × (length to.now ≤ 1002) }
+    requires room { length cells.old ≡ length from.now * length to.now }
+    ensures hops { AreHopsFrom manner.turned (table_at (setting setup.now).tables (setting setup.now).cost) from.now to.now
+        (if manner.turned then 1 else 0) (if manner.turned then 0 else 1) cells.new }
+    ensures floors { AreFloors from.now to.now (if manner.turned then 1 else 0) (if manner.turned then 0 else 1) cells.new }
+{
+    let known = known_ways(setup);
+    let across = is_read_across(setup, manner.turned);
+    let asking = Asking {
+        callback,
+        known,
+        across,
+        manner,
+    };
+    fill_rows(setup, &asking, from, to, cells)
+}
+
+/// The same, by whichever kind of callback there is.
+#[inline(always)]
+fn fill_cells(setup: &Setup, manner: Manner, from: &[u32], to: &[u32], cells: &mut [u32])
+    requires from { All (λ c. c ≤ (setting setup.now).customers) from.now }
+    requires to { All (λ c. c ≤ (setting setup.now).customers) to.now }
+    requires some { (1 ≤ length from.now) × (1 ≤ length to.now) }
+    requires short { (length from.now ≤ 1002) × (length to.now ≤ 1002) }
+    requires room { length cells.old ≡ length from.now * length to.now }
+    ensures hops { AreHopsFrom manner.turned (table_at (setting setup.now).tables (setting setup.now).cost) from.now to.now
+        (if manner.turned then 1 else 0) (if manner.turned then 0 else 1) cells.new }
+    ensures floors { AreFloors from.now to.now (if manner.turned then 1 else 0) (if manner.turned then 0 else 1) cells.new }
+{
+    match setup.registry().callback(setup.cost()) {
+        Slot::Pair(callback) => fill_by(setup, callback, manner, from, to, cells),
+        Slot::Node(callback) => fill_by(setup, callback, manner, from, to, cells),
+        Slot::Listed(callback) => fill_known(setup, callback, manner, from, to, cells),
+        Slot::Values(callback) => fill_by(setup, callback, manner, from, to, cells),
+        Slot::Stayed(callback) => fill_by(setup, callback, manner, from, to, cells),
+    }
+}
+
 /// Fills a table with what the ways from each of some stops to each of others cost, row by row, as they are driven or driven back. What
 /// it held is given up. No way goes from the last of the first stops or to the first of the others, or back. Where a row lacks a way
 /// for that, it has a number that none of its ways is below.
-#[inline(always)]
 pub(crate) fn fill_ways(
     setup: &Setup,
-    floored: bool,
-    turned: bool,
+    manner: Manner,
     from: &[u32],
     to: &[u32],
     cells: &mut Vec<u32>,
@@ -263,47 +423,53 @@ pub(crate) fn fill_ways(
     requires to { All (λ c. c ≤ (setting setup.now).customers) to.now }
     requires some { (1 ≤ length from.now) × (1 ≤ length to.now) }
     requires short { (length from.now ≤ 1002) × (length to.now ≤ 1002) }
-    ensures hops { IfOk result (λ _. AreHopsFrom turned (table_at (setting setup.now).tables (setting setup.now).cost) from.now to.now
-        (if turned then 1 else 0) (if turned then 0 else 1) cells.new.items) }
-    ensures floors { IfOk result (λ _. AreFloors from.now to.now (if turned then 1 else 0) (if turned then 0 else 1) cells.new.items) }
+    ensures hops { IfOk result (λ _. AreHopsFrom manner.turned (table_at (setting setup.now).tables (setting setup.now).cost) from.now
+        to.now (if manner.turned then 1 else 0) (if manner.turned then 0 else 1) cells.new.items) }
+    ensures floors { IfOk result (λ _. AreFloors from.now to.now (if manner.turned then 1 else 0) (if manner.turned then 0 else 1)
+        cells.new.items) }
 {
-    let width = to.len();
-    let first = first_row(turned);
-    let column = first_column(turned);
-    let spare = spare_column(column, width);
-    let asked = all_but_one(to, column);
-    let known = known_ways(setup);
-    let across = is_read_across(setup, turned);
-    let asking = Asking {
-        known,
-        across,
-        floored,
-        turned,
-    };
-    cells.resize(from.len() * width, UNFILLED)?;
-    for i in first..first + from.len() - 1 {
-        let least = fill_at(
-            setup,
-            &asking,
-            from[i],
-            asked,
-            cells.as_mut_slice(),
-            i * width + column,
-        );
-        cells[i * width + spare] = least;
-    }
+    cells.resize(from.len() * to.len(), UNFILLED)?;
+    fill_cells(setup, manner, from, to, cells.as_mut_slice());
     Ok(())
 }
 
-/// What the way from each stop to the next one costs, asked one by one.
+/// What the way from a stop to the next one costs, with the cost callback at hand. A vehicle that stays at the depot drives no way.
+#[inline(always)]
+fn way_between<C: Callback>(callback: &C, i: u32, j: u32) -> u32
+    requires from { i < (C.table callback.now).size }
+    requires to { j < (C.table callback.now).size }
+    ensures { result ≡ hop (C.table callback.now) i j }
+{
+    if j == 0 && i == 0 {
+        return 0;
+    }
+    callback.answer_way(i, j) as u32
+}
+
+/// What the way from each stop to the next one costs, with the cost callback at hand.
+fn edges_by<C: Callback>(callback: &C, stops: &[u32], edges: &mut [u32])
+    requires known { All (λ c. c < (C.table callback.now).size) stops.now }
+    requires room { length edges.old + 1 ≡ length stops.now }
+    ensures { AreEdges (C.table callback.now) stops.now edges.new }
+{
+    for k in 0..stops.len() - 1 {
+        edges[k] = way_between(callback, stops[k], stops[k + 1]);
+    }
+}
+
+/// What the way from each stop to the next one costs, by whichever kind of callback there is.
 #[inline(always)]
 fn ask_edges(setup: &Setup, stops: &[u32], edges: &mut [u32])
     requires known { All (λ c. c ≤ (setting setup.now).customers) stops.now }
     requires room { length edges.old + 1 ≡ length stops.now }
     ensures { AreEdges (table_at (setting setup.now).tables (setting setup.now).cost) stops.now edges.new }
 {
-    for k in 0..stops.len() - 1 {
-        edges[k] = hop(setup, stops[k], stops[k + 1]) as u32;
+    match setup.registry().callback(setup.cost()) {
+        Slot::Pair(callback) => edges_by(callback, stops, edges),
+        Slot::Node(callback) => edges_by(callback, stops, edges),
+        Slot::Listed(callback) => edges_by(callback, stops, edges),
+        Slot::Values(callback) => edges_by(callback, stops, edges),
+        Slot::Stayed(callback) => edges_by(callback, stops, edges),
     }
 }
 

@@ -10,8 +10,8 @@ shift_inside_fits-requires g c =
     let routes = c.args.view.now.routes in
     record {
       laws = c.laws_below.ensures;
-      kept = subst (λ (x : ℕ). AreKept s routes c.in-Shift.vehicle x c.args.v_kept.now) (sym near.1 ∙ sym c.if-vehicle-to.true)
-          (subst (λ (x : ℕ). AreKept s routes x c.args.w c.args.v_kept.now) (sym near.0) c.requires.v_kept);
+      kept = subst (λ (x : ℕ). AreKept s routes c.in-Shift.vehicle x c.args.pair.v_kept.now) (sym near.1 ∙ sym c.if-vehicle-to.true)
+          (subst (λ (x : ℕ). AreKept s routes x c.args.pair.w c.args.pair.v_kept.now) (sym near.0) c.requires.v_kept);
       view = c.requires.view;
       possible = rw (sym c.if-vehicle-to.true) at (rw c.in-Shift.is at c.requires.possible);
     }
@@ -35,8 +35,8 @@ swap_inside_fits-requires g c =
     let routes = c.args.view.now.routes in
     record {
       laws = c.laws_below.ensures;
-      kept = subst (λ (x : ℕ). AreKept s routes c.in-Swap.vehicle x c.args.v_kept.now) (sym near.1 ∙ sym c.if-vehicle-other.true)
-          (subst (λ (x : ℕ). AreKept s routes x c.args.w c.args.v_kept.now) (sym near.0) c.requires.v_kept);
+      kept = subst (λ (x : ℕ). AreKept s routes c.in-Swap.vehicle x c.args.pair.v_kept.now) (sym near.1 ∙ sym c.if-vehicle-other.true)
+          (subst (λ (x : ℕ). AreKept s routes x c.args.pair.w c.args.pair.v_kept.now) (sym near.0) c.requires.v_kept);
       view = c.requires.view;
       possible = rw (sym c.if-vehicle-other.true) at (rw c.in-Swap.is at c.requires.possible);
       order = near.2 (sym near.0 ∙ c.if-vehicle-other.true ∙ near.1);
@@ -61,8 +61,8 @@ reverse_fits-requires g c =
     let routes = c.args.view.now.routes in
     record {
       laws = c.laws_below.ensures;
-      kept = subst (λ (x : ℕ). AreKept s routes c.in-Reverse.vehicle x c.args.v_kept.now) (sym near.1 ∙ sym near.0)
-          (subst (λ (x : ℕ). AreKept s routes x c.args.w c.args.v_kept.now) (sym near.0) c.requires.v_kept);
+      kept = subst (λ (x : ℕ). AreKept s routes c.in-Reverse.vehicle x c.args.pair.v_kept.now) (sym near.1 ∙ sym near.0)
+          (subst (λ (x : ℕ). AreKept s routes x c.args.pair.w c.args.pair.v_kept.now) (sym near.0) c.requires.v_kept);
       view = c.requires.view;
       possible = rw c.in-Reverse.is at c.requires.possible;
     }

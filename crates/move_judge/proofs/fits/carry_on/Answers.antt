@@ -1,5 +1,5 @@
-use Rattle.std.proofs.Common.{arith}
-use Rattle.move_judge.proofs.Carried.{after_at, append_nil, carry_more, carry_last, carry_none, carry_end}
+use Rattle.std.proofs.Common.{arith, slice_index}
+use Rattle.move_judge.proofs.Carried.{after_by, asked_node, in_ranges, append_nil, carry_more, carry_last, carry_none, carry_end}
 use Rattle.move_judge.proofs.Places.{nearer_end}
 use Rattle.move_judge.proofs.fits.carry_on.Goals as goal
 
@@ -11,28 +11,29 @@ loop-node-init g c = record {
   small = c.requires.small;
 }
 
-pub ask-way-requires : goal.ask-way-requires
-ask-way-requires g c = record {
-  registered = rw c.id.ensures c.requires.served.registered;
-  from = rw c.requires.served.sized c.loop-node.invariant.known;
-  to = rw c.requires.served.sized (c.requires.known c.loop-node.node-index 0 c.loop-node-test.true);
+pub answer_way-way-requires : goal.answer_way-way-requires
+answer_way-way-requires g c = record {
+  from = asked_node _ _ _ c.requires.sized c.loop-node.invariant.known;
+  to = asked_node _ _ _ c.requires.sized (c.requires.known c.loop-node.node-index 0 c.loop-node-test.true);
 }
 
-pub after-requires : goal.after-requires
-after-requires g c = record {
+pub bounds-ranges-node : goal.bounds-ranges-node
+bounds-ranges-node g c = in_ranges _ _ _ c.requires.lane.ranges (c.requires.known c.loop-node.node-index 0 c.loop-node-test.true)
+
+pub range_after-requires : goal.range_after-requires
+range_after-requires g c = record {
   filled = c.loop-node.invariant.filled;
   range = c.loop-node.invariant.small;
-  way = c.ask-way.ensures.small;
-  to = c.requires.known c.loop-node.node-index 0 c.loop-node-test.true;
-  low = c.requires.low;
-  high = c.requires.high;
+  way = c.answer_way-way.ensures.small;
+  slack = c.requires.lane.little;
+  cap = c.requires.lane.small;
 }
 
 pub returns-in_err-range : goal.returns-in_err-range
 returns-in_err-range g c = record {
   span = λ done s e.
       let i = c.loop-node.invariant.span done s e in
-      let n = after_at _ _ _ _ _ _ _ _ _ c.in_err-range.ensures.span c.id.ensures c.ask-way.ensures.answer in
+      let n = after_by _ _ _ _ _ _ _ _ _ _ _ c.in_err-range.ensures.span c.requires.lane.ranges c.requires.lane.slack c.requires.lane.cap c.answer_way-way.ensures.answer in
       rw c.from_residual.ensures
       (carry_none c.requires.laws _ _ _ done c.args.nodes.now _ (carry_more c.requires.laws _ _ _ done c.args.nodes.now c.loop-node.node-index _ _ _ c.loop-node-test.true i.0 i.1 n));
   filled = rw c.from_residual.ensures tt;
@@ -44,12 +45,12 @@ pub loop-node-preserved : goal.loop-node-preserved
 loop-node-preserved g c = record {
   span = λ done s e.
       let i = c.loop-node.invariant.span done s e in
-      let n = after_at _ _ _ _ _ _ _ _ _ c.in_ok-range.ensures.span c.id.ensures c.ask-way.ensures.answer in (
+      let n = after_by _ _ _ _ _ _ _ _ _ _ _ c.in_ok-range.ensures.span c.requires.lane.ranges c.requires.lane.slack c.requires.lane.cap c.answer_way-way.ensures.answer in (
         carry_more c.requires.laws _ _ _ done c.args.nodes.now c.loop-node.node-index _ _ _ c.loop-node-test.true i.0 i.1 n,
         carry_last c.requires.laws done c.args.nodes.now c.loop-node.node-index c.loop-node-test.true,
       );
   known = c.requires.known c.loop-node.node-index 0 c.loop-node-test.true;
-  filled = (after_at _ _ _ _ _ _ _ _ _ c.in_ok-range.ensures.span c.id.ensures c.ask-way.ensures.answer).filled;
+  filled = (after_by (g.C.Callback.table c.args.callback.now) c.args.lane.now.dimension.now _ _ _ _ c.loop-node.from (slice_index c.args.nodes.now c.loop-node.node-index) c.args.lane.now.vehicle _ _ c.in_ok-range.ensures.span c.requires.lane.ranges c.requires.lane.slack c.requires.lane.cap c.answer_way-way.ensures.answer).filled;
   small = c.in_ok-range.ensures.small;
 }
 

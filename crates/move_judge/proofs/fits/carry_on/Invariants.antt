@@ -1,15 +1,15 @@
 use Rattle.std.proofs.Common.{◌≡◌, ℕ, ◌<◌, ◌≤◌, List, ◌++◌, length, take, Some}
-use Rattle.callback_store.specs.Registry.{tables}
-use Rattle.dimension_core.specs.Cumuls.{IsSpan, Reaches, table_of, last_of}
+use Rattle.dimension_core.specs.Cumuls.{IsSpan, last_of}
+use Rattle.move_judge.specs.Lane.{Gets}
 use Rattle.move_judge.proofs.fits.carry_on.Given as goal
 
 -- after whatever was done before, the range is that of the last node so far
 abbrev pub invariant-loop-node : goal.invariant-loop-node
 invariant-loop-node g l = record {
-  span : (done : List ℕ) → IsSpan (Some l.fn.range) (Reaches (table_of (tables l.registry) l.dimension) l.dimension l.vehicle done) → l.fn.from ≡ last_of 0 done
-      → IsSpan (Some l.range) (Reaches (table_of (tables l.registry) l.dimension) l.dimension l.vehicle (done ++ take l.node-index l.nodes))
+  span : (done : List ℕ) → IsSpan (Some l.fn.range) (Gets (g.C.Callback.table l.callback) l.lane done) → l.fn.from ≡ last_of 0 done
+      → IsSpan (Some l.range) (Gets (g.C.Callback.table l.callback) l.lane (done ++ take l.node-index l.nodes))
       × (l.from ≡ last_of 0 (done ++ take l.node-index l.nodes));
-  known : l.from < length l.dimension.ranges;
+  known : l.from < length l.lane.dimension.now.ranges;
   filled : l.range.lo ≤ l.range.hi;
   small : l.range.hi ≤ 1000000000000;
 }

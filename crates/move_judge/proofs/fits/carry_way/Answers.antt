@@ -3,25 +3,23 @@ use Rattle.move_judge.proofs.fits.carry_way.Goals as goal
 pub carry_back-requires : goal.carry_back-requires
 carry_back-requires g c = record {
   laws = c.requires.laws;
-  served = c.requires.served;
+  lane = c.requires.lane;
+  sized = c.requires.sized;
   filled = c.requires.filled;
   small = c.requires.small;
   from = c.requires.from;
   known = c.requires.known;
-  low = c.requires.low;
-  high = c.requires.high;
 }
 
 pub carry_on-requires : goal.carry_on-requires
 carry_on-requires g c = record {
   laws = c.requires.laws;
-  served = c.requires.served;
+  lane = c.requires.lane;
+  sized = c.requires.sized;
   filled = c.requires.filled;
   small = c.requires.small;
   from = c.requires.from;
   known = c.requires.known;
-  low = c.requires.low;
-  high = c.requires.high;
 }
 
 pub returns-then-turned : goal.returns-then-turned

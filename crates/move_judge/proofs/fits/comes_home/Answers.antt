@@ -1,33 +1,19 @@
-use Rattle.std.proofs.Common.{[], sym, ◌∙◌}
-use Rattle.std.proofs.lemmas.Bool.{false≢true}
 use Rattle.callback_store.specs.Registry.{tables}
-use Rattle.dimension_core.specs.Cumuls.{table_of}
-use Rattle.move_judge.specs.Parts.{route_of}
-use Rattle.move_judge.proofs.Meeting.{no_ahead}
+use Rattle.callback_store.specs.Tables.{pair_table, node_table, matrix_table, vector_table, stay_table}
+use Rattle.move_judge.proofs.Carried.{home_as, looked_up}
 use Rattle.move_judge.proofs.fits.comes_home.Goals as goal
 
-pub start-requires : goal.start-requires
-start-requires g c = record { low = c.requires.low; high = c.requires.high }
+pub returns-in-Pair : goal.returns-in-Pair
+returns-in-Pair g c = home_as _ _ _ _ _ _ (looked_up (pair_table c.in-Pair.callback) (tables c.args.registry.now) c.args.dimension.now _ (rw c.in-Pair.is at c.callback.ensures.table) c.id.ensures) c.comes_home_by.ensures
 
-pub homecoming-home-requires : goal.homecoming-home-requires
-homecoming-home-requires g c = record {
-  laws = c.requires.laws;
-  served = c.requires.served;
-  here = c.requires.laws.spans.start (table_of (tables c.args.registry.now) c.args.dimension.now) c.args.dimension.now c.args.vehicle _ c.in-Some.ensures.span;
-  small = c.in-Some.ensures.small;
-  known = c.requires.known;
-  low = c.requires.low;
-  high = c.requires.high;
-}
+pub returns-in-Node : goal.returns-in-Node
+returns-in-Node g c = home_as _ _ _ _ _ _ (looked_up (node_table c.in-Node.callback) (tables c.args.registry.now) c.args.dimension.now _ (rw c.in-Node.is at c.callback.ensures.table) c.id.ensures) c.comes_home_by-in-Node.ensures
 
-pub returns-in-None : goal.returns-in-None
-returns-in-None g c = let p = c.args.parts.now in (
-  λ never. absurd (false≢true never),
-  λ inside. absurd (no_ahead c.requires.laws (table_of (tables c.args.registry.now) c.args.dimension.now) c.args.dimension.now c.args.vehicle [] (route_of p) c.requires.some (c.requires.laws.spans.start (table_of (tables c.args.registry.now) c.args.dimension.now) c.args.dimension.now c.args.vehicle _ c.in-None.ensures.span) inside),
-)
+pub returns-in-Listed : goal.returns-in-Listed
+returns-in-Listed g c = home_as _ _ _ _ _ _ (looked_up (matrix_table c.in-Listed.callback) (tables c.args.registry.now) c.args.dimension.now _ (rw c.in-Listed.is at c.callback.ensures.table) c.id.ensures) c.comes_home_by-in-Listed.ensures
 
-pub returns-in-Some : goal.returns-in-Some
-returns-in-Some g c =
-    let p = c.args.parts.now in
-    let decided = c.requires.laws.spans.bounds (table_of (tables c.args.registry.now) c.args.dimension.now) c.args.dimension.now c.args.vehicle (route_of p) _ c.requires.some c.homecoming-home.ensures in
-    (λ is. decided.0 (sym c.is_some.ensures ∙ is), λ inside. c.is_some.ensures ∙ decided.1 inside)
+pub returns-in-Values : goal.returns-in-Values
+returns-in-Values g c = home_as _ _ _ _ _ _ (looked_up (vector_table c.in-Values.callback) (tables c.args.registry.now) c.args.dimension.now _ (rw c.in-Values.is at c.callback.ensures.table) c.id.ensures) c.comes_home_by-in-Values.ensures
+
+pub returns-in-Stayed : goal.returns-in-Stayed
+returns-in-Stayed g c = home_as _ _ _ _ _ _ (looked_up (stay_table c.in-Stayed.callback) (tables c.args.registry.now) c.args.dimension.now _ (rw c.in-Stayed.is at c.callback.ensures.table) c.id.ensures) c.comes_home_by-in-Stayed.ensures

@@ -1,6 +1,6 @@
 use Rattle.std.proofs.Common.{arith, [], append_assoc, ◌++◌, ◌∙◌, ◌<◌, refl, length}
 use Rattle.move_judge.specs.Parts.{way_of}
-use Rattle.move_judge.proofs.Carried.{after_at, append_nil, stop_none, stop_found, all_left, all_right, all_way}
+use Rattle.move_judge.proofs.Carried.{arrived, append_nil, stop_none, all_left, all_right, all_way}
 use Rattle.move_judge.proofs.fits.homecoming.Goals as goal
 
 pub returns-in_err-range : goal.returns-in_err-range
@@ -56,21 +56,21 @@ returns g c =
     let s2 = c.in_ok-range-3.ensures.span (p.front.now ++ way_of p.turned p.first.now) s1.0 s1.1 in
     let s3 = c.in_ok-range-4.ensures.span ((p.front.now ++ way_of p.turned p.first.now) ++ p.second.now) s2.0 s2.1 in
     let s4 = c.in_ok-range-5.ensures.span (((p.front.now ++ way_of p.turned p.first.now) ++ p.second.now) ++ p.third.now) s3.0 s3.1 in
-    stop_found law _ _ _ _ _ _ _ _ _ (append_assoc ((p.front.now ++ way_of p.turned p.first.now) ++ p.second.now) p.third.now p.back.now ∙ append_assoc (p.front.now ++ way_of p.turned p.first.now) p.second.now (p.third.now ++ p.back.now) ∙ append_assoc p.front.now (way_of p.turned p.first.now) (p.second.now ++ (p.third.now ++ p.back.now))) s4.0 s4.1 (after_at _ _ _ _ _ _ _ _ _ c.after.ensures.span c.id.ensures c.ask-way.ensures.answer)
+    let whole = append_assoc ((p.front.now ++ way_of p.turned p.first.now) ++ p.second.now) p.third.now p.back.now ∙ append_assoc (p.front.now ++ way_of p.turned p.first.now) p.second.now (p.third.now ++ p.back.now) ∙ append_assoc p.front.now (way_of p.turned p.first.now) (p.second.now ++ (p.third.now ++ p.back.now)) in
+    arrived _ _ _ _ _ _ _ whole (c.step_to.ensures _ s4.0 s4.1)
 
 pub carry_on-requires : goal.carry_on-requires
 carry_on-requires g c =
     let p = c.args.parts.now in
     record {
       laws = c.requires.laws;
-      served = c.requires.served;
+      lane = c.requires.lane;
+      sized = c.requires.sized;
       filled = c.requires.here.filled;
       small = c.requires.small;
       from = let low = c.nodes-nodes.ensures.low in let same = c.nodes-nodes.ensures.value in omega arith;
       known =
-          all_left c.requires.laws (λ n. n < length c.args.dimension.now.ranges) p.front.now (way_of p.turned p.first.now ++ (p.second.now ++ (p.third.now ++ p.back.now))) c.requires.known;
-      low = c.requires.low;
-      high = c.requires.high;
+          all_left c.requires.laws (λ n. n < length c.args.lane.now.dimension.now.ranges) p.front.now (way_of p.turned p.first.now ++ (p.second.now ++ (p.third.now ++ p.back.now))) c.requires.known;
     }
 
 pub carry_way-requires : goal.carry_way-requires
@@ -78,15 +78,14 @@ carry_way-requires g c =
     let p = c.args.parts.now in
     record {
       laws = c.requires.laws;
-      served = c.requires.served;
+      lane = c.requires.lane;
+      sized = c.requires.sized;
       filled = c.in_ok-range.ensures.filled;
       small = c.in_ok-range.ensures.small;
       from = c.in_ok-range.ensures.known;
       known =
-          all_way c.requires.laws (λ n. n < length c.args.dimension.now.ranges) p.turned p.first.now
-          (all_left c.requires.laws (λ n. n < length c.args.dimension.now.ranges) (way_of p.turned p.first.now) (p.second.now ++ (p.third.now ++ p.back.now)) (all_right c.requires.laws (λ n. n < length c.args.dimension.now.ranges) p.front.now (way_of p.turned p.first.now ++ (p.second.now ++ (p.third.now ++ p.back.now))) c.requires.known));
-      low = c.requires.low;
-      high = c.requires.high;
+          all_way c.requires.laws (λ n. n < length c.args.lane.now.dimension.now.ranges) p.turned p.first.now
+          (all_left c.requires.laws (λ n. n < length c.args.lane.now.dimension.now.ranges) (way_of p.turned p.first.now) (p.second.now ++ (p.third.now ++ p.back.now)) (all_right c.requires.laws (λ n. n < length c.args.lane.now.dimension.now.ranges) p.front.now (way_of p.turned p.first.now ++ (p.second.now ++ (p.third.now ++ p.back.now))) c.requires.known));
     }
 
 pub carry_on-requires-2 : goal.carry_on-requires-2
@@ -94,14 +93,13 @@ carry_on-requires-2 g c =
     let p = c.args.parts.now in
     record {
       laws = c.requires.laws;
-      served = c.requires.served;
+      lane = c.requires.lane;
+      sized = c.requires.sized;
       filled = c.in_ok-range-2.ensures.filled;
       small = c.in_ok-range-2.ensures.small;
       from = c.in_ok-range-2.ensures.known;
       known =
-          all_left c.requires.laws (λ n. n < length c.args.dimension.now.ranges) p.second.now (p.third.now ++ p.back.now) (all_right c.requires.laws (λ n. n < length c.args.dimension.now.ranges) (way_of p.turned p.first.now) (p.second.now ++ (p.third.now ++ p.back.now)) (all_right c.requires.laws (λ n. n < length c.args.dimension.now.ranges) p.front.now (way_of p.turned p.first.now ++ (p.second.now ++ (p.third.now ++ p.back.now))) c.requires.known));
-      low = c.requires.low;
-      high = c.requires.high;
+          all_left c.requires.laws (λ n. n < length c.args.lane.now.dimension.now.ranges) p.second.now (p.third.now ++ p.back.now) (all_right c.requires.laws (λ n. n < length c.args.lane.now.dimension.now.ranges) (way_of p.turned p.first.now) (p.second.now ++ (p.third.now ++ p.back.now)) (all_right c.requires.laws (λ n. n < length c.args.lane.now.dimension.now.ranges) p.front.now (way_of p.turned p.first.now ++ (p.second.now ++ (p.third.now ++ p.back.now))) c.requires.known));
     }
 
 pub carry_on-requires-3 : goal.carry_on-requires-3
@@ -109,14 +107,13 @@ carry_on-requires-3 g c =
     let p = c.args.parts.now in
     record {
       laws = c.requires.laws;
-      served = c.requires.served;
+      lane = c.requires.lane;
+      sized = c.requires.sized;
       filled = c.in_ok-range-3.ensures.filled;
       small = c.in_ok-range-3.ensures.small;
       from = c.in_ok-range-3.ensures.known;
       known =
-          all_left c.requires.laws (λ n. n < length c.args.dimension.now.ranges) p.third.now p.back.now (all_right c.requires.laws (λ n. n < length c.args.dimension.now.ranges) p.second.now (p.third.now ++ p.back.now) (all_right c.requires.laws (λ n. n < length c.args.dimension.now.ranges) (way_of p.turned p.first.now) (p.second.now ++ (p.third.now ++ p.back.now)) (all_right c.requires.laws (λ n. n < length c.args.dimension.now.ranges) p.front.now (way_of p.turned p.first.now ++ (p.second.now ++ (p.third.now ++ p.back.now))) c.requires.known)));
-      low = c.requires.low;
-      high = c.requires.high;
+          all_left c.requires.laws (λ n. n < length c.args.lane.now.dimension.now.ranges) p.third.now p.back.now (all_right c.requires.laws (λ n. n < length c.args.lane.now.dimension.now.ranges) p.second.now (p.third.now ++ p.back.now) (all_right c.requires.laws (λ n. n < length c.args.lane.now.dimension.now.ranges) (way_of p.turned p.first.now) (p.second.now ++ (p.third.now ++ p.back.now)) (all_right c.requires.laws (λ n. n < length c.args.lane.now.dimension.now.ranges) p.front.now (way_of p.turned p.first.now ++ (p.second.now ++ (p.third.now ++ p.back.now))) c.requires.known)));
     }
 
 pub carry_on-requires-4 : goal.carry_on-requires-4
@@ -124,35 +121,25 @@ carry_on-requires-4 g c =
     let p = c.args.parts.now in
     record {
       laws = c.requires.laws;
-      served = c.requires.served;
+      lane = c.requires.lane;
+      sized = c.requires.sized;
       filled = c.in_ok-range-4.ensures.filled;
       small = c.in_ok-range-4.ensures.small;
       from = c.in_ok-range-4.ensures.known;
       known =
-          all_right c.requires.laws (λ n. n < length c.args.dimension.now.ranges) p.third.now p.back.now (all_right c.requires.laws (λ n. n < length c.args.dimension.now.ranges) p.second.now (p.third.now ++ p.back.now) (all_right c.requires.laws (λ n. n < length c.args.dimension.now.ranges) (way_of p.turned p.first.now) (p.second.now ++ (p.third.now ++ p.back.now)) (all_right c.requires.laws (λ n. n < length c.args.dimension.now.ranges) p.front.now (way_of p.turned p.first.now ++ (p.second.now ++ (p.third.now ++ p.back.now))) c.requires.known)));
-      low = c.requires.low;
-      high = c.requires.high;
+          all_right c.requires.laws (λ n. n < length c.args.lane.now.dimension.now.ranges) p.third.now p.back.now (all_right c.requires.laws (λ n. n < length c.args.lane.now.dimension.now.ranges) p.second.now (p.third.now ++ p.back.now) (all_right c.requires.laws (λ n. n < length c.args.lane.now.dimension.now.ranges) (way_of p.turned p.first.now) (p.second.now ++ (p.third.now ++ p.back.now)) (all_right c.requires.laws (λ n. n < length c.args.lane.now.dimension.now.ranges) p.front.now (way_of p.turned p.first.now ++ (p.second.now ++ (p.third.now ++ p.back.now))) c.requires.known)));
     }
 
-pub ask-way-requires : goal.ask-way-requires
-ask-way-requires g c =
+pub step_to-requires : goal.step_to-requires
+step_to-requires g c =
     let low = c.nodes-nodes.ensures.low in
     let same = c.nodes-nodes.ensures.value in
     record {
-      registered = rw c.id.ensures c.requires.served.registered;
-      from = rw c.requires.served.sized c.in_ok-range-5.ensures.known;
-      to = rw c.requires.served.sized (omega arith);
-    }
-
-pub after-requires : goal.after-requires
-after-requires g c =
-    let low = c.nodes-nodes.ensures.low in
-    let same = c.nodes-nodes.ensures.value in
-    record {
+      laws = c.requires.laws;
+      lane = c.requires.lane;
+      sized = c.requires.sized;
       filled = c.in_ok-range-5.ensures.filled;
-      range = c.in_ok-range-5.ensures.small;
-      way = c.ask-way.ensures.small;
-      to = omega arith;
-      low = c.requires.low;
-      high = c.requires.high;
+      small = c.in_ok-range-5.ensures.small;
+      from = c.in_ok-range-5.ensures.known;
+      next = omega arith;
     }

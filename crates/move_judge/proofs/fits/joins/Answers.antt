@@ -1,39 +1,42 @@
-use Rattle.std.proofs.Common.{◌<◌, length, sym, subst, List, ℕ, All, arith}
-use Rattle.std.proofs.lemmas.Bool.{false≢true}
-use Rattle.move_judge.specs.Parts.{begun_of, way_of}
-use Rattle.move_judge.proofs.Carried.{all_left, all_right}
-use Rattle.move_judge.proofs.Meeting.{five_parts, next_known, no_arrival, meeting}
+use Rattle.std.proofs.Common.{Some, [], ◌∷◌, ◌++◌}
+use Rattle.callback_store.specs.Registry.{tables}
+use Rattle.callback_store.specs.Tables.{Table, pair_table, node_table, matrix_table, vector_table, stay_table}
+use Rattle.dimension_core.specs.Cumuls.{IsSpan}
+use Rattle.move_judge.specs.Kept.{GoesOn}
+use Rattle.move_judge.proofs.Carried.{as_looked_up, home_as, looked_up}
 use Rattle.move_judge.proofs.fits.joins.Goals as goal
 
-pub arrival-requires : goal.arrival-requires
-arrival-requires g c =
-    let p = c.args.parts.now in
-    let whole = five_parts p.front.now (way_of p.turned p.first.now) p.second.now p.third.now p.back.now in
-    let all = subst (λ (xs : List ℕ). All (λ n. n < length c.args.dimension.now.ranges) xs) (sym whole) c.requires.known in
-    let last = all_right c.requires.laws (λ n. n < length c.args.dimension.now.ranges) (begun_of p) p.back.now all in
-    let nodes = c.nodes-nodes.ensures.low in
-    let is = c.nodes-nodes.ensures.value in
-    record {
-      laws = c.requires.laws;
-      served = c.requires.served;
-      here = c.requires.here;
-      known = all_left c.requires.laws (λ n. n < length c.args.dimension.now.ranges) (begun_of p) p.back.now all;
-      next = next_known (λ n. n < length c.args.dimension.now.ranges) p.back.now c.next_stop-next.result c.next_stop-next.ensures.0 c.next_stop-next.ensures.1 (omega arith) (λ k h. last k 0 h);
-      low = c.requires.low;
-      high = c.requires.high;
-    }
+pub joins_by-requires-clause-there : goal.joins_by-requires-clause-there
+joins_by-requires-clause-there g c =
+    as_looked_up _ _ (λ (t : Table). IsSpan (Some c.args.there) (GoesOn t c.args.dimension.now c.args.vehicle (c.args.parts.now.back.now ++ 0 ∷ []))) (looked_up (pair_table c.in-Pair.callback) (tables c.args.registry.now) c.args.dimension.now _ (rw c.in-Pair.is at c.callback.ensures.table) c.id.ensures) c.requires.there
 
-pub returns-in-None : goal.returns-in-None
-returns-in-None g c =
-    let p = c.args.parts.now in
-    let whole = five_parts p.front.now (way_of p.turned p.first.now) p.second.now p.third.now p.back.now in (
-      λ never. absurd (false≢true never),
-      λ inside. absurd (no_arrival c.requires.laws _ _ _ _ p.back.now _ c.next_stop-next.result c.next_stop-next.ensures.0 whole c.next_stop-next.ensures.1 c.requires.some c.in-None.ensures inside),
-    )
+pub returns-in-Pair : goal.returns-in-Pair
+returns-in-Pair g c = home_as _ _ _ _ _ _ (looked_up (pair_table c.in-Pair.callback) (tables c.args.registry.now) c.args.dimension.now _ (rw c.in-Pair.is at c.callback.ensures.table) c.id.ensures) c.joins_by.ensures
 
-pub returns-in-Some : goal.returns-in-Some
-returns-in-Some g c =
-    let p = c.args.parts.now in
-    let whole = five_parts p.front.now (way_of p.turned p.first.now) p.second.now p.third.now p.back.now in
-    let met = meeting c.requires.laws _ _ _ _ p.back.now _ c.next_stop-next.result c.next_stop-next.ensures.0 _ _ whole c.next_stop-next.ensures.1 c.requires.some c.in-Some.ensures c.requires.there in
-    (λ is. met.0 (c.overlap.ensures.0 is), λ inside. c.overlap.ensures.1 (met.1 inside))
+pub joins_by-requires-in-Node-clause-there : goal.joins_by-requires-in-Node-clause-there
+joins_by-requires-in-Node-clause-there g c =
+    as_looked_up _ _ (λ (t : Table). IsSpan (Some c.args.there) (GoesOn t c.args.dimension.now c.args.vehicle (c.args.parts.now.back.now ++ 0 ∷ []))) (looked_up (node_table c.in-Node.callback) (tables c.args.registry.now) c.args.dimension.now _ (rw c.in-Node.is at c.callback.ensures.table) c.id.ensures) c.requires.there
+
+pub returns-in-Node : goal.returns-in-Node
+returns-in-Node g c = home_as _ _ _ _ _ _ (looked_up (node_table c.in-Node.callback) (tables c.args.registry.now) c.args.dimension.now _ (rw c.in-Node.is at c.callback.ensures.table) c.id.ensures) c.joins_by-in-Node.ensures
+
+pub joins_by-requires-in-Listed-clause-there : goal.joins_by-requires-in-Listed-clause-there
+joins_by-requires-in-Listed-clause-there g c =
+    as_looked_up _ _ (λ (t : Table). IsSpan (Some c.args.there) (GoesOn t c.args.dimension.now c.args.vehicle (c.args.parts.now.back.now ++ 0 ∷ []))) (looked_up (matrix_table c.in-Listed.callback) (tables c.args.registry.now) c.args.dimension.now _ (rw c.in-Listed.is at c.callback.ensures.table) c.id.ensures) c.requires.there
+
+pub returns-in-Listed : goal.returns-in-Listed
+returns-in-Listed g c = home_as _ _ _ _ _ _ (looked_up (matrix_table c.in-Listed.callback) (tables c.args.registry.now) c.args.dimension.now _ (rw c.in-Listed.is at c.callback.ensures.table) c.id.ensures) c.joins_by-in-Listed.ensures
+
+pub joins_by-requires-in-Values-clause-there : goal.joins_by-requires-in-Values-clause-there
+joins_by-requires-in-Values-clause-there g c =
+    as_looked_up _ _ (λ (t : Table). IsSpan (Some c.args.there) (GoesOn t c.args.dimension.now c.args.vehicle (c.args.parts.now.back.now ++ 0 ∷ []))) (looked_up (vector_table c.in-Values.callback) (tables c.args.registry.now) c.args.dimension.now _ (rw c.in-Values.is at c.callback.ensures.table) c.id.ensures) c.requires.there
+
+pub returns-in-Values : goal.returns-in-Values
+returns-in-Values g c = home_as _ _ _ _ _ _ (looked_up (vector_table c.in-Values.callback) (tables c.args.registry.now) c.args.dimension.now _ (rw c.in-Values.is at c.callback.ensures.table) c.id.ensures) c.joins_by-in-Values.ensures
+
+pub joins_by-requires-in-Stayed-clause-there : goal.joins_by-requires-in-Stayed-clause-there
+joins_by-requires-in-Stayed-clause-there g c =
+    as_looked_up _ _ (λ (t : Table). IsSpan (Some c.args.there) (GoesOn t c.args.dimension.now c.args.vehicle (c.args.parts.now.back.now ++ 0 ∷ []))) (looked_up (stay_table c.in-Stayed.callback) (tables c.args.registry.now) c.args.dimension.now _ (rw c.in-Stayed.is at c.callback.ensures.table) c.id.ensures) c.requires.there
+
+pub returns-in-Stayed : goal.returns-in-Stayed
+returns-in-Stayed g c = home_as _ _ _ _ _ _ (looked_up (stay_table c.in-Stayed.callback) (tables c.args.registry.now) c.args.dimension.now _ (rw c.in-Stayed.is at c.callback.ensures.table) c.id.ensures) c.joins_by-in-Stayed.ensures

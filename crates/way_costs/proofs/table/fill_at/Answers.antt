@@ -28,3 +28,9 @@ fill_row-requires-clause-stop g c = c.requires.stop
 
 pub fill_row-requires-clause-to : goal.fill_row-requires-clause-to
 fill_row-requires-clause-to g c = c.requires.to
+
+pub fill_row-requires-clause-answers : goal.fill_row-requires-clause-answers
+fill_row-requires-clause-answers g c = c.requires.answers
+
+pub fill_row-requires-clause-nodes : goal.fill_row-requires-clause-nodes
+fill_row-requires-clause-nodes g c = c.requires.nodes

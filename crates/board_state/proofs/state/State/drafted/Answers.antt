@@ -1,8 +1,8 @@
-use Rattle.std.proofs.Common.{◌≡◌, ◌∙◌, true, Some, sym, ap, subst, List, All, ◌≤◌}
+use Rattle.std.proofs.Common.{◌≡◌, true, sym, subst, List, All, ◌≤◌}
 use Rattle.plan_core.specs.declared.touch.Touch.{Touch}
 use Rattle.plan_core.specs.Plan.{IsPlan, AreSizes, with_routes}
 use Rattle.pin_core.specs.Allowed.{AreAllTouched}
-use Rattle.move_core.specs.Moves.{is_possible, effect, changes_by}
+use Rattle.move_core.specs.Moves.{is_possible, changes_by}
 use Rattle.board_state.specs.Held.{HeldState}
 use Rattle.board_state.proofs.NewPlans.{short_routes, has_effect}
 use Rattle.board_state.proofs.state.State.drafted.Goals as goal
@@ -14,8 +14,8 @@ drafts_in-requires c =
     subst (λ (h : HeldState). is_possible h.plan.customers h.plan.routes mv ≡ true) (sym c.self.view_is)
     (has_effect (is_possible held.plan.customers held.plan.routes mv) (changes_by held.plan.routes mv) c.requires.effect)
 
-pub returns-clause-placeable : goal.returns-clause-placeable
-returns-clause-placeable c =
+pub returns-in-Ok-clause-placeable : goal.returns-in-Ok-clause-placeable
+returns-in-Ok-clause-placeable c =
     let held = c.args.self.now in
     let mv = c.args.mv.now in
     let changes = changes_by held.plan.routes mv in
@@ -33,8 +33,8 @@ returns-clause-placeable c =
           (λ d v p at. c.moves_keep_the_untouched.ensures.stay held.plan.customers held.plan.routes mv changes d v p c.requires.effect at);
     }
 
-pub returns-clause-short : goal.returns-clause-short
-returns-clause-short c =
+pub returns-in-Ok-clause-short : goal.returns-in-Ok-clause-short
+returns-in-Ok-clause-short c =
     let held = c.args.self.now in
     let mv = c.args.mv.now in
     let changes = changes_by held.plan.routes mv in

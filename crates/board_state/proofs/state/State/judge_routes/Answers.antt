@@ -1,13 +1,14 @@
-use Rattle.std.proofs.Common.{◌≡◌, ◌≤◌, ℕ, ◌⊎◌, List, Some, length, sym, ap, ◌∙◌, subst, arith, All}
+use Rattle.std.proofs.Common.{◌≡◌, ◌≤◌, ℕ, ◌⊎◌, List, length, sym, ap, ◌∙◌, subst, arith, All}
 use Rattle.callback_store.specs.Meter.{Asks, AsksJust, AsksAtMost}
 use Rattle.dimension_core.specs.Setup.{setting}
 use Rattle.dimension_core.specs.NewRoutes.{AllFit, AllKnown, IsOut}
 use Rattle.plan_core.specs.declared.touch.Touch.{Touch}
+use Rattle.plan_core.specs.Drafts.{DraftState, drafted, drafts_of, with_drafts}
 use Rattle.plan_core.specs.Plan.{Changes, changes_of, with_routes, IsPlan, AreChanges}
 use Rattle.pin_core.specs.Pins.{AreFreezesKept, IsHeld}
 use Rattle.pin_core.specs.Allowed.{IsTouched}
 use Rattle.range_cache.specs.Asks.{judge_asks, asks_before}
-use Rattle.move_core.specs.Moves.{changes_by, effect}
+use Rattle.move_core.specs.Moves.{changes_by}
 use Rattle.move_core.specs.Touched.{touched_by}
 use Rattle.board_rules.specs.Override.{DoPinsAllow}
 use Rattle.board_rules.specs.Rules.{PassesCustomers, PassesAll, may_override, routes_after}
@@ -17,9 +18,15 @@ use Rattle.board_rules.specs.declared.reply.Denial.TheVariants.{Bound}
 use Rattle.board_state.specs.declared.stop.Stop.TheVariants.{Denied}
 use Rattle.board_state.specs.Verdicts.{IsStop, IsPinStop, ArePlaceable, probes_least}
 use Rattle.board_state.specs.Work.{Works, leaving}
-use Rattle.board_state.proofs.Proposals.{pin_stop, passes_all, out_of_bounds}
+use Rattle.board_state.proofs.NewPlans.{all_under}
+use Rattle.board_state.proofs.Proposals.{both_are, pin_stop, passes_all, out_of_bounds}
 use Rattle.board_state.proofs.WorkLaws.{both_within, asks_alone, pinned_whole, pinned_stop}
 use Rattle.board_state.proofs.state.State.judge_routes.Goals as goal
+
+pub drafted-requires-clause-holding : goal.drafted-requires-clause-holding
+drafted-requires-clause-holding g c =
+    let ready = subst (λ (h : HeldState). IsReady (setting c.args.setup.now) h) (sym c.self.view_is) c.requires.ready in
+    ready.holding
 
 pub returns-in-Err-clause-stop : goal.returns-in-Err-clause-stop
 returns-in-Err-clause-stop g c =
@@ -28,36 +35,40 @@ returns-in-Err-clause-stop g c =
     let ready = subst (λ (h : HeldState). IsReady (setting a.setup.now) h) (sym c.self.view_is) c.requires.ready in
     let passes = subst (λ (h : HeldState). PassesCustomers (setting a.setup.now) (held_basis h a.proposal.now.session) a.proposal.now.base a.proposal.now.mv.now) (sym c.self.view_is) c.requires.passes in
     let listed = c.requires.touched ∙ ap (λ (h : HeldState). touched_by h.plan.routes a.proposal.now.mv.now) (sym c.self.view_is) in
-    let changes = ap (λ xs. changes_of xs) c.deref-2.ensures.value ∙ c.in-Ok.ensures.changes in
+    let changes = ap (λ (ds : List DraftState). drafts_of held.plan.routes ds) c.as_slice.ensures ∙ c.in-Ok.ensures.changes in
     rw (sym c.self.view_is) (pin_stop (setting a.setup.now) held a.proposal.now.session a.proposal.now.base a.proposal.now.mv.now ready passes c.in-Ok.ensures.named a.touched.items c.in-Err.stop listed
     (subst (λ (cs : Changes). IsPinStop held.pins (may_override (held_basis held a.proposal.now.session)) held.plan.routes cs a.touched.items c.in-Err.stop) changes
-    (subst (λ (ts : List Touch). IsPinStop held.pins (may_override (held_basis held a.proposal.now.session)) held.plan.routes (changes_of c.deref-2.result.now) ts c.in-Err.stop) c.deref-3.ensures.value c.in-Err.ensures.stop)))
+    (subst (λ (ts : List Touch). IsPinStop held.pins (may_override (held_basis held a.proposal.now.session)) held.plan.routes (drafts_of held.plan.routes c.as_slice.result.now) ts c.in-Err.stop) c.deref-2.ensures.value c.in-Err.ensures.stop)))
 
-pub returns-in-Ok-judge_in-clause-passes : goal.returns-in-Ok-judge_in-clause-passes
-returns-in-Ok-judge_in-clause-passes g c =
+pub returns-in-Ok-written-clause-passes : goal.returns-in-Ok-written-clause-passes
+returns-in-Ok-written-clause-passes g c =
     let a = c.args in
     let held : HeldState = record { policy = c.self.inside.policy; tables = c.self.inside.tables; plan = c.self.inside.plan; pins = c.self.inside.pins; cache = c.self.inside.cache } in
     let ready = subst (λ (h : HeldState). IsReady (setting a.setup.now) h) (sym c.self.view_is) c.requires.ready in
     let passes = subst (λ (h : HeldState). PassesCustomers (setting a.setup.now) (held_basis h a.proposal.now.session) a.proposal.now.base a.proposal.now.mv.now) (sym c.self.view_is) c.requires.passes in
-    let changes = ap (λ xs. changes_of xs) c.deref-2.ensures.value ∙ c.in-Ok.ensures.changes in
-    let judged = ap (λ xs. changes_of xs) c.deref-4.ensures.value ∙ c.in-Ok.ensures.changes in
+    let changes = ap (λ (ds : List DraftState). drafts_of held.plan.routes ds) c.as_slice.ensures ∙ c.in-Ok.ensures.changes in
+    let judged = ap (λ (ds : List DraftState). drafts_of held.plan.routes ds) c.as_slice-2.ensures ∙ c.in-Ok.ensures.changes in
     subst (λ (h : HeldState). PassesAll (setting a.setup.now) (held_basis h a.proposal.now.session) a.proposal.now.base a.proposal.now.mv.now) c.self.view_is (passes_all (setting a.setup.now) held a.proposal.now.session a.proposal.now.base a.proposal.now.mv.now ready passes c.in-Ok.ensures.named c.deref.result.now c.in-Ok.ensures.placeable
     (subst (λ (cs : Changes). AreFreezesKept held.pins held.plan.routes (with_routes cs held.plan.routes)) changes c.in-Ok-judge_pins.ensures.fronts)
     (subst (λ (cs : Changes). DoPinsAllow held.pins (may_override (held_basis held a.proposal.now.session)) (with_routes cs held.plan.routes)) changes c.in-Ok-judge_pins.ensures.pins)
     (subst (λ (cs : Changes). AllFit (setting a.setup.now) cs) judged c.in-Ok-judge_in.ensures.fits))
 
-pub returns-in-Ok-judge_in-clause-ready : goal.returns-in-Ok-judge_in-clause-ready
-returns-in-Ok-judge_in-clause-ready g c =
+pub returns-in-Ok-written-clause-ready : goal.returns-in-Ok-written-clause-ready
+returns-in-Ok-written-clause-ready g c =
     let a = c.args in
     let held = a.self.now in
-    let same = sym (c.in-Ok.ensures.changes ∙ ap (λ (h : HeldState). changes_by h.plan.routes a.proposal.now.mv.now) c.self.view_is) in
+    let by = c.in-Ok.ensures.changes ∙ ap (λ (h : HeldState). changes_by h.plan.routes a.proposal.now.mv.now) c.self.view_is in
+    let new = c.in-Ok-written.changes.items in
+    let same : changes_by held.plan.routes a.proposal.now.mv.now ≡ changes_of new = sym (c.in-Ok-written.ensures.changes ∙ c.in-Ok.ensures.changes ∙ ap (λ (h : HeldState). changes_by h.plan.routes a.proposal.now.mv.now) c.self.view_is) in
+    let drafts : drafts_of c.self.inside.plan.routes c.as_slice.result.now ≡ changes_of new = ap (λ (ds : List DraftState). drafts_of c.self.inside.plan.routes ds) c.as_slice.ensures ∙ by ∙ same in
     let placeable = subst (λ (ts : List Touch). ArePlaceable held (changes_by held.plan.routes a.proposal.now.mv.now) ts) c.deref.ensures.value
     (subst (λ (h : HeldState). ArePlaceable h (changes_by h.plan.routes a.proposal.now.mv.now) c.deref.result.now) c.self.view_is c.in-Ok.ensures.placeable) in
-    let freed = subst (λ (h : HeldState). AreFreed h.pins (with_routes (changes_of c.deref-2.result.now) h.plan.routes) c.deref-3.result.now c.in-Ok-judge_pins.freed.items) c.self.view_is c.in-Ok-judge_pins.ensures.freed in
+    let short = subst (λ (h : HeldState). All (λ d. length d.1 ≤ 1000) (changes_by h.plan.routes a.proposal.now.mv.now)) c.self.view_is c.in-Ok.ensures.short in
+    let freed = subst (λ (cs : Changes). AreFreed c.self.inside.pins (with_routes cs c.self.inside.plan.routes) c.deref-2.result.now c.in-Ok-judge_pins.freed.items) drafts c.in-Ok-judge_pins.ensures.freed in
     record {
-      lengths = c.in-Ok.ensures.short;
-      freed = subst (λ (ts : List Touch). AreFreed held.pins (with_routes (changes_of c.in-Ok.changes.items) held.plan.routes) ts c.in-Ok-judge_pins.freed.items) c.deref-3.ensures.value
-          (subst (λ (cs : Changes). AreFreed held.pins (with_routes cs held.plan.routes) c.deref-3.result.now c.in-Ok-judge_pins.freed.items) (ap (λ xs. changes_of xs) c.deref-2.ensures.value) freed);
+      lengths = all_under (λ d. (d.0, d.1.value)) (λ d. length d.1 ≤ 1000) new (changes_by held.plan.routes a.proposal.now.mv.now) (sym same) short;
+      freed = subst (λ (ts : List Touch). AreFreed held.pins (with_routes (changes_of new) held.plan.routes) ts c.in-Ok-judge_pins.freed.items) c.deref-2.ensures.value
+          (subst (λ (h : HeldState). AreFreed h.pins (with_routes (changes_of new) h.plan.routes) c.deref-2.result.now c.in-Ok-judge_pins.freed.items) c.self.view_is freed);
       changes = subst (λ (cs : Changes). AreChanges (length held.plan.routes) cs) same placeable.changes;
       plan = subst (λ (cs : Changes). IsPlan held.plan.customers (with_routes cs held.plan.routes)) same placeable.plan;
       room = c.requires.ready.room;
@@ -65,17 +76,6 @@ returns-in-Ok-judge_in-clause-ready g c =
       touched = subst (λ (cs : Changes). (d : ℕ) → 1 ≤ d → IsHeld held.pins (with_routes cs held.plan.routes) d ⊎ IsTouched a.touched.items d) same
           (c.pins_after_commits.ensures.touched held.pins held.plan.routes (with_routes (changes_by held.plan.routes a.proposal.now.mv.now) held.plan.routes) a.touched.items placeable.holding placeable.touched);
       pending = c.in-Ok-judge_in.ensures.of ∙ ap (λ (h : HeldState). h.cache) c.self.view_is;
-    }
-
-pub returns-in-Ok-judge_in-clause-made : goal.returns-in-Ok-judge_in-clause-made
-returns-in-Ok-judge_in-clause-made g c =
-    let a = c.args in
-    let held = a.self.now in
-    let same = sym (c.in-Ok.ensures.changes ∙ ap (λ (h : HeldState). changes_by h.plan.routes a.proposal.now.mv.now) c.self.view_is) in
-    record {
-      sound = subst (λ (h : HeldState). IsPlan h.plan.customers h.plan.routes) c.self.view_is c.new_routes.ensures.sound;
-      possible = subst (λ (n : ℕ). effect n held.plan.routes a.proposal.now.mv.now ≡ Some (changes_by held.plan.routes a.proposal.now.mv.now)) (sym c.requires.ready.customers) c.requires.passes.0.1 ∙ ap Some same;
-      by = c.requires.touched;
     }
 
 pub returns-in-Err-Bound-clause-stop : goal.returns-in-Err-Bound-clause-stop
@@ -86,29 +86,47 @@ returns-in-Err-Bound-clause-stop g c =
     let passes = subst (λ (h : HeldState). PassesCustomers (setting a.setup.now) (held_basis h a.proposal.now.session) a.proposal.now.base a.proposal.now.mv.now) (sym c.self.view_is) c.requires.passes in
     let v = c.in-Err-Bound.vehicle in
     let d = c.in-Err-Bound.dimension in
-    let changes = ap (λ xs. changes_of xs) c.deref-2.ensures.value ∙ c.in-Ok.ensures.changes in
-    let judged = ap (λ xs. changes_of xs) c.deref-4.ensures.value ∙ c.in-Ok.ensures.changes in
+    let changes = ap (λ (ds : List DraftState). drafts_of held.plan.routes ds) c.as_slice.ensures ∙ c.in-Ok.ensures.changes in
+    let judged = ap (λ (ds : List DraftState). drafts_of held.plan.routes ds) c.as_slice-2.ensures ∙ c.in-Ok.ensures.changes in
     let out = rw c.in-Err-Bound.field-0-is at c.in-Err-Bound.ensures.fault in
-    subst (λ (h : HeldState). IsStop (setting a.setup.now) (held_basis h a.proposal.now.session) a.proposal.now.base a.proposal.now.mv.now (Denied (Bound v d))) c.self.view_is (out_of_bounds (setting a.setup.now) held a.proposal.now.session a.proposal.now.base a.proposal.now.mv.now ready passes c.in-Ok.ensures.named c.deref.result.now c.in-Ok.ensures.placeable
+    let stop = subst (λ (h : HeldState). IsStop (setting a.setup.now) (held_basis h a.proposal.now.session) a.proposal.now.base a.proposal.now.mv.now (Denied (Bound v d))) c.self.view_is (out_of_bounds (setting a.setup.now) held a.proposal.now.session a.proposal.now.base a.proposal.now.mv.now ready passes c.in-Ok.ensures.named c.deref.result.now c.in-Ok.ensures.placeable
     (subst (λ (cs : Changes). AreFreezesKept held.pins held.plan.routes (with_routes cs held.plan.routes)) changes c.in-Ok-judge_pins.ensures.fronts)
     (subst (λ (cs : Changes). DoPinsAllow held.pins (may_override (held_basis held a.proposal.now.session)) (with_routes cs held.plan.routes)) changes c.in-Ok-judge_pins.ensures.pins)
-    v d (subst (λ (cs : Changes). IsOut (setting a.setup.now) cs v d) judged out))
+    v d (subst (λ (cs : Changes). IsOut (setting a.setup.now) cs v d) judged out)) in
+    both_are (λ x y. IsStop (setting a.setup.now) (held_basis a.self.now a.proposal.now.session) a.proposal.now.base a.proposal.now.mv.now (Denied (Bound x y))) _ _ _ _ c.in-Err-Bound.vehicle-is c.in-Err-Bound.dimension-is stop
 
-pub returns-in-Ok-judge_in-clause-work : goal.returns-in-Ok-judge_in-clause-work
-returns-in-Ok-judge_in-clause-work g c =
+pub returns-in-Ok-written-clause-work : goal.returns-in-Ok-written-clause-work
+returns-in-Ok-written-clause-work g c =
     let a = c.args in
     let held : HeldState = record { policy = c.self.inside.policy; tables = c.self.inside.tables; plan = c.self.inside.plan; pins = c.self.inside.pins; cache = c.self.inside.cache } in
     let listed = c.requires.touched ∙ ap (λ (h : HeldState). touched_by h.plan.routes a.proposal.now.mv.now) (sym c.self.view_is) in
     let s = setting a.setup.now in
-    let changes = ap (λ xs. changes_of xs) c.deref-2.ensures.value ∙ c.in-Ok.ensures.changes in
-    let judged = ap (λ xs. changes_of xs) c.deref-4.ensures.value ∙ c.in-Ok.ensures.changes in
+    let changes = ap (λ (ds : List DraftState). drafts_of held.plan.routes ds) c.as_slice.ensures ∙ c.in-Ok.ensures.changes in
+    let judged = ap (λ (ds : List DraftState). drafts_of held.plan.routes ds) c.as_slice-2.ensures ∙ c.in-Ok.ensures.changes in
     let pins = subst (λ (cs : Changes). Works a.meter.now c.judge_pins.new.meter 0 0 (probes_least 0 0 (leaving held.pins (with_routes cs held.plan.routes) a.touched.items) c.judge_pins.result)
     (leaving held.pins (with_routes cs held.plan.routes) a.touched.items)) changes
-    (subst (λ (ts : List Touch). Works a.meter.now c.judge_pins.new.meter 0 0 (probes_least 0 0 (leaving held.pins (with_routes (changes_of c.deref-2.result.now) held.plan.routes) ts) c.judge_pins.result)
-    (leaving held.pins (with_routes (changes_of c.deref-2.result.now) held.plan.routes) ts)) c.deref-3.ensures.value c.judge_pins.ensures.work) in
+    (subst (λ (ts : List Touch). Works a.meter.now c.judge_pins.new.meter 0 0 (probes_least 0 0 (leaving held.pins (with_drafts c.as_slice.result.now held.plan.routes) ts) c.judge_pins.result)
+    (leaving held.pins (with_drafts c.as_slice.result.now held.plan.routes) ts)) c.deref-2.ensures.value c.judge_pins.ensures.work) in
     let touched = subst (λ (ts : List Touch). Works a.meter.now c.judge_pins.new.meter 0 0 (probes_least 0 0 (leaving held.pins (routes_after held.plan.routes a.proposal.now.mv.now) ts) c.judge_pins.result)
     (leaving held.pins (routes_after held.plan.routes a.proposal.now.mv.now) ts)) listed pins in
     let bounds = subst (λ (cs : Changes). AsksJust c.judge_pins.new.meter c.judge_in.new.meter (judge_asks (length s.dimensions) held.plan.routes cs)) judged c.in-Ok-judge_in.ensures.whole in
+    rw (sym c.self.view_is) (both_within _ _ _ _ _ _ _ _ _ _ _ _ _ _ _ (pinned_whole _ _ _ _ c.in-Ok-judge_pins.is touched) (asks_alone _ _ _ _ bounds) (omega arith) (omega arith) (omega arith) (omega arith))
+
+pub returns-in_default-written-clause-work : goal.returns-in_default-written-clause-work
+returns-in_default-written-clause-work g c =
+    let a = c.args in
+    let held : HeldState = record { policy = c.self.inside.policy; tables = c.self.inside.tables; plan = c.self.inside.plan; pins = c.self.inside.pins; cache = c.self.inside.cache } in
+    let listed = c.requires.touched ∙ ap (λ (h : HeldState). touched_by h.plan.routes a.proposal.now.mv.now) (sym c.self.view_is) in
+    let s = setting a.setup.now in
+    let changes = ap (λ (ds : List DraftState). drafts_of held.plan.routes ds) c.as_slice.ensures ∙ c.in-Ok.ensures.changes in
+    let judged = ap (λ (ds : List DraftState). drafts_of held.plan.routes ds) c.as_slice-2.ensures ∙ c.in-Ok.ensures.changes in
+    let pins = subst (λ (cs : Changes). Works a.meter.now c.judge_pins.new.meter 0 0 (probes_least 0 0 (leaving held.pins (with_routes cs held.plan.routes) a.touched.items) c.judge_pins.result)
+    (leaving held.pins (with_routes cs held.plan.routes) a.touched.items)) changes
+    (subst (λ (ts : List Touch). Works a.meter.now c.judge_pins.new.meter 0 0 (probes_least 0 0 (leaving held.pins (with_drafts c.as_slice.result.now held.plan.routes) ts) c.judge_pins.result)
+    (leaving held.pins (with_drafts c.as_slice.result.now held.plan.routes) ts)) c.deref-2.ensures.value c.judge_pins.ensures.work) in
+    let touched = subst (λ (ts : List Touch). Works a.meter.now c.judge_pins.new.meter 0 0 (probes_least 0 0 (leaving held.pins (routes_after held.plan.routes a.proposal.now.mv.now) ts) c.judge_pins.result)
+    (leaving held.pins (routes_after held.plan.routes a.proposal.now.mv.now) ts)) listed pins in
+    let bounds = subst (λ (cs : Changes). AsksAtMost c.judge_pins.new.meter c.judge_in.new.meter (judge_asks (length s.dimensions) held.plan.routes cs)) judged c.judge_in.ensures.asks in
     rw (sym c.self.view_is) (both_within _ _ _ _ _ _ _ _ _ _ _ _ _ _ _ (pinned_whole _ _ _ _ c.in-Ok-judge_pins.is touched) (asks_alone _ _ _ _ bounds) (omega arith) (omega arith) (omega arith) (omega arith))
 
 pub returns-in-Err-Bound-clause-work : goal.returns-in-Err-Bound-clause-work
@@ -117,42 +135,51 @@ returns-in-Err-Bound-clause-work g c =
     let held : HeldState = record { policy = c.self.inside.policy; tables = c.self.inside.tables; plan = c.self.inside.plan; pins = c.self.inside.pins; cache = c.self.inside.cache } in
     let listed = c.requires.touched ∙ ap (λ (h : HeldState). touched_by h.plan.routes a.proposal.now.mv.now) (sym c.self.view_is) in
     let s = setting a.setup.now in
-    let changes = ap (λ xs. changes_of xs) c.deref-2.ensures.value ∙ c.in-Ok.ensures.changes in
-    let judged = ap (λ xs. changes_of xs) c.deref-4.ensures.value ∙ c.in-Ok.ensures.changes in
+    let changes = ap (λ (ds : List DraftState). drafts_of held.plan.routes ds) c.as_slice.ensures ∙ c.in-Ok.ensures.changes in
+    let judged = ap (λ (ds : List DraftState). drafts_of held.plan.routes ds) c.as_slice-2.ensures ∙ c.in-Ok.ensures.changes in
     let pins = subst (λ (cs : Changes). Works a.meter.now c.judge_pins.new.meter 0 0 (probes_least 0 0 (leaving held.pins (with_routes cs held.plan.routes) a.touched.items) c.judge_pins.result)
     (leaving held.pins (with_routes cs held.plan.routes) a.touched.items)) changes
-    (subst (λ (ts : List Touch). Works a.meter.now c.judge_pins.new.meter 0 0 (probes_least 0 0 (leaving held.pins (with_routes (changes_of c.deref-2.result.now) held.plan.routes) ts) c.judge_pins.result)
-    (leaving held.pins (with_routes (changes_of c.deref-2.result.now) held.plan.routes) ts)) c.deref-3.ensures.value c.judge_pins.ensures.work) in
+    (subst (λ (ts : List Touch). Works a.meter.now c.judge_pins.new.meter 0 0 (probes_least 0 0 (leaving held.pins (with_drafts c.as_slice.result.now held.plan.routes) ts) c.judge_pins.result)
+    (leaving held.pins (with_drafts c.as_slice.result.now held.plan.routes) ts)) c.deref-2.ensures.value c.judge_pins.ensures.work) in
     let touched = subst (λ (ts : List Touch). Works a.meter.now c.judge_pins.new.meter 0 0 (probes_least 0 0 (leaving held.pins (routes_after held.plan.routes a.proposal.now.mv.now) ts) c.judge_pins.result)
     (leaving held.pins (routes_after held.plan.routes a.proposal.now.mv.now) ts)) listed pins in
     let v = c.in-Err-Bound.vehicle in
     let d = c.in-Err-Bound.dimension in
     let least = rw c.in-Err-Bound.field-0-is at c.in-Err-Bound.ensures.least in
-    let bounds = subst (λ (cs : Changes). Asks c.judge_pins.new.meter c.judge_in.new.meter (asks_before (length s.dimensions) held.plan.routes cs v d) (judge_asks (length s.dimensions) held.plan.routes cs)) judged least in
+    let named = subst (λ (cs : Changes). Asks c.judge_pins.new.meter c.judge_in.new.meter (asks_before (length s.dimensions) held.plan.routes cs v d) (judge_asks (length s.dimensions) held.plan.routes cs)) judged least in
+    let all = changes_by held.plan.routes a.proposal.now.mv.now in
+    let bounds = both_are (λ x y. Asks c.judge_pins.new.meter c.judge_in.new.meter (asks_before (length s.dimensions) held.plan.routes all x y) (judge_asks (length s.dimensions) held.plan.routes all)) _ _ _ _ c.in-Err-Bound.vehicle-is c.in-Err-Bound.dimension-is named in
     rw (sym c.self.view_is) (both_within _ _ _ _ _ _ _ _ _ _ _ _ _ _ _ (pinned_whole _ _ _ _ c.in-Ok-judge_pins.is touched) (asks_alone _ _ _ _ bounds) (omega arith) (omega arith) (omega arith) (omega arith))
 
 pub judge_in-requires-clause-known : goal.judge_in-requires-clause-known
 judge_in-requires-clause-known g c =
     let s = setting c.args.setup.now in
+    let held : HeldState = record { policy = c.self.inside.policy; tables = c.self.inside.tables; plan = c.self.inside.plan; pins = c.self.inside.pins; cache = c.self.inside.cache } in
     let ready = subst (λ (h : HeldState). IsReady s h) (sym c.self.view_is) c.requires.ready in
-    let judged = ap (λ xs. changes_of xs) c.deref-4.ensures.value ∙ c.in-Ok.ensures.changes in
+    let judged = ap (λ (ds : List DraftState). drafts_of held.plan.routes ds) c.as_slice-2.ensures ∙ c.in-Ok.ensures.changes in
     subst (λ (cs : Changes). AllKnown s cs) (sym judged) (c.in-Ok.ensures.known s ready.sized ready.customers)
+
+pub judge_in-requires-clause-short : goal.judge_in-requires-clause-short
+judge_in-requires-clause-short g c =
+    let routes = c.self.inside.plan.routes in
+    let judged = ap (λ (ds : List DraftState). drafts_of routes ds) c.as_slice-2.ensures ∙ c.in-Ok.ensures.changes in
+    all_under (λ d. (d.vehicle, drafted routes d)) (λ d. length d.1 ≤ 1000) c.as_slice-2.result.now (changes_by routes c.args.proposal.now.mv.now) judged c.in-Ok.ensures.short
 
 pub returns-in-Err-clause-work : goal.returns-in-Err-clause-work
 returns-in-Err-clause-work g c =
     let a = c.args in
     let held : HeldState = record { policy = c.self.inside.policy; tables = c.self.inside.tables; plan = c.self.inside.plan; pins = c.self.inside.pins; cache = c.self.inside.cache } in
     let listed = c.requires.touched ∙ ap (λ (h : HeldState). touched_by h.plan.routes a.proposal.now.mv.now) (sym c.self.view_is) in
-    let changes = ap (λ xs. changes_of xs) c.deref-2.ensures.value ∙ c.in-Ok.ensures.changes in
+    let changes = ap (λ (ds : List DraftState). drafts_of held.plan.routes ds) c.as_slice.ensures ∙ c.in-Ok.ensures.changes in
     let pins = subst (λ (cs : Changes). Works a.meter.now c.judge_pins.new.meter 0 0 (probes_least 0 0 (leaving held.pins (with_routes cs held.plan.routes) a.touched.items) c.judge_pins.result)
     (leaving held.pins (with_routes cs held.plan.routes) a.touched.items)) changes
-    (subst (λ (ts : List Touch). Works a.meter.now c.judge_pins.new.meter 0 0 (probes_least 0 0 (leaving held.pins (with_routes (changes_of c.deref-2.result.now) held.plan.routes) ts) c.judge_pins.result)
-    (leaving held.pins (with_routes (changes_of c.deref-2.result.now) held.plan.routes) ts)) c.deref-3.ensures.value c.judge_pins.ensures.work) in
+    (subst (λ (ts : List Touch). Works a.meter.now c.judge_pins.new.meter 0 0 (probes_least 0 0 (leaving held.pins (with_drafts c.as_slice.result.now held.plan.routes) ts) c.judge_pins.result)
+    (leaving held.pins (with_drafts c.as_slice.result.now held.plan.routes) ts)) c.deref-2.ensures.value c.judge_pins.ensures.work) in
     let touched = subst (λ (ts : List Touch). Works a.meter.now c.judge_pins.new.meter 0 0 (probes_least 0 0 (leaving held.pins (routes_after held.plan.routes a.proposal.now.mv.now) ts) c.judge_pins.result)
     (leaving held.pins (routes_after held.plan.routes a.proposal.now.mv.now) ts)) listed pins in
     let stopped = subst (λ (n : ℕ). Works a.meter.now c.judge_pins.new.meter 0 0 n (leaving held.pins (routes_after held.plan.routes a.proposal.now.mv.now) (touched_by held.plan.routes a.proposal.now.mv.now)))
     (ap (λ r. probes_least 0 0 (leaving held.pins (routes_after held.plan.routes a.proposal.now.mv.now) (touched_by held.plan.routes a.proposal.now.mv.now)) r) c.in-Err.is) touched in
-    rw (sym c.self.view_is) (pinned_stop _ _ _ _ _ _ _ held.pins (may_override (held_basis held a.proposal.now.session)) held.plan.routes (changes_of c.deref-2.result.now) c.deref-3.result.now c.in-Err.stop c.in-Err.ensures.stop stopped)
+    rw (sym c.self.view_is) (pinned_stop _ _ _ _ _ _ _ held.pins (may_override (held_basis held a.proposal.now.session)) held.plan.routes (drafts_of held.plan.routes c.as_slice.result.now) c.deref-2.result.now c.in-Err.stop c.in-Err.ensures.stop stopped)
 
 pub returns-in-Err-NoMemory-clause-work : goal.returns-in-Err-NoMemory-clause-work
 returns-in-Err-NoMemory-clause-work g c =
@@ -160,12 +187,12 @@ returns-in-Err-NoMemory-clause-work g c =
     let held : HeldState = record { policy = c.self.inside.policy; tables = c.self.inside.tables; plan = c.self.inside.plan; pins = c.self.inside.pins; cache = c.self.inside.cache } in
     let listed = c.requires.touched ∙ ap (λ (h : HeldState). touched_by h.plan.routes a.proposal.now.mv.now) (sym c.self.view_is) in
     let s = setting a.setup.now in
-    let changes = ap (λ xs. changes_of xs) c.deref-2.ensures.value ∙ c.in-Ok.ensures.changes in
-    let judged = ap (λ xs. changes_of xs) c.deref-4.ensures.value ∙ c.in-Ok.ensures.changes in
+    let changes = ap (λ (ds : List DraftState). drafts_of held.plan.routes ds) c.as_slice.ensures ∙ c.in-Ok.ensures.changes in
+    let judged = ap (λ (ds : List DraftState). drafts_of held.plan.routes ds) c.as_slice-2.ensures ∙ c.in-Ok.ensures.changes in
     let pins = subst (λ (cs : Changes). Works a.meter.now c.judge_pins.new.meter 0 0 (probes_least 0 0 (leaving held.pins (with_routes cs held.plan.routes) a.touched.items) c.judge_pins.result)
     (leaving held.pins (with_routes cs held.plan.routes) a.touched.items)) changes
-    (subst (λ (ts : List Touch). Works a.meter.now c.judge_pins.new.meter 0 0 (probes_least 0 0 (leaving held.pins (with_routes (changes_of c.deref-2.result.now) held.plan.routes) ts) c.judge_pins.result)
-    (leaving held.pins (with_routes (changes_of c.deref-2.result.now) held.plan.routes) ts)) c.deref-3.ensures.value c.judge_pins.ensures.work) in
+    (subst (λ (ts : List Touch). Works a.meter.now c.judge_pins.new.meter 0 0 (probes_least 0 0 (leaving held.pins (with_drafts c.as_slice.result.now held.plan.routes) ts) c.judge_pins.result)
+    (leaving held.pins (with_drafts c.as_slice.result.now held.plan.routes) ts)) c.deref-2.ensures.value c.judge_pins.ensures.work) in
     let touched = subst (λ (ts : List Touch). Works a.meter.now c.judge_pins.new.meter 0 0 (probes_least 0 0 (leaving held.pins (routes_after held.plan.routes a.proposal.now.mv.now) ts) c.judge_pins.result)
     (leaving held.pins (routes_after held.plan.routes a.proposal.now.mv.now) ts)) listed pins in
     let bounds = subst (λ (cs : Changes). AsksAtMost c.judge_pins.new.meter c.judge_in.new.meter (judge_asks (length s.dimensions) held.plan.routes cs)) judged c.judge_in.ensures.asks in

@@ -1,7 +1,7 @@
 use Rattle.range_cache.proofs.cache.Cache.judge.Goals as goal
 
 pub judge_in-requires : goal.judge_in-requires
-judge_in-requires g c = record { cache = c.requires.cache; known = c.requires.known; short = c.requires.short }
+judge_in-requires g c = record { cache = c.requires.cache; known = c.requires.known; short = c.requires.short; fronts = c.requires.fronts }
 
 pub returns : goal.returns
 returns g c =

@@ -1,15 +1,15 @@
 use Rattle.std.proofs.Common.{◌≤◌, drop, take, length}
 use Rattle.dimension_core.specs.Setup.{setting}
-use Rattle.plan_core.specs.Plan.{changes_of}
-use Rattle.range_cache.proofs.Judged.{IsRest, AreAsked}
-use Rattle.range_cache.proofs.Misses.{AreAskedTo}
+use Rattle.plan_core.specs.Drafts.{drafts_of}
+use Rattle.range_cache.specs.Parts.{AreFreshOf}
+use Rattle.range_cache.proofs.Judged.{RowsGoOn}
 use Rattle.range_cache.proofs.cache.Cache.judge_in.Given as goal
 
--- what holds of the rest holds of all, and for those before it all was asked
+-- the rows so far are those of the new routes so far
 abbrev pub invariant-loop-k : goal.invariant-loop-k
 invariant-loop-k g l = record {
-  sized : length l.changes ≤ length l.room.rows.items;
-  rest : IsRest (setting l.setup) (changes_of l.changes) (changes_of (drop l.k l.changes)) (take l.k l.room.rows.items);
-  asks : AreAsked (length (setting l.setup).dimensions) l.plan.routes (changes_of l.changes) (changes_of (drop l.k l.changes)) l.fn.meter l.meter;
-  asked_to : AreAskedTo (setting l.setup) l.plan.routes (changes_of l.changes) (changes_of (drop l.k l.changes)) l.fn.meter l.meter;
+  sized : length l.drafts ≤ length l.room.rows.items;
+  held : length l.drafts ≤ length l.room.fresh.items;
+  fresh : AreFreshOf (setting l.setup) l.plan.routes l.drafts l.room.fresh.items (length l.drafts);
+  rows : RowsGoOn (setting l.setup) (drafts_of l.plan.routes l.drafts) (drafts_of l.plan.routes (drop l.k l.drafts)) (take l.k l.room.rows.items);
 }
