@@ -7,7 +7,7 @@ use Rattle.std.proofs.lemmas.Option.{slice_get_within, get_or_from_slice_get, sl
 use Rattle.std.specs.Option.{option_map}
 use Rattle.plan_core.specs.Plan.{Changes, IsNamed, AreApart, route_at, with_routes}
 use Rattle.plan_core.specs.Commits.{named_vehicles}
-use Rattle.plan_core.specs.Drafts.{DraftState, drafted, drafts_of}
+use Rattle.plan_core.specs.Drafts.{DraftState, drafted, routes_by}
 use Rattle.pin_core.specs.Pins.{StandsOn}
 
 -- the laws of new routes, as plans state them
@@ -115,28 +115,28 @@ before_more {X} P xs i x e p before j y h f = split (cases_eq j i)
 pub before_all : {X : Type 0} (P : X → Type 0) (xs : List X) (i : ℕ) → length xs ≤ i → AllBefore P xs i → (j : ℕ) (y : X) → slice_get xs j ≡ Some y → P y
 before_all P xs i h before j y e = let inside : j < length xs = slice_get_within xs j y e in before j y (omega arith) e
 
--- a vehicle that no draft is for is not named
-pub not_drafted : (routes : List (List ℕ)) (drafts : List DraftState) (v : ℕ) → ((k : ℕ) (d : DraftState) → slice_get drafts k ≡ Some d → d.vehicle ≡ v → ⊥)
-    → ¬ IsNamed (drafts_of routes drafts) v
-not_drafted routes [] v each h = h
-not_drafted routes (d ∷ ds) v each (inl e) = each zero d refl (sym e)
-not_drafted routes (d ∷ ds) v each (inr h) = not_drafted routes ds v (λ k x. each (suc k) x) h
+-- a vehicle that no new route is for is not named
+pub not_drafted : {R : Type 0} (f : R → DraftState) (routes : List (List ℕ)) (new : List R) (v : ℕ) → ((k : ℕ) (r : R) → slice_get new k ≡ Some r → (f r).vehicle ≡ v → ⊥)
+    → ¬ IsNamed (routes_by f routes new) v
+not_drafted f routes [] v each h = h
+not_drafted f routes (r ∷ rs) v each (inl e) = each zero r refl (sym e)
+not_drafted f routes (r ∷ rs) v each (inr h) = not_drafted f routes rs v (λ k x. each (suc k) x) h
 
--- the draft that is read at a place, seen as a new route
-pub draft_read : (routes : List (List ℕ)) (drafts : List DraftState) (i : ℕ) (d : DraftState) → i < length drafts → d ≡ get_or drafts i d
-    → slice_get (drafts_of routes drafts) i ≡ Some (d.vehicle, drafted routes d)
-draft_read routes drafts i d h e =
-    slice_get-map (λ (x : DraftState). (x.vehicle, drafted routes x)) drafts i
-    ∙ ap (λ (o : Option DraftState). option_map (λ (x : DraftState). (x.vehicle, drafted routes x)) o) (slice_get_read drafts (length drafts) i d refl h e)
+-- the new route that is read at a place
+pub draft_read : {R : Type 0} (f : R → DraftState) (routes : List (List ℕ)) (new : List R) (i : ℕ) (r : R) → i < length new → r ≡ get_or new i r
+    → slice_get (routes_by f routes new) i ≡ Some ((f r).vehicle, drafted routes (f r))
+draft_read {R} f routes new i r h e =
+    slice_get-map (λ (x : R). ((f x).vehicle, drafted routes (f x))) new i
+    ∙ ap (λ (o : Option R). option_map (λ (x : R). ((f x).vehicle, drafted routes (f x))) o) (slice_get_read new (length new) i r refl h e)
 
 -- and its vehicle
-pub named_read : (routes : List (List ℕ)) (drafts : List DraftState) (i : ℕ) (d : DraftState) → i < length drafts → d ≡ get_or drafts i d
-    → slice_get (named_vehicles (drafts_of routes drafts)) i ≡ Some d.vehicle
-named_read routes drafts i d h e =
-    slice_get-map (λ (c : ℕ × List ℕ). c.0) (drafts_of routes drafts) i
-    ∙ ap (λ (o : Option (ℕ × List ℕ)). option_map (λ (c : ℕ × List ℕ). c.0) o) (draft_read routes drafts i d h e)
+pub named_read : {R : Type 0} (f : R → DraftState) (routes : List (List ℕ)) (new : List R) (i : ℕ) (r : R) → i < length new → r ≡ get_or new i r
+    → slice_get (named_vehicles (routes_by f routes new)) i ≡ Some (f r).vehicle
+named_read {R} f routes new i r h e =
+    slice_get-map (λ (c : ℕ × List ℕ). c.0) (routes_by f routes new) i
+    ∙ ap (λ (o : Option (ℕ × List ℕ)). option_map (λ (c : ℕ × List ℕ). c.0) o) (draft_read f routes new i r h e)
 
-pub length-named : (routes : List (List ℕ)) (drafts : List DraftState) → length (named_vehicles (drafts_of routes drafts)) ≡ length drafts
-length-named routes drafts =
-    length-map (drafts_of routes drafts) (λ (c : ℕ × List ℕ). c.0)
-    ∙ length-map drafts (λ (d : DraftState). let new : ℕ × List ℕ = (d.vehicle, drafted routes d) in new)
+pub length-named : {R : Type 0} (f : R → DraftState) (routes : List (List ℕ)) (new : List R) → length (named_vehicles (routes_by f routes new)) ≡ length new
+length-named {R} f routes new =
+    length-map (routes_by f routes new) (λ (c : ℕ × List ℕ). c.0)
+    ∙ length-map new (λ (x : R). let one : ℕ × List ℕ = ((f x).vehicle, drafted routes (f x)) in one)

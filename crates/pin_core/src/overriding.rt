@@ -1,7 +1,7 @@
 //! Commits for which some pins are overridden.
 ghost use Rattle.std.specs.Prelude.{◌≡◌, ◌⊎◌, ℕ, ◌≤◌, length, MatchOption, MatchResult, All};
 ghost use Rattle.plan_core.specs.Plan.{AreApart, AreChanges};
-ghost use Rattle.plan_core.specs.Drafts.{AreFrontsWithin, drafts_of, with_drafts};
+ghost use Rattle.plan_core.specs.Drafts.{DoFrontsStay, routes_by, with_new};
 ghost use Rattle.plan_core.specs.Commits.{named_vehicles};
 ghost use Rattle.pin_core.specs.Pins.{IsHeld, DoPinsHold, AreFreezesKept, DoFrontsFit, pin_of, with_pin};
 ghost use Rattle.pin_core.specs.Allowed.{IsTouched, AreAllTouched};
@@ -9,16 +9,16 @@ ghost use Rattle.pin_core.specs.Override.{DoPinsPass, IsFirstForbidden, IsFaultW
 
 use crate::fault::PinFault;
 use crate::pins::{Pins, stands};
-use plan_core::{Draft, Plan, Touch};
+use plan_core::{NewRoute, Plan, Touch};
 
 impl Pins {
     /// Whether the freezes are kept from the plan to the one with these new routes, and no pin of a touched customer forbids them: such a
     /// customer stands on its vehicle then, or `free` has `true` for it. `free` has one value for each touch, in their order. The caller
     /// must ensure what the caller of `allows` does, and the order of faults is the same.
-    pub fn allows_with(
+    pub fn allows_with<R: NewRoute>(
         &self,
         plan: &Plan,
-        drafts: &[Draft],
+        new_routes: &[R],
         touched: &[Touch],
         free: &[bool],
     ) -> Result<(), PinFault>
@@ -26,48 +26,48 @@ impl Pins {
         requires vehicles { length self.now.fronts ≡ length plan.now.routes }
         requires holding { DoPinsHold self.now plan.now.routes }
         requires fitting { DoFrontsFit self.now plan.now.routes }
-        requires fronts { AreFrontsWithin plan.now.routes drafts.now }
-        requires changes { AreChanges (length plan.now.routes) (drafts_of plan.now.routes drafts.now) }
+        requires fronts { DoFrontsStay R.draft plan.now.routes new_routes.now }
+        requires changes { AreChanges (length plan.now.routes) (routes_by R.draft plan.now.routes new_routes.now) }
         requires known { All (λ t. (1 ≤ t.customer) × (t.customer ≤ plan.now.customers)) touched.now }
-        requires touched { AreAllTouched plan.now.routes (with_drafts drafts.now plan.now.routes) touched.now }
+        requires touched { AreAllTouched plan.now.routes (with_new R.draft new_routes.now plan.now.routes) touched.now }
         requires free { length free.now ≡ length touched.now }
         ensures { MatchResult result
-            (λ _. AreFreezesKept self.now plan.now.routes (with_drafts drafts.now plan.now.routes)
-            × DoPinsPass self.now (with_drafts drafts.now plan.now.routes) touched.now free.now)
-            (IsFaultWith self.now plan.now.routes (with_drafts drafts.now plan.now.routes)
-            (named_vehicles (drafts_of plan.now.routes drafts.now)) touched.now free.now) }
+            (λ _. AreFreezesKept self.now plan.now.routes (with_new R.draft new_routes.now plan.now.routes)
+            × DoPinsPass self.now (with_new R.draft new_routes.now plan.now.routes) touched.now free.now)
+            (IsFaultWith self.now plan.now.routes (with_new R.draft new_routes.now plan.now.routes)
+            (named_vehicles (routes_by R.draft plan.now.routes new_routes.now)) touched.now free.now) }
     {
-        if let Some(vehicle) = self.first_thawed(plan, drafts) {
+        if let Some(vehicle) = self.first_thawed(plan, new_routes) {
             return Err(PinFault::Frozen(vehicle));
         }
-        match self.first_forbidden(plan, drafts, touched, free) {
+        match self.first_forbidden(plan, new_routes, touched, free) {
             Some(touch) => Err(PinFault::Pinned(touch.vehicle, touch.place)),
             None => Ok(()),
         }
     }
 
     /// The first touch whose customer is pinned to a vehicle on which it would not stand, and is not free to leave it.
-    fn first_forbidden(
+    fn first_forbidden<R: NewRoute>(
         &self,
         plan: &Plan,
-        drafts: &[Draft],
+        new_routes: &[R],
         touched: &[Touch],
         free: &[bool],
     ) -> Option<Touch>
         requires holding { DoPinsHold self.now plan.now.routes }
-        requires fronts { AreFrontsWithin plan.now.routes drafts.now }
-        requires apart { AreApart (length plan.now.routes) (drafts_of plan.now.routes drafts.now) }
+        requires fronts { DoFrontsStay R.draft plan.now.routes new_routes.now }
+        requires apart { AreApart (length plan.now.routes) (routes_by R.draft plan.now.routes new_routes.now) }
         requires known { All (λ t. (1 ≤ t.customer) × (t.customer ≤ length self.now.pins)) touched.now }
         requires free { length free.now ≡ length touched.now }
-        ensures { MatchOption result (DoPinsPass self.now (with_drafts drafts.now plan.now.routes) touched.now free.now)
-            (IsFirstForbidden self.now (with_drafts drafts.now plan.now.routes) touched.now free.now) }
+        ensures { MatchOption result (DoPinsPass self.now (with_new R.draft new_routes.now plan.now.routes) touched.now free.now)
+            (IsFirstForbidden self.now (with_new R.draft new_routes.now plan.now.routes) touched.now free.now) }
     {
         let mut near = 0;
         for (k, touch) in touched.iter().enumerate() {
             if free[k] {
                 continue;
             }
-            if self.leaves_near(plan, drafts, touch.customer, &mut near) {
+            if self.leaves_near(plan, new_routes, touch.customer, &mut near) {
                 return Some(*touch);
             }
         }

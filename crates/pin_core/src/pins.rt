@@ -1,12 +1,12 @@
 ghost use Rattle.std.specs.Prelude.{◌≡◌, ℕ, ◌≤◌, ◌<◌, ◌↔◌, List, [], length, take, replicate, Some, None, IsTrue, IfOk, IfSome, MatchBool, MatchOption, MatchResult, slice_get, All, Contains};
 ghost use Rattle.plan_core.specs.Plan.{AreApart, AreChanges, IsNamed, route_at};
-ghost use Rattle.plan_core.specs.Drafts.{AreFrontsWithin, drafted, drafts_of, with_drafts};
+ghost use Rattle.plan_core.specs.Drafts.{DoFrontsStay, drafted, routes_by, with_new};
 ghost use Rattle.plan_core.specs.Commits.{named_vehicles};
 ghost use Rattle.pin_core.specs.Pins.{StandsOn, IsHeld, DoPinsHold, AreFreezesKept, DoFrontsFit, pin_of, front_of, with_pin, with_front};
 ghost use Rattle.pin_core.specs.Allowed.{AreAllTouched, IsFirstThawed, IsFirstLoose, IsPinFault};
 
 use crate::fault::PinFault;
-use plan_core::{Draft, Plan, Touch, routes_replaced};
+use plan_core::{NewRoute, Plan, Touch, routes_replaced};
 use std::alloc::{AllocError, Global};
 use std::marker::Model;
 
@@ -113,25 +113,30 @@ impl Pins {
     /// more customers than the vehicle's route has; that each touched customer is one of the plan's; and that each customer that stands on a
     /// vehicle stays on it in the new routes or is touched.
     #[inline(always)]
-    pub fn allows(&self, plan: &Plan, drafts: &[Draft], touched: &[Touch]) -> Result<(), PinFault>
+    pub fn allows<R: NewRoute>(
+        &self,
+        plan: &Plan,
+        new_routes: &[R],
+        touched: &[Touch],
+    ) -> Result<(), PinFault>
         requires customers { length self.now.pins ≡ plan.now.customers }
         requires vehicles { length self.now.fronts ≡ length plan.now.routes }
         requires holding { DoPinsHold self.now plan.now.routes }
         requires fitting { DoFrontsFit self.now plan.now.routes }
-        requires fronts { AreFrontsWithin plan.now.routes drafts.now }
-        requires changes { AreChanges (length plan.now.routes) (drafts_of plan.now.routes drafts.now) }
+        requires fronts { DoFrontsStay R.draft plan.now.routes new_routes.now }
+        requires changes { AreChanges (length plan.now.routes) (routes_by R.draft plan.now.routes new_routes.now) }
         requires known { All (λ t. (1 ≤ t.customer) × (t.customer ≤ plan.now.customers)) touched.now }
-        requires touched { AreAllTouched plan.now.routes (with_drafts drafts.now plan.now.routes) touched.now }
+        requires touched { AreAllTouched plan.now.routes (with_new R.draft new_routes.now plan.now.routes) touched.now }
         ensures { MatchResult result
-            (λ _. AreFreezesKept self.now plan.now.routes (with_drafts drafts.now plan.now.routes)
-            × DoPinsHold self.now (with_drafts drafts.now plan.now.routes))
-            (IsPinFault self.now plan.now.routes (with_drafts drafts.now plan.now.routes)
-            (named_vehicles (drafts_of plan.now.routes drafts.now)) touched.now) }
+            (λ _. AreFreezesKept self.now plan.now.routes (with_new R.draft new_routes.now plan.now.routes)
+            × DoPinsHold self.now (with_new R.draft new_routes.now plan.now.routes))
+            (IsPinFault self.now plan.now.routes (with_new R.draft new_routes.now plan.now.routes)
+            (named_vehicles (routes_by R.draft plan.now.routes new_routes.now)) touched.now) }
     {
-        if let Some(vehicle) = self.first_thawed(plan, drafts) {
+        if let Some(vehicle) = self.first_thawed(plan, new_routes) {
             return Err(PinFault::Frozen(vehicle));
         }
-        match self.first_loose(plan, drafts, touched) {
+        match self.first_loose(plan, new_routes, touched) {
             Some(touch) => Err(PinFault::Pinned(touch.vehicle, touch.place)),
             None => Ok(()),
         }
@@ -140,39 +145,39 @@ impl Pins {
     /// Whether the new route of a draft begins with the frozen front of its vehicle. The customers that it keeps stay where they are, so that
     /// only frozen customers after them are compared.
     #[inline(always)]
-    fn keeps_front(&self, plan: &Plan, draft: &Draft) -> bool
-        requires low { 1 ≤ draft.now.vehicle }
-        requires high { draft.now.vehicle ≤ length plan.now.routes }
+    fn keeps_front<R: NewRoute>(&self, plan: &Plan, new: &R) -> bool
+        requires low { 1 ≤ (R.draft new.now).vehicle }
+        requires high { (R.draft new.now).vehicle ≤ length plan.now.routes }
         requires vehicles { length self.now.fronts ≡ length plan.now.routes }
         requires fitting { DoFrontsFit self.now plan.now.routes }
-        requires front { draft.now.kept ≤ length (route_at plan.now.routes draft.now.vehicle) }
-        ensures { IsTrue result ↔ (take (front_of self.now draft.now.vehicle) (drafted plan.now.routes draft.now)
-            ≡ take (front_of self.now draft.now.vehicle) (route_at plan.now.routes draft.now.vehicle)) }
+        requires front { (R.draft new.now).kept ≤ length (route_at plan.now.routes (R.draft new.now).vehicle) }
+        ensures { IsTrue result ↔ (take (front_of self.now (R.draft new.now).vehicle) (drafted plan.now.routes (R.draft new.now))
+            ≡ take (front_of self.now (R.draft new.now).vehicle) (route_at plan.now.routes (R.draft new.now).vehicle)) }
     {
-        let frozen = self.frozen(draft.vehicle()) as usize;
-        let kept = draft.kept();
+        let frozen = self.frozen(new.named()) as usize;
+        let kept = new.stays();
         if frozen <= kept {
             return true;
         }
-        let old = plan.route(draft.vehicle()).customers();
-        begin_alike(frozen - kept, draft.rest(), &old[kept..])
+        let old = plan.route(new.named()).customers();
+        begin_alike(frozen - kept, new.follows(), &old[kept..])
     }
 
     /// The first named vehicle whose frozen front differs.
     #[inline(always)]
-    pub(crate) fn first_thawed(&self, plan: &Plan, drafts: &[Draft]) -> Option<u32>
+    pub(crate) fn first_thawed<R: NewRoute>(&self, plan: &Plan, new_routes: &[R]) -> Option<u32>
         requires vehicles { length self.now.fronts ≡ length plan.now.routes }
         requires fitting { DoFrontsFit self.now plan.now.routes }
-        requires fronts { AreFrontsWithin plan.now.routes drafts.now }
-        requires apart { AreApart (length plan.now.routes) (drafts_of plan.now.routes drafts.now) }
-        ensures { MatchOption result (AreFreezesKept self.now plan.now.routes (with_drafts drafts.now plan.now.routes))
-            (IsFirstThawed self.now plan.now.routes (with_drafts drafts.now plan.now.routes)
-            (named_vehicles (drafts_of plan.now.routes drafts.now))) }
+        requires fronts { DoFrontsStay R.draft plan.now.routes new_routes.now }
+        requires apart { AreApart (length plan.now.routes) (routes_by R.draft plan.now.routes new_routes.now) }
+        ensures { MatchOption result (AreFreezesKept self.now plan.now.routes (with_new R.draft new_routes.now plan.now.routes))
+            (IsFirstThawed self.now plan.now.routes (with_new R.draft new_routes.now plan.now.routes)
+            (named_vehicles (routes_by R.draft plan.now.routes new_routes.now))) }
     {
         routes_replaced();
-        for draft in drafts {
-            if !self.keeps_front(plan, draft) {
-                return Some(draft.vehicle());
+        for new in new_routes {
+            if !self.keeps_front(plan, new) {
+                return Some(new.named());
             }
         }
         None
@@ -181,55 +186,60 @@ impl Pins {
     /// Whether a customer is pinned to a vehicle on which it would not stand. The pins must hold in the plan, and the drafts be for different
     /// vehicles of it and keep no more customers than their routes have. It walks the new route of the customer's vehicle once, and nothing
     /// where that vehicle keeps its route: a pinned customer stands where it is pinned.
-    pub fn leaves(&self, plan: &Plan, drafts: &[Draft], customer: u32) -> bool
+    pub fn leaves<R: NewRoute>(&self, plan: &Plan, new_routes: &[R], customer: u32) -> bool
         requires low { 1 ≤ customer }
         requires high { customer ≤ length self.now.pins }
         requires holding { DoPinsHold self.now plan.now.routes }
-        requires fronts { AreFrontsWithin plan.now.routes drafts.now }
-        requires apart { AreApart (length plan.now.routes) (drafts_of plan.now.routes drafts.now) }
-        ensures { MatchBool result (¬ IsHeld self.now (with_drafts drafts.now plan.now.routes) customer)
-            (IsHeld self.now (with_drafts drafts.now plan.now.routes) customer) }
+        requires fronts { DoFrontsStay R.draft plan.now.routes new_routes.now }
+        requires apart { AreApart (length plan.now.routes) (routes_by R.draft plan.now.routes new_routes.now) }
+        ensures { MatchBool result (¬ IsHeld self.now (with_new R.draft new_routes.now plan.now.routes) customer)
+            (IsHeld self.now (with_new R.draft new_routes.now plan.now.routes) customer) }
     {
-        self.leaves_near(plan, drafts, customer, &mut 0)
+        self.leaves_near(plan, new_routes, customer, &mut 0)
     }
 
     /// The same, where the customer is searched in the rest of the draft first, from an index outwards. The index where it is found there is
     /// the start for the next customer: a move keeps or reverses the order of those that stay, so that all of them together cost one walk.
-    pub(crate) fn leaves_near(
+    pub(crate) fn leaves_near<R: NewRoute>(
         &self,
         plan: &Plan,
-        drafts: &[Draft],
+        new_routes: &[R],
         customer: u32,
         near: &mut usize,
     ) -> bool
         requires low { 1 ≤ customer }
         requires high { customer ≤ length self.now.pins }
         requires holding { DoPinsHold self.now plan.now.routes }
-        requires fronts { AreFrontsWithin plan.now.routes drafts.now }
-        requires apart { AreApart (length plan.now.routes) (drafts_of plan.now.routes drafts.now) }
-        ensures { MatchBool result (¬ IsHeld self.now (with_drafts drafts.now plan.now.routes) customer)
-            (IsHeld self.now (with_drafts drafts.now plan.now.routes) customer) }
+        requires fronts { DoFrontsStay R.draft plan.now.routes new_routes.now }
+        requires apart { AreApart (length plan.now.routes) (routes_by R.draft plan.now.routes new_routes.now) }
+        ensures { MatchBool result (¬ IsHeld self.now (with_new R.draft new_routes.now plan.now.routes) customer)
+            (IsHeld self.now (with_new R.draft new_routes.now plan.now.routes) customer) }
     {
         match self.pinned(customer) {
             None => false,
-            Some(vehicle) => !would_stay(plan, drafts, customer, vehicle, near),
+            Some(vehicle) => !would_stay(plan, new_routes, customer, vehicle, near),
         }
     }
 
     /// The first touch whose customer is pinned to a vehicle on which it would not stand.
     #[inline(always)]
-    fn first_loose(&self, plan: &Plan, drafts: &[Draft], touched: &[Touch]) -> Option<Touch>
+    fn first_loose<R: NewRoute>(
+        &self,
+        plan: &Plan,
+        new_routes: &[R],
+        touched: &[Touch],
+    ) -> Option<Touch>
         requires holding { DoPinsHold self.now plan.now.routes }
-        requires fronts { AreFrontsWithin plan.now.routes drafts.now }
-        requires apart { AreApart (length plan.now.routes) (drafts_of plan.now.routes drafts.now) }
+        requires fronts { DoFrontsStay R.draft plan.now.routes new_routes.now }
+        requires apart { AreApart (length plan.now.routes) (routes_by R.draft plan.now.routes new_routes.now) }
         requires known { All (λ t. (1 ≤ t.customer) × (t.customer ≤ length self.now.pins)) touched.now }
         ensures { MatchOption result ((k : ℕ) (t : Touch) → slice_get touched.now k ≡ Some t
-            → IsHeld self.now (with_drafts drafts.now plan.now.routes) t.customer)
-            (IsFirstLoose self.now (with_drafts drafts.now plan.now.routes) touched.now) }
+            → IsHeld self.now (with_new R.draft new_routes.now plan.now.routes) t.customer)
+            (IsFirstLoose self.now (with_new R.draft new_routes.now plan.now.routes) touched.now) }
     {
         let mut near = 0;
         for touch in touched {
-            if self.leaves_near(plan, drafts, touch.customer, &mut near) {
+            if self.leaves_near(plan, new_routes, touch.customer, &mut near) {
                 return Some(*touch);
             }
         }
@@ -238,28 +248,34 @@ impl Pins {
 }
 
 /// Whether a customer that stands on a vehicle stays on it once the new routes are in place.
-fn would_stay(plan: &Plan, drafts: &[Draft], customer: u32, vehicle: u32, near: &mut usize) -> bool
+fn would_stay<R: NewRoute>(
+    plan: &Plan,
+    new_routes: &[R],
+    customer: u32,
+    vehicle: u32,
+    near: &mut usize,
+) -> bool
     requires stands { StandsOn plan.now.routes customer vehicle }
-    requires fronts { AreFrontsWithin plan.now.routes drafts.now }
-    requires apart { AreApart (length plan.now.routes) (drafts_of plan.now.routes drafts.now) }
-    ensures { IsTrue result ↔ StandsOn (with_drafts drafts.now plan.now.routes) customer vehicle }
+    requires fronts { DoFrontsStay R.draft plan.now.routes new_routes.now }
+    requires apart { AreApart (length plan.now.routes) (routes_by R.draft plan.now.routes new_routes.now) }
+    ensures { IsTrue result ↔ StandsOn (with_new R.draft new_routes.now plan.now.routes) customer vehicle }
 {
     routes_replaced();
-    match new_route(drafts, vehicle) {
-        Some(draft) => is_drafted(plan, draft, customer, near),
+    match new_route(new_routes, vehicle) {
+        Some(new) => is_drafted(plan, new, customer, near),
         None => true,
     }
 }
 
 /// The draft of a vehicle's new route, if it has one.
-fn new_route(drafts: &[Draft], vehicle: u32) -> Option<&Draft>
-    ensures named { (routes : List (List ℕ)) → MatchOption result (¬ IsNamed (drafts_of routes drafts.now) vehicle) (λ draft. (k : ℕ)
-        × (slice_get (drafts_of routes drafts.now) k ≡ Some (vehicle, drafted routes draft.now))) }
-    ensures own { IfSome result (λ draft. (draft.now.vehicle ≡ vehicle) × Contains drafts.now draft.now) }
+fn new_route<R: NewRoute>(new_routes: &[R], vehicle: u32) -> Option<&R>
+    ensures named { (routes : List (List ℕ)) → MatchOption result (¬ IsNamed (routes_by R.draft routes new_routes.now) vehicle) (λ new. (k : ℕ)
+        × (slice_get (routes_by R.draft routes new_routes.now) k ≡ Some (vehicle, drafted routes (R.draft new.now)))) }
+    ensures own { IfSome result (λ new. ((R.draft new.now).vehicle ≡ vehicle) × Contains new_routes.now new.now) }
 {
-    for draft in drafts {
-        if draft.vehicle() == vehicle {
-            return Some(draft);
+    for new in new_routes {
+        if new.named() == vehicle {
+            return Some(new);
         }
     }
     None
@@ -267,25 +283,25 @@ fn new_route(drafts: &[Draft], vehicle: u32) -> Option<&Draft>
 
 /// Whether a customer is on the new route that a draft makes. The rest is searched first, from an index outwards, since the customers that a
 /// move touches are mostly there.
-fn is_drafted(plan: &Plan, draft: &Draft, customer: u32, near: &mut usize) -> bool
-    requires low { 1 ≤ draft.now.vehicle }
-    requires high { draft.now.vehicle ≤ length plan.now.routes }
-    requires front { draft.now.kept ≤ length (route_at plan.now.routes draft.now.vehicle) }
-    ensures { IsTrue result ↔ Contains (drafted plan.now.routes draft.now) customer }
+fn is_drafted<R: NewRoute>(plan: &Plan, new: &R, customer: u32, near: &mut usize) -> bool
+    requires low { 1 ≤ (R.draft new.now).vehicle }
+    requires high { (R.draft new.now).vehicle ≤ length plan.now.routes }
+    requires front { (R.draft new.now).kept ≤ length (route_at plan.now.routes (R.draft new.now).vehicle) }
+    ensures { IsTrue result ↔ Contains (drafted plan.now.routes (R.draft new.now)) customer }
 {
-    is_on(draft.rest(), customer, near) || is_kept(plan, draft, customer)
+    is_on(new.follows(), customer, near) || is_kept(plan, new, customer)
 }
 
 /// Whether a customer is among those that a draft keeps. Out of line, since few customers are pinned.
 #[inline(never)]
-fn is_kept(plan: &Plan, draft: &Draft, customer: u32) -> bool
-    requires low { 1 ≤ draft.now.vehicle }
-    requires high { draft.now.vehicle ≤ length plan.now.routes }
-    requires front { draft.now.kept ≤ length (route_at plan.now.routes draft.now.vehicle) }
-    ensures { IsTrue result ↔ Contains (take draft.now.kept (route_at plan.now.routes draft.now.vehicle)) customer }
+fn is_kept<R: NewRoute>(plan: &Plan, new: &R, customer: u32) -> bool
+    requires low { 1 ≤ (R.draft new.now).vehicle }
+    requires high { (R.draft new.now).vehicle ≤ length plan.now.routes }
+    requires front { (R.draft new.now).kept ≤ length (route_at plan.now.routes (R.draft new.now).vehicle) }
+    ensures { IsTrue result ↔ Contains (take (R.draft new.now).kept (route_at plan.now.routes (R.draft new.now).vehicle)) customer }
 {
-    let old = plan.route(draft.vehicle()).customers();
-    old[..draft.kept()].contains(&customer)
+    let old = plan.route(new.named()).customers();
+    old[..new.stays()].contains(&customer)
 }
 
 /// Whether a customer stands on a vehicle.

@@ -23,3 +23,14 @@ with_drafts drafts routes = with_routes (drafts_of routes drafts) routes
 -- each draft keeps no more customers than its vehicle's route has
 abbrev pub AreFrontsWithin : List (List ℕ) → List DraftState → Type 0
 AreFrontsWithin routes drafts = All (λ d. d.kept ≤ length (route_at routes d.vehicle)) drafts
+
+-- ---- the same of new routes in any form, by the draft that each is
+
+abbrev pub routes_by : {R : Type 0} → (R → DraftState) → List (List ℕ) → List R → Changes
+routes_by draft routes new = map (λ r. ((draft r).vehicle, drafted routes (draft r))) new
+
+abbrev pub with_new : {R : Type 0} → (R → DraftState) → List R → List (List ℕ) → List (List ℕ)
+with_new draft new routes = with_routes (routes_by draft routes new) routes
+
+abbrev pub DoFrontsStay : {R : Type 0} → (R → DraftState) → List (List ℕ) → List R → Type 0
+DoFrontsStay draft routes new = All (λ r. (draft r).kept ≤ length (route_at routes (draft r).vehicle)) new

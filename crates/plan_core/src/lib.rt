@@ -6,6 +6,7 @@ mod cost;
 mod draft;
 mod front;
 mod laws;
+mod new_route;
 mod plan;
 mod replace;
 mod route;
@@ -21,6 +22,7 @@ pub use laws::{
     customers_stand_by_route, fronts_are_common, plans_are_tested, routes_are_known,
     routes_replaced, stamps_by_one_more, ways_join,
 };
+pub use new_route::NewRoute;
 pub use plan::Plan;
 pub use route::Route;
 pub use touch::Touch;

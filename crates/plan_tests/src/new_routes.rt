@@ -16,30 +16,20 @@ fn shared(rt: &impl Abort, alloc: Global, customers: &[u32]) -> Arc<Route>
     Arc::new(alloc, Route::new(customers)).expect(rt, "memory")
 }
 
-/// The draft of one new route alone, of which nothing stays.
-pub(crate) fn one_draft(rt: &impl Abort, alloc: Global, vehicle: u32, customers: &[u32]) -> Drafts
-    ensures { result ≡ record { vehicle = vehicle; kept = 0; rest = customers.now } ∷ [] }
+/// The draft of one new route alone.
+pub(crate) fn one_draft(
+    rt: &impl Abort,
+    alloc: Global,
+    vehicle: u32,
+    kept: u32,
+    rest: &[u32],
+) -> Drafts
+    ensures { result ≡ record { vehicle = vehicle; kept = kept; rest = rest.now } ∷ [] }
 {
     let mut drafts = Drafts::new(alloc);
     drafts
-        .add(vehicle, 0, customers, &[], &[], &[])
+        .add(vehicle, kept, rest, &[], &[], &[])
         .expect(rt, "memory");
-    drafts
-}
-
-/// The drafts of new routes for two vehicles, of which nothing stays.
-pub(crate) fn two_drafts(
-    rt: &impl Abort,
-    alloc: Global,
-    v: u32,
-    first: &[u32],
-    w: u32,
-    second: &[u32],
-) -> Drafts
-    ensures { result ≡ record { vehicle = v; kept = 0; rest = first.now } ∷ record { vehicle = w; kept = 0; rest = second.now } ∷ [] }
-{
-    let mut drafts = one_draft(rt, alloc, v, first);
-    drafts.add(w, 0, second, &[], &[], &[]).expect(rt, "memory");
     drafts
 }
 

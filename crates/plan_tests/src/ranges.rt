@@ -1,24 +1,25 @@
 ghost use Rattle.std.specs.Prelude.{◌≡◌, ◌+◌, ◌*◌, ◌<◌, ◌≤◌, [], ◌∷◌, length, replicate, slice_index, All, IfOk, IfSome};
 ghost use Rattle.dimension_core.specs.NewRoutes.{AllKnown};
 ghost use Rattle.dimension_core.specs.Setup.{setting};
-ghost use Rattle.plan_core.specs.Drafts.{AreFrontsWithin, drafted, drafts_of};
+ghost use Rattle.plan_core.specs.Drafts.{DoFrontsStay, drafted, routes_by};
 ghost use Rattle.plan_core.specs.Plan.{IsPlan, replaced, with_routes};
 ghost use Rattle.range_cache.specs.Cache.{IsCacheOf};
 
 use crate::comparing::{compare, compare_meter};
-use crate::new_routes::{one_change, one_draft, two_drafts};
+use crate::new_routes::{one_change, one_draft, pair};
 use callback_store::{Meter, Registry, Transit, TransitId, Unary};
 use dimension_core::{Dimension, Range, Setup, first_out};
-use plan_core::{Drafts, Plan, plans_are_tested};
+use plan_core::{NewRoute, Plan, plans_are_tested};
 use range_cache::{Cache, JudgeFault, Room};
 use std::alloc::{AllocError, Global};
 use std::process::Abort;
 use std::sync::Arc;
 use std::sync::atomic::{AtomicU64, Ordering};
 
-/// A plan with its ranges, and the memory of ranges that were replaced.
+/// A plan with its ranges, the memory of ranges that were replaced, and where more comes from.
 #[derive(Drop)]
 struct Held {
+    alloc: Global,
     plan: Plan,
     cache: Cache,
     room: Room,
@@ -32,6 +33,7 @@ fn empty(rt: &impl Abort, alloc: Global, setup: &Setup) -> Held
     ensures cache { IsCacheOf (setting setup.now) result.plan.routes result.cache }
 {
     Held {
+        alloc,
         plan: Plan::new(alloc, 4, 2).expect(rt, "memory"),
         cache: Cache::new(alloc, setup).expect(rt, "memory"),
         room: Room::new(alloc),
@@ -41,7 +43,6 @@ fn empty(rt: &impl Abort, alloc: Global, setup: &Setup) -> Held
 /// Gives a vehicle a new route, which is in bounds, in the ranges and in the plan. New ranges are made in the memory of earlier ones.
 fn commit(
     rt: &impl Abort,
-    alloc: Global,
     setup: &Setup,
     held: &mut Held,
     vehicle: u32,
@@ -58,15 +59,17 @@ fn commit(
     ensures cache { IsCacheOf (setting setup.now) held.new.plan.routes held.new.cache }
     ensures plan { held.new.plan ≡ replaced ((vehicle, customers.now) ∷ []) held.old.plan }
 {
-    let Held { plan, cache, room } = held;
-    let drafts = one_draft(rt, alloc, vehicle, customers);
+    let Held {
+        alloc,
+        plan,
+        cache,
+        room,
+    } = held;
+    let changes = one_change(rt, *alloc, vehicle, customers);
     let pending = cache
-        .judge_in(room, setup, plan, drafts.as_slice(), meter)
+        .judge_in(room, setup, plan, &changes, meter)
         .expect(rt, "in bounds");
     *room = cache.take(pending);
-    let changes = drafts
-        .routes_in(Vec::new(alloc), alloc, plan)
-        .expect(rt, "memory");
     plan.replace(changes);
 }
 
@@ -97,19 +100,19 @@ fn compare_earlies(rt: &impl Abort, setup: &Setup, cache: &Cache, plan: &Plan, w
 }
 
 /// Why the new routes are not taken, if they are not.
-fn fault_of(
+fn fault_of<R: NewRoute>(
     setup: &Setup,
     cache: &Cache,
     plan: &Plan,
-    drafts: &Drafts,
+    new_routes: &[R],
     meter: &mut Meter,
 ) -> Option<JudgeFault>
     requires cache { IsCacheOf (setting setup.now) plan.now.routes cache.now }
-    requires known { AllKnown (setting setup.now) (drafts_of plan.now.routes drafts.now) }
-    requires short { All (λ d. length (drafted plan.now.routes d) ≤ 1000) drafts.now }
-    requires within { AreFrontsWithin plan.now.routes drafts.now }
+    requires known { AllKnown (setting setup.now) (routes_by R.draft plan.now.routes new_routes.now) }
+    requires short { All (λ r. length (drafted plan.now.routes (R.draft r)) ≤ 1000) new_routes.now }
+    requires fronts { DoFrontsStay R.draft plan.now.routes new_routes.now }
 {
-    cache.judge(setup, plan, drafts.as_slice(), meter).err()
+    cache.judge(setup, plan, new_routes, meter).err()
 }
 
 fn compare_fault(rt: &impl Abort, found: Option<JudgeFault>, wanted: Option<JudgeFault>) {
@@ -171,11 +174,11 @@ fn inserts(rt: &impl Abort, alloc: Global, setup: &Setup, meter: &mut Meter)
     plans_are_tested();
     let mut held = empty(rt, alloc, setup);
     let begun = meter.asks;
-    commit(rt, alloc, setup, &mut held, 1, &[1], meter);
+    commit(rt, setup, &mut held, 1, &[1], meter);
     compare(rt, meter.asks.wrapping_sub(begun), 4, "asks");
-    commit(rt, alloc, setup, &mut held, 1, &[1, 2], meter);
+    commit(rt, setup, &mut held, 1, &[1, 2], meter);
     compare(rt, meter.asks.wrapping_sub(begun), 8, "asks");
-    commit(rt, alloc, setup, &mut held, 1, &[1, 2, 3], meter);
+    commit(rt, setup, &mut held, 1, &[1, 2, 3], meter);
     compare(rt, meter.asks.wrapping_sub(begun), 12, "asks");
     compare_earlies(rt, setup, &held.cache, &held.plan, &[0, 4, 7, 28, 84, 140]);
 }
@@ -195,24 +198,29 @@ fn of_a_plan(rt: &impl Abort, alloc: Global, setup: &Setup, meter: &mut Meter)
     compare_earlies(rt, setup, &made, &plan, &[0, 4, 7, 28, 84, 140]);
 }
 
-/// Customers that leave a route: the travel past the second is too long, the first and then all may go.
+/// Customers that leave a route: the travel past the second is too long, whether the new route is written or keeps the first customer as a
+/// draft, and the first and then all may go.
 fn removals(rt: &impl Abort, alloc: Global, setup: &Setup, meter: &mut Meter)
     requires customers { (setting setup.now).customers ≡ 4 }
     requires vehicles { (setting setup.now).vehicles ≡ 2 }
 {
     plans_are_tested();
     let mut held = empty(rt, alloc, setup);
-    commit(rt, alloc, setup, &mut held, 1, &[1, 2, 3], meter);
+    commit(rt, setup, &mut held, 1, &[1, 2, 3], meter);
     let begun = meter.asks;
-    let late = one_draft(rt, alloc, 1, &[1, 3]);
+    let late = one_change(rt, alloc, 1, &[1, 3]);
     let answer = fault_of(setup, &held.cache, &held.plan, &late, meter);
     compare_fault(rt, answer, Some(JudgeFault::Bound(1, 2)));
     compare(rt, meter.asks.wrapping_sub(begun), 3, "asks");
-    commit(rt, alloc, setup, &mut held, 1, &[2, 3], meter);
-    compare(rt, meter.asks.wrapping_sub(begun), 9, "asks");
+    let draft = one_draft(rt, alloc, 1, 1, &[3]);
+    let answer = fault_of(setup, &held.cache, &held.plan, draft.as_slice(), meter);
+    compare_fault(rt, answer, Some(JudgeFault::Bound(1, 2)));
+    compare(rt, meter.asks.wrapping_sub(begun), 6, "asks");
+    commit(rt, setup, &mut held, 1, &[2, 3], meter);
+    compare(rt, meter.asks.wrapping_sub(begun), 12, "asks");
     compare_earlies(rt, setup, &held.cache, &held.plan, &[0, 3, 84, 140]);
-    commit(rt, alloc, setup, &mut held, 1, &[], meter);
-    compare(rt, meter.asks.wrapping_sub(begun), 9, "asks");
+    commit(rt, setup, &mut held, 1, &[], meter);
+    compare(rt, meter.asks.wrapping_sub(begun), 12, "asks");
     compare_earlies(rt, setup, &held.cache, &held.plan, &[]);
 }
 
@@ -222,8 +230,8 @@ fn the_second_is_out(rt: &impl Abort, alloc: Global, setup: &Setup, meter: &mut 
     requires vehicles { (setting setup.now).vehicles ≡ 2 }
 {
     let held = empty(rt, alloc, setup);
-    let drafts = two_drafts(rt, alloc, 2, &[4], 1, &[1, 2, 3, 4]);
-    let answer = fault_of(setup, &held.cache, &held.plan, &drafts, meter);
+    let changes = pair(rt, alloc, 2, &[4], 1, &[1, 2, 3, 4]);
+    let answer = fault_of(setup, &held.cache, &held.plan, &changes, meter);
     compare_fault(rt, answer, Some(JudgeFault::Bound(1, 1)));
 }
 

@@ -7,7 +7,7 @@ use Rattle.callback_store.specs.declared.meter.Meter.{Meter}
 use Rattle.dimension_core.specs.declared.range.Range.{Range}
 use Rattle.dimension_core.specs.Setting.{Setting}
 use Rattle.dimension_core.specs.Spans.{IsSpanOf}
-use Rattle.plan_core.specs.Drafts.{DraftState, drafted, drafts_of}
+use Rattle.plan_core.specs.Drafts.{DraftState, drafted, routes_by}
 use Rattle.plan_core.specs.Front.{IsCommonFront, common_front}
 use Rattle.plan_core.specs.Laws.{FrontsAreCommon}
 use Rattle.plan_core.specs.Plan.{route_at}
@@ -103,18 +103,18 @@ joined_row s v front route old fresh row has tail join =
         subst (λ (r : Range). IsSpanOf s d v (take (front + (k - front) + 1) route) r) (sym (join.after d (k - front) h below)) (tail.spans d (k - front) h below) in
         subst (λ (n : ℕ). IsSpanOf s d v (take (n + 1) route) (range_at row d n)) back span
 
--- one more draft was walked
-pub fresh_next : (s : Setting) (routes : List (List ℕ)) (drafts : List DraftState) (freshes : List Fresh) (n : ℕ) (d : DraftState) (f : Fresh) → AreFreshOf s routes drafts freshes n
-    → d ≡ slice_index_or drafts n d → n < length drafts → n < length freshes → IsFreshOf s routes d f → AreFreshOf s routes drafts (slice_set freshes n f) (n + 1)
-fresh_next s routes drafts freshes n d f all is within below new k e g h = at (cases_eq k n)
+-- one more new route was walked
+pub fresh_next : {R : Type 0} (draft : R → DraftState) (s : Setting) (routes : List (List ℕ)) (new : List R) (freshes : List Fresh) (n : ℕ) (r : R) (f : Fresh) → AreFreshOf draft s routes new freshes n
+    → r ≡ slice_index_or new n r → n < length new → n < length freshes → IsFreshOf s routes (draft r) f → AreFreshOf draft s routes new (slice_set freshes n f) (n + 1)
+fresh_next {R} draft s routes new freshes n r f all is within below fresh k e g h = at (cases_eq k n)
   where
-    at : (k ≡ n) ⊎ (k ≡ n → ⊥) → IsFreshOf s routes (slice_index_or drafts k e) (slice_index_or (slice_set freshes n f) k g)
+    at : (k ≡ n) ⊎ (k ≡ n → ⊥) → IsFreshOf s routes (draft (slice_index_or new k e)) (slice_index_or (slice_set freshes n f) k g)
     at (inl same) =
-        subst (λ (j : ℕ). IsFreshOf s routes (slice_index_or drafts j e) (slice_index_or (slice_set freshes n f) j g)) (sym same)
-        (subst (λ (x : DraftState). IsFreshOf s routes x (slice_index_or (slice_set freshes n f) n g)) (is ∙ get_or_default drafts n d e within)
-        (subst (λ (y : Fresh). IsFreshOf s routes d y) (sym (get_or-set_same freshes n f g below)) new))
+        subst (λ (j : ℕ). IsFreshOf s routes (draft (slice_index_or new j e)) (slice_index_or (slice_set freshes n f) j g)) (sym same)
+        (subst (λ (x : R). IsFreshOf s routes (draft x) (slice_index_or (slice_set freshes n f) n g)) (is ∙ get_or_default new n r e within)
+        (subst (λ (y : Fresh). IsFreshOf s routes (draft r) y) (sym (get_or-set_same freshes n f g below)) fresh))
     at (inr other) =
-        subst (λ (y : Fresh). IsFreshOf s routes (slice_index_or drafts k e) y) (sym (get_or-set_other freshes n k f g other)) (all k e g (omega (arith, h, other)))
+        subst (λ (y : Fresh). IsFreshOf s routes (draft (slice_index_or new k e)) y) (sym (get_or-set_other freshes n k f g other)) (all k e g (omega (arith, h, other)))
 
 -- what a row needs to be joined
 pub record CanJoin (s : Setting) (v front : ℕ) (route : List ℕ) (old fresh : RowState) : Type 0 where
@@ -122,12 +122,13 @@ pub record CanJoin (s : Setting) (v front : ℕ) (route : List ℕ) (old fresh :
   pub tail : IsTailOf s v front route fresh
   pub short : front + fresh.stops ≤ 1000
 
-pub can_join : (s : Setting) (routes : List (List ℕ)) (drafts : List DraftState) (freshes : List Fresh) (n k v : ℕ) (d : DraftState) (f : Fresh) (old : RowState) → AreFreshOf s routes drafts freshes n → k < n
-    → d ≡ slice_index_or drafts k d → f ≡ slice_index_or freshes k f → v ≡ d.vehicle → length (drafted routes d) ≤ 1000 → IsRowOf s v (route_at routes v) old
-    → CanJoin s v f.front (drafted routes d) old f.row
-can_join s routes drafts freshes n k v d f old all h e g named short kept =
+pub can_join : {R : Type 0} (draft : R → DraftState) (s : Setting) (routes : List (List ℕ)) (new : List R) (freshes : List Fresh) (n k v : ℕ) (r : R) (f : Fresh) (old : RowState) → AreFreshOf draft s routes new freshes n → k < n
+    → r ≡ slice_index_or new k r → f ≡ slice_index_or freshes k f → v ≡ (draft r).vehicle → length (drafted routes (draft r)) ≤ 1000 → IsRowOf s v (route_at routes v) old
+    → CanJoin s v f.front (drafted routes (draft r)) old f.row
+can_join {R} draft s routes new freshes n k v r f old all h e g named short kept =
+    let d = draft r in
     let this : IsFreshOf s routes d f =
-    subst (λ (x : Fresh). IsFreshOf s routes d x) (sym g) (subst (λ (x : DraftState). IsFreshOf s routes x (slice_index_or freshes k f)) (sym e) (all k d f h)) in
+    subst (λ (x : Fresh). IsFreshOf s routes d x) (sym g) (subst (λ (x : R). IsFreshOf s routes (draft x) (slice_index_or freshes k f)) (sym e) (all k r f h)) in
     let counted = this.tail.counted in
     let there : CanJoin s d.vehicle f.front (drafted routes d) old f.row = record {
       has = row_front s d.vehicle (route_at routes d.vehicle) (drafted routes d) old f.front (subst (λ (w : ℕ). IsRowOf s w (route_at routes w) old) named kept) this.common;
@@ -137,8 +138,8 @@ can_join s routes drafts freshes n k v d f old all h e g named short kept =
     subst (λ (w : ℕ). CanJoin s w f.front (drafted routes d) old f.row) (sym named) there
 
 -- the new route at a place, and those after it
-pub draft_next : (routes : List (List ℕ)) (drafts : List DraftState) (k v : ℕ) (d : DraftState) → d ≡ slice_index_or drafts k d → k < length drafts → v ≡ d.vehicle
-    → drafts_of routes (drop k drafts) ≡ (v, drafted routes d) ∷ drafts_of routes (drop (k + 1) drafts)
-draft_next routes drafts k v d e h named =
-    ap (λ (ds : List DraftState). drafts_of routes ds) (next_of drafts k d e h)
-    ∙ ap (λ (w : ℕ). let c : ℕ × List ℕ = (w, drafted routes d) in c ∷ drafts_of routes (drop (k + 1) drafts)) (sym named)
+pub new_next : {R : Type 0} (draft : R → DraftState) (routes : List (List ℕ)) (new : List R) (k v : ℕ) (r : R) → r ≡ slice_index_or new k r → k < length new → v ≡ (draft r).vehicle
+    → routes_by draft routes (drop k new) ≡ (v, drafted routes (draft r)) ∷ routes_by draft routes (drop (k + 1) new)
+new_next {R} draft routes new k v r e h named =
+    ap (λ (rs : List R). routes_by draft routes rs) (next_of new k r e h)
+    ∙ ap (λ (w : ℕ). let c : ℕ × List ℕ = (w, drafted routes (draft r)) in c ∷ routes_by draft routes (drop (k + 1) new)) (sym named)

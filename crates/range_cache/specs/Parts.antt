@@ -39,7 +39,7 @@ pub record IsFreshOf (s : Setting) (routes : List (List ℕ)) (draft : DraftStat
   pub common : IsCommonFront (route_at routes draft.vehicle) (drafted routes draft) fresh.front
   pub tail : IsTailOf s draft.vehicle fresh.front (drafted routes draft) fresh.row
 
--- the first n of the drafts were walked, one by one
-abbrev pub AreFreshOf : Setting → List (List ℕ) → List DraftState → List Fresh → ℕ → Type 0
-AreFreshOf s routes drafts freshes n =
-    (k : ℕ) (d : DraftState) (f : Fresh) → k < n → IsFreshOf s routes (slice_index_or drafts k d) (slice_index_or freshes k f)
+-- the first n of the new routes were walked, one by one, each by its draft
+abbrev pub AreFreshOf : {R : Type 0} → (R → DraftState) → Setting → List (List ℕ) → List R → List Fresh → ℕ → Type 0
+AreFreshOf {R} draft s routes new freshes n =
+    (k : ℕ) (r : R) (f : Fresh) → k < n → IsFreshOf s routes (draft (slice_index_or new k r)) (slice_index_or freshes k f)

@@ -6,7 +6,7 @@ ghost use Rattle.dimension_core.specs.NewRoutes.{Changes, AllFit, AllKnown};
 ghost use Rattle.dimension_core.specs.Setting.{Setting, dimension_at};
 ghost use Rattle.dimension_core.specs.Setup.{setting};
 ghost use Rattle.plan_core.specs.Cost.{route_asks, asks_of};
-ghost use Rattle.plan_core.specs.Drafts.{drafted, drafts_of, AreFrontsWithin};
+ghost use Rattle.plan_core.specs.Drafts.{DoFrontsStay, drafted, routes_by};
 ghost use Rattle.plan_core.specs.Plan.{route_at, with_routes};
 ghost use Rattle.range_cache.specs.Asks.{judge_asks, walk_asks, fault_asks, AsksToFault};
 ghost use Rattle.range_cache.specs.Cache.{IsRowOf, IsCacheOf, HasEarly};
@@ -20,7 +20,7 @@ use crate::pending::{Pending, Room};
 use crate::row::Row;
 use callback_store::Meter;
 use dimension_core::{Setup, spans_go_on};
-use plan_core::{Draft, Plan, common_front, fronts_are_common};
+use plan_core::{NewRoute, Plan, common_front, fronts_are_common};
 use std::alloc::{AllocError, Global};
 use std::marker::Model;
 use std::mem::swap;
@@ -88,109 +88,109 @@ impl Cache {
     /// that route, and in it up to the first stop at which no cumul is left. It also stops where memory runs out.
     ///
     /// Of what the drafts keep, only the last customer and its ranges are read before all new routes are in bounds, and nothing is copied.
-    pub fn judge(
+    pub fn judge<R: NewRoute>(
         &self,
         setup: &Setup,
         plan: &Plan,
-        drafts: &[Draft],
+        new_routes: &[R],
         meter: &mut Meter,
     ) -> Result<Pending, JudgeFault>
         requires cache { IsCacheOf (setting setup.now) plan.now.routes self.now }
-        requires known { AllKnown (setting setup.now) (drafts_of plan.now.routes drafts.now) }
-        requires short { All (λ d. length (drafted plan.now.routes d) ≤ 1000) drafts.now }
-        requires fronts { AreFrontsWithin plan.now.routes drafts.now }
+        requires known { AllKnown (setting setup.now) (routes_by R.draft plan.now.routes new_routes.now) }
+        requires short { All (λ r. length (drafted plan.now.routes (R.draft r)) ≤ 1000) new_routes.now }
+        requires fronts { DoFrontsStay R.draft plan.now.routes new_routes.now }
         ensures of { IfOk result (λ pending. pending.of ≡ self.now) }
-        ensures fits { IfOk result (λ pending. AllFit (setting setup.now) (drafts_of plan.now.routes drafts.now)) }
-        ensures rows { IfOk result (λ pending. AreNewRows (setting setup.now) (drafts_of plan.now.routes drafts.now) pending.rows) }
-        ensures fault { IfErr result (IsJudgeFault (setting setup.now) (drafts_of plan.now.routes drafts.now)) }
+        ensures fits { IfOk result (λ pending. AllFit (setting setup.now) (routes_by R.draft plan.now.routes new_routes.now)) }
+        ensures rows { IfOk result (λ pending. AreNewRows (setting setup.now) (routes_by R.draft plan.now.routes new_routes.now) pending.rows) }
+        ensures fault { IfErr result (IsJudgeFault (setting setup.now) (routes_by R.draft plan.now.routes new_routes.now)) }
         ensures asks { AsksAtMost meter.old meter.new
-            (judge_asks (length (setting setup.now).dimensions) plan.now.routes (drafts_of plan.now.routes drafts.now)) }
+            (judge_asks (length (setting setup.now).dimensions) plan.now.routes (routes_by R.draft plan.now.routes new_routes.now)) }
         ensures whole { OnOk result (AsksJust meter.old meter.new
-            (judge_asks (length (setting setup.now).dimensions) plan.now.routes (drafts_of plan.now.routes drafts.now))) }
+            (judge_asks (length (setting setup.now).dimensions) plan.now.routes (routes_by R.draft plan.now.routes new_routes.now))) }
         ensures least { IfErr result (λ f. Asks meter.old meter.new
-            (fault_asks (length (setting setup.now).dimensions) plan.now.routes (drafts_of plan.now.routes drafts.now) f)
-            (judge_asks (length (setting setup.now).dimensions) plan.now.routes (drafts_of plan.now.routes drafts.now))) }
-        ensures missed { IfErr result (AsksToFault (setting setup.now) plan.now.routes (drafts_of plan.now.routes drafts.now)
+            (fault_asks (length (setting setup.now).dimensions) plan.now.routes (routes_by R.draft plan.now.routes new_routes.now) f)
+            (judge_asks (length (setting setup.now).dimensions) plan.now.routes (routes_by R.draft plan.now.routes new_routes.now))) }
+        ensures missed { IfErr result (AsksToFault (setting setup.now) plan.now.routes (routes_by R.draft plan.now.routes new_routes.now)
             meter.old meter.new) }
     {
         let alloc = *self.rows.allocator();
-        self.judge_in(&mut Room::new(alloc), setup, plan, drafts, meter)
+        self.judge_in(&mut Room::new(alloc), setup, plan, new_routes, meter)
     }
 
     /// What `judge` answers, with the new ranges in the memory of earlier ones: more memory is taken only where that is too small. Where
     /// a new route is out of bounds, the memory stays in the room, and else that of a row which the new routes do not need.
     #[inline(always)]
-    pub fn judge_in(
+    pub fn judge_in<R: NewRoute>(
         &self,
         room: &mut Room,
         setup: &Setup,
         plan: &Plan,
-        drafts: &[Draft],
+        new_routes: &[R],
         meter: &mut Meter,
     ) -> Result<Pending, JudgeFault>
         requires cache { IsCacheOf (setting setup.now) plan.now.routes self.now }
-        requires known { AllKnown (setting setup.now) (drafts_of plan.now.routes drafts.now) }
-        requires short { All (λ d. length (drafted plan.now.routes d) ≤ 1000) drafts.now }
-        requires fronts { AreFrontsWithin plan.now.routes drafts.now }
+        requires known { AllKnown (setting setup.now) (routes_by R.draft plan.now.routes new_routes.now) }
+        requires short { All (λ r. length (drafted plan.now.routes (R.draft r)) ≤ 1000) new_routes.now }
+        requires fronts { DoFrontsStay R.draft plan.now.routes new_routes.now }
         ensures of { IfOk result (λ pending. pending.of ≡ self.now) }
-        ensures fits { IfOk result (λ pending. AllFit (setting setup.now) (drafts_of plan.now.routes drafts.now)) }
-        ensures rows { IfOk result (λ pending. AreNewRows (setting setup.now) (drafts_of plan.now.routes drafts.now) pending.rows) }
-        ensures fault { IfErr result (IsJudgeFault (setting setup.now) (drafts_of plan.now.routes drafts.now)) }
+        ensures fits { IfOk result (λ pending. AllFit (setting setup.now) (routes_by R.draft plan.now.routes new_routes.now)) }
+        ensures rows { IfOk result (λ pending. AreNewRows (setting setup.now) (routes_by R.draft plan.now.routes new_routes.now) pending.rows) }
+        ensures fault { IfErr result (IsJudgeFault (setting setup.now) (routes_by R.draft plan.now.routes new_routes.now)) }
         ensures asks { AsksAtMost meter.old meter.new
-            (judge_asks (length (setting setup.now).dimensions) plan.now.routes (drafts_of plan.now.routes drafts.now)) }
+            (judge_asks (length (setting setup.now).dimensions) plan.now.routes (routes_by R.draft plan.now.routes new_routes.now)) }
         ensures whole { OnOk result (AsksJust meter.old meter.new
-            (judge_asks (length (setting setup.now).dimensions) plan.now.routes (drafts_of plan.now.routes drafts.now))) }
+            (judge_asks (length (setting setup.now).dimensions) plan.now.routes (routes_by R.draft plan.now.routes new_routes.now))) }
         ensures least { IfErr result (λ f. Asks meter.old meter.new
-            (fault_asks (length (setting setup.now).dimensions) plan.now.routes (drafts_of plan.now.routes drafts.now) f)
-            (judge_asks (length (setting setup.now).dimensions) plan.now.routes (drafts_of plan.now.routes drafts.now))) }
-        ensures missed { IfErr result (AsksToFault (setting setup.now) plan.now.routes (drafts_of plan.now.routes drafts.now)
+            (fault_asks (length (setting setup.now).dimensions) plan.now.routes (routes_by R.draft plan.now.routes new_routes.now) f)
+            (judge_asks (length (setting setup.now).dimensions) plan.now.routes (routes_by R.draft plan.now.routes new_routes.now))) }
+        ensures missed { IfErr result (AsksToFault (setting setup.now) plan.now.routes (routes_by R.draft plan.now.routes new_routes.now)
             meter.old meter.new) }
     {
-        self.walk_drafts(room, setup, plan, drafts, meter)?;
-        room.hold(drafts.len())?;
-        for k in 0..drafts.len() {
-            let vehicle = drafts[k].vehicle();
+        self.walk_drafts(room, setup, plan, new_routes, meter)?;
+        room.hold(new_routes.len())?;
+        for k in 0..new_routes.len() {
+            let vehicle = new_routes[k].named();
             let fresh = &room.fresh[k];
             let (named, row) = &mut room.rows[k];
             *named = vehicle;
             let old = &self.rows[vehicle as usize - 1];
             old.join(row, setup, fresh.front, &fresh.row)?;
         }
-        Ok(Pending::new(self, room.take_rows(drafts.len())))
+        Ok(Pending::new(self, room.take_rows(new_routes.len())))
     }
 
     /// Walks new routes in their order, up to the first that is out of bounds.
     #[inline(always)]
-    fn walk_drafts(
+    fn walk_drafts<R: NewRoute>(
         &self,
         room: &mut Room,
         setup: &Setup,
         plan: &Plan,
-        drafts: &[Draft],
+        new_routes: &[R],
         meter: &mut Meter,
     ) -> Result<(), JudgeFault>
         requires cache { IsCacheOf (setting setup.now) plan.now.routes self.now }
-        requires known { AllKnown (setting setup.now) (drafts_of plan.now.routes drafts.now) }
-        requires short { All (λ d. length (drafted plan.now.routes d) ≤ 1000) drafts.now }
-        requires fronts { AreFrontsWithin plan.now.routes drafts.now }
-        ensures fits { OnOk result (AllFit (setting setup.now) (drafts_of plan.now.routes drafts.now)) }
-        ensures fresh { OnOk result (AreFreshOf (setting setup.now) plan.now.routes drafts.now room.new.fresh.items (length drafts.now)) }
-        ensures held { OnOk result (length drafts.now ≤ length room.new.fresh.items) }
-        ensures fault { IfErr result (IsJudgeFault (setting setup.now) (drafts_of plan.now.routes drafts.now)) }
+        requires known { AllKnown (setting setup.now) (routes_by R.draft plan.now.routes new_routes.now) }
+        requires short { All (λ r. length (drafted plan.now.routes (R.draft r)) ≤ 1000) new_routes.now }
+        requires fronts { DoFrontsStay R.draft plan.now.routes new_routes.now }
+        ensures fits { OnOk result (AllFit (setting setup.now) (routes_by R.draft plan.now.routes new_routes.now)) }
+        ensures fresh { OnOk result (AreFreshOf R.draft (setting setup.now) plan.now.routes new_routes.now room.new.fresh.items (length new_routes.now)) }
+        ensures held { OnOk result (length new_routes.now ≤ length room.new.fresh.items) }
+        ensures fault { IfErr result (IsJudgeFault (setting setup.now) (routes_by R.draft plan.now.routes new_routes.now)) }
         ensures asks { AsksAtMost meter.old meter.new
-            (judge_asks (length (setting setup.now).dimensions) plan.now.routes (drafts_of plan.now.routes drafts.now)) }
+            (judge_asks (length (setting setup.now).dimensions) plan.now.routes (routes_by R.draft plan.now.routes new_routes.now)) }
         ensures whole { OnOk result (AsksJust meter.old meter.new
-            (judge_asks (length (setting setup.now).dimensions) plan.now.routes (drafts_of plan.now.routes drafts.now))) }
+            (judge_asks (length (setting setup.now).dimensions) plan.now.routes (routes_by R.draft plan.now.routes new_routes.now))) }
         ensures least { IfErr result (λ f. Asks meter.old meter.new
-            (fault_asks (length (setting setup.now).dimensions) plan.now.routes (drafts_of plan.now.routes drafts.now) f)
-            (judge_asks (length (setting setup.now).dimensions) plan.now.routes (drafts_of plan.now.routes drafts.now))) }
-        ensures missed { IfErr result (AsksToFault (setting setup.now) plan.now.routes (drafts_of plan.now.routes drafts.now)
+            (fault_asks (length (setting setup.now).dimensions) plan.now.routes (routes_by R.draft plan.now.routes new_routes.now) f)
+            (judge_asks (length (setting setup.now).dimensions) plan.now.routes (routes_by R.draft plan.now.routes new_routes.now))) }
+        ensures missed { IfErr result (AsksToFault (setting setup.now) plan.now.routes (routes_by R.draft plan.now.routes new_routes.now)
             meter.old meter.new) }
     {
-        room.hold_fresh(drafts.len())?;
-        for k in 0..drafts.len() {
+        room.hold_fresh(new_routes.len())?;
+        for k in 0..new_routes.len() {
             let fresh = &mut room.fresh[k];
-            self.walk_draft(fresh, setup, plan, &drafts[k], meter)?;
+            self.walk_draft(fresh, setup, plan, &new_routes[k], meter)?;
         }
         Ok(())
     }
@@ -198,39 +198,39 @@ impl Cache {
     /// Walks a new route from the end of the longest common prefix of the old and the new route on, which is looked for only after what the
     /// draft keeps.
     #[inline(always)]
-    fn walk_draft(
+    fn walk_draft<R: NewRoute>(
         &self,
         fresh: &mut Fresh,
         setup: &Setup,
         plan: &Plan,
-        draft: &Draft,
+        new: &R,
         meter: &mut Meter,
     ) -> Result<(), JudgeFault>
         requires cache { IsCacheOf (setting setup.now) plan.now.routes self.now }
-        requires low { 1 ≤ draft.now.vehicle }
-        requires high { draft.now.vehicle ≤ (setting setup.now).vehicles }
-        requires known { All (λ c. c ≤ (setting setup.now).customers) (drafted plan.now.routes draft.now) }
-        requires short { length (drafted plan.now.routes draft.now) ≤ 1000 }
-        requires front { draft.now.kept ≤ length (route_at plan.now.routes draft.now.vehicle) }
-        ensures fits { OnOk result (FitsAll (setting setup.now) draft.now.vehicle (drafted plan.now.routes draft.now)) }
-        ensures fresh { OnOk result (IsFreshOf (setting setup.now) plan.now.routes draft.now fresh.new) }
-        ensures fault { IfErr result (IsRowFault (setting setup.now) draft.now.vehicle (drafted plan.now.routes draft.now)) }
+        requires low { 1 ≤ (R.draft new.now).vehicle }
+        requires high { (R.draft new.now).vehicle ≤ (setting setup.now).vehicles }
+        requires known { All (λ c. c ≤ (setting setup.now).customers) (drafted plan.now.routes (R.draft new.now)) }
+        requires short { length (drafted plan.now.routes (R.draft new.now)) ≤ 1000 }
+        requires front { (R.draft new.now).kept ≤ length (route_at plan.now.routes (R.draft new.now).vehicle) }
+        ensures fits { OnOk result (FitsAll (setting setup.now) (R.draft new.now).vehicle (drafted plan.now.routes (R.draft new.now))) }
+        ensures fresh { OnOk result (IsFreshOf (setting setup.now) plan.now.routes (R.draft new.now) fresh.new) }
+        ensures fault { IfErr result (IsRowFault (setting setup.now) (R.draft new.now).vehicle (drafted plan.now.routes (R.draft new.now))) }
         ensures asks { AsksAtMost meter.old meter.new (length (setting setup.now).dimensions
-            * walk_asks (route_at plan.now.routes draft.now.vehicle) (drafted plan.now.routes draft.now)) }
+            * walk_asks (route_at plan.now.routes (R.draft new.now).vehicle) (drafted plan.now.routes (R.draft new.now))) }
         ensures whole { OnOk result (AsksJust meter.old meter.new (length (setting setup.now).dimensions
-            * walk_asks (route_at plan.now.routes draft.now.vehicle) (drafted plan.now.routes draft.now))) }
+            * walk_asks (route_at plan.now.routes (R.draft new.now).vehicle) (drafted plan.now.routes (R.draft new.now)))) }
         ensures least { IfErr result (λ f. Asks meter.old meter.new
-            (row_asks (walk_asks (route_at plan.now.routes draft.now.vehicle) (drafted plan.now.routes draft.now)) f)
+            (row_asks (walk_asks (route_at plan.now.routes (R.draft new.now).vehicle) (drafted plan.now.routes (R.draft new.now))) f)
             (length (setting setup.now).dimensions
-            * walk_asks (route_at plan.now.routes draft.now.vehicle) (drafted plan.now.routes draft.now))) }
-        ensures missed { IfErr result (AsksToRowFault (setting setup.now) (route_at plan.now.routes draft.now.vehicle)
-            draft.now.vehicle (drafted plan.now.routes draft.now) meter.old meter.new) }
+            * walk_asks (route_at plan.now.routes (R.draft new.now).vehicle) (drafted plan.now.routes (R.draft new.now)))) }
+        ensures missed { IfErr result (AsksToRowFault (setting setup.now) (route_at plan.now.routes (R.draft new.now).vehicle)
+            (R.draft new.now).vehicle (drafted plan.now.routes (R.draft new.now)) meter.old meter.new) }
     {
         fronts_are_common();
-        let vehicle = draft.vehicle();
+        let vehicle = new.named();
         let old = plan.route(vehicle).customers();
-        let kept = draft.kept();
-        let rest = draft.rest();
+        let kept = new.stays();
+        let rest = new.follows();
         let more = common_front(&old[kept..], rest);
         fresh.front = kept + more;
         let before = &old[..kept + more];

@@ -8,6 +8,7 @@ use Rattle.plan_core.specs.Plan.{Changes, changes_of, with_routes, IsPlan, AreCh
 use Rattle.pin_core.specs.Pins.{AreFreezesKept, IsHeld}
 use Rattle.pin_core.specs.Allowed.{IsTouched}
 use Rattle.range_cache.specs.Asks.{judge_asks, asks_before}
+use Rattle.range_cache.specs.Pending.{AreNewRows}
 use Rattle.move_core.specs.Moves.{changes_by}
 use Rattle.move_core.specs.Touched.{touched_by}
 use Rattle.board_rules.specs.Override.{DoPinsAllow}
@@ -52,6 +53,11 @@ returns-in-Ok-written-clause-passes g c =
     (subst (λ (cs : Changes). AreFreezesKept held.pins held.plan.routes (with_routes cs held.plan.routes)) changes c.in-Ok-judge_pins.ensures.fronts)
     (subst (λ (cs : Changes). DoPinsAllow held.pins (may_override (held_basis held a.proposal.now.session)) (with_routes cs held.plan.routes)) changes c.in-Ok-judge_pins.ensures.pins)
     (subst (λ (cs : Changes). AllFit (setting a.setup.now) cs) judged c.in-Ok-judge_in.ensures.fits))
+
+pub returns-in-Ok-written-clause-ranges : goal.returns-in-Ok-written-clause-ranges
+returns-in-Ok-written-clause-ranges g c =
+    let judged = ap (λ (ds : List DraftState). drafts_of c.self.inside.plan.routes ds) c.as_slice-2.ensures ∙ c.in-Ok.ensures.changes ∙ ap (λ (h : HeldState). changes_by h.plan.routes c.args.proposal.now.mv.now) c.self.view_is in
+    subst (λ (cs : Changes). AreNewRows (setting c.args.setup.now) cs c.in-Ok-judge_in.pending.rows) judged c.in-Ok-judge_in.ensures.rows
 
 pub returns-in-Ok-written-clause-ready : goal.returns-in-Ok-written-clause-ready
 returns-in-Ok-written-clause-ready g c =

@@ -7,6 +7,10 @@ use Rattle.board_state.proofs.WorkLaws.{just_idle}
 use Rattle.board_state.proofs.Overrides.{leaves_test, stays_test}
 use Rattle.board_state.proofs.state.State.may_leave.Goals as goal
 
+pub returns-clause-leaves : goal.returns-clause-leaves
+returns-clause-leaves c = λ may.
+    subst (λ (h : HeldState). ¬ IsHeld h.pins (with_routes (drafts_of h.plan.routes c.args.drafts.now) h.plan.routes) c.args.customer) c.self.view_is c.if-not-leaves.ensures
+
 pub returns-clause-work : goal.returns-clause-work
 returns-clause-work c =
     let held = c.args.self.now in

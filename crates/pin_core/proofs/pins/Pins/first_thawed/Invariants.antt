@@ -1,4 +1,4 @@
-use Rattle.plan_core.specs.Drafts.{drafts_of}
+use Rattle.plan_core.specs.Drafts.{routes_by}
 use Rattle.plan_core.specs.Plan.{with_routes}
 use Rattle.plan_core.specs.Commits.{named_vehicles}
 use Rattle.pin_core.specs.Pins.{IsFrontKept}
@@ -6,5 +6,5 @@ use Rattle.pin_core.proofs.Standing.{AllBefore}
 use Rattle.pin_core.proofs.pins.Pins.first_thawed.Given as goal
 
 -- the named vehicles so far keep their fronts
-abbrev pub invariant-loop-draft : goal.invariant-loop-draft
-invariant-loop-draft l = AllBefore (IsFrontKept l.self l.plan.routes (with_routes (drafts_of l.plan.routes l.drafts) l.plan.routes)) (named_vehicles (drafts_of l.plan.routes l.drafts)) l.draft-index
+abbrev pub invariant-loop-new : goal.invariant-loop-new
+invariant-loop-new g l = AllBefore (IsFrontKept l.self l.plan.routes (with_routes (routes_by g.R.NewRoute.draft l.plan.routes l.new_routes) l.plan.routes)) (named_vehicles (routes_by g.R.NewRoute.draft l.plan.routes l.new_routes)) l.new-index

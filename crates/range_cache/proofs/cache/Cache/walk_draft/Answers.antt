@@ -11,13 +11,13 @@ pub walk_on-requires : goal.walk_on-requires
 walk_on-requires g c =
     let s = setting c.args.setup.now in
     let routes = c.args.plan.now.routes in
-    let d = c.args.draft.now in
-    let named = c.vehicle-vehicle.ensures in
+    let d = g.R.NewRoute.draft c.args.new.now in
+    let named = c.named-vehicle.ensures in
     let is : c.customers-old.result.now ≡ route_at routes d.vehicle = c.customers-old.ensures ∙ c.deref.ensures ∙ c.route.ensures.value ∙ ap (λ v. route_at routes v) named in
-    let parts = parted_draft c.fronts_are_common.ensures routes d c.customers-old.result.now c.rest-rest.result.now c.kept-kept.result c.common_front-more.result c.requires.front
-    is c.rest-rest.ensures c.kept-kept.ensures c.common_front-more.ensures.front c.common_front-more.ensures.value in
-    let low : 1 ≤ c.vehicle-vehicle.result = rw named c.requires.low in
-    let high : c.vehicle-vehicle.result ≤ s.vehicles = rw named c.requires.high in
+    let parts = parted_draft c.fronts_are_common.ensures routes d c.customers-old.result.now c.follows-rest.result.now c.stays-kept.result c.common_front-more.result c.requires.front
+    is c.follows-rest.ensures c.stays-kept.ensures c.common_front-more.ensures.front c.common_front-more.ensures.value in
+    let low : 1 ≤ c.named-vehicle.result = rw named c.requires.low in
+    let high : c.named-vehicle.result ≤ s.vehicles = rw named c.requires.high in
     record {
       low = low;
       high = high;
@@ -32,11 +32,11 @@ pub returns : goal.returns
 returns g c =
     let s = setting c.args.setup.now in
     let routes = c.args.plan.now.routes in
-    let d = c.args.draft.now in
-    let named = c.vehicle-vehicle.ensures in
+    let d = g.R.NewRoute.draft c.args.new.now in
+    let named = c.named-vehicle.ensures in
     let is : c.customers-old.result.now ≡ route_at routes d.vehicle = c.customers-old.ensures ∙ c.deref.ensures ∙ c.route.ensures.value ∙ ap (λ v. route_at routes v) named in
-    let parts = parted_draft c.fronts_are_common.ensures routes d c.customers-old.result.now c.rest-rest.result.now c.kept-kept.result c.common_front-more.result c.requires.front
-    is c.rest-rest.ensures c.kept-kept.ensures c.common_front-more.ensures.front c.common_front-more.ensures.value in
+    let parts = parted_draft c.fronts_are_common.ensures routes d c.customers-old.result.now c.follows-rest.result.now c.stays-kept.result c.common_front-more.result c.requires.front
+    is c.follows-rest.ensures c.stays-kept.ensures c.common_front-more.ensures.front c.common_front-more.ensures.value in
     let e = c.walk_on.ensures in
     let all = parted_change s routes d _ _ _ _ named parts c.fronts_are_common.ensures c.args.meter.now c.walk_on.new.meter c.walk_on.result c.walk_on.new.fresh
     (record { fits = e.fits; row = e.tail; fault = e.fault; asks = e.asks; whole = e.whole; least = e.least; missed = e.missed }) in
