@@ -72,6 +72,12 @@ impl<N: Naming, L: Drop> SeatOf<N, L> {
         }
     }
 
+    /// The allocator that the desk was opened with.
+    #[inline(always)]
+    pub fn alloc(&self) -> Global {
+        self.alloc
+    }
+
     /// Brings the view that the desk keeps up to what is published, and so what the desk has seen: the routes that changed are taken over,
     /// and all pins and frozen lengths where one did. Memory is taken only where there is no view yet. It waits for nobody. After `NoMemory`
     /// there is no view until a later call makes one.

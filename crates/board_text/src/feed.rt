@@ -45,6 +45,8 @@ fn cut(alloc: Global, bytes: &[u8]) -> Result<Option<(Vec<u8>, Vec<u8>)>, AllocE
 #[derive(Drop)]
 pub(crate) struct Feed {
     held: Vec<u8>,
+    /// The number of the line that is answered, from 1. No line: 0.
+    pub(crate) number: u64,
 }
 
 impl Feed {
@@ -54,14 +56,16 @@ impl Feed {
     {
         Feed {
             held: Vec::new(alloc),
+            number: 0,
         }
     }
 
     /// The first line of what was read, if it is whole or too long.
-    fn first(&mut self, alloc: Global) -> Result<Option<Piece>, AllocError>
+    fn first(&mut self) -> Result<Option<Piece>, AllocError>
         ensures { IfOk result (λ o. MatchOption o (IsUncut self.old.held.items self.new.held.items)
             (IsFirst self.old.held.items self.new.held.items)) }
     {
+        let alloc = *self.held.allocator();
         let Some((line, rest)) = cut(alloc, self.held.as_slice())? else {
             if self.held.len() > MOST_BYTES {
                 return Ok(Some(Piece::Long));
@@ -92,15 +96,16 @@ impl Feed {
     }
 
     /// The next part of the script.
-    pub(crate) fn next<I: Read>(&mut self, alloc: Global, reader: &mut I) -> Result<Piece, RunFault>
+    pub(crate) fn next<I: Read>(&mut self, reader: &mut I) -> Result<Piece, RunFault>
         ensures { IsNext self.old.held.items self.new.held.items (I.remaining reader.old) (I.remaining reader.new) result }
     {
         'reads: for _ in 0..u64::MAX {
-            if let Some(piece) = self.first(alloc)? {
+            if let Some(piece) = self.first()? {
                 return Ok(piece);
             }
             if !self.read_on(reader)? {
-                let rest = mem::replace(&mut self.held, Vec::new(alloc));
+                let none = Vec::new(*self.held.allocator());
+                let rest = mem::replace(&mut self.held, none);
                 return Ok(Piece::Last(rest));
             }
         }

@@ -1,6 +1,6 @@
 //! A run with notes.
 
-ghost use Rattle.std.specs.Prelude.{◌≡◌, ◌≤◌, ◌+◌, ◌<◌, ◌^◌, IfOk, IfErr};
+ghost use Rattle.std.specs.Prelude.{◌≡◌, ◌≤◌, ◌+◌, ◌<◌, ◌^◌, [], IfOk, IfErr};
 ghost use Rattle.board_lines.specs.declared.command.Command.TheVariants.{Skip};
 ghost use Rattle.line_engine.specs.WholeRuns.{IsAnswered, IsStopped};
 ghost use Rattle.board_text.specs.Fed.{IsTextAnswered, IsTextStopped, as_whole};
@@ -41,9 +41,8 @@ fn as_whole(fault: RunFault) -> RunFault
 /// Answers a line, and writes the note on it.
 fn answer_line<R, F: Front<R> + Notes, W: Write, E: Write>(
     rt: &R,
-    alloc: Global,
     front: &mut F,
-    line: &[u8],
+    line: Vec<u8>,
     number: u64,
     writer: &mut W,
     notes: &mut E,
@@ -51,16 +50,20 @@ fn answer_line<R, F: Front<R> + Notes, W: Write, E: Write>(
     requires { F.ready front.old }
     ensures ready { F.ready front.new }
     ensures ok { IfOk result (IsTextAnswered F.step (F.seen front.old) (F.seen front.new)
-        line.now (W.contents writer.old) (W.contents writer.new)) }
+        line.items (W.contents writer.old) (W.contents writer.new)) }
     ensures err { IfErr result (λ e. IsTextStopped F.step F.refuses e (F.seen front.old) (F.seen front.new)
-        line.now (W.contents writer.old) (W.contents writer.new)) }
+        line.items (W.contents writer.old) (W.contents writer.new)) }
 {
+    let alloc = *line.allocator();
     let before = front.events();
-    let mut bytes = line;
+    let mut bytes = line.as_slice();
     match run_lines(rt, alloc, front, &mut bytes, writer) {
         Ok(counts) => {
             if counts.refused > 0 {
-                tell(notes, front.note(alloc, before, body(line), number));
+                tell(
+                    notes,
+                    front.note(alloc, before, body(line.as_slice()), number),
+                );
             }
             Ok(counts)
         }
@@ -84,16 +87,16 @@ fn plus(first: Counts, second: Counts) -> Counts
     }
 }
 
-/// Answers line after line. `number` becomes the number of the line at which the run ends.
+/// Answers line after line of a feed of which nothing is read yet. Its number becomes that of the line at which the run ends.
 fn answer_lines<R, F: Front<R> + Notes, I: Read, W: Write, E: Write>(
     rt: &R,
-    alloc: Global,
     front: &mut F,
+    feed: &mut Feed,
     reader: &mut I,
     writer: &mut W,
     notes: &mut E,
-    number: &mut u64,
 ) -> Result<Counts, RunFault>
+    requires feed { feed.old.held.items ≡ [] }
     requires ready { F.ready front.old }
     requires skips { (old : F.State) (new : F.State) → F.refuses old Skip new → new ≡ old }
     ensures ready { F.ready front.new }
@@ -104,20 +107,19 @@ fn answer_lines<R, F: Front<R> + Notes, I: Read, W: Write, E: Write>(
         (F.seen front.new) (I.remaining reader.old)
         (I.remaining reader.new) (W.contents writer.old) (W.contents writer.new)) }
 {
-    let mut feed = Feed::new(alloc);
     let mut counts = Counts {
         lines: 0,
         refused: 0,
     };
     'lines: for before in 0..MOST_LINES {
-        *number = before + 1;
-        match feed.next(alloc, reader)? {
+        feed.number = before + 1;
+        match feed.next(reader)? {
             Piece::Line(line) => {
-                let more = answer_line(rt, alloc, front, line.as_slice(), *number, writer, notes)?;
+                let more = answer_line(rt, front, line, before + 1, writer, notes)?;
                 counts = plus(counts, more);
             }
             Piece::Last(rest) => {
-                let more = answer_line(rt, alloc, front, rest.as_slice(), *number, writer, notes)?;
+                let more = answer_line(rt, front, rest, before + 1, writer, notes)?;
                 return Ok(plus(counts, more));
             }
             Piece::Long => return Err(RunFault::LongLine),
@@ -148,10 +150,10 @@ pub fn run_explained_lines<R, F: Front<R> + Notes, I: Read, W: Write, E: Write>(
         (F.seen front.new) (I.remaining reader.old)
         (I.remaining reader.new) (W.contents writer.old) (W.contents writer.new)) }
 {
-    let mut number = 0u64;
-    let end = answer_lines(rt, alloc, front, reader, writer, notes, &mut number);
+    let mut feed = Feed::new(alloc);
+    let end = answer_lines(rt, front, &mut feed, reader, writer, notes);
     if let Err(fault) = &end {
-        tell(notes, end_note(alloc, *fault, number));
+        tell(notes, end_note(alloc, *fault, feed.number));
     }
     end
 }

@@ -3,7 +3,7 @@ ghost use Rattle.std.specs.Prelude.{◌≡◌, IfSome};
 ghost use Rattle.dimension_core.specs.Setup.{setting};
 
 use crate::calls::open_two;
-use crate::threads::{Commit, Task, beside};
+use crate::threads::{Commit, Given, Task, beside};
 use board_core::Board;
 use board_lock::{DeskOf, Foyer, Naming, Seat};
 use board_rules::{Event, Fault, Reply};
@@ -257,7 +257,17 @@ fn reads_and_commits<
         from: 5,
         commits: 2000,
     };
-    let (_version, ran) = beside(rt, commit, first, two, script, second, one);
+    let there = Given {
+        task: commit,
+        first,
+        second: two,
+    };
+    let here = Given {
+        task: script,
+        first: second,
+        second: one,
+    };
+    let (_version, ran) = beside(rt, there, here);
     Some(ran.0)
 }
 

@@ -24,6 +24,13 @@ pub trait Task<A, B, C> {
         requires { may first second };
 }
 
+/// A task with the two things that it is given.
+pub(crate) struct Given<T, A, B> {
+    pub task: T,
+    pub first: A,
+    pub second: B,
+}
+
 /// Does two tasks at once, the first one in another thread.
 pub(crate) fn beside<
     A: Send + Drop,
@@ -35,18 +42,28 @@ pub(crate) fn beside<
     F: Drop,
     T: Task<D, E, F> + Drop,
     W: Threads + Wait + Sync,
->(rt: &W, there: S, first: A, second: B, here: T, third: D, fourth: E) -> (C, F)
-    requires there { S.may first second }
-    requires here { T.may third fourth }
+>(rt: &W, there: Given<S, A, B>, here: Given<T, D, E>) -> (C, F)
+    requires there { S.may there.first there.second }
+    requires here { T.may here.first here.second }
 {
+    let Given {
+        task: far,
+        first,
+        second,
+    } = there;
+    let Given {
+        task: near,
+        first: third,
+        second: fourth,
+    } = here;
     join(
         rt,
         move || -> C
             requires { S.may first second }
-        { there.run(rt, first, second) },
+        { far.run(rt, first, second) },
         move || -> F
             requires { T.may third fourth }
-        { here.run(rt, third, fourth) },
+        { near.run(rt, third, fourth) },
     )
 }
 
@@ -177,15 +194,17 @@ fn race<N: Naming + Send + Sync, R: Wait + Drop + Send + Sync, W: Threads + Wait
     requires { setting setup.now.value ≡ N.opening.setting }
 {
     let (first, second) = shared(setup)?;
-    let (one, two) = beside(
-        rt,
-        Submit(calls.0),
+    let there = Given {
+        task: Submit(calls.0),
         first,
-        seats.0,
-        Submit(calls.1),
-        second,
-        seats.1,
-    );
+        second: seats.0,
+    };
+    let here = Given {
+        task: Submit(calls.1),
+        first: second,
+        second: seats.1,
+    };
+    let (one, two) = beside(rt, there, here);
     compare_both(rt, one.1, two.1, replies.0, replies.1);
     Some((one.0, two.0))
 }
@@ -203,7 +222,17 @@ fn look_on<N: Naming + Send + Sync, R: Wait + Drop + Send + Sync, W: Threads + W
         from: 2,
         commits: 10000,
     };
-    let (version, looks) = beside(rt, commit, first, seats.0, Look(10002), second, seats.1);
+    let there = Given {
+        task: commit,
+        first,
+        second: seats.0,
+    };
+    let here = Given {
+        task: Look(10002),
+        first: second,
+        second: seats.1,
+    };
+    let (version, looks) = beside(rt, there, here);
     compare_looks(rt, version, looks);
     Some(version)
 }

@@ -151,11 +151,11 @@ fn start_both<
     N: Naming + Send + Sync + 'static,
     R: Wait + Drop + Send + Sync + 'static,
     W: Threads + Wait + Copy + Send + Sync + 'static,
->(rt: W, alloc: Global, setup: &Arc<Setup>, two: Seat<N, R>, three: Seat<N, R>) -> Searching<N, R>
+>(rt: W, setup: &Arc<Setup>, two: Seat<N, R>, three: Seat<N, R>) -> Searching<N, R>
     requires { setting setup.now.value ≡ N.opening.setting }
 {
-    let second = start_search(rt, Search { alloc, session: 2 }, setup, two);
-    let third = start_search(rt, Search { alloc, session: 3 }, setup, three);
+    let second = start_search(rt, Search { session: 2 }, setup, two);
+    let third = start_search(rt, Search { session: 3 }, setup, three);
     Searching { second, third }
 }
 
@@ -183,7 +183,7 @@ fn all_at_once<
     N: Naming + Send + Sync + 'static,
     R: Wait + Drop + Send + Sync + 'static,
     W: Threads + Wait + Copy + Send + Sync + 'static,
->(rt: W, alloc: Global, setup: &Arc<Setup>, seats: Three<N, R>) -> Option<(Three<N, R>, u32, bool)>
+>(rt: W, setup: &Arc<Setup>, seats: Three<N, R>) -> Option<(Three<N, R>, u32, bool)>
     requires { setting setup.now.value ≡ N.opening.setting }
 {
     let Three {
@@ -191,7 +191,7 @@ fn all_at_once<
         two,
         three,
     } = seats;
-    let searching = start_both(rt, alloc, setup, two, three);
+    let searching = start_both(rt, setup, two, three);
     let rose = pin_all(&rt, setup, &mut one);
     match join_both(&rt, one, searching) {
         Some((seats, rounds)) => Some((seats, rounds, rose)),
@@ -231,7 +231,7 @@ pub(crate) fn three_desks<
 {
     let mut seats = opened::<N, R>(alloc, room)?;
     play(&rt, alloc, &setup, &mut seats.one, PREPARED);
-    let (mut seats, rounds, rose) = all_at_once(rt, alloc, &setup, seats)?;
+    let (mut seats, rounds, rose) = all_at_once(rt, &setup, seats)?;
     let agreed = met(&rt, &mut seats);
     let (stops, pins) = counted(&mut seats.one)?;
     Some(End {

@@ -8,7 +8,6 @@ ghost use Rattle.dimension_core.specs.Setup.{setting};
 use board_lock::{DeskOf, Naming, Seat};
 use dimension_core::Setup;
 use search_workers::{OpenGate, Share, Tally, work};
-use std::alloc::Global;
 use std::sync::{Arc, Wait};
 use std::thread;
 use std::thread::{JoinHandle, Threads};
@@ -46,7 +45,6 @@ fn start<
 /// A hundred rounds of search, each of which may propose one move by the session.
 #[derive(Drop)]
 pub(crate) struct Search {
-    pub alloc: Global,
     pub session: u32,
 }
 
@@ -70,7 +68,7 @@ impl<N: Naming, R: Wait + Drop, W: Wait> Task<W, Arc<Setup>, Seat<N, R>, Searche
             seat: second,
         };
         let seed = u64::from(self.session);
-        let Share { desk, tally } = work(rt, self.alloc, desk, self.session, seed, 100, &OpenGate);
+        let Share { desk, tally } = work(rt, desk, self.session, seed, 100, &OpenGate);
         let DeskOf { setup: _, seat } = desk;
         Searched { seat, tally }
     }

@@ -33,7 +33,6 @@ const LAID_OUT: &[&str] = &[
 /// A round of session 2, which is left so many bytes.
 fn one_round<N: Naming, R: Wait + Drop, W: Wait>(
     rt: &W,
-    alloc: Global,
     hoard: &mut Hoard,
     desk: Desk<N, R>,
     bytes: usize,
@@ -42,7 +41,7 @@ fn one_round<N: Naming, R: Wait + Drop, W: Wait>(
     ensures { setting result.0.setup.value ≡ N.opening.setting }
 {
     hoard.leave(bytes);
-    let Share { desk, tally } = work(rt, alloc, desk, 2, SEED, 1, &OpenGate);
+    let Share { desk, tally } = work(rt, desk, 2, SEED, 1, &OpenGate);
     hoard.give_back();
     (desk, tally)
 }
@@ -50,7 +49,6 @@ fn one_round<N: Naming, R: Wait + Drop, W: Wait>(
 /// One round after another, each with more memory, until one is not refused: how many were, and the last one.
 fn rounds_until<N: Naming, R: Wait + Drop, W: Wait>(
     rt: &W,
-    alloc: Global,
     hoard: &mut Hoard,
     desk: Desk<N, R>,
 ) -> (u32, Option<Tally>)
@@ -59,7 +57,7 @@ fn rounds_until<N: Naming, R: Wait + Drop, W: Wait>(
     let mut desk = desk;
     let mut bytes = 0usize;
     for refused in 0..10_000u32 {
-        let (next, tally) = one_round(rt, alloc, hoard, desk, bytes);
+        let (next, tally) = one_round(rt, hoard, desk, bytes);
         desk = next;
         if tally.refused == 0 {
             return (refused, Some(tally));
@@ -84,7 +82,7 @@ pub(crate) fn works_on<N: Naming, R: Wait + Drop, W: Wait>(
 {
     let (worker, mut own) = open_two::<N, R>(alloc, foyer)?;
     play(rt, alloc, &own.setup, &mut own.seat, LAID_OUT);
-    let (refused, last) = rounds_until(rt, alloc, hoard, worker);
+    let (refused, last) = rounds_until(rt, hoard, worker);
     let journal = audit(rt, &mut own.seat, 1)?;
     Some((refused, last, text_of(alloc, &journal)))
 }

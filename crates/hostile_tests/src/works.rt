@@ -41,7 +41,7 @@ fn shares_of<N: Naming + Send + Sync, R: Wait + Drop + Send + Sync, W: Threads +
     }
     let (sessions, seeds) = ones(alloc, desks.len())?;
     hoard.leave(bytes);
-    let worked = work_all(rt, alloc, desks, sessions, seeds, 0, &OpenGate);
+    let worked = work_all(rt, desks, sessions, seeds, 0, &OpenGate);
     hoard.give_back();
     match worked {
         Ok(shares) => Some(Ok(shares.len())),

@@ -29,7 +29,6 @@ use text_words::{Lines, keep_all_words};
 #[inline(never)]
 fn ask<R, F: Front<R>>(
     rt: &R,
-    alloc: Global,
     front: &mut F,
     text: &mut String,
     session: u32,
@@ -44,6 +43,7 @@ fn ask<R, F: Front<R>>(
         (F.seen front.new)) }
 {
     text.clear();
+    let alloc = *text.allocator();
     match read_command(alloc, session, word, arguments) {
         Ok(command) => obey(rt, front, text, command),
         Err(fault) => unread(fault),
@@ -132,7 +132,6 @@ fn ask_hold<R, F: Front<R>>(
 #[inline(always)]
 fn answer<R, F: Front<R>>(
     rt: &R,
-    alloc: Global,
     front: &mut F,
     text: &mut String,
     words: &[&[u8]],
@@ -172,7 +171,7 @@ fn answer<R, F: Front<R>>(
                 word,
                 arguments,
             },
-        ) => ask(rt, alloc, front, text, session, word, arguments),
+        ) => ask(rt, front, text, session, word, arguments),
         Err(fault) => Ok(Mark::Bad(fault)),
     }
 }
@@ -180,7 +179,6 @@ fn answer<R, F: Front<R>>(
 /// Answers a line whose words, without the one carriage return at its end, are these, and holds the reply.
 fn serve<R, F: Front<R>>(
     rt: &R,
-    alloc: Global,
     front: &mut F,
     outbox: &mut Outbox,
     words: &[&[u8]],
@@ -197,7 +195,7 @@ fn serve<R, F: Front<R>>(
     ensures held { OnErr result (outbox.new.held.items ≡ outbox.old.held.items) }
     ensures err { IfErr result (λ e. ServeBroken F.step F.refuses e (F.seen front.old) (F.seen front.new) line.now) }
 {
-    let Ok(mark) = answer(rt, alloc, front, &mut outbox.text, words) else {
+    let Ok(mark) = answer(rt, front, &mut outbox.text, words) else {
         return Err(RunFault::NoMemory);
     };
     outbox.put(mark)?;
@@ -209,7 +207,6 @@ fn serve<R, F: Front<R>>(
 #[inline(never)]
 fn serve_whole<R, F: Front<R>>(
     rt: &R,
-    alloc: Global,
     front: &mut F,
     outbox: &mut Outbox,
     line: &[u8],
@@ -225,11 +222,11 @@ fn serve_whole<R, F: Front<R>>(
     ensures err { IfErr result (λ e. ServeBroken F.step F.refuses e (F.seen front.old) (F.seen front.new) line.now) }
 {
     let body = line.strip_suffix(b"\r".as_slice()).unwrap_or(line);
-    let mut words = Vec::new(alloc);
+    let mut words = Vec::new(*outbox.held.allocator());
     if keep_all_words(&mut words, body).is_err() {
         return Err(RunFault::NoMemory);
     }
-    serve(rt, alloc, front, outbox, words.as_slice(), line)
+    serve(rt, front, outbox, words.as_slice(), line)
 }
 
 /// How many bytes a line may have.
@@ -260,7 +257,6 @@ fn is_returned(line: &[u8]) -> bool
 /// Answers the line that ends with these bytes, which have these words.
 fn take_line<R, F: Front<R>>(
     rt: &R,
-    alloc: Global,
     front: &mut F,
     outbox: &mut Outbox,
     partial: &mut Vec<u8>,
@@ -285,14 +281,14 @@ fn take_line<R, F: Front<R>>(
     }
     if partial.is_empty() && more.len() <= MOST_BYTES {
         if is_returned(more) {
-            serve_whole(rt, alloc, front, outbox, more)?;
+            serve_whole(rt, front, outbox, more)?;
             return Ok(());
         }
-        serve(rt, alloc, front, outbox, words, more)?;
+        serve(rt, front, outbox, words, more)?;
         return Ok(());
     }
     keep(partial, more)?;
-    serve_whole(rt, alloc, front, outbox, partial.as_slice())?;
+    serve_whole(rt, front, outbox, partial.as_slice())?;
     partial.clear();
     Ok(())
 }
@@ -301,7 +297,6 @@ fn take_line<R, F: Front<R>>(
 /// of the bytes.
 fn feed<'a, R, F: Front<R>>(
     rt: &R,
-    alloc: Global,
     front: &mut F,
     outbox: &mut Outbox,
     partial: &mut Vec<u8>,
@@ -318,14 +313,14 @@ fn feed<'a, R, F: Front<R>>(
     ensures err { IfErr result (λ e. Grows outbox.old.held.items outbox.new.held.items (λ out. BrokenWithin F.step F.refuses e
         (F.seen front.old) (F.seen front.new) out outbox.old.tally.seen partial.old.items piece.now)) }
 {
-    let mut words = Vec::with_capacity(alloc, MANY_WORDS)?;
+    let mut words = Vec::with_capacity(*partial.allocator(), MANY_WORDS)?;
     let mut left = Lines::new(piece);
     'lines: loop {
         let Some(line) = left.keep_next(&mut words)? else {
             keep(partial, left.rest())?;
             return Ok(b"".as_slice());
         };
-        take_line(rt, alloc, front, outbox, partial, words.as_slice(), line)?;
+        take_line(rt, front, outbox, partial, words.as_slice(), line)?;
         if outbox.is_full() {
             return Ok(left.rest());
         }
@@ -338,7 +333,6 @@ const MANY_WORDS: usize = 8;
 /// Takes the next bytes, answers each line that is complete now, and writes replies once they are many.
 fn take_piece<R, F: Front<R>, W: Write>(
     rt: &R,
-    alloc: Global,
     front: &mut F,
     outbox: &mut Outbox,
     partial: &mut Vec<u8>,
@@ -358,7 +352,7 @@ fn take_piece<R, F: Front<R>, W: Write>(
 {
     let mut left = piece;
     'parts: while !left.is_empty() {
-        match feed(rt, alloc, front, outbox, partial, left) {
+        match feed(rt, front, outbox, partial, left) {
             Ok(after) => left = after,
             Err(fault) => return Err(outbox.close(writer, fault)),
         }
@@ -372,7 +366,6 @@ fn take_piece<R, F: Front<R>, W: Write>(
 /// Answers what follows the last line end, if anything does.
 fn finish<R, F: Front<R>>(
     rt: &R,
-    alloc: Global,
     front: &mut F,
     outbox: &mut Outbox,
     partial: &[u8],
@@ -393,7 +386,7 @@ fn finish<R, F: Front<R>>(
     if outbox.tally.is_full() {
         return Err(RunFault::Read);
     }
-    serve_whole(rt, alloc, front, outbox, partial)?;
+    serve_whole(rt, front, outbox, partial)?;
     Ok(())
 }
 
@@ -432,7 +425,7 @@ pub fn run_lines<R, F: Front<R>, I: Read, W: Write>(
             return Err(RunFault::Read);
         };
         if count == 0 {
-            if let Err(fault) = finish(rt, alloc, front, &mut outbox, partial.as_slice()) {
+            if let Err(fault) = finish(rt, front, &mut outbox, partial.as_slice()) {
                 return Err(outbox.close(writer, fault));
             }
             outbox.flush(writer)?;
@@ -443,7 +436,6 @@ pub fn run_lines<R, F: Front<R>, I: Read, W: Write>(
         }
         take_piece(
             rt,
-            alloc,
             front,
             &mut outbox,
             &mut partial,

@@ -10,13 +10,12 @@ use std::process::Abort;
 use std::sync::Arc;
 use std::sync::atomic::{AtomicU64, Ordering};
 
-/// Compares the answers of a callback for node 1 and each of some nodes, as a row or as a column.
-fn compare_answers(
+/// Compares the answers of a callback from node 1 to each of some nodes.
+fn compare_row(
     rt: &impl Abort,
     registry: &Registry,
     id: TransitId,
     meter: &mut Meter,
-    is_row: bool,
     nodes: &[u32],
     wanted: &[u32],
 )
@@ -26,11 +25,26 @@ fn compare_answers(
     requires four { length nodes.now ≡ 4 }
 {
     let mut answers = [1u32; 4];
-    if is_row {
-        registry.ask_row(id, meter, 1, nodes, &mut answers);
-    } else {
-        registry.ask_column(id, meter, 1, nodes, &mut answers);
-    }
+    registry.ask_row(id, meter, 1, nodes, &mut answers);
+    assert_eq!(rt; answers.as_slice(), wanted);
+}
+
+/// Compares the answers of a callback from each of some nodes to node 1.
+fn compare_column(
+    rt: &impl Abort,
+    registry: &Registry,
+    id: TransitId,
+    meter: &mut Meter,
+    nodes: &[u32],
+    wanted: &[u32],
+)
+    requires registered { id < length (tables registry.now) }
+    requires one { 1 < nodes_of (tables registry.now) }
+    requires nodes { All (λ i. i < nodes_of (tables registry.now)) nodes.now }
+    requires four { length nodes.now ≡ 4 }
+{
+    let mut answers = [1u32; 4];
+    registry.ask_column(id, meter, 1, nodes, &mut answers);
     assert_eq!(rt; answers.as_slice(), wanted);
 }
 
@@ -97,25 +111,9 @@ fn ask_a_matrix(rt: &impl Abort, registry: &Registry, costs: TransitId)
     compare(rt, registry.ask(costs, &mut meter, 0, 1), 10, "out");
     compare(rt, registry.ask(costs, &mut meter, 1, 0), 20, "back");
     let nodes = &[1, 0, 0, 1];
-    compare_answers(
-        rt,
-        registry,
-        costs,
-        &mut meter,
-        true,
-        nodes,
-        &[0, 20, 20, 0],
-    );
+    compare_row(rt, registry, costs, &mut meter, nodes, &[0, 20, 20, 0]);
     compare(rt, meter.asks, 6, "asks after a row");
-    compare_answers(
-        rt,
-        registry,
-        costs,
-        &mut meter,
-        false,
-        nodes,
-        &[0, 10, 10, 0],
-    );
+    compare_column(rt, registry, costs, &mut meter, nodes, &[0, 10, 10, 0]);
     compare(rt, meter.asks, 10, "asks after a column");
     compare_lent(rt, registry.answers(costs), &[0, 10, 20, 0]);
 }
@@ -143,19 +141,11 @@ fn ask_stays_and_values(rt: &impl Abort, registry: &Registry, time: TransitId, l
     let nodes = &[1, 0, 0, 1];
     compare(rt, registry.ask(time, &mut meter, 0, 1), 13, "out");
     compare(rt, registry.ask(time, &mut meter, 1, 0), 25, "back");
-    compare_answers(rt, registry, time, &mut meter, true, nodes, &[5, 25, 25, 5]);
-    compare_answers(
-        rt,
-        registry,
-        time,
-        &mut meter,
-        false,
-        nodes,
-        &[5, 13, 13, 5],
-    );
+    compare_row(rt, registry, time, &mut meter, nodes, &[5, 25, 25, 5]);
+    compare_column(rt, registry, time, &mut meter, nodes, &[5, 13, 13, 5]);
     compare(rt, registry.ask(load, &mut meter, 1, 0), 4, "load");
-    compare_answers(rt, registry, load, &mut meter, true, nodes, &[4, 4, 4, 4]);
-    compare_answers(rt, registry, load, &mut meter, false, nodes, &[4, 0, 0, 4]);
+    compare_row(rt, registry, load, &mut meter, nodes, &[4, 4, 4, 4]);
+    compare_column(rt, registry, load, &mut meter, nodes, &[4, 0, 0, 4]);
     compare(rt, meter.asks, 19, "asks");
 }
 
@@ -198,7 +188,12 @@ fn ask_rows_and_columns(
     let mut meter = Meter::new();
     for (is_paired, is_row, wanted) in LISTS {
         let id = if *is_paired { pairs } else { nodes };
-        compare_answers(rt, registry, id, &mut meter, *is_row, &[2, 0, 1, 2], wanted);
+        let asked = &[2, 0, 1, 2];
+        if *is_row {
+            compare_row(rt, registry, id, &mut meter, asked, wanted);
+        } else {
+            compare_column(rt, registry, id, &mut meter, asked, wanted);
+        }
         compare(rt, meter.asks, calls.load(Ordering::SeqCst), "calls so far");
     }
     registry.ask_row(pairs, &mut meter, 1, &[], &mut []);

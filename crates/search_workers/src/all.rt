@@ -122,6 +122,14 @@ fn start_one<
     }
 }
 
+/// The sessions and the seeds of workers, each at the place of its desk, and how many rounds each worker does.
+#[derive(Drop)]
+struct Orders {
+    sessions: Vec<u32>,
+    seeds: Vec<u64>,
+    rounds: u32,
+}
+
 /// Starts a worker for the last desk, goes on with the others, and joins the last.
 fn start_all<
     's,
@@ -133,36 +141,33 @@ fn start_all<
 >(
     rt: &'s W,
     scope: &'s Scope<'s, E>,
-    alloc: Global,
     desks: Vec<Desk<N, R>>,
-    sessions: Vec<u32>,
-    seeds: Vec<u64>,
-    rounds: u32,
+    orders: Orders,
     gate: &'s G,
 ) -> Result<Vec<Share<N, R>>, WorkFault>
     requires setups { All (λ d. setting d.setup.value ≡ N.opening.setting) desks.items }
     requires few { length desks.items ≤ 63 }
-    requires lengths { (length sessions.items ≡ length desks.items) × (length seeds.items ≡ length desks.items) }
-    ensures { IfOk result (λ v. AllWorked N.opening rounds sessions.items seeds.items (map (λ d. d.seat) desks.items)
+    requires lengths { (length orders.sessions.items ≡ length desks.items) × (length orders.seeds.items ≡ length desks.items) }
+    ensures { IfOk result (λ v. AllWorked N.opening orders.rounds orders.sessions.items orders.seeds.items (map (λ d. d.seat) desks.items)
         (map (λ s. s.desk.seat) v.items) (map (λ s. s.tally) v.items) × All (λ s. setting s.desk.setup.value ≡ N.opening.setting) v.items) }
 {
+    let alloc = *desks.allocator();
     let mut desks = desks;
-    let mut sessions = sessions;
-    let mut seeds = seeds;
+    let mut orders = orders;
     let Some(desk) = desks.pop() else {
         return Ok(Vec::new(alloc));
     };
-    let Some(session) = sessions.pop() else {
+    let Some(session) = orders.sessions.pop() else {
         unreachable!()
     };
-    let Some(seed) = seeds.pop() else {
+    let Some(seed) = orders.seeds.pop() else {
         unreachable!()
     };
     let DeskOf { setup, seat } = desk;
     let order = Order {
         session,
         seed,
-        rounds,
+        rounds: orders.rounds,
     };
     let number = desks.len() as u32 + 1;
     let worker = Worker {
@@ -171,7 +176,7 @@ fn start_all<
         order,
     };
     let child = start_one(rt, scope, alloc, &setup, worker, gate)?;
-    let rest = start_all(rt, scope, alloc, desks, sessions, seeds, rounds, gate);
+    let rest = start_all(rt, scope, desks, orders, gate);
     let Work { seat, tally } = child.join(rt);
     let mut shares = rest?;
     let share = Share {
@@ -196,7 +201,6 @@ pub fn work_all<
     G: Gate<W> + Sync,
 >(
     rt: &W,
-    alloc: Global,
     desks: Vec<Desk<N, R>>,
     sessions: Vec<u32>,
     seeds: Vec<u64>,
@@ -210,15 +214,20 @@ pub fn work_all<
         (map (λ s. s.desk.seat) v.items) (map (λ s. s.tally) v.items)) }
     ensures setups { IfOk result (λ v. All (λ s. setting s.desk.setup.value ≡ N.opening.setting) v.items) }
 {
+    let orders = Orders {
+        sessions,
+        seeds,
+        rounds,
+    };
     thread::scope(
         thread::scope_env(),
         rt,
         move |scope| -> Result<Vec<Share<N, R>>, WorkFault>
             requires { All (λ d. setting d.setup.value ≡ N.opening.setting) desks.items × (length desks.items ≤ 63)
-                × (length sessions.items ≡ length desks.items) × (length seeds.items ≡ length desks.items) }
-            ensures { IfOk result (λ v. AllWorked N.opening rounds sessions.items seeds.items (map (λ d. d.seat) desks.items)
-                (map (λ s. s.desk.seat) v.items) (map (λ s. s.tally) v.items)
+                × (length orders.sessions.items ≡ length desks.items) × (length orders.seeds.items ≡ length desks.items) }
+            ensures { IfOk result (λ v. AllWorked N.opening orders.rounds orders.sessions.items orders.seeds.items
+                (map (λ d. d.seat) desks.items) (map (λ s. s.desk.seat) v.items) (map (λ s. s.tally) v.items)
                 × All (λ s. setting s.desk.setup.value ≡ N.opening.setting) v.items) }
-        { start_all(rt, scope, alloc, desks, sessions, seeds, rounds, gate) },
+        { start_all(rt, scope, desks, orders, gate) },
     )
 }

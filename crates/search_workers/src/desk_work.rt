@@ -7,7 +7,6 @@ use crate::gate::Gate;
 use crate::share::Share;
 use crate::worker::{Order, Work, Worker, work_at};
 use board_lock::{Desk, DeskOf, Naming};
-use std::alloc::Global;
 use std::sync::Wait;
 
 /// Background search from a desk: so many rounds, each of which proposes by the session the best move near two vehicles.
@@ -19,7 +18,6 @@ use std::sync::Wait;
 /// the desk is brought up to the journal. To the gate it is worker 1.
 pub fn work<N: Naming, R: Wait + Drop, W: Wait, G: Gate<W>>(
     rt: &W,
-    alloc: Global,
     desk: Desk<N, R>,
     session: u32,
     seed: u64,
@@ -31,6 +29,7 @@ pub fn work<N: Naming, R: Wait + Drop, W: Wait, G: Gate<W>>(
     ensures setup { setting result.desk.setup.value ≡ N.opening.setting }
 {
     let DeskOf { setup, seat } = desk;
+    let alloc = seat.alloc();
     let order = Order {
         session,
         seed,

@@ -7,6 +7,13 @@ use rand_core::SeedableRng;
 use rand_pcg::Lcg64Xsh32;
 use vehicle_draw::draw;
 
+/// The two vehicles near which a worker searches in a round.
+#[derive(Clone, Copy)]
+pub(crate) struct Drawn {
+    pub first: u32,
+    pub second: u32,
+}
+
 /// The generator of a seed.
 pub(crate) fn sow(seed: u64) -> Lcg64Xsh32
     ensures { stream_in result ≡ behind 0 (seeded seed) }
@@ -15,14 +22,19 @@ pub(crate) fn sow(seed: u64) -> Lcg64Xsh32
 }
 
 /// The two vehicles of the next round, of `k`, once so many rounds are done.
-pub(crate) fn draw_round(rng: &mut Lcg64Xsh32, seed: u64, k: u32, done: u32) -> (u32, u32)
+pub(crate) fn draw_round(rng: &mut Lcg64Xsh32, seed: u64, k: u32, done: u32) -> Drawn
     requires k { 1 ≤ k }
     requires words { stream_in rng.old ≡ behind (2 * done) (seeded seed) }
-    ensures first { (job : Job) → job.words ≡ seeded seed → job.opening.setting.vehicles ≡ k → result.0 ≡ first_vehicle job (done + 1) }
-    ensures second { (job : Job) → job.words ≡ seeded seed → job.opening.setting.vehicles ≡ k → result.1 ≡ second_vehicle job (done + 1) }
-    ensures known { ((1 ≤ result.0) × (result.0 ≤ k)) × ((1 ≤ result.1) × (result.1 ≤ k)) }
+    ensures first { (job : Job) → job.words ≡ seeded seed → job.opening.setting.vehicles ≡ k
+        → result.first ≡ first_vehicle job (done + 1) }
+    ensures second { (job : Job) → job.words ≡ seeded seed → job.opening.setting.vehicles ≡ k
+        → result.second ≡ second_vehicle job (done + 1) }
+    ensures known { ((1 ≤ result.first) × (result.first ≤ k)) × ((1 ≤ result.second) × (result.second ≤ k)) }
     ensures words { stream_in rng.new ≡ behind (2 * (done + 1)) (seeded seed) }
 {
     let (v, w) = draw(rng, k);
-    (v, w)
+    Drawn {
+        first: v,
+        second: w,
+    }
 }

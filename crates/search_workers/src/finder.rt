@@ -4,6 +4,7 @@ ghost use Rattle.dimension_core.specs.Setup.{setting};
 ghost use Rattle.move_judge.specs.View.{IsViewOf};
 ghost use Rattle.search_workers.specs.Steps.{IsFound};
 
+use crate::draws::Drawn;
 use dimension_core::Setup;
 use move_core::Move;
 use neighbourhood::Searcher;
@@ -31,22 +32,22 @@ impl Finder {
         }
     }
 
-    /// The best move near two vehicles of a view, but for those that are to be skipped.
+    /// The best move near the two vehicles of a view that were drawn, but for those that are to be skipped.
     pub fn find(
         &mut self,
         view: &View,
         setup: &Setup,
-        v: u32,
-        w: u32,
+        drawn: Drawn,
         skip: &[Move],
     ) -> Result<Option<Found>, AllocError>
         requires view { IsViewOf (setting setup.now) view.now }
-        requires v { (1 ≤ v) × (v ≤ (setting setup.now).vehicles) }
-        requires w { (1 ≤ w) × (w ≤ (setting setup.now).vehicles) }
-        ensures { IfOk result (λ found. IsFound (setting setup.now) view.now skip.now v w found) }
+        requires first { (1 ≤ drawn.first) × (drawn.first ≤ (setting setup.now).vehicles) }
+        requires second { (1 ≤ drawn.second) × (drawn.second ≤ (setting setup.now).vehicles) }
+        ensures { IfOk result (λ found. IsFound (setting setup.now) view.now skip.now drawn.first drawn.second found) }
     {
         let version = view.version;
-        match self.searcher.best_move(view, setup, v, w, skip) {
+        let Drawn { first, second } = drawn;
+        match self.searcher.best_move(view, setup, first, second, skip) {
             Err(fault) => Err(fault),
             Ok(None) => Ok(None),
             Ok(Some((mv, gain))) => Ok(Some(Found { mv, gain, version })),

@@ -4,10 +4,8 @@ ghost use Rattle.dimension_core.specs.Setup.{setting};
 ghost use Rattle.search_workers.specs.Works.{Worked};
 
 use crate::draws::{draw_round, sow};
-use crate::finder::Finder;
 use crate::gate::Gate;
-use crate::round::{Place, one_round};
-use crate::skips::Skips;
+use crate::round::{Attempt, Search, one_round};
 use crate::tally::Tally;
 use board_lock::{Naming, Seat};
 use dimension_core::Setup;
@@ -58,30 +56,20 @@ pub fn work_at<N: Naming, R: Wait + Drop, W: Wait, G: Gate<W>>(
     seat.turns_are_seen();
     let vehicles = setup.vehicles();
     let mut rng = sow(order.seed);
-    let mut skips = Skips::new(alloc);
-    let mut finder = Finder::new(alloc);
+    let mut search = Search::new(alloc);
     let mut tally = Tally::new();
     for done in 0..order.rounds {
-        let round = done + 1;
-        let place = Place {
-            worker: number,
-            round,
-        };
-        let (v, w) = draw_round(&mut rng, order.seed, vehicles, done);
-        let outcome = one_round(
-            rt,
-            &mut seat,
+        let drawn = draw_round(&mut rng, order.seed, vehicles, done);
+        let attempt = Attempt {
             setup,
-            &mut skips,
-            &mut finder,
-            order,
-            v,
-            w,
             gate,
-            place,
-        );
+            order,
+            worker: number,
+            number: done + 1,
+        };
+        let outcome = one_round(rt, &mut seat, &attempt, &mut search, drawn);
         tally.count(outcome);
-        gate.done(rt, number, round, outcome);
+        gate.done(rt, number, attempt.number, outcome);
     }
     let _may = seat.check(rt, order.session, Operation::View, Object::Board);
     Work { seat, tally }

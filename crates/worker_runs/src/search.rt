@@ -94,7 +94,6 @@ type Thread<N, D> = PromisedHandle<WorkerResult<N, D>, WorkOf<N, D>>;
 /// The rounds of a worker, past a gate.
 #[derive(Drop)]
 struct Rounds<G> {
-    alloc: Global,
     gate: G,
 }
 
@@ -121,15 +120,7 @@ impl<N: Naming, D: Wait + Drop, W: Wait, G: Gate<W> + Drop> Task<
         let desk = DeskOf { setup: first, seat };
         let session = worker + 1;
         let seed = u64::from(orders.seed) + u64::from(worker);
-        let Share { desk, tally } = work(
-            rt,
-            self.alloc,
-            desk,
-            session,
-            seed,
-            orders.rounds,
-            &self.gate,
-        );
+        let Share { desk, tally } = work(rt, desk, session, seed, orders.rounds, &self.gate);
         let DeskOf { setup: _, seat } = desk;
         WorkerResult { seat, tally }
     }
@@ -141,13 +132,7 @@ fn start_one<
     D: Wait + Drop + Send + Sync + 'static,
     W: Threads + Wait + Copy + Send + Sync + 'static,
     G: Gate<W> + Copied + Send + Drop + 'static,
->(
-    rt: W,
-    alloc: Global,
-    setup: &Arc<Setup>,
-    assignment: Assignment<N, D>,
-    gate: &G,
-) -> Option<Thread<N, D>>
+>(rt: W, setup: &Arc<Setup>, assignment: Assignment<N, D>, gate: &G) -> Option<Thread<N, D>>
     requires { setting setup.now.value ≡ N.opening.setting }
     ensures { IfSome result (λ h. h.promise.assignment.value ≡ assignment) }
 {
@@ -160,7 +145,7 @@ fn start_one<
     let promise = WorkOf {
         assignment: Snapshot::of(&assignment),
     };
-    start(rt, promise, Rounds { alloc, gate }, theirs, assignment)
+    start(rt, promise, Rounds { gate }, theirs, assignment)
 }
 
 /// The threads of the workers that were started, in their order, and whether all were.
@@ -235,7 +220,7 @@ fn start_all<
         worker,
         orders,
     };
-    let thread = start_one(rt, alloc, setup, assignment, gate);
+    let thread = start_one(rt, setup, assignment, gate);
     with_one(&rt, crew, thread)
 }
 

@@ -70,13 +70,13 @@ pub(crate) fn works_alone<N: Naming, R: Wait + Drop, W: Wait>(
     let Share {
         desk,
         tally: denied,
-    } = work(rt, alloc, worker, 2, 7, 14, &OpenGate);
+    } = work(rt, worker, 2, 7, 14, &OpenGate);
     let Share {
         desk,
         tally: committed,
-    } = work(rt, alloc, desk, 1, 7, 3, &OpenGate);
+    } = work(rt, desk, 1, 7, 3, &OpenGate);
     play(rt, alloc, &setup, &mut own, BACK);
-    let share = work(rt, alloc, desk, 1, 7, 2, &OpenGate);
+    let share = work(rt, desk, 1, 7, 2, &OpenGate);
     let refused = share.tally;
     let journal = audit(rt, alloc, &mut own);
     Some(Alone {

@@ -77,7 +77,6 @@ pub(crate) fn at_once<
     G: Gate<W> + Sync,
 >(
     rt: &W,
-    alloc: Global,
     desks: Vec<Desk<N, R>>,
     sessions: &[u32],
     seeds: &[u64],
@@ -91,9 +90,10 @@ pub(crate) fn at_once<
     if many > 63 || sessions.len() != many || seeds.len() != many {
         return None;
     }
+    let alloc = *desks.allocator();
     let sessions = Vec::from_slice(alloc, sessions).ok()?;
     let seeds = Vec::from_slice(alloc, seeds).ok()?;
-    work_all(rt, alloc, desks, sessions, seeds, rounds, gate).ok()
+    work_all(rt, desks, sessions, seeds, rounds, gate).ok()
 }
 
 /// The tallies of two shares.
@@ -129,7 +129,7 @@ pub(crate) fn works_crossed<
         replied: AtomicU64::new(0),
         heard: AtomicU64::new(0),
     };
-    let shares = at_once(rt, alloc, desks, &[1, 1], &[3, 4], 1, &gate)?;
+    let shares = at_once(rt, desks, &[1, 1], &[3, 4], 1, &gate)?;
     Some(Two {
         tallies: two_of(shares.as_slice()),
         heard: gate.heard.load(Ordering::SeqCst),

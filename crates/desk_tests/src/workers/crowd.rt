@@ -120,7 +120,6 @@ fn desks_of<N: Naming, R: Wait + Drop>(
 /// The workers' part, with eight seeds from one on.
 fn work_on<N: Naming + Send + Sync, R: Wait + Drop + Send + Sync, W: Threads + Wait + Sync>(
     rt: &W,
-    alloc: Global,
     desks: Vec<Desk<N, R>>,
     seed: u64,
 ) -> Option<Vec<Share<N, R>>>
@@ -138,7 +137,7 @@ fn work_on<N: Naming + Send + Sync, R: Wait + Drop + Send + Sync, W: Threads + W
         seed.wrapping_add(7),
     ];
     let sessions = [2u32, 3, 4, 5, 6, 7, 8, 9];
-    at_once(rt, alloc, desks, &sessions, &seeds, ROUNDS, &OpenGate)
+    at_once(rt, desks, &sessions, &seeds, ROUNDS, &OpenGate)
 }
 
 /// What a thread promises of what it gives back: nothing.
@@ -181,7 +180,6 @@ fn start<
 /// The busy desk in a thread of its own, and the workers beside it, with their desks and the first of their seeds.
 fn both<N: Naming + Send + Sync, R: Wait + Drop + Send + Sync, W: Threads + Wait + Sync>(
     rt: &W,
-    alloc: Global,
     busy: Busy,
     setup: Arc<Setup>,
     seat: Seat<N, R>,
@@ -200,7 +198,7 @@ fn both<N: Naming + Send + Sync, R: Wait + Drop + Send + Sync, W: Threads + Wait
             ensures { IfSome result (λ t. All (λ s. setting s.desk.setup.value ≡ N.opening.setting) t.2.items) }
         {
             let child = start(rt, scope, busy, setup, seat)?;
-            let shares = work_on(rt, alloc, desks, seed);
+            let shares = work_on(rt, desks, seed);
             let (seat, done) = child.join(rt);
             match shares {
                 Some(shares) => Some((seat, done, shares)),
@@ -226,7 +224,7 @@ fn work_again<N: Naming + Send + Sync, R: Wait + Drop + Send + Sync, W: Threads 
     let role = Name::new(b"worker")?;
     let theirs = Arc::try_clone(setup).ok()?;
     let busy = Busy { role, turns: TURNS };
-    let (seat, turns, shares) = both(rt, alloc, busy, theirs, seat, (desks, seed))?;
+    let (seat, turns, shares) = both(rt, busy, theirs, seat, (desks, seed))?;
     let sums = Sums::of(turns, shares.as_slice());
     match desks_of(alloc, shares) {
         Some(desks) => Some((seat, desks, sums)),

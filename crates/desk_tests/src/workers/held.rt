@@ -3,6 +3,7 @@
 ghost use Rattle.std.specs.Prelude.{◌≡◌, IfSome};
 ghost use Rattle.dimension_core.specs.Setup.{setting};
 
+use crate::threads::Given;
 use crate::workers::alone::LAID_OUT;
 use crate::workers::crossed::{say, wait_for};
 use crate::workers::desks::{open_two, play, text_of};
@@ -173,7 +174,6 @@ type Ends = (u32, u32, u64);
 /// The rounds of a worker, which is held at a point. It gives the seat back with how they ended.
 #[derive(Drop)]
 struct Rounds {
-    alloc: Global,
     session: u32,
     rounds: u32,
     gate: Latch,
@@ -190,15 +190,7 @@ impl<N: Naming, R: Wait + Drop, W: Wait> Task<W, Arc<Setup>, Seat<N, R>, (Seat<N
             setup: first,
             seat: second,
         };
-        let Share { desk, tally } = work(
-            rt,
-            self.alloc,
-            desk,
-            self.session,
-            7,
-            self.rounds,
-            &self.gate,
-        );
+        let Share { desk, tally } = work(rt, desk, self.session, 7, self.rounds, &self.gate);
         (
             desk.seat,
             (
@@ -249,7 +241,6 @@ fn ready(alloc: Global, setup: &Arc<Setup>, turn: &Turn) -> Option<Ready>
         idle: AtomicU64::new(0),
     };
     let rounds = Rounds {
-        alloc,
         session: turn.session,
         rounds: turn.rounds,
         gate,
@@ -275,7 +266,17 @@ fn one_turn<N: Naming + Send + Sync, R: Wait + Drop + Send + Sync, W: Threads + 
     let ((rounds, second), (call, first)) = ready(alloc, setup, turn)?;
     let (mut own, other) = seats;
     play(rt, alloc, setup, &mut own, turn.first);
-    let ((other, ends), own) = beside(rt, rounds, second, other, call, first, own);
+    let there = Given {
+        task: rounds,
+        first: second,
+        second: other,
+    };
+    let here = Given {
+        task: call,
+        first,
+        second: own,
+    };
+    let ((other, ends), own) = beside(rt, there, here);
     Some(((own, other), ends))
 }
 

@@ -62,10 +62,10 @@ pub(crate) fn works_noted<N: Naming, R: Wait + Drop, W: Wait>(
     let gate = Noted {
         text: Mutex::new(String::new(alloc)),
     };
-    let Share { desk, .. } = work(rt, alloc, desk, 2, 7, 2, &gate);
-    let Share { desk, .. } = work(rt, alloc, desk, 1, 7, 2, &gate);
+    let Share { desk, .. } = work(rt, desk, 2, 7, 2, &gate);
+    let Share { desk, .. } = work(rt, desk, 1, 7, 2, &gate);
     play(rt, alloc, &setup, &mut own, BACK);
-    let _share = work(rt, alloc, desk, 1, 7, 1, &gate);
+    let _share = work(rt, desk, 1, 7, 1, &gate);
     let Noted { text } = gate;
     Some(text.into_inner())
 }

@@ -2,6 +2,7 @@
 //!
 //! That a setup and a seat may go to another thread is found of each alone, and not of both in one closure. So the closures are made in a
 //! function that knows of its types no more than that each may go.
+use crate::threads::Given;
 use std::sync::Wait;
 use std::thread::{Threads, join};
 
@@ -25,17 +26,27 @@ pub(crate) fn beside<
     F: Drop,
     T: Task<W, D, E, F> + Drop,
     W: Threads + Wait + Sync,
->(rt: &W, there: S, first: A, second: B, here: T, third: D, fourth: E) -> (C, F)
-    requires there { S.may first second }
-    requires here { T.may third fourth }
+>(rt: &W, there: Given<S, A, B>, here: Given<T, D, E>) -> (C, F)
+    requires there { S.may there.first there.second }
+    requires here { T.may here.first here.second }
 {
+    let Given {
+        task: far,
+        first,
+        second,
+    } = there;
+    let Given {
+        task: near,
+        first: third,
+        second: fourth,
+    } = here;
     join(
         rt,
         move || -> C
             requires { S.may first second }
-        { there.run(rt, first, second) },
+        { far.run(rt, first, second) },
         move || -> F
             requires { T.may third fourth }
-        { here.run(rt, third, fourth) },
+        { near.run(rt, third, fourth) },
     )
 }

@@ -24,7 +24,7 @@ returns g t c =
     let one = subst (λ e. Worked o e.order.session e.order.seed e.order.rounds e.seat work.seat work.tally) c.in_ok-child.ensures c.join-seat.ensures in
     let same = all_last c.pop.new.self.items c.in-Some.desk (λ d. setting d.setup.value ≡ o.setting) (subst (All (λ d. setting d.setup.value ≡ o.setting)) c.in-Some.ensures.items c.requires.setups) in (
       rw (c.in-Some-pop.ensures.items, c.in-Some-pop-2.ensures.items, befores, afters, tallies)
-          (all_more o c.args.rounds c.pop-2.new.self.items c.pop-3.new.self.items (map (λ d. d.seat) c.pop.new.self.items) (map (λ s. s.desk.seat) c.in_ok-shares.shares.items) (map (λ s. s.tally) c.in_ok-shares.shares.items)
+          (all_more o c.args.orders.rounds c.pop-2.new.self.items c.pop-3.new.self.items (map (λ d. d.seat) c.pop.new.self.items) (map (λ s. s.desk.seat) c.in_ok-shares.shares.items) (map (λ s. s.tally) c.in_ok-shares.shares.items)
           c.in-Some-pop.session c.in-Some-pop-2.seed c.in-Some.desk.seat work.seat work.tally c.in_ok-shares.ensures.0 one),
       rw (c.in-Ok.ensures.items) (All-push (λ s. setting s.desk.setup.value ≡ o.setting) c.in_ok-shares.shares.items _ c.in_ok-shares.ensures.1 same),
     )

@@ -6,8 +6,8 @@ use Rattle.search_workers.proofs.worker.work_at.Given as goal
 
 abbrev pub invariant-loop-done : goal.invariant-loop-done
 invariant-loop-done g l = record {
-  done : AreDone (job_of g.N.Naming.opening l.fn.worker.seat.number l.order.session l.order.seed) l.fn.worker.seat l.seat l.done l.skips.version l.skips.moves.items l.tally;
-  version : l.skips.version ≤ (view_after g.N.Naming.opening l.seat.seen).version;
+  done : AreDone (job_of g.N.Naming.opening l.fn.worker.seat.number l.order.session l.order.seed) l.fn.worker.seat l.seat l.done l.search.skips.version l.search.skips.moves.items l.tally;
+  version : l.search.skips.version ≤ (view_after g.N.Naming.opening l.seat.seen).version;
   words : stream_in l.rng ≡ behind (2 * l.done) (seeded l.order.seed);
   sum : l.tally.tried + l.tally.idle ≡ l.done;
 }
