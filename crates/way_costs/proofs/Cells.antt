@@ -555,3 +555,11 @@ turned_place n = omega arith
 
 pub column_in : (j n w : ℕ) → j < n → n + 1 ≡ w → j < 1 + w - 1
 column_in j n w h e = omega arith
+
+-- the callback of a setting's costs, had by their name, answers as the table of the costs
+pub table_asked : (s : Setting) (ts : List Table) (id : ℕ) (t : Table) → ts ≡ s.tables → id ≡ s.cost → t ≡ table_at ts id → t ≡ table_at s.tables s.cost
+table_asked s ts id t e d h = h ∙ ap (λ (xs : List Table). table_at xs id) e ∙ ap (λ (n : ℕ). table_at s.tables n) d
+
+-- and knows the depot and each customer
+pub size_asked : (s : Setting) (ts : List Table) (n : ℕ) → ts ≡ s.tables → IsSetting s → n ≡ nodes_of ts → n ≡ s.customers + 1
+size_asked s ts n e is h = h ∙ ap (λ (xs : List Table). nodes_of xs) e ∙ is.tables

@@ -75,7 +75,7 @@ pub(crate) struct Manner {
 
 /// Where the ways of a table are had from: the cost callback, or all its answers where it was given as these, read as the ways are driven
 /// or driven back.
-#[derive(Clone, Copy)]
+#[derive(Drop)]
 struct Asking<'a, C> {
     callback: &'a C,
     known: Option<&'a [u32]>,
