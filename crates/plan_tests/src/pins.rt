@@ -1,10 +1,39 @@
-ghost use Rattle.std.specs.Prelude.{◌≡◌, length};
+ghost use Rattle.std.specs.Prelude.{◌≡◌, ◌≤◌, length, All, MatchResult};
+ghost use Rattle.plan_core.specs.Commits.{named_vehicles};
+ghost use Rattle.plan_core.specs.Plan.{AreChanges, changes_of, with_routes};
+ghost use Rattle.pin_core.specs.Allowed.{AreAllTouched, IsPinFault};
+ghost use Rattle.pin_core.specs.Pins.{AreFreezesKept, DoFrontsFit, DoPinsHold};
 
 use pin_core::{
-    Pins, faults_are_determined, freezes_by_named, front_still_fits, fronts_within_routes,
-    opening_holds, pin_holds, pins_after_commits, unpin_holds,
+    PinFault, Pins, faults_are_determined, freezes_by_named, front_still_fits,
+    fronts_within_routes, opening_holds, pin_holds, pins_after_commits, unpin_holds,
 };
+use plan_core::{Plan, Route, Touch};
 use std::process::Abort;
+use std::sync::Arc;
+
+/// What `allows` promises of written routes, in terms of the routes alone. It is called by no test: that it is proved is the test.
+pub(crate) fn allows_written(
+    pins: &Pins,
+    plan: &Plan,
+    new_routes: &[(u32, Arc<Route>)],
+    touched: &[Touch],
+) -> Result<(), PinFault>
+    requires customers { length pins.now.pins ≡ plan.now.customers }
+    requires vehicles { length pins.now.fronts ≡ length plan.now.routes }
+    requires holding { DoPinsHold pins.now plan.now.routes }
+    requires fitting { DoFrontsFit pins.now plan.now.routes }
+    requires changes { AreChanges (length plan.now.routes) (changes_of new_routes.now) }
+    requires known { All (λ t. (1 ≤ t.customer) × (t.customer ≤ plan.now.customers)) touched.now }
+    requires touched { AreAllTouched plan.now.routes (with_routes (changes_of new_routes.now) plan.now.routes) touched.now }
+    ensures { MatchResult result
+        (λ _. AreFreezesKept pins.now plan.now.routes (with_routes (changes_of new_routes.now) plan.now.routes)
+        × DoPinsHold pins.now (with_routes (changes_of new_routes.now) plan.now.routes))
+        (IsPinFault pins.now plan.now.routes (with_routes (changes_of new_routes.now) plan.now.routes)
+        (named_vehicles (changes_of new_routes.now)) touched.now) }
+{
+    pins.allows(plan, new_routes, touched)
+}
 
 /// Compares the pins of customers 1 and 2, and the frozen lengths of both vehicles.
 fn compare(rt: &impl Abort, pins: &Pins, pinned: [Option<u32>; 2], frozen: [u32; 2])

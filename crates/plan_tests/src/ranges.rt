@@ -1,16 +1,19 @@
-ghost use Rattle.std.specs.Prelude.{◌≡◌, ◌+◌, ◌*◌, ◌<◌, ◌≤◌, [], ◌∷◌, length, replicate, slice_index, All, IfOk, IfSome};
-ghost use Rattle.dimension_core.specs.NewRoutes.{AllKnown};
+ghost use Rattle.std.specs.Prelude.{◌≡◌, ◌+◌, ◌*◌, ◌<◌, ◌≤◌, [], ◌∷◌, length, replicate, slice_index, All, IfErr, IfOk, IfSome, OnOk};
+ghost use Rattle.callback_store.specs.Meter.{Asks, AsksAtMost, AsksJust};
+ghost use Rattle.dimension_core.specs.NewRoutes.{AllFit, AllKnown};
 ghost use Rattle.dimension_core.specs.Setup.{setting};
-ghost use Rattle.plan_core.specs.Drafts.{DoFrontsStay, drafted, routes_by};
-ghost use Rattle.plan_core.specs.Plan.{IsPlan, replaced, with_routes};
+ghost use Rattle.plan_core.specs.Drafts.{AreFrontsWithin, drafted, drafts_of};
+ghost use Rattle.plan_core.specs.Plan.{IsPlan, changes_of, replaced, with_routes};
+ghost use Rattle.range_cache.specs.Asks.{AsksToFault, fault_asks, judge_asks};
 ghost use Rattle.range_cache.specs.Cache.{IsCacheOf};
+ghost use Rattle.range_cache.specs.Pending.{AreNewRows, IsJudgeFault};
 
 use crate::comparing::{compare, compare_meter};
 use crate::new_routes::{one_change, one_draft, pair};
 use callback_store::{Meter, Registry, Transit, TransitId, Unary};
 use dimension_core::{Dimension, Range, Setup, first_out};
-use plan_core::{NewRoute, Plan, plans_are_tested};
-use range_cache::{Cache, JudgeFault, Room};
+use plan_core::{Drafts, Plan, Route, plans_are_tested};
+use range_cache::{Cache, JudgeFault, Pending, Room};
 use std::alloc::{AllocError, Global};
 use std::process::Abort;
 use std::sync::Arc;
@@ -99,20 +102,47 @@ fn compare_earlies(rt: &impl Abort, setup: &Setup, cache: &Cache, plan: &Plan, w
     assert!(rt; has_earlies(setup, cache, plan, 1, wanted), "{wanted:?}");
 }
 
-/// Why the new routes are not taken, if they are not.
-fn fault_of<R: NewRoute>(
+/// What a judgement promises of written routes, in terms of the routes alone.
+fn judge_written(
     setup: &Setup,
     cache: &Cache,
     plan: &Plan,
-    new_routes: &[R],
+    changes: &[(u32, Arc<Route>)],
+    meter: &mut Meter,
+) -> Result<Pending, JudgeFault>
+    requires cache { IsCacheOf (setting setup.now) plan.now.routes cache.now }
+    requires known { AllKnown (setting setup.now) (changes_of changes.now) }
+    requires short { All (λ c. length c.1.value ≤ 1000) changes.now }
+    ensures of { IfOk result (λ pending. pending.of ≡ cache.now) }
+    ensures fits { IfOk result (λ pending. AllFit (setting setup.now) (changes_of changes.now)) }
+    ensures rows { IfOk result (λ pending. AreNewRows (setting setup.now) (changes_of changes.now) pending.rows) }
+    ensures fault { IfErr result (IsJudgeFault (setting setup.now) (changes_of changes.now)) }
+    ensures asks { AsksAtMost meter.old meter.new
+        (judge_asks (length (setting setup.now).dimensions) plan.now.routes (changes_of changes.now)) }
+    ensures whole { OnOk result (AsksJust meter.old meter.new
+        (judge_asks (length (setting setup.now).dimensions) plan.now.routes (changes_of changes.now))) }
+    ensures least { IfErr result (λ f. Asks meter.old meter.new
+        (fault_asks (length (setting setup.now).dimensions) plan.now.routes (changes_of changes.now) f)
+        (judge_asks (length (setting setup.now).dimensions) plan.now.routes (changes_of changes.now))) }
+    ensures missed { IfErr result (AsksToFault (setting setup.now) plan.now.routes (changes_of changes.now) meter.old meter.new) }
+{
+    cache.judge(setup, plan, changes, meter)
+}
+
+/// Why drafts are not taken, if they are not.
+fn fault_of_drafts(
+    setup: &Setup,
+    cache: &Cache,
+    plan: &Plan,
+    drafts: &Drafts,
     meter: &mut Meter,
 ) -> Option<JudgeFault>
     requires cache { IsCacheOf (setting setup.now) plan.now.routes cache.now }
-    requires known { AllKnown (setting setup.now) (routes_by R.draft plan.now.routes new_routes.now) }
-    requires short { All (λ r. length (drafted plan.now.routes (R.draft r)) ≤ 1000) new_routes.now }
-    requires fronts { DoFrontsStay R.draft plan.now.routes new_routes.now }
+    requires known { AllKnown (setting setup.now) (drafts_of plan.now.routes drafts.now) }
+    requires short { All (λ d. length (drafted plan.now.routes d) ≤ 1000) drafts.now }
+    requires fronts { AreFrontsWithin plan.now.routes drafts.now }
 {
-    cache.judge(setup, plan, new_routes, meter).err()
+    cache.judge(setup, plan, drafts.as_slice(), meter).err()
 }
 
 fn compare_fault(rt: &impl Abort, found: Option<JudgeFault>, wanted: Option<JudgeFault>) {
@@ -209,11 +239,11 @@ fn removals(rt: &impl Abort, alloc: Global, setup: &Setup, meter: &mut Meter)
     commit(rt, setup, &mut held, 1, &[1, 2, 3], meter);
     let begun = meter.asks;
     let late = one_change(rt, alloc, 1, &[1, 3]);
-    let answer = fault_of(setup, &held.cache, &held.plan, &late, meter);
+    let answer = judge_written(setup, &held.cache, &held.plan, &late, meter).err();
     compare_fault(rt, answer, Some(JudgeFault::Bound(1, 2)));
     compare(rt, meter.asks.wrapping_sub(begun), 3, "asks");
     let draft = one_draft(rt, alloc, 1, 1, &[3]);
-    let answer = fault_of(setup, &held.cache, &held.plan, draft.as_slice(), meter);
+    let answer = fault_of_drafts(setup, &held.cache, &held.plan, &draft, meter);
     compare_fault(rt, answer, Some(JudgeFault::Bound(1, 2)));
     compare(rt, meter.asks.wrapping_sub(begun), 6, "asks");
     commit(rt, setup, &mut held, 1, &[2, 3], meter);
@@ -231,7 +261,7 @@ fn the_second_is_out(rt: &impl Abort, alloc: Global, setup: &Setup, meter: &mut 
 {
     let held = empty(rt, alloc, setup);
     let changes = pair(rt, alloc, 2, &[4], 1, &[1, 2, 3, 4]);
-    let answer = fault_of(setup, &held.cache, &held.plan, &changes, meter);
+    let answer = judge_written(setup, &held.cache, &held.plan, &changes, meter).err();
     compare_fault(rt, answer, Some(JudgeFault::Bound(1, 1)));
 }
 
