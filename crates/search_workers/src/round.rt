@@ -77,9 +77,8 @@ fn look<N: Naming, R: Wait + Drop, W: Wait, G: Gate<W>>(
     let Ok(()) = seat.refresh() else {
         return Err(SnapFault::NoMemory);
     };
-    attempt
-        .gate
-        .pass(rt, attempt.worker, attempt.number, Point::Seen);
+    let gate = attempt.gate;
+    gate.pass(rt, attempt.worker, attempt.number, Point::Seen);
     let Some(view) = seat.view() else {
         unreachable!()
     };
