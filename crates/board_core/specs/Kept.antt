@@ -1,5 +1,6 @@
 -- What a board's core holds, and what it keeps of its history.
 use Rattle.std.specs.Prelude.{◌≡◌, ℕ, ◌-◌, ◌≤◌, List, length, slice_index}
+use Rattle.limits.specs.declared.TheConstants.{MOST_DESKS}
 use Rattle.dimension_core.specs.Setting.{Setting}
 use Rattle.board_rules.specs.declared.call.Entry.{Entry}
 pub use Rattle.board_journal.specs.Entries.{entry_of}
@@ -27,7 +28,7 @@ pub record IsKept (s : Setting) (core : CoreState) : Type 0 where
   pub few : length core.journal ≤ s.max_events
   pub turns : (desk : ℕ) → 1 ≤ desk → desk ≤ length core.turns → slice_index core.turns (desk - 1) ≡ turns_of desk core.journal
   pub some_desk : 1 ≤ length core.turns
-  pub few_desks : length core.turns ≤ 64
+  pub few_desks : length core.turns ≤ MOST_DESKS
 
 -- the core keeps its history for some setting that has this vehicle, or this customer
 abbrev pub HasVehicle : CoreState → ℕ → Type 0

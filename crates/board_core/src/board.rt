@@ -26,6 +26,7 @@ use board_journal::Journal;
 use board_rules::{AskFault, Event, Fault, Reply, Review, Row};
 use callback_store::Meter;
 use dimension_core::Setup;
+use limits::MOST_DESKS;
 use plan_core::{Plan, Route};
 use rbac_core::{Object, Operation};
 use separation_core::Name;
@@ -47,7 +48,7 @@ impl Board {
     /// assigned to the role `root`, and session 1 of that user with that role active; the role has `admin` on the board and nothing else.
     pub fn new(alloc: Global, setup: Arc<Setup>, desks: u32) -> Result<Board, AllocError>
         requires low { 1 ≤ desks }
-        requires high { desks ≤ 64 }
+        requires high { desks ≤ MOST_DESKS }
         ensures { IfOk result (λ board. history board
             ≡ record { opening = record { setting = setting setup.value; desks = desks }; entries = [] }) }
     {
@@ -206,7 +207,7 @@ impl Board {
     pub fn desks(&self) -> u32
         ensures value { result ≡ (history self.now).opening.desks }
         ensures low { 1 ≤ result }
-        ensures high { result ≤ 64 }
+        ensures high { result ≤ MOST_DESKS }
     {
         self.core.desks()
     }

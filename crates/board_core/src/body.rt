@@ -21,6 +21,7 @@ use board_rules::{
 use board_state::State;
 use callback_store::Meter;
 use dimension_core::Setup;
+use limits::MOST_DESKS;
 use std::alloc::{AllocError, Global};
 use std::marker::Model;
 use std::snapshot::Snapshot;
@@ -61,7 +62,7 @@ impl Core {
     /// The core of a board with this many desks, which are 1 to 64, before its first call.
     pub fn new(alloc: Global, setup: &Setup, desks: u32) -> Result<Core, AllocError>
         requires low { 1 ≤ desks }
-        requires high { desks ≤ 64 }
+        requires high { desks ≤ MOST_DESKS }
         ensures kept { IfOk result (IsKept (setting setup.now)) }
         ensures history { IfOk result (λ core. history_of (setting setup.now) core
             ≡ record { opening = record { setting = setting setup.now; desks = desks }; entries = [] }) }

@@ -12,6 +12,7 @@ ghost use Rattle.board_core.specs.Plans.{IsPlanOf};
 use crate::body::Core;
 use board_journal::Journal;
 use board_rules::{customers_have_one_spot, legal_histories_leave_good_states};
+use limits::MOST_DESKS;
 use plan_core::{Plan, Route};
 use rbac_core::{Object, Operation};
 use std::sync::Arc;
@@ -37,7 +38,7 @@ impl Core {
         requires { (s : Setting) × IsKept s self.now }
         ensures value { result ≡ length self.now.turns }
         ensures low { 1 ≤ result }
-        ensures high { result ≤ 64 }
+        ensures high { result ≤ MOST_DESKS }
     {
         self.turns.len() as u32
     }

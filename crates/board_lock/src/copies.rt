@@ -12,6 +12,7 @@ ghost use Rattle.published_board.specs.Shelves.{view_of};
 use board_core::Core;
 use board_rules::legal_histories_leave_good_states;
 use dimension_core::Setup;
+use limits::MOST_VEHICLES;
 use pin_core::View;
 use plan_core::Route;
 use std::alloc::{AllocError, Global};
@@ -21,7 +22,7 @@ use std::sync::Arc;
 pub(crate) fn view(alloc: Global, setup: &Setup, core: &Core) -> Result<View, AllocError>
     requires { IsKept (setting setup.now) core.now }
     ensures view { IfOk result (λ v. v ≡ view_of (state_after (setting setup.now) core.now.journal)) }
-    ensures few { IfOk result (λ v. length v.routes ≤ 1000) }
+    ensures few { IfOk result (λ v. length v.routes ≤ MOST_VEHICLES) }
 {
     legal_histories_leave_good_states();
     let customers = setup.customers();

@@ -11,6 +11,7 @@ use crate::locked::Locked;
 use board_journal::Journal;
 use board_rules::{AskFault, Call, Fault, Reply, Review, Row};
 use dimension_core::Setup;
+use limits::MOST_EVENTS;
 use published_board::{Eye, Naming};
 use rbac_core::{Object, Operation};
 use separation_core::Name;
@@ -47,9 +48,9 @@ impl<N: Naming, R: Wait + Drop> Held<N, R> {
         requires setting { setting setup.now ≡ N.opening.setting }
         requires low { 1 ≤ number }
         requires high { number ≤ N.opening.desks }
-        requires few { own ≤ 16777216 }
+        requires few { own ≤ MOST_EVENTS }
         ensures ok { IfOk result (λ r. Submitted N.opening number own call r eye.old.seen eye.new.seen) }
-        ensures few { OnOk result (own + 1 ≤ 16777216) }
+        ensures few { OnOk result (own + 1 ≤ MOST_EVENTS) }
         ensures err { IfErr result (λ f. Faulted N.opening number own f eye.old.seen eye.new.seen) }
         ensures viewed { eye.new.viewed ≡ eye.old.viewed }
     {

@@ -20,6 +20,7 @@ use board_journal::Journal;
 use board_rules::{AskFault, Call, Event, Fault, Reply, Review, Row, histories_grow_by_entries};
 use callback_store::Meter;
 use dimension_core::Setup;
+use limits::MOST_EVENTS;
 use published_board::{Change, Eye, Naming, Publication, never};
 use rbac_core::{Object, Operation};
 use separation_core::Name;
@@ -126,9 +127,9 @@ impl<N: Naming, R: Wait + Drop> Locked<N, R> {
         requires setting { setting setup.now ≡ N.opening.setting }
         requires low { 1 ≤ number }
         requires high { number ≤ N.opening.desks }
-        requires few { own ≤ 16777216 }
+        requires few { own ≤ MOST_EVENTS }
         ensures ok { IfOk result (λ r. Submitted N.opening number own call r eye.old.seen eye.new.seen) }
-        ensures few { OnOk result (own + 1 ≤ 16777216) }
+        ensures few { OnOk result (own + 1 ≤ MOST_EVENTS) }
         ensures err { IfErr result (λ f. Faulted N.opening number own f eye.old.seen eye.new.seen) }
         ensures viewed { eye.new.viewed ≡ eye.old.viewed }
     {
@@ -187,7 +188,7 @@ impl<N: Naming, R: Wait + Drop> Locked<N, R> {
         requires low { 1 ≤ desk }
         requires high { desk ≤ N.opening.desks }
         ensures turns { result ≡ turns_of desk self.now.journal }
-        ensures few { result ≤ 16777216 }
+        ensures few { result ≤ MOST_EVENTS }
     {
         self.core.turns(desk)
     }
@@ -277,7 +278,7 @@ fn put_in_place<N: Naming, R: Wait>(
 ) -> Result<Reply, AllocError>
     requires kept { IsKept N.opening.setting core.old }
     requires desks { length core.old.turns ≡ N.opening.desks }
-    requires few { N.opening.setting.max_events ≤ 16777216 }
+    requires few { N.opening.setting.max_events ≤ MOST_EVENTS }
     requires opening { publication.old.opening ≡ N.opening }
     requires entries { publication.old.entries ≡ core.old.journal }
     requires shown { publication.old.shown ≡ core.old.journal }

@@ -14,6 +14,7 @@ use crate::held::Held;
 use board_journal::Journal;
 use board_rules::{AskFault, Call, Fault, Reply, Review, Row};
 use dimension_core::Setup;
+use limits::MOST_EVENTS;
 use pin_core::View;
 use published_board::{Eye, Naming, SnapFault};
 use rbac_core::{Object, Operation};
@@ -38,6 +39,7 @@ pub type Seat<N, R> = SeatOf<N, Held<N, R>>;
 
 impl<N: Naming, L: Drop> Model for SeatOf<N, L> {
     ghost use Rattle.std.specs.Prelude.{◌≤◌};
+    ghost use Rattle.limits.specs.declared.TheConstants.{MOST_EVENTS};
     ghost use Rattle.board_rules.specs.History.{turns_of};
     ghost use Rattle.board_lock.specs.Watches.{Watch};
 
@@ -45,7 +47,8 @@ impl<N: Naming, L: Drop> Model for SeatOf<N, L> {
 
     ghost view = { λ d. record { number = d.number; own = d.own; seen = d.eye.seen; viewed = d.eye.viewed } };
 
-    ghost invariant = { λ d. (1 ≤ d.number) × (d.number ≤ N.opening.desks) × (d.own ≤ turns_of d.number d.eye.seen) × (d.own ≤ 16777216) };
+    ghost invariant = { λ d. (1 ≤ d.number) × (d.number ≤ N.opening.desks) × (d.own ≤ turns_of d.number d.eye.seen)
+        × (d.own ≤ MOST_EVENTS) };
 }
 
 impl<N: Naming, L: Drop> SeatOf<N, L> {
@@ -60,7 +63,7 @@ impl<N: Naming, L: Drop> SeatOf<N, L> {
         requires low { 1 ≤ number }
         requires high { number ≤ N.opening.desks }
         requires own { own ≤ turns_of number eye.seen }
-        requires few { own ≤ 16777216 }
+        requires few { own ≤ MOST_EVENTS }
         ensures { result ≡ record { number = number; own = own; seen = eye.seen; viewed = eye.viewed } }
     {
         SeatOf {

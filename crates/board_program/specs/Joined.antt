@@ -2,6 +2,7 @@
 use Rattle.std.specs.Prelude.{◌≡◌, ℕ, ◌==◌, ◌≤◌, ◌⊎◌, List, [], ◌++◌, length, count_by, Option, Result, Ok, Err, if◌then◌else◌}
 use Rattle.std.specs.List.{flat_map}
 use Rattle.std.specs.Io.KnownBytes.{Appends, Keeps}
+use Rattle.limits.specs.declared.TheConstants.{LARGEST_FILE, MOST_LINES}
 use Rattle.solomon_reader.specs.Checks.{Fault, fault}
 use Rattle.solomon_reader.specs.Instances.{Plain}
 use Rattle.solomon_reader.specs.Reading.{read_of}
@@ -61,7 +62,7 @@ status_of outcomes = if count_by is_refusal outcomes == 0 then 0 else 1
 -- each line of the script was answered, of at most 4,294,967,296
 abbrev pub IsDone : Plain → List ℕ → Option (List ℕ) → Option (List ℕ) → ℕ → Type 0
 IsDone i script was now status =
-    (outcomes : List Outcome) × Replies i script outcomes × Appends was now (written outcomes) × (status ≡ status_of outcomes) × (length (lines_of script) ≤ 4294967296)
+    (outcomes : List Outcome) × Replies i script outcomes × Appends was now (written outcomes) × (status ≡ status_of outcomes) × (length (lines_of script) ≤ MOST_LINES)
 
 -- What a fault says of what comes next: at LongLine, a line that is too long; at any other, nothing.
 abbrev pub IsCause : RunFault → List ℕ → Type 0
@@ -96,7 +97,7 @@ IsScripted instance script streams status = Says (read_of instance) script strea
 -- The instance before the mark, which is not too long, and the script behind it. Or a read failed before the mark, or memory ran out, or more
 -- bytes than the limit came: nothing is written, and that is reported.
 abbrev pub IsOfHalves : Halves → Streams → ℕ → Type 0
-IsOfHalves h streams status = ((length h.instance ≤ 16777216) × IsScripted h.instance h.script streams status)
+IsOfHalves h streams status = ((length h.instance ≤ LARGEST_FILE) × IsScripted h.instance h.script streams status)
     ⊎ ((stop : Stop) × IsUnread stop × Keeps streams.was streams.now × IsReported stop streams.reports_were streams.reports_are status)
 
 -- the same of all bytes of the input, cut at the mark
@@ -113,9 +114,9 @@ IsOfFiles instance_path script_path streams status =
 
 -- it ended early: before the script, or at it
 abbrev pub Ended : Halves → Option (List ℕ) → Option (List ℕ) → Stop → Type 0
-Ended h was now stop = ((length h.instance ≤ 16777216) × IsShort (read_of h.instance) h.script was now stop) ⊎ (IsUnread stop × Keeps was now)
+Ended h was now stop = ((length h.instance ≤ LARGEST_FILE) × IsShort (read_of h.instance) h.script was now stop) ⊎ (IsUnread stop × Keeps was now)
 
 -- the same of a run that was not ended early
 abbrev pub IsEnd : Halves → Option (List ℕ) → Option (List ℕ) → Result Counts Stop → Type 0
-IsEnd h was now (Ok counts) = (i : Plain) × (read_of h.instance ≡ Ok i) × (length h.instance ≤ 16777216) × IsDone i h.script was now (if counts.refused == 0 then 0 else 1)
+IsEnd h was now (Ok counts) = (i : Plain) × (read_of h.instance ≡ Ok i) × (length h.instance ≤ LARGEST_FILE) × IsDone i h.script was now (if counts.refused == 0 then 0 else 1)
 IsEnd h was now (Err stop) = Ended h was now stop

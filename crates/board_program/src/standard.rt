@@ -10,14 +10,12 @@ use board_core::Board;
 use board_text::{BoardFront, Counts, run_noted_lines};
 use callback_store::Registry;
 use dimension_core::Setup;
+use limits::MOST_PROGRAM_EVENTS;
 use program_parts::{Network, Stop, standard_pair};
 use solomon_reader::Instance;
 use std::alloc::Global;
 use std::io::{Read, Write};
 use std::sync::Arc;
-
-/// How many events the board's journal holds.
-const MAX_EVENTS: u32 = 1_000_000;
 
 /// A law: what is known of a setup that was just made. It does nothing.
 fn standard_for(setup: &Setup, network: &Network)
@@ -53,7 +51,7 @@ pub(crate) fn run_board<I: Read, W: Write, E: Write>(
         registry,
         pair,
         cost,
-        MAX_EVENTS,
+        MOST_PROGRAM_EVENTS,
     )?;
     standard_for(&setup, &network);
     let board = Board::new(alloc, Arc::new(alloc, setup)?, 1)?;

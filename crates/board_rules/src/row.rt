@@ -1,5 +1,6 @@
 ghost use Rattle.std.specs.Prelude.{◌≡◌, ◌<◌, ◌≤◌, ◌++◌, ◌∷◌, [], length};
 
+use limits::MOST_DIMENSIONS;
 use std::marker::Model;
 
 /// One line of a listing: where a customer stands, and its early values. The values are kept inside the row, so that a row takes no memory
@@ -10,31 +11,32 @@ pub struct Row {
     place: u32,
     customer: u32,
     dimensions: u32,
-    early: [u64; 8],
+    early: [u64; MOST_DIMENSIONS],
 }
 
 impl Model for Row {
     ghost use Rattle.std.specs.Prelude.{◌≤◌, take};
+    ghost use Rattle.limits.specs.declared.TheConstants.{MOST_DIMENSIONS};
     ghost use Rattle.board_rules.specs.Listing.{RowShown};
 
     ghost Value = { RowShown };
 
     ghost view = { λ r. record { vehicle = r.vehicle; place = r.place; customer = r.customer; early = take r.dimensions r.early } };
 
-    ghost invariant = { λ r. r.dimensions ≤ 8 };
+    ghost invariant = { λ r. r.dimensions ≤ MOST_DIMENSIONS };
 }
 
 impl Row {
     /// The row of a customer with its early values, one for each dimension of the setup, of which there are at most 8.
     #[inline(always)]
     pub fn new(vehicle: u32, place: u32, customer: u32, early: &[u64]) -> Row
-        requires { length early.now ≤ 8 }
+        requires { length early.now ≤ MOST_DIMENSIONS }
         ensures vehicle { result.vehicle ≡ vehicle }
         ensures place { result.place ≡ place }
         ensures customer { result.customer ≡ customer }
         ensures early { result.early ≡ early.now }
     {
-        let mut kept = [0; 8];
+        let mut kept = [0; MOST_DIMENSIONS];
         kept[..early.len()].copy_from_slice(early);
         Row {
             vehicle,
@@ -48,7 +50,7 @@ impl Row {
     /// Appends the early value of one more dimension; there are fewer than 8 values before.
     #[inline(always)]
     pub fn push_early(&mut self, value: u64)
-        requires { length self.old.early < 8 }
+        requires { length self.old.early < MOST_DIMENSIONS }
         ensures { self.new ≡ record self.old { early = self.old.early ++ value ∷ [] } }
     {
         self.early[self.dimensions as usize] = value;

@@ -1,6 +1,7 @@
 -- What a judged call changes of what is held.
 use Rattle.std.specs.Prelude.{◌≡◌, ◌≢◌, ℕ, ◌≤◌, ◌<◌, ◌⊎◌, List, length, Some, None, Result, MatchResult, All}
 use Rattle.std.specs.Option.{option_map}
+use Rattle.limits.specs.declared.TheConstants.{MOST_CUSTOMERS, MOST_EVENTS}
 use Rattle.dimension_core.specs.Setting.{Setting}
 use Rattle.plan_core.specs.Plan.{PlanState, IsPlan, AreChanges, AreSizes, changes_of, replaced, route_at, with_routes}
 use Rattle.plan_core.specs.Commits.{AreStamps}
@@ -84,11 +85,11 @@ WillHoldPins s held judged next = MatchResult judged (λ change. WillHold s held
 -- New routes may be put in place: there are one or two of them, they make a plan, every customer that leaves its vehicle is touched, and
 -- those whose pins are released are marked.
 pub record ArePlaceableRoutes (held : HeldState) (new : NewRoutes) : Type 0 where
-  pub lengths : All (λ c. length c.1.value ≤ 1000) new.changes.items
+  pub lengths : All (λ c. length c.1.value ≤ MOST_CUSTOMERS) new.changes.items
   pub freed : AreFreed held.pins (routes_with held new.changes.items) new.touched.items new.freed.items
   pub changes : AreChanges (length held.plan.routes) (changes_of new.changes.items)
   pub plan : IsPlan held.plan.customers (routes_with held new.changes.items)
-  pub room : held.plan.version < 16777216
+  pub room : held.plan.version < MOST_EVENTS
   pub known : All (λ t. (1 ≤ t.customer) × (t.customer ≤ length held.pins.pins)) new.touched.items
   pub touched : (c : ℕ) → 1 ≤ c → IsHeld held.pins (routes_with held new.changes.items) c ⊎ IsTouched new.touched.items c
   pub pending : new.pending.of ≡ held.cache

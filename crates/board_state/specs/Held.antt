@@ -1,6 +1,7 @@
 -- What is held of a board's state, and that it stands for the state.
 use Rattle.std.specs.declared.sync.Arc.{Arc}
 use Rattle.std.specs.Prelude.{◌≡◌, ℕ, ◌<◌, nat_lt, List, [], length, replicate, Bool, None}
+use Rattle.limits.specs.declared.TheConstants.{MOST_EVENTS}
 use Rattle.dimension_core.specs.Setting.{Setting}
 use Rattle.dimension_core.specs.Feasible.{IsFeasible}
 use Rattle.plan_core.specs.Drafts.{DraftState, with_drafts}
@@ -73,7 +74,7 @@ pub record IsReady (s : Setting) (held : HeldState) : Type 0 where
   pub cache : IsCacheOf s held.plan.routes held.cache
   pub compiled : ∥ AreCompiled held.tables held.policy.now ∥₁
   pub sizes : HasSizes held.policy.now held.tables
-  pub room : held.plan.version < 16777216
+  pub room : held.plan.version < MOST_EVENTS
 
 -- a plan of this many customers and vehicles on which nobody stands, and no pin or frozen stop on it
 abbrev pub empty_plan : ℕ → ℕ → PlanState

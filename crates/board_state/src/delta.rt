@@ -12,6 +12,7 @@ ghost use Rattle.board_state.specs.Deltas.{changed_places, changed_fronts, new_s
 
 use crate::change::{Change, Commit, Judged};
 use board_rules::{Delta, customers_have_one_spot};
+use limits::MOST_CUSTOMERS;
 use move_core::{
     Move, fronts_by_first_change, moves_are_possible, moves_between_carry_over,
     moves_inside_rearrange, moves_keep_plans, moves_keep_the_untouched, moves_name_vehicles,
@@ -178,7 +179,7 @@ fn add_new_spots(
     old: &[u32],
     new: &[u32],
 ) -> Result<(), AllocError>
-    requires { length new.now ≤ 1000 }
+    requires { length new.now ≤ MOST_CUSTOMERS }
     ensures { OnOk result (places.new.items ≡ places.old.items ++ spots_behind vehicle (kept + 1) old.now (drop kept new.now)) }
 {
     for index in kept as usize..new.len() {

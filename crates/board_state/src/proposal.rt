@@ -27,6 +27,7 @@ use crate::stop::Stop;
 use board_rules::{Denial, plans_are_judged_by_new_routes};
 use callback_store::Meter;
 use dimension_core::Setup;
+use limits::MOST_CUSTOMERS;
 use move_core::{Move, moves_keep_plans, moves_keep_the_untouched, moves_name_vehicles};
 use pin_core::pins_after_commits;
 use plan_core::{Drafts, Route, Touch, routes_are_known};
@@ -250,7 +251,7 @@ impl State {
         ensures named { named_vehicles (changes_by self.now.plan.routes mv.now) ≡ named_by mv.now }
         ensures known { (s : Setting) → length self.now.plan.routes ≡ s.vehicles → self.now.plan.customers ≡ s.customers
             → AllKnown s (changes_by self.now.plan.routes mv.now) }
-        ensures short { OnOk result (All (λ c. length c.1 ≤ 1000) (changes_by self.now.plan.routes mv.now)) }
+        ensures short { OnOk result (All (λ c. length c.1 ≤ MOST_CUSTOMERS) (changes_by self.now.plan.routes mv.now)) }
         ensures placeable { OnOk result (ArePlaceable self.now (changes_by self.now.plan.routes mv.now) touched.now) }
     {
         moves_name_vehicles();

@@ -16,6 +16,7 @@ ghost use Rattle.policy_core.specs.State.{is_session};
 use crate::change::Workspace;
 use callback_store::Meter;
 use dimension_core::Setup;
+use limits::{MOST_CUSTOMERS, MOST_VEHICLES};
 use permission_table::{SessionRows, Tables};
 use pin_core::Pins;
 use plan_core::Plan;
@@ -181,8 +182,8 @@ fn opening_permissions(
     customers: u32,
     vehicles: u32,
 ) -> Result<(Twin, Tables), AllocError>
-    requires few_customers { customers ≤ 1000 }
-    requires few_vehicles { vehicles ≤ 1000 }
+    requires few_customers { customers ≤ MOST_CUSTOMERS }
+    requires few_vehicles { vehicles ≤ MOST_VEHICLES }
     ensures { IfOk result (λ r. IsOpened customers vehicles r.0.now r.1) }
 {
     let (opening, tables) = opening_policy(alloc, customers, vehicles)?;
@@ -210,8 +211,8 @@ fn opening_policy(
     customers: u32,
     vehicles: u32,
 ) -> Result<(Policy, Tables), AllocError>
-    requires few_customers { customers ≤ 1000 }
-    requires few_vehicles { vehicles ≤ 1000 }
+    requires few_customers { customers ≤ MOST_CUSTOMERS }
+    requires few_vehicles { vehicles ≤ MOST_VEHICLES }
     ensures { IfOk result (λ r. IsOpened customers vehicles r.0 r.1) }
 {
     let opening = Policy::opening(alloc, customers, vehicles)?;
@@ -226,8 +227,8 @@ fn opening_tables(
     customers: u32,
     vehicles: u32,
 ) -> Result<Tables, AllocError>
-    requires few_customers { customers ≤ 1000 }
-    requires few_vehicles { vehicles ≤ 1000 }
+    requires few_customers { customers ≤ MOST_CUSTOMERS }
+    requires few_vehicles { vehicles ≤ MOST_VEHICLES }
     requires opening { policy.now ≡ opening customers vehicles }
     ensures compiled { IfOk result (λ tables. AreCompiled tables policy.now) }
     ensures sizes { IfOk result (HasSizes policy.now) }

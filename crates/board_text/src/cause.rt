@@ -5,6 +5,7 @@ ghost use Rattle.plan_core.specs.Plan.{route_at};
 ghost use Rattle.move_core.specs.Moves.{is_vehicle, is_placed};
 ghost use Rattle.board_text.specs.Causes.{insert_cause, remove_cause, shift_cause, swap_cause, reverse_cause, cross_cause, place_cause, last_place, cause_of};
 
+use limits::MOST_CUSTOMERS;
 use move_core::Move;
 use plan_core::Plan;
 
@@ -88,7 +89,7 @@ fn length_of(plan: &Plan, vehicle: u32) -> u32
     requires low { 1 ≤ vehicle }
     requires high { vehicle ≤ length plan.now.routes }
     ensures value { result ≡ length (route_at plan.now.routes vehicle) }
-    ensures small { result ≤ 1000 }
+    ensures small { result ≤ MOST_CUSTOMERS }
 {
     plan.route(vehicle).len() as u32
 }

@@ -5,6 +5,7 @@ ghost use Rattle.std.specs.Io.KnownBytes.{Consumes, IsAtEnd};
 ghost use Rattle.line_engine.specs.Running.{HasNoEnd};
 ghost use Rattle.board_text.specs.Pieces.{AreRead, IsCut, IsFirst, IsNext, IsUncut, IsUnread};
 
+use limits::LONGEST_LINE;
 use line_engine::RunFault;
 use std::alloc::{AllocError, Global};
 use std::io::Read;
@@ -21,9 +22,6 @@ pub(crate) enum Piece {
     /// More bytes than a line may have come before the next line end.
     Long,
 }
-
-/// How many bytes a line may have.
-const MOST_BYTES: usize = 4096;
 
 /// How many bytes are read at a time.
 const CHUNK_BYTES: usize = 4096;
@@ -67,12 +65,12 @@ impl Feed {
     {
         let alloc = *self.held.allocator();
         let Some((line, rest)) = cut(alloc, self.held.as_slice())? else {
-            if self.held.len() > MOST_BYTES {
+            if self.held.len() > LONGEST_LINE {
                 return Ok(Some(Piece::Long));
             }
             return Ok(None);
         };
-        if line.len() > MOST_BYTES + 1 {
+        if line.len() > LONGEST_LINE + 1 {
             return Ok(Some(Piece::Long));
         }
         self.held = rest;

@@ -8,6 +8,7 @@ ghost use Rattle.board_text.specs.Fed.{IsTextAnswered, IsTextStopped, as_whole};
 use crate::feed::{Feed, Piece};
 use crate::line_note::end_note;
 use crate::notes::Notes;
+use limits::MOST_LINES;
 use line_engine::{Counts, Front, RunFault, run_lines, write_whole};
 use std::alloc::{AllocError, Global};
 use std::io::{Read, Write};
@@ -70,9 +71,6 @@ fn answer_line<R, F: Front<R> + Notes, W: Write, E: Write>(
         Err(fault) => Err(as_whole(fault)),
     }
 }
-
-/// How many lines are answered at most, as by `run_lines`.
-const MOST_LINES: u64 = 4_294_967_296;
 
 /// The counts of two runs, one behind the other.
 fn plus(first: Counts, second: Counts) -> Counts

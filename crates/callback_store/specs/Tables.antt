@@ -1,5 +1,6 @@
 use Rattle.std.specs.Prelude.{◌≡◌, ℕ, ◌+◌, ◌*◌, ◌/◌, ◌%◌, ◌<◌, ◌≤◌, Bool, true, false, ◌==◌, ◌&&◌, ◌||◌, nat_le, if◌then◌else◌, List, [], ◌∷◌, length, map, slice_index, slice_index_or}
 use Rattle.std.specs.List.{range_with_len}
+use Rattle.limits.specs.declared.TheConstants.{MOST_CALLBACKS, MOST_NODES}
 use Rattle.callback_store.specs.declared.transit.Transit.{Transit}
 use Rattle.callback_store.specs.declared.unary.Unary.{Unary}
 use Rattle.callback_store.specs.declared.matrix.Matrix.{Matrix}
@@ -82,9 +83,9 @@ table_at ts id = slice_index_or ts id no_table
 pub record AreTables (ts : List Table) : Type 0 where
   pub same : (k : ℕ) → k < length ts → (table_at ts k).size ≡ nodes_of ts
   pub low : 0 < length ts → 2 ≤ nodes_of ts
-  pub high : nodes_of ts ≤ 1001
-  pub few : length ts ≤ 16
+  pub high : nodes_of ts ≤ MOST_NODES
+  pub few : length ts ≤ MOST_CALLBACKS
 
 -- whether a callback for this many nodes may join some tables
 abbrev pub is_fitting : List Table → ℕ → Bool
-is_fitting ts size = nat_le 2 size && nat_le size 1001 && (length ts == 0 || nodes_of ts == size)
+is_fitting ts size = nat_le 2 size && nat_le size MOST_NODES && (length ts == 0 || nodes_of ts == size)

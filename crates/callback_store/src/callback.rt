@@ -8,6 +8,7 @@ use crate::stay_matrix::StayMatrix;
 use crate::transit::Transit;
 use crate::unary::Unary;
 use crate::vector::Vector;
+use limits::LARGEST_ANSWER;
 
 /// A callback. A function that has its kind as a type parameter looks at the kind once, and not at each ask.
 pub trait Callback {
@@ -20,7 +21,7 @@ pub trait Callback {
         requires from { i < (table self.now).size }
         requires to { j < (table self.now).size }
         ensures answer { result ≡ entry (table self.now) i j }
-        ensures small { result ≤ 1000000000 };
+        ensures small { result ≤ LARGEST_ANSWER };
 }
 
 impl Callback for Transit {

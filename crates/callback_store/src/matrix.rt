@@ -1,4 +1,5 @@
 ghost use Rattle.std.specs.Prelude.{◌≡◌, ℕ, ◌*◌, ◌<◌, ◌≤◌, IsTrue, length, map, All};
+ghost use Rattle.limits.specs.declared.TheConstants.{LARGEST_ANSWER};
 ghost use Rattle.callback_store.specs.Meter.{after_ask, after_asks, AsksJust};
 ghost use Rattle.callback_store.specs.Symmetry.{AreSymmetric};
 
@@ -17,7 +18,7 @@ pub struct Matrix {
     answers: Arc<Vec<u32>>,
     symmetric: bool,
     ghost sized: { length answers.value.items ≡ size * size },
-    ghost limited: { All (λ x. x ≤ 1000000000) answers.value.items },
+    ghost limited: { All (λ x. x ≤ LARGEST_ANSWER) answers.value.items },
     ghost even: { IsTrue symmetric → AreSymmetric size answers.value.items },
 }
 
@@ -27,7 +28,7 @@ impl Matrix {
     /// The answers for `size` nodes. Any size is taken here; a registry takes 2 to 1,001 nodes.
     pub fn new(size: u32, answers: Arc<Vec<u32>>) -> Matrix
         requires sized { length answers.value.items ≡ size * size }
-        requires limited { All (λ x. x ≤ 1000000000) answers.value.items }
+        requires limited { All (λ x. x ≤ LARGEST_ANSWER) answers.value.items }
         ensures sized { (matrix_table result).size ≡ size }
         ensures answers { (matrix_table result).entries ≡ answers.value.items }
     {
@@ -42,7 +43,7 @@ impl Matrix {
     /// either of the two may be read for both.
     pub fn symmetric(size: u32, answers: Arc<Vec<u32>>) -> Matrix
         requires sized { length answers.value.items ≡ size * size }
-        requires limited { All (λ x. x ≤ 1000000000) answers.value.items }
+        requires limited { All (λ x. x ≤ LARGEST_ANSWER) answers.value.items }
         requires even { AreSymmetric size answers.value.items }
         ensures sized { (matrix_table result).size ≡ size }
         ensures answers { (matrix_table result).entries ≡ answers.value.items }
@@ -81,7 +82,7 @@ impl Matrix {
         requires from { i < (matrix_table self.now).size }
         requires to { j < (matrix_table self.now).size }
         ensures answer { result ≡ entry (matrix_table self.now) i j }
-        ensures small { result ≤ 1000000000 }
+        ensures small { result ≤ LARGEST_ANSWER }
     {
         self.answers[i as usize * self.size as usize + j as usize]
     }
@@ -91,7 +92,7 @@ impl Matrix {
         requires from { i < (matrix_table self.now).size }
         requires to { j < (matrix_table self.now).size }
         ensures answer { result ≡ entry (matrix_table self.now) i j }
-        ensures small { result ≤ 1000000000 }
+        ensures small { result ≤ LARGEST_ANSWER }
         ensures counted { meter.new ≡ after_ask meter.old }
         ensures one { AsksJust meter.old meter.new 1 }
     {
@@ -105,7 +106,7 @@ impl Matrix {
         requires to { All (λ j. j < (matrix_table self.now).size) to.now }
         requires room { length answers.old ≡ length to.now }
         ensures answers { answers.new ≡ map (λ j. entry (matrix_table self.now) i j) to.now }
-        ensures small { All (λ x. x ≤ 1000000000) answers.new }
+        ensures small { All (λ x. x ≤ LARGEST_ANSWER) answers.new }
         ensures counted { meter.new ≡ after_asks meter.old (length to.now) }
         ensures just { AsksJust meter.old meter.new (length to.now) }
     {
@@ -121,7 +122,7 @@ impl Matrix {
         requires from { All (λ i. i < (matrix_table self.now).size) from.now }
         requires room { length answers.old ≡ length from.now }
         ensures answers { answers.new ≡ map (λ i. entry (matrix_table self.now) i j) from.now }
-        ensures small { All (λ x. x ≤ 1000000000) answers.new }
+        ensures small { All (λ x. x ≤ LARGEST_ANSWER) answers.new }
         ensures counted { meter.new ≡ after_asks meter.old (length from.now) }
         ensures just { AsksJust meter.old meter.new (length from.now) }
     {

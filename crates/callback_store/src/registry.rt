@@ -9,6 +9,7 @@ use crate::stay_matrix::StayMatrix;
 use crate::transit::Transit;
 use crate::unary::Unary;
 use crate::vector::Vector;
+use limits::{LARGEST_ANSWER, MOST_CALLBACKS, MOST_NODES};
 use std::alloc::{AllocError, Global};
 use std::marker::Model;
 use thiserror::Error;
@@ -84,7 +85,7 @@ impl Registry {
     /// How many callbacks there are.
     pub fn count(&self) -> u32
         ensures value { result ≡ length (tables self.now) }
-        ensures small { result ≤ 16 }
+        ensures small { result ≤ MOST_CALLBACKS }
     {
         self.slots.len() as u32
     }
@@ -99,7 +100,7 @@ impl Registry {
     /// How many nodes each callback knows, and 0 where there is no callback.
     pub fn nodes(&self) -> u32
         ensures value { result ≡ nodes_of (tables self.now) }
-        ensures small { result ≤ 1001 }
+        ensures small { result ≤ MOST_NODES }
     {
         match self.slots.first() {
             None => 0,
@@ -111,7 +112,7 @@ impl Registry {
     fn is_fitting(&self, size: u32) -> bool
         ensures { result ≡ is_fitting (tables self.now) size }
     {
-        2 <= size && size <= 1001 && (self.slots.is_empty() || self.nodes() == size)
+        2 <= size && size <= MOST_NODES && (self.slots.is_empty() || self.nodes() == size)
     }
 
     /// Takes a two-node callback, and answers its name. The others keep their names and tables.
@@ -122,14 +123,14 @@ impl Registry {
         ensures ok { IfOk result (λ id. tables self.new ≡ tables self.old ++ pair_table transit ∷ []) }
         ensures size { IsErrOf result RegisterFault.Size ↔ (is_fitting (tables self.old) (pair_table transit).size ≡ false) }
         ensures many { IsErrOf result RegisterFault.Many
-            ↔ ((is_fitting (tables self.old) (pair_table transit).size ≡ true) × (16 ≤ length (tables self.old))) }
+            ↔ ((is_fitting (tables self.old) (pair_table transit).size ≡ true) × (MOST_CALLBACKS ≤ length (tables self.old))) }
         ensures err { OnErr result (tables self.new ≡ tables self.old) }
     {
         if !self.is_fitting(transit.size()) {
             return Err(RegisterFault::Size);
         }
         let index = self.count();
-        if index >= 16 {
+        if index >= MOST_CALLBACKS {
             return Err(RegisterFault::Many);
         }
         match self.slots.push(Slot::Pair(transit)) {
@@ -146,14 +147,14 @@ impl Registry {
         ensures ok { IfOk result (λ id. tables self.new ≡ tables self.old ++ node_table unary ∷ []) }
         ensures size { IsErrOf result RegisterFault.Size ↔ (is_fitting (tables self.old) (node_table unary).size ≡ false) }
         ensures many { IsErrOf result RegisterFault.Many
-            ↔ ((is_fitting (tables self.old) (node_table unary).size ≡ true) × (16 ≤ length (tables self.old))) }
+            ↔ ((is_fitting (tables self.old) (node_table unary).size ≡ true) × (MOST_CALLBACKS ≤ length (tables self.old))) }
         ensures err { OnErr result (tables self.new ≡ tables self.old) }
     {
         if !self.is_fitting(unary.size()) {
             return Err(RegisterFault::Size);
         }
         let index = self.count();
-        if index >= 16 {
+        if index >= MOST_CALLBACKS {
             return Err(RegisterFault::Many);
         }
         match self.slots.push(Slot::Node(unary)) {
@@ -170,14 +171,14 @@ impl Registry {
         ensures ok { IfOk result (λ id. tables self.new ≡ tables self.old ++ matrix_table matrix ∷ []) }
         ensures size { IsErrOf result RegisterFault.Size ↔ (is_fitting (tables self.old) (matrix_table matrix).size ≡ false) }
         ensures many { IsErrOf result RegisterFault.Many
-            ↔ ((is_fitting (tables self.old) (matrix_table matrix).size ≡ true) × (16 ≤ length (tables self.old))) }
+            ↔ ((is_fitting (tables self.old) (matrix_table matrix).size ≡ true) × (MOST_CALLBACKS ≤ length (tables self.old))) }
         ensures err { OnErr result (tables self.new ≡ tables self.old) }
     {
         if !self.is_fitting(matrix.size()) {
             return Err(RegisterFault::Size);
         }
         let index = self.count();
-        if index >= 16 {
+        if index >= MOST_CALLBACKS {
             return Err(RegisterFault::Many);
         }
         match self.slots.push(Slot::Listed(matrix)) {
@@ -194,14 +195,14 @@ impl Registry {
         ensures ok { IfOk result (λ id. tables self.new ≡ tables self.old ++ vector_table vector ∷ []) }
         ensures size { IsErrOf result RegisterFault.Size ↔ (is_fitting (tables self.old) (vector_table vector).size ≡ false) }
         ensures many { IsErrOf result RegisterFault.Many
-            ↔ ((is_fitting (tables self.old) (vector_table vector).size ≡ true) × (16 ≤ length (tables self.old))) }
+            ↔ ((is_fitting (tables self.old) (vector_table vector).size ≡ true) × (MOST_CALLBACKS ≤ length (tables self.old))) }
         ensures err { OnErr result (tables self.new ≡ tables self.old) }
     {
         if !self.is_fitting(vector.size()) {
             return Err(RegisterFault::Size);
         }
         let index = self.count();
-        if index >= 16 {
+        if index >= MOST_CALLBACKS {
             return Err(RegisterFault::Many);
         }
         match self.slots.push(Slot::Values(vector)) {
@@ -218,14 +219,14 @@ impl Registry {
         ensures ok { IfOk result (λ id. tables self.new ≡ tables self.old ++ stay_table matrix ∷ []) }
         ensures size { IsErrOf result RegisterFault.Size ↔ (is_fitting (tables self.old) (stay_table matrix).size ≡ false) }
         ensures many { IsErrOf result RegisterFault.Many
-            ↔ ((is_fitting (tables self.old) (stay_table matrix).size ≡ true) × (16 ≤ length (tables self.old))) }
+            ↔ ((is_fitting (tables self.old) (stay_table matrix).size ≡ true) × (MOST_CALLBACKS ≤ length (tables self.old))) }
         ensures err { OnErr result (tables self.new ≡ tables self.old) }
     {
         if !self.is_fitting(matrix.size()) {
             return Err(RegisterFault::Size);
         }
         let index = self.count();
-        if index >= 16 {
+        if index >= MOST_CALLBACKS {
             return Err(RegisterFault::Many);
         }
         match self.slots.push(Slot::Stayed(matrix)) {
@@ -269,7 +270,7 @@ impl Registry {
         requires from { i < nodes_of (tables self.now) }
         requires to { j < nodes_of (tables self.now) }
         ensures answer { result ≡ entry (table_at (tables self.now) id) i j }
-        ensures small { result ≤ 1000000000 }
+        ensures small { result ≤ LARGEST_ANSWER }
         ensures counted { meter.new ≡ after_ask meter.old }
         ensures one { AsksJust meter.old meter.new 1 }
     {
@@ -291,7 +292,7 @@ impl Registry {
         requires to { All (λ j. j < nodes_of (tables self.now)) to.now }
         requires room { length answers.old ≡ length to.now }
         ensures answers { answers.new ≡ map (λ j. entry (table_at (tables self.now) id) i j) to.now }
-        ensures small { All (λ x. x ≤ 1000000000) answers.new }
+        ensures small { All (λ x. x ≤ LARGEST_ANSWER) answers.new }
         ensures counted { meter.new ≡ after_asks meter.old (length to.now) }
         ensures just { AsksJust meter.old meter.new (length to.now) }
     {
@@ -314,7 +315,7 @@ impl Registry {
         requires from { All (λ i. i < nodes_of (tables self.now)) from.now }
         requires room { length answers.old ≡ length from.now }
         ensures answers { answers.new ≡ map (λ i. entry (table_at (tables self.now) id) i j) from.now }
-        ensures small { All (λ x. x ≤ 1000000000) answers.new }
+        ensures small { All (λ x. x ≤ LARGEST_ANSWER) answers.new }
         ensures counted { meter.new ≡ after_asks meter.old (length from.now) }
         ensures just { AsksJust meter.old meter.new (length from.now) }
     {

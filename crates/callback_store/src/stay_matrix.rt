@@ -4,6 +4,7 @@ ghost use Rattle.callback_store.specs.Stays.{AreStays};
 
 use crate::matrix::Matrix;
 use crate::meter::Meter;
+use limits::LARGEST_ANSWER;
 
 /// A transit callback that is given as a stay at each node and the ways between them: on the way from node `i` to node `j` it answers the
 /// stay at `i` and the way together, as service and travel make up time.
@@ -40,7 +41,7 @@ impl StayMatrix {
         requires from { i < (stay_table self.now).size }
         requires to { j < (stay_table self.now).size }
         ensures answer { result ≡ entry (stay_table self.now) i j }
-        ensures small { result ≤ 1000000000 }
+        ensures small { result ≤ LARGEST_ANSWER }
     {
         self.stays[i as usize] + self.ways.answer(i, j)
     }
@@ -51,7 +52,7 @@ impl StayMatrix {
         requires from { i < (stay_table self.now).size }
         requires to { j < (stay_table self.now).size }
         ensures answer { result ≡ entry (stay_table self.now) i j }
-        ensures small { result ≤ 1000000000 }
+        ensures small { result ≤ LARGEST_ANSWER }
         ensures counted { meter.new ≡ after_ask meter.old }
         ensures one { AsksJust meter.old meter.new 1 }
     {
@@ -65,7 +66,7 @@ impl StayMatrix {
         requires to { All (λ j. j < (stay_table self.now).size) to.now }
         requires room { length answers.old ≡ length to.now }
         ensures answers { answers.new ≡ map (λ j. entry (stay_table self.now) i j) to.now }
-        ensures small { All (λ x. x ≤ 1000000000) answers.new }
+        ensures small { All (λ x. x ≤ LARGEST_ANSWER) answers.new }
         ensures counted { meter.new ≡ after_asks meter.old (length to.now) }
         ensures just { AsksJust meter.old meter.new (length to.now) }
     {
@@ -81,7 +82,7 @@ impl StayMatrix {
         requires from { All (λ i. i < (stay_table self.now).size) from.now }
         requires room { length answers.old ≡ length from.now }
         ensures answers { answers.new ≡ map (λ i. entry (stay_table self.now) i j) from.now }
-        ensures small { All (λ x. x ≤ 1000000000) answers.new }
+        ensures small { All (λ x. x ≤ LARGEST_ANSWER) answers.new }
         ensures counted { meter.new ≡ after_asks meter.old (length from.now) }
         ensures just { AsksJust meter.old meter.new (length from.now) }
     {

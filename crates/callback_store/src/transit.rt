@@ -3,6 +3,7 @@ ghost use Rattle.callback_store.specs.Callback.{PairsOf, PairsOf-prop, IsPairsOf
 ghost use Rattle.callback_store.specs.Meter.{after_ask, after_asks, AsksJust};
 
 use crate::meter::Meter;
+use limits::LARGEST_ANSWER;
 
 /// A closure that answers for an ordered pair of nodes: for the way from the first to the second.
 pub type TransitCall = Box<dyn Fn(u32, u32) -> u64 + Send + Sync>;
@@ -48,7 +49,7 @@ impl Transit {
         requires from { i < (pair_table self.now).size }
         requires to { j < (pair_table self.now).size }
         ensures answer { result ≡ entry (pair_table self.now) i j }
-        ensures small { result ≤ 1000000000 }
+        ensures small { result ≤ LARGEST_ANSWER }
     {
         (self.call)(i, j)
     }
@@ -58,7 +59,7 @@ impl Transit {
         requires from { i < (pair_table self.now).size }
         requires to { j < (pair_table self.now).size }
         ensures answer { result ≡ entry (pair_table self.now) i j }
-        ensures small { result ≤ 1000000000 }
+        ensures small { result ≤ LARGEST_ANSWER }
         ensures counted { meter.new ≡ after_ask meter.old }
         ensures one { AsksJust meter.old meter.new 1 }
     {
@@ -73,7 +74,7 @@ impl Transit {
         requires to { All (λ j. j < (pair_table self.now).size) to.now }
         requires room { length answers.old ≡ length to.now }
         ensures answers { answers.new ≡ map (λ j. entry (pair_table self.now) i j) to.now }
-        ensures small { All (λ x. x ≤ 1000000000) answers.new }
+        ensures small { All (λ x. x ≤ LARGEST_ANSWER) answers.new }
         ensures counted { meter.new ≡ after_asks meter.old (length to.now) }
         ensures just { AsksJust meter.old meter.new (length to.now) }
     {
@@ -90,7 +91,7 @@ impl Transit {
         requires from { All (λ i. i < (pair_table self.now).size) from.now }
         requires room { length answers.old ≡ length from.now }
         ensures answers { answers.new ≡ map (λ i. entry (pair_table self.now) i j) from.now }
-        ensures small { All (λ x. x ≤ 1000000000) answers.new }
+        ensures small { All (λ x. x ≤ LARGEST_ANSWER) answers.new }
         ensures counted { meter.new ≡ after_asks meter.old (length from.now) }
         ensures just { AsksJust meter.old meter.new (length from.now) }
     {

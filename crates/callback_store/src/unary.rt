@@ -3,6 +3,7 @@ ghost use Rattle.callback_store.specs.Callback.{TableOf, TableOf-prop, IsTableOf
 ghost use Rattle.callback_store.specs.Meter.{after_ask, after_asks, AsksJust};
 
 use crate::meter::Meter;
+use limits::LARGEST_ANSWER;
 
 /// A closure that answers for one node.
 pub type UnaryCall = Box<dyn Fn(u32) -> u64 + Send + Sync>;
@@ -47,7 +48,7 @@ impl Unary {
     pub(crate) fn answer(&self, i: u32) -> u64
         requires { i < (node_table self.now).size }
         ensures answer { result ≡ slice_index (node_table self.now).entries i }
-        ensures small { result ≤ 1000000000 }
+        ensures small { result ≤ LARGEST_ANSWER }
     {
         (self.call)(i)
     }
@@ -56,7 +57,7 @@ impl Unary {
     pub fn ask(&self, meter: &mut Meter, i: u32) -> u64
         requires { i < (node_table self.now).size }
         ensures answer { result ≡ slice_index (node_table self.now).entries i }
-        ensures small { result ≤ 1000000000 }
+        ensures small { result ≤ LARGEST_ANSWER }
         ensures counted { meter.new ≡ after_ask meter.old }
         ensures one { AsksJust meter.old meter.new 1 }
     {
@@ -70,7 +71,7 @@ impl Unary {
         requires nodes { All (λ i. i < (node_table self.now).size) nodes.now }
         requires room { length answers.old ≡ length nodes.now }
         ensures answers { answers.new ≡ map (λ i. slice_index (node_table self.now).entries i) nodes.now }
-        ensures small { All (λ x. x ≤ 1000000000) answers.new }
+        ensures small { All (λ x. x ≤ LARGEST_ANSWER) answers.new }
         ensures counted { meter.new ≡ after_asks meter.old (length nodes.now) }
         ensures just { AsksJust meter.old meter.new (length nodes.now) }
     {
@@ -85,7 +86,7 @@ impl Unary {
     pub(crate) fn ask_again(&self, meter: &mut Meter, i: u32, answers: &mut [u32])
         requires { i < (node_table self.now).size }
         ensures answers { answers.new ≡ map (λ a. slice_index (node_table self.now).entries i) answers.old }
-        ensures small { All (λ x. x ≤ 1000000000) answers.new }
+        ensures small { All (λ x. x ≤ LARGEST_ANSWER) answers.new }
         ensures counted { meter.new ≡ after_asks meter.old (length answers.old) }
         ensures just { AsksJust meter.old meter.new (length answers.old) }
     {

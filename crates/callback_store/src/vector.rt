@@ -1,4 +1,5 @@
 ghost use Rattle.std.specs.Prelude.{◌≡◌, ℕ, ◌<◌, ◌≤◌, false, length, slice_index, map, All};
+ghost use Rattle.limits.specs.declared.TheConstants.{LARGEST_ANSWER};
 ghost use Rattle.callback_store.specs.Meter.{after_ask, after_asks, AsksJust};
 
 use crate::meter::Meter;
@@ -10,7 +11,7 @@ use crate::meter::Meter;
 pub struct Vector {
     answers: Vec<u32>,
     ghost few: { length answers.items ≤ 4294967295 },
-    ghost limited: { All (λ x. x ≤ 1000000000) answers.items },
+    ghost limited: { All (λ x. x ≤ LARGEST_ANSWER) answers.items },
 }
 
 impl Vector {
@@ -19,7 +20,7 @@ impl Vector {
     /// The answers for as many nodes as there are. Any size is taken here; a registry takes 2 to 1,001 nodes.
     pub fn new(answers: Vec<u32>) -> Vector
         requires few { length answers.items ≤ 4294967295 }
-        requires limited { All (λ x. x ≤ 1000000000) answers.items }
+        requires limited { All (λ x. x ≤ LARGEST_ANSWER) answers.items }
         ensures { vector_table result ≡ record { size = length answers.items; paired = false; entries = answers.items } }
     {
         Vector { answers }
@@ -37,7 +38,7 @@ impl Vector {
     pub(crate) fn answer(&self, i: u32) -> u32
         requires { i < (vector_table self.now).size }
         ensures answer { result ≡ slice_index (vector_table self.now).entries i }
-        ensures small { result ≤ 1000000000 }
+        ensures small { result ≤ LARGEST_ANSWER }
     {
         self.answers[i as usize]
     }
@@ -47,7 +48,7 @@ impl Vector {
     pub fn ask(&self, meter: &mut Meter, i: u32) -> u64
         requires { i < (vector_table self.now).size }
         ensures answer { result ≡ slice_index (vector_table self.now).entries i }
-        ensures small { result ≤ 1000000000 }
+        ensures small { result ≤ LARGEST_ANSWER }
         ensures counted { meter.new ≡ after_ask meter.old }
         ensures one { AsksJust meter.old meter.new 1 }
     {
@@ -60,7 +61,7 @@ impl Vector {
         requires nodes { All (λ i. i < (vector_table self.now).size) nodes.now }
         requires room { length answers.old ≡ length nodes.now }
         ensures answers { answers.new ≡ map (λ i. slice_index (vector_table self.now).entries i) nodes.now }
-        ensures small { All (λ x. x ≤ 1000000000) answers.new }
+        ensures small { All (λ x. x ≤ LARGEST_ANSWER) answers.new }
         ensures counted { meter.new ≡ after_asks meter.old (length nodes.now) }
         ensures just { AsksJust meter.old meter.new (length nodes.now) }
     {
@@ -74,7 +75,7 @@ impl Vector {
     pub(crate) fn ask_again(&self, meter: &mut Meter, i: u32, answers: &mut [u32])
         requires { i < (vector_table self.now).size }
         ensures answers { answers.new ≡ map (λ a. slice_index (vector_table self.now).entries i) answers.old }
-        ensures small { All (λ x. x ≤ 1000000000) answers.new }
+        ensures small { All (λ x. x ≤ LARGEST_ANSWER) answers.new }
         ensures counted { meter.new ≡ after_asks meter.old (length answers.old) }
         ensures just { AsksJust meter.old meter.new (length answers.old) }
     {

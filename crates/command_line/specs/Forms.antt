@@ -1,6 +1,7 @@
 -- What the words of the command line ask for.
 use Rattle.std.specs.Prelude.{ℕ, ◌≤◌, nat_le, Bool, List, Option, Some, None, is_some, option_map, option_and_then, if◌then◌else◌, Result, Ok, Err}
 use Rattle.std.specs.Result.{result_ok}
+use Rattle.limits.specs.declared.TheConstants.{MOST_ROUNDS, MOST_WORKERS}
 use Rattle.text_words.specs.Words.{number}
 use Rattle.command_line.specs.Words.{Request, RunWords, requested}
 use Rattle.command_line.specs.Words as words
@@ -78,7 +79,7 @@ with_number fault (Some n) next = next n
 
 -- a run with its numbers, or the first of its options, in this order, whose text is no number in its range
 abbrev pub numbered : RunWords → Result Form NumberFault
-numbered w = with_number Workers (number_or 63 0 w.workers) (λ workers. with_number Rounds (number_or 1000000 100 w.rounds)
+numbered w = with_number Workers (number_or MOST_WORKERS 0 w.workers) (λ workers. with_number Rounds (number_or MOST_ROUNDS 100 w.rounds)
     (λ rounds. with_number Seed (number_or 4294967295 1 w.seed) (λ seed. Ok (with_numbers w workers rounds seed))))
 
 abbrev pub form_of : Request → Result Form NumberFault
@@ -98,5 +99,5 @@ asked ws = option_and_then result_ok (answer ws)
 
 -- the numbers of a run are in their ranges
 abbrev pub IsInRange : Options → Type 0
-IsInRange (options.Run instance script workers rounds seed live progress explain) = (workers ≤ 63) × (rounds ≤ 1000000) × (seed ≤ 4294967295)
+IsInRange (options.Run instance script workers rounds seed live progress explain) = (workers ≤ MOST_WORKERS) × (rounds ≤ MOST_ROUNDS) × (seed ≤ 4294967295)
 IsInRange _ = Unit {0}

@@ -11,6 +11,7 @@ use crate::miss::{Miss, first_miss};
 use crate::stops::stop_at;
 use crate::total::total_of_route;
 use dimension_core::Setup;
+use limits::MOST_CUSTOMERS;
 use plan_core::Route;
 use std::sync::Arc;
 
@@ -35,7 +36,7 @@ pub enum Excess {
 }
 
 /// No route is longer.
-const MOST_STOPS: usize = 1000;
+const LONGEST_ROUTE: usize = MOST_CUSTOMERS as usize;
 
 /// By how much a vehicle's route is out of bounds in a dimension, counted from 1, or none where it is in bounds.
 fn excess_of(setup: &Setup, route: &[u32], vehicle: u32, dimension: u32) -> Option<Excess>
@@ -52,7 +53,7 @@ fn excess_of(setup: &Setup, route: &[u32], vehicle: u32, dimension: u32) -> Opti
     match first_miss(bounds, registry, route, vehicle)? {
         Miss::Start => Some(Excess::Start),
         Miss::Stop { stop, least, most } => {
-            if dimension == 1 && route.len() <= MOST_STOPS {
+            if dimension == 1 && route.len() <= LONGEST_ROUTE {
                 let total = total_of_route(bounds, registry, route);
                 let capacity = bounds.cap(vehicle);
                 if total > capacity {

@@ -8,6 +8,7 @@ ghost use Rattle.denial_facts.specs.Misses.{IsMiss, least_after, most_at};
 use crate::stops::stop_at;
 use callback_store::{Meter, Registry};
 use dimension_core::{Dimension, spans_go_on};
+use limits::LARGEST_CUMUL;
 
 /// Where a route first has no value in bounds.
 #[derive(Clone, Copy)]
@@ -30,7 +31,7 @@ fn least_after(dimension: &Dimension, registry: &Registry, from: u32, early: u64
     requires served { IsServed (tables registry.now) dimension.now }
     requires from { from < length dimension.now.ranges }
     requires to { node < length dimension.now.ranges }
-    requires early { early ≤ 1000000000000 }
+    requires early { early ≤ LARGEST_CUMUL }
     ensures { result ≡ least_after (table_of (tables registry.now) dimension.now) dimension.now from early node }
 {
     let way = registry.ask(dimension.id(), &mut Meter::new(), from, node);

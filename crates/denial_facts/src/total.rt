@@ -8,12 +8,13 @@ ghost use Rattle.denial_facts.specs.Totals.{total_of};
 use crate::stops::stop_at;
 use callback_store::{Meter, Registry};
 use dimension_core::Dimension;
+use limits::MOST_CUSTOMERS;
 
 /// The sum of a dimension's callback over the ways of a route, from the depot to its customers and back: what the route takes without any slack.
 pub fn total_of_route(dimension: &Dimension, registry: &Registry, route: &[u32]) -> u64
     requires served { IsServed (tables registry.now) dimension.now }
     requires known { All (λ node. node < length dimension.now.ranges) route.now }
-    requires short { length route.now ≤ 1000 }
+    requires short { length route.now ≤ MOST_CUSTOMERS }
     ensures { result ≡ total_of (table_of (tables registry.now) dimension.now) route.now }
 {
     let mut meter = Meter::new();

@@ -1,5 +1,6 @@
 use Rattle.std.specs.Prelude.{◌≡◌, ℕ, ◌+◌, ◌-◌, ◌<◌, ◌≤◌, ◌⊎◌, Bool, true, List, [], ◌∷◌, ◌++◌, length, slice_index, slice_index_or, Option, Some, None, IfSome, not, ◌==◌, ◌&&◌, nat_lt, nat_le, if◌then◌else◌}
 use Rattle.std.specs.List.{list_all}
+use Rattle.limits.specs.declared.TheConstants.{LARGEST_CUMUL, MOST_NODES, MOST_VEHICLES}
 use Rattle.callback_store.specs.Tables.{Table, entry, nodes_of, table_at}
 use Rattle.dimension_core.specs.declared.range.Range.{Range}
 use Rattle.dimension_core.specs.declared.dimension.DimensionFault.{DimensionFault}
@@ -106,29 +107,29 @@ table_of ts d = table_at ts d.id
 -- what is known of every dimension
 pub record AreBounds (d : Bounds) : Type 0 where
   pub some_cap : 1 ≤ length d.caps
-  pub few_caps : length d.caps ≤ 1000
+  pub few_caps : length d.caps ≤ MOST_VEHICLES
   pub some_node : 2 ≤ length d.ranges
-  pub few_nodes : length d.ranges ≤ 1001
-  pub slack : d.slack_max ≤ 1000000000000
-  pub caps : (k : ℕ) → k < length d.caps → slice_index d.caps k ≤ 1000000000000
-  pub ranges : (k : ℕ) → k < length d.ranges → ((range_of d k).lo ≤ (range_of d k).hi) × ((range_of d k).hi ≤ 1000000000000)
+  pub few_nodes : length d.ranges ≤ MOST_NODES
+  pub slack : d.slack_max ≤ LARGEST_CUMUL
+  pub caps : (k : ℕ) → k < length d.caps → slice_index d.caps k ≤ LARGEST_CUMUL
+  pub ranges : (k : ℕ) → k < length d.ranges → ((range_of d k).lo ≤ (range_of d k).hi) × ((range_of d k).hi ≤ LARGEST_CUMUL)
 
 -- whether there are 1 to 1,000 capacities, and a range for each node of the tables
 abbrev pub is_sized : List Table → List ℕ → List Range → Bool
-is_sized ts caps ranges = nat_le 1 (length caps) && nat_le (length caps) 1000 && (length ranges == nodes_of ts)
+is_sized ts caps ranges = nat_le 1 (length caps) && nat_le (length caps) MOST_VEHICLES && (length ranges == nodes_of ts)
 
 -- whether no capacity is above 1,000,000,000,000
 abbrev pub are_caps : List ℕ → Bool
-are_caps caps = list_all (λ cap. nat_le cap 1000000000000) caps
+are_caps caps = list_all (λ cap. nat_le cap LARGEST_CUMUL) caps
 
 -- whether no range is empty, and none ends above 1,000,000,000,000
 abbrev pub are_ranges : List Range → Bool
-are_ranges ranges = list_all (λ range. nat_le range.lo range.hi && nat_le range.hi 1000000000000) ranges
+are_ranges ranges = list_all (λ range. nat_le range.lo range.hi && nat_le range.hi LARGEST_CUMUL) ranges
 
 -- whether no range is empty, and no number above 1,000,000,000,000
 abbrev pub is_in_range : ℕ → List ℕ → List Range → Bool
 is_in_range slack_max caps ranges =
-    nat_le slack_max 1000000000000
+    nat_le slack_max LARGEST_CUMUL
     && are_caps caps
     && are_ranges ranges
 

@@ -10,11 +10,9 @@ ghost use Rattle.dimension_core.specs.Onward.{IsBefore};
 
 use crate::range::Range;
 use callback_store::{Meter, Registry, TransitId};
+use limits::{LARGEST_ANSWER, LARGEST_CUMUL, MOST_NODES, MOST_VEHICLES};
 use std::marker::Model;
 use thiserror::Error;
-
-/// The greatest number in a dimension.
-const LIMIT: u64 = 1_000_000_000_000;
 
 /// Why a dimension was refused, in the order in which the reasons are tried.
 #[derive(Clone, Copy, Debug, PartialEq, Eq, Error)]
@@ -61,14 +59,14 @@ impl Model for Dimension {
 fn is_in_range(slack_max: u64, caps: &[u64], ranges: &[Range]) -> bool
     ensures { result ≡ is_in_range slack_max caps.now ranges.now }
 {
-    slack_max <= LIMIT && are_caps(caps) && are_ranges(ranges)
+    slack_max <= LARGEST_CUMUL && are_caps(caps) && are_ranges(ranges)
 }
 
 /// Whether no capacity is above the limit.
 fn are_caps(caps: &[u64]) -> bool
     ensures { result ≡ are_caps caps.now }
 {
-    caps.iter().all(|cap| *cap <= LIMIT)
+    caps.iter().all(|cap| *cap <= LARGEST_CUMUL)
 }
 
 /// Whether no range is empty, and none ends above the limit.
@@ -77,14 +75,16 @@ fn are_ranges(ranges: &[Range]) -> bool
 {
     ranges
         .iter()
-        .all(|range| range.lo <= range.hi && range.hi <= LIMIT)
+        .all(|range| range.lo <= range.hi && range.hi <= LARGEST_CUMUL)
 }
 
 /// Whether there are 1 to 1,000 capacities, and a range for each node of the registry.
 fn is_sized(registry: &Registry, caps: &[u64], ranges: &[Range]) -> bool
     ensures { result ≡ is_sized (tables registry.now) caps.now ranges.now }
 {
-    1 <= caps.len() && caps.len() <= 1000 && ranges.len() == registry.nodes() as usize
+    1 <= caps.len()
+        && caps.len() <= MOST_VEHICLES as usize
+        && ranges.len() == registry.nodes() as usize
 }
 
 /// The cumuls that a vehicle may have at a node after one of a range: `Dimension::after` for a caller that asks it along a whole route, and
@@ -95,13 +95,13 @@ fn is_sized(registry: &Registry, caps: &[u64], ranges: &[Range]) -> bool
 #[inline(always)]
 pub fn range_after(range: Range, way: u64, node: Range, slack_max: u64, cap: u64) -> Option<Range>
     requires filled { range.lo ≤ range.hi }
-    requires range { range.hi ≤ 1000000000000 }
-    requires way { way ≤ 1000000000 }
-    requires slack { slack_max ≤ 1000000000000 }
-    requires cap { cap ≤ 1000000000000 }
+    requires range { range.hi ≤ LARGEST_CUMUL }
+    requires way { way ≤ LARGEST_ANSWER }
+    requires slack { slack_max ≤ LARGEST_CUMUL }
+    requires cap { cap ≤ LARGEST_CUMUL }
     ensures span { (t : Table) (d : Bounds) (vehicle i j : ℕ) → way ≡ entry t i j → node ≡ range_of d j → slack_max ≡ d.slack_max
         → cap ≡ cap_of d vehicle → IsSpan result (λ y. (x : ℕ) × IsWithin (Some range) x × IsStep t d vehicle i x j y) }
-    ensures small { IfSome result (λ r. r.hi ≤ 1000000000000) }
+    ensures small { IfSome result (λ r. r.hi ≤ LARGEST_CUMUL) }
 {
     let lo = (range.lo + way).max(node.lo);
     let most = range.hi + way + slack_max;
@@ -163,7 +163,7 @@ impl Dimension {
     /// The greatest slack.
     pub fn slack_max(&self) -> u64
         ensures value { result ≡ self.now.slack_max }
-        ensures small { result ≤ 1000000000000 }
+        ensures small { result ≤ LARGEST_CUMUL }
     {
         self.slack_max
     }
@@ -179,7 +179,7 @@ impl Dimension {
     pub fn vehicles(&self) -> u32
         ensures value { result ≡ length self.now.caps }
         ensures low { 1 ≤ result }
-        ensures high { result ≤ 1000 }
+        ensures high { result ≤ MOST_VEHICLES }
     {
         self.caps.len() as u32
     }
@@ -188,7 +188,7 @@ impl Dimension {
     pub fn nodes(&self) -> u32
         ensures value { result ≡ length self.now.ranges }
         ensures low { 2 ≤ result }
-        ensures high { result ≤ 1001 }
+        ensures high { result ≤ MOST_NODES }
     {
         self.ranges.len() as u32
     }
@@ -198,7 +198,7 @@ impl Dimension {
         requires low { 1 ≤ vehicle }
         requires high { vehicle ≤ length self.now.caps }
         ensures value { result ≡ cap_of self.now vehicle }
-        ensures small { result ≤ 1000000000000 }
+        ensures small { result ≤ LARGEST_CUMUL }
     {
         self.caps[vehicle as usize - 1]
     }
@@ -215,7 +215,7 @@ impl Dimension {
         requires { node < length self.now.ranges }
         ensures value { result ≡ range_of self.now node }
         ensures filled { result.lo ≤ result.hi }
-        ensures small { result.hi ≤ 1000000000000 }
+        ensures small { result.hi ≤ LARGEST_CUMUL }
     {
         self.ranges[node as usize]
     }
@@ -223,7 +223,7 @@ impl Dimension {
     /// A law of the dimension: no span along a route ends above the limit.
     pub fn spans_are_small(&self)
         ensures { (t : Table) (vehicle : ℕ) (nodes : List ℕ) (range : Range) → IsSpan (Some range) (Reaches t self.now vehicle nodes)
-            → last_of 0 nodes < length self.now.ranges → range.hi ≤ 1000000000000 }
+            → last_of 0 nodes < length self.now.ranges → range.hi ≤ LARGEST_CUMUL }
     {
         let _ = &self.id;
     }
@@ -234,7 +234,7 @@ impl Dimension {
         requires high { vehicle ≤ length self.now.caps }
         ensures span { IsSpan result (IsStart self.now vehicle) }
         ensures depot { 0 < length self.now.ranges }
-        ensures small { IfSome result (λ r. r.hi ≤ 1000000000000) }
+        ensures small { IfSome result (λ r. r.hi ≤ LARGEST_CUMUL) }
     {
         let depot = self.ranges[0];
         let cap = self.caps[vehicle as usize - 1];
@@ -264,7 +264,7 @@ impl Dimension {
         requires high { vehicle ≤ length self.now.caps }
         ensures span { IsSpan result (λ y. (x : ℕ) × IsWithin (Some range) x
             × IsStep (table_of (tables registry.now) self.now) self.now vehicle i x j y) }
-        ensures small { IfSome result (λ r. r.hi ≤ 1000000000000) }
+        ensures small { IfSome result (λ r. r.hi ≤ LARGEST_CUMUL) }
         ensures counted { meter.new ≡ after_ask meter.old }
         ensures one { AsksJust meter.old meter.new 1 }
     {
@@ -292,14 +292,14 @@ impl Dimension {
     /// for which the callback answers `way` on the way to `j`.
     pub fn after(&self, range: Range, way: u64, j: u32, vehicle: u32) -> Option<Range>
         requires filled { range.lo ≤ range.hi }
-        requires range { range.hi ≤ 1000000000000 }
-        requires way { way ≤ 1000000000 }
+        requires range { range.hi ≤ LARGEST_CUMUL }
+        requires way { way ≤ LARGEST_ANSWER }
         requires to { j < length self.now.ranges }
         requires low { 1 ≤ vehicle }
         requires high { vehicle ≤ length self.now.caps }
         ensures span { (t : Table) (i : ℕ) → way ≡ entry t i j
             → IsSpan result (λ y. (x : ℕ) × IsWithin (Some range) x × IsStep t self.now vehicle i x j y) }
-        ensures small { IfSome result (λ r. r.hi ≤ 1000000000000) }
+        ensures small { IfSome result (λ r. r.hi ≤ LARGEST_CUMUL) }
     {
         range_after(
             range,
@@ -328,7 +328,7 @@ impl Dimension {
         requires low { 1 ≤ vehicle }
         requires high { vehicle ≤ length self.now.caps }
         ensures span { IsSpan result (IsBefore (table_of (tables registry.now) self.now) self.now vehicle i j range) }
-        ensures small { IfSome result (λ r. r.hi ≤ 1000000000000) }
+        ensures small { IfSome result (λ r. r.hi ≤ LARGEST_CUMUL) }
         ensures counted { meter.new ≡ after_ask meter.old }
         ensures one { AsksJust meter.old meter.new 1 }
     {
@@ -369,7 +369,7 @@ impl Dimension {
         ensures missed { IfNone result ((k : ℕ) × IsFirstMiss (table_of (tables registry.now) self.now) self.now vehicle nodes.now k
             × AsksJust meter.old meter.new k) }
         ensures early { IfSome result (λ r. IsEarly (table_of (tables registry.now) self.now) self.now vehicle nodes.now r.lo) }
-        ensures small { IfSome result (λ r. r.hi ≤ 1000000000000) }
+        ensures small { IfSome result (λ r. r.hi ≤ LARGEST_CUMUL) }
     {
         let mut range = self.start(vehicle)?;
         let mut from = 0u32;

@@ -8,6 +8,7 @@ ghost use Rattle.dimension_core.specs.Setting.{IsSetting, dimension_at, is_over,
 use crate::dimension::Dimension;
 use crate::fault::SetupFault;
 use callback_store::{Registry, TransitId};
+use limits::{MOST_CUSTOMERS, MOST_DIMENSIONS, MOST_EVENTS, MOST_VEHICLES};
 
 /// What a board is opened with: its numbers, its callbacks and its dimensions.
 pub struct Setup {
@@ -43,7 +44,7 @@ impl Drop for Setup {
 
 /// Whether each dimension is over this many customers and vehicles.
 fn are_over(customers: u32, vehicles: u32, dimensions: &[Dimension]) -> bool
-    requires { customers ≤ 1000 }
+    requires { customers ≤ MOST_CUSTOMERS }
     ensures { result ≡ list_all (is_over customers vehicles) dimensions.now }
 {
     dimensions
@@ -90,9 +91,9 @@ impl Setup {
         }) }
     {
         let sized = 1 <= customers
-            && customers <= 1000
+            && customers <= MOST_CUSTOMERS
             && 1 <= vehicles
-            && vehicles <= 1000
+            && vehicles <= MOST_VEHICLES
             && (registry.count() == 0 || registry.nodes() == customers + 1)
             && are_over(customers, vehicles, &dimensions);
         if !sized {
@@ -101,10 +102,10 @@ impl Setup {
         if !(registry.has(cost) && are_registered(registry.count(), &dimensions)) {
             return Err(SetupFault::NoTransit);
         }
-        if dimensions.len() > 8 {
+        if dimensions.len() > MOST_DIMENSIONS {
             return Err(SetupFault::Many);
         }
-        if !(1 <= max_events && max_events <= 16777216) {
+        if !(1 <= max_events && max_events <= MOST_EVENTS) {
             return Err(SetupFault::Limit);
         }
         Ok(Setup {

@@ -6,6 +6,7 @@ use board_core::Board;
 use board_lock::{Foyer, make_foyer};
 use callback_store::{Registry, Transit, TransitId};
 use dimension_core::{Dimension, Range, Setup};
+use limits::MOST_DESKS;
 use std::alloc::Global;
 use std::sync::{Arc, Wait};
 
@@ -98,7 +99,7 @@ pub(crate) fn foyer_of<R: Wait + Drop>(
     desks: u32,
 ) -> Option<Foyer<R>>
     requires low { 1 ≤ desks }
-    requires high { desks ≤ 64 }
+    requires high { desks ≤ MOST_DESKS }
 {
     let board = Board::new(alloc, setup, desks).ok()?;
     match make_foyer(rt, alloc, board) {

@@ -5,6 +5,7 @@ use crate::scarce::Hoard;
 use crate::setups::foyer_of;
 use board_lock::{Foyer, Naming, open_hall};
 use dimension_core::Setup;
+use limits::MOST_DESKS;
 use search_workers::{OpenGate, WorkFault, work_all};
 use std::alloc::Global;
 use std::marker::Brand;
@@ -59,7 +60,7 @@ fn started_with<W: Threads + Wait + Sync>(
     bytes: usize,
 ) -> Option<Result<usize, WorkFault>>
     requires low { 1 ≤ workers }
-    requires high { workers ≤ 64 }
+    requires high { workers ≤ MOST_DESKS }
 {
     let foyer = foyer_of(rt, alloc, Arc::try_clone(setup).ok()?, workers)?;
     shares_of::<Brand, _, _>(rt, alloc, hoard, foyer, bytes)
@@ -87,7 +88,7 @@ pub(crate) fn starts_until<W: Threads + Wait + Sync>(
     part: usize,
 ) -> Started
     requires low { 1 ≤ workers }
-    requires high { workers ≤ 64 }
+    requires high { workers ≤ MOST_DESKS }
     requires part { 0 < part }
 {
     let mut started = Started {

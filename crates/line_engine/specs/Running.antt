@@ -3,6 +3,7 @@ use Rattle.std.specs.Prelude.{◌≡◌, ◌≢◌, ℕ, ◌+◌, ◌<◌, ◌�
 use Rattle.std.specs.List.{flat_map, AllByRecursion}
 use Rattle.std.specs.Io.BufRead.{strip_last}
 use Rattle.std.specs.Io.KnownBytes.{Appends}
+use Rattle.limits.specs.declared.TheConstants.{LONGEST_LINE, MOST_LINES}
 use Rattle.board_lines.specs.Reading.{read_of}
 use Rattle.board_lines.specs.Replies.{ended}
 use Rattle.line_engine.specs.Outcomes.{outcome_text, written, has_reply, is_refusal}
@@ -21,7 +22,7 @@ HasNoEnd line = All (λ b. b ≢ 10) line
 -- a line, or the part of one that has been read
 pub record IsLine (line : List ℕ) : Type 0 where
   pub plain : HasNoEnd line
-  pub short : length line ≤ 4096
+  pub short : length line ≤ LONGEST_LINE
 
 -- the bytes are these lines, each with its line end, and then what has been read of the next line
 pub record Cut (bytes : List ℕ) (lines : List (List ℕ)) (rest : List ℕ) : Type 0 where
@@ -69,7 +70,7 @@ NextLine left line = IsLine line × (more : List ℕ) × (left ≡ ended line ++
 
 -- more bytes than a line may have come before the next line end
 abbrev pub IsTooLong : List ℕ → Type 0
-IsTooLong left = (long : List ℕ) × (more : List ℕ) × (left ≡ long ++ more) × HasNoEnd long × (4096 < length long)
+IsTooLong left = (long : List ℕ) × (more : List ℕ) × (left ≡ long ++ more) × HasNoEnd long × (LONGEST_LINE < length long)
 
 -- Where the front stands, which answered the lines before and left mid: there, or where the next line leaves it.
 abbrev pub StandsAt : {S : Type 0} → (S → Command → Answer → S → Type 0) → (S → Command → S → Type 0) → S → S → List ℕ → Type 0
@@ -77,7 +78,7 @@ StandsAt step refuses mid new left = (new ≡ mid) ⊎ ((line : List ℕ) × Nex
 
 -- how a run ended, with this many lines seen, after the lines that it answered, where left is what comes next
 abbrev pub Ends : {S : Type 0} → (S → Command → Answer → S → Type 0) → (S → Command → S → Type 0) → RunFault → S → S → ℕ → List ℕ → Type 0
-Ends step refuses runs.Read mid new seen left = (new ≡ mid) × (seen ≡ 4294967296)
+Ends step refuses runs.Read mid new seen left = (new ≡ mid) × (seen ≡ MOST_LINES)
 Ends step refuses runs.LongLine mid new seen left = (new ≡ mid) × IsTooLong left
 Ends step refuses runs.NoMemory mid new seen left = StandsAt step refuses mid new left
 Ends step refuses runs.Write mid new seen left = StandsAt step refuses mid new left
@@ -110,7 +111,7 @@ ServeBroken step refuses _ old new line = ⊥
 
 -- A fault came at the last line, which has no line end, with this many lines seen before.
 abbrev pub EndsLast : {S : Type 0} → (S → Command → Answer → S → Type 0) → (S → Command → S → Type 0) → RunFault → S → S → ℕ → List ℕ → Type 0
-EndsLast step refuses runs.Read old new seen line = (new ≡ old) × (seen ≡ 4294967296)
+EndsLast step refuses runs.Read old new seen line = (new ≡ old) × (seen ≡ MOST_LINES)
 EndsLast step refuses runs.LongLine old new seen line = ⊥
 EndsLast step refuses runs.NoMemory old new seen line = ServeBroken step refuses runs.NoMemory old new line
 EndsLast step refuses runs.Write old new seen line = ServeBroken step refuses runs.NoMemory old new line

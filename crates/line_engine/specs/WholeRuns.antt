@@ -3,6 +3,7 @@
 use Rattle.std.specs.Prelude.{◌≡◌, ℕ, ◌≤◌, ◌⊎◌, List, [], ◌++◌, length, Option, count_by}
 use Rattle.std.specs.List.{flat_map, AllByRecursion}
 use Rattle.std.specs.Io.KnownBytes.{Appends, Consumes, IsAtEnd}
+use Rattle.limits.specs.declared.TheConstants.{MOST_LINES}
 use Rattle.board_lines.specs.Reading.{read_of}
 use Rattle.board_lines.specs.Replies.{ended}
 use Rattle.board_lines.specs.declared.command.Command.{Command}
@@ -24,7 +25,7 @@ pub record IsAnswered {S : Type 0} (step : S → Command → Answer → S → Ty
   pub bytes : List ℕ
   pub given : Consumes left_old left_new bytes
   pub at_end : IsAtEnd left_new
-  pub few : length (lines_of bytes) ≤ 4294967296
+  pub few : length (lines_of bytes) ≤ MOST_LINES
   pub outcomes : List Outcome
   pub run : AreOutcomes step old bytes outcomes new
   pub text : Appends was now (written outcomes)
@@ -45,7 +46,7 @@ IsNear step refuses mid new more left = (new ≡ mid) ⊎ ((line : List ℕ) × 
 
 -- as many lines as a run may have
 abbrev pub AllLines : List ℕ → Type 0
-AllLines used = length (lines_of used) ≡ 4294967296
+AllLines used = length (lines_of used) ≡ MOST_LINES
 
 -- Why a run ended after the lines of used, and where the front then stands. Either a read failed, and what was read of the next line has no
 -- end and is not too long, or no more lines are seen; or the next line is too long; or memory ran out or a write failed, and the next line

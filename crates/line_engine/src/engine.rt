@@ -20,6 +20,7 @@ use board_lines::{
     read_hold, read_order, read_proposal,
 };
 use board_rules::Call;
+use limits::{LONGEST_LINE, MOST_LINES};
 use std::alloc::Global;
 use std::io::{Read, Write};
 use text_words::{Lines, keep_all_words};
@@ -184,7 +185,7 @@ fn serve<R, F: Front<R>>(
     words: &[&[u8]],
     line: &[u8],
 ) -> Result<(), RunFault>
-    requires seen { outbox.old.tally.seen < 4294967296 }
+    requires seen { outbox.old.tally.seen < MOST_LINES }
     requires ready { F.ready front.old }
     requires words { map (λ w. w.now) words.now ≡ line_words (body line.now) }
     ensures ready { F.ready front.new }
@@ -211,7 +212,7 @@ fn serve_whole<R, F: Front<R>>(
     outbox: &mut Outbox,
     line: &[u8],
 ) -> Result<(), RunFault>
-    requires seen { outbox.old.tally.seen < 4294967296 }
+    requires seen { outbox.old.tally.seen < MOST_LINES }
     requires ready { F.ready front.old }
     ensures ready { F.ready front.new }
     ensures ok { OnOk result (Grows outbox.old.held.items outbox.new.held.items
@@ -229,18 +230,15 @@ fn serve_whole<R, F: Front<R>>(
     serve(rt, front, outbox, words.as_slice(), line)
 }
 
-/// How many bytes a line may have.
-const MOST_BYTES: usize = 4096;
-
 /// Appends a further part of a line to the part that was read before.
 fn keep(partial: &mut Vec<u8>, more: &[u8]) -> Result<(), RunFault>
     requires line { IsLine partial.old.items }
     requires plain { HasNoEnd more.now }
     ensures ok { OnOk result ((partial.new.items ≡ partial.old.items ++ more.now) × IsLine partial.new.items) }
     ensures err { IfErr result (λ e. (e ≡ RunFault.NoMemory)
-        ⊎ ((e ≡ RunFault.LongLine) × (4096 < length (partial.old.items ++ more.now)))) }
+        ⊎ ((e ≡ RunFault.LongLine) × (LONGEST_LINE < length (partial.old.items ++ more.now)))) }
 {
-    if more.len() > MOST_BYTES - partial.len() {
+    if more.len() > LONGEST_LINE - partial.len() {
         return Err(RunFault::LongLine);
     }
     partial.extend_from_slice(more)?;
@@ -279,7 +277,7 @@ fn take_line<R, F: Front<R>>(
     if outbox.tally.is_full() {
         return Err(RunFault::Read);
     }
-    if partial.is_empty() && more.len() <= MOST_BYTES {
+    if partial.is_empty() && more.len() <= LONGEST_LINE {
         if is_returned(more) {
             serve_whole(rt, front, outbox, more)?;
             return Ok(());
@@ -376,7 +374,7 @@ fn finish<R, F: Front<R>>(
     ensures ok { OnOk result (Grows outbox.old.held.items outbox.new.held.items
         (λ out. Finished F.step (F.seen front.old) (F.seen front.new) out
         partial.now outbox.old.tally.lines outbox.new.tally.lines outbox.old.tally.refused outbox.new.tally.refused)) }
-    ensures few { OnOk result (outbox.old.tally.seen + length (last_line partial.now) ≤ 4294967296) }
+    ensures few { OnOk result (outbox.old.tally.seen + length (last_line partial.now) ≤ MOST_LINES) }
     ensures held { OnErr result (outbox.new.held.items ≡ outbox.old.held.items) }
     ensures err { IfErr result (λ e. EndsLast F.step F.refuses e (F.seen front.old) (F.seen front.new) outbox.old.tally.seen partial.now) }
 {

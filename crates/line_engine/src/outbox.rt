@@ -11,6 +11,7 @@ use crate::run_fault::RunFault;
 use crate::tally::Tally;
 use crate::write::write_whole;
 use board_lines::LineFault;
+use limits::MOST_LINES;
 use std::alloc::{AllocError, Global};
 use std::io::Write;
 
@@ -69,7 +70,7 @@ impl Outbox {
     // Each short reply has an arm of its own, since the copy of a text of a known length takes a few instructions.
     #[inline(always)]
     pub(crate) fn put(&mut self, mark: Mark) -> Result<(), AllocError>
-        requires { self.old.tally.seen < 4294967296 }
+        requires { self.old.tally.seen < MOST_LINES }
         ensures text { OnOk result (self.new.held.items ≡ self.old.held.items ++ mark_text mark (string_bytes self.old.text)) }
         ensures seen { OnOk result (self.new.tally.seen ≡ self.old.tally.seen + 1) }
         ensures lines { OnOk result (self.new.tally.lines ≡ self.old.tally.lines + (if mark_has_reply mark then 1 else 0)) }

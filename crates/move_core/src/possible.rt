@@ -4,6 +4,7 @@ ghost use Rattle.plan_core.specs.Plan.{route_at};
 ghost use Rattle.move_core.specs.Moves.{is_vehicle, is_placed, is_free, is_possible};
 
 use crate::moves::Move;
+use limits::MOST_CUSTOMERS;
 use plan_core::{Plan, among_is_tested, customers_stand_by_route, routes_replaced};
 
 /// Whether the fleet has the vehicle.
@@ -18,7 +19,7 @@ fn length_of(plan: &Plan, vehicle: u32) -> u64
     requires low { 1 ≤ vehicle }
     requires high { vehicle ≤ length plan.now.routes }
     ensures value { result ≡ length (route_at plan.now.routes vehicle) }
-    ensures small { result ≤ 1000 }
+    ensures small { result ≤ MOST_CUSTOMERS }
 {
     plan.route(vehicle).len() as u64
 }

@@ -13,6 +13,7 @@ ghost use Rattle.move_judge.specs.Parts.{begun_of, route_of, way_of};
 use crate::parts::Parts;
 use callback_store::{Callback, Registry, Slot};
 use dimension_core::{Dimension, Range, Setup, range_after};
+use limits::LARGEST_CUMUL;
 
 /// A vehicle in a dimension, and what is looked up of both once for a whole route: the ranges of the nodes, the greatest slack and the
 /// vehicle's capacity.
@@ -38,7 +39,7 @@ fn carry_back<C: Callback>(
     requires lane { IsLane lane.now }
     requires sized { Knows (C.table callback.now) lane.now }
     requires filled { range.lo ≤ range.hi }
-    requires small { range.hi ≤ 1000000000000 }
+    requires small { range.hi ≤ LARGEST_CUMUL }
     requires from { from < length lane.now.dimension.now.ranges }
     requires known { All (λ node. node < length lane.now.dimension.now.ranges) nodes.now }
     ensures span { (done : List ℕ) → IsSpan (Some range) (Gets (C.table callback.now) lane.now done)
@@ -47,7 +48,7 @@ fn carry_back<C: Callback>(
         (λ r. IsSpan (Some r.0) (Gets (C.table callback.now) lane.now (done ++ reverse nodes.now))
         × (r.1 ≡ last_of 0 (done ++ reverse nodes.now))) }
     ensures filled { IfSome result (λ r. r.0.lo ≤ r.0.hi) }
-    ensures small { IfSome result (λ r. r.0.hi ≤ 1000000000000) }
+    ensures small { IfSome result (λ r. r.0.hi ≤ LARGEST_CUMUL) }
     ensures known { IfSome result (λ r. r.1 < length lane.now.dimension.now.ranges) }
 {
     let (ranges, slack_max, cap) = (lane.ranges, lane.slack_max, lane.cap);
@@ -75,7 +76,7 @@ fn carry_on<C: Callback>(
     requires lane { IsLane lane.now }
     requires sized { Knows (C.table callback.now) lane.now }
     requires filled { range.lo ≤ range.hi }
-    requires small { range.hi ≤ 1000000000000 }
+    requires small { range.hi ≤ LARGEST_CUMUL }
     requires from { from < length lane.now.dimension.now.ranges }
     requires known { All (λ node. node < length lane.now.dimension.now.ranges) nodes.now }
     ensures span { (done : List ℕ) → IsSpan (Some range) (Gets (C.table callback.now) lane.now done)
@@ -84,7 +85,7 @@ fn carry_on<C: Callback>(
         (λ r. IsSpan (Some r.0) (Gets (C.table callback.now) lane.now (done ++ nodes.now))
         × (r.1 ≡ last_of 0 (done ++ nodes.now))) }
     ensures filled { IfSome result (λ r. r.0.lo ≤ r.0.hi) }
-    ensures small { IfSome result (λ r. r.0.hi ≤ 1000000000000) }
+    ensures small { IfSome result (λ r. r.0.hi ≤ LARGEST_CUMUL) }
     ensures known { IfSome result (λ r. r.1 < length lane.now.dimension.now.ranges) }
 {
     let (ranges, slack_max, cap) = (lane.ranges, lane.slack_max, lane.cap);
@@ -112,7 +113,7 @@ fn carry_way<C: Callback>(
     requires lane { IsLane lane.now }
     requires sized { Knows (C.table callback.now) lane.now }
     requires filled { range.lo ≤ range.hi }
-    requires small { range.hi ≤ 1000000000000 }
+    requires small { range.hi ≤ LARGEST_CUMUL }
     requires from { from < length lane.now.dimension.now.ranges }
     requires known { All (λ node. node < length lane.now.dimension.now.ranges) nodes.now }
     ensures span { (done : List ℕ) → IsSpan (Some range) (Gets (C.table callback.now) lane.now done)
@@ -121,7 +122,7 @@ fn carry_way<C: Callback>(
         (λ r. IsSpan (Some r.0) (Gets (C.table callback.now) lane.now (done ++ way_of turned nodes.now))
         × (r.1 ≡ last_of 0 (done ++ way_of turned nodes.now))) }
     ensures filled { IfSome result (λ r. r.0.lo ≤ r.0.hi) }
-    ensures small { IfSome result (λ r. r.0.hi ≤ 1000000000000) }
+    ensures small { IfSome result (λ r. r.0.hi ≤ LARGEST_CUMUL) }
     ensures known { IfSome result (λ r. r.1 < length lane.now.dimension.now.ranges) }
 {
     if turned {
@@ -162,7 +163,7 @@ fn step_to<C: Callback>(
     requires lane { IsLane lane.now }
     requires sized { Knows (C.table callback.now) lane.now }
     requires filled { range.lo ≤ range.hi }
-    requires small { range.hi ≤ 1000000000000 }
+    requires small { range.hi ≤ LARGEST_CUMUL }
     requires from { from < length lane.now.dimension.now.ranges }
     requires next { next < length lane.now.dimension.now.ranges }
     ensures { (route : List ℕ) → IsSpan (Some range) (Gets (C.table callback.now) lane.now route) → from ≡ last_of 0 route
@@ -329,7 +330,7 @@ fn homecoming<C: Callback>(callback: &C, lane: &Lane, here: Range, parts: &Parts
     requires lane { IsLane lane.now }
     requires sized { Knows (C.table callback.now) lane.now }
     requires here { IsSpan (Some here) (Gets (C.table callback.now) lane.now []) }
-    requires small { here.hi ≤ 1000000000000 }
+    requires small { here.hi ≤ LARGEST_CUMUL }
     requires known { All (λ node. node < length lane.now.dimension.now.ranges) (route_of parts.now) }
     ensures { IsSpan result (Gets (C.table callback.now) lane.now (route_of parts.now ++ 0 ∷ [])) }
 {

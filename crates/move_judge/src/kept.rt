@@ -12,6 +12,7 @@ ghost use Rattle.move_judge.specs.View.{IsViewOf};
 use crate::laws::laws_below;
 use callback_store::{Meter, Registry};
 use dimension_core::{Dimension, Range, Setup};
+use limits::MOST_CUSTOMERS;
 use pin_core::View;
 use std::alloc::{AllocError, Global};
 use std::marker::Model;
@@ -159,7 +160,7 @@ fn fill_ahead(
 ) -> Result<(), AllocError>
     requires laws { Laws }
     requires known { All (λ c. c ≤ (setting setup.now).customers) route.now }
-    requires short { length route.now ≤ 1000 }
+    requires short { length route.now ≤ MOST_CUSTOMERS }
     requires low { 1 ≤ vehicle }
     requires high { vehicle ≤ (setting setup.now).vehicles }
     ensures { IfOk result (λ _. AreAhead (setting setup.now) vehicle route.now
@@ -190,7 +191,7 @@ fn fill_behind(
 ) -> Result<(), AllocError>
     requires laws { Laws }
     requires known { All (λ c. c ≤ (setting setup.now).customers) route.now }
-    requires short { length route.now ≤ 1000 }
+    requires short { length route.now ≤ MOST_CUSTOMERS }
     requires low { 1 ≤ vehicle }
     requires high { vehicle ≤ (setting setup.now).vehicles }
     ensures { IfOk result (λ _. AreBehind (setting setup.now) vehicle route.now
@@ -218,7 +219,7 @@ impl Spans {
     fn keep_ahead(&mut self, setup: &Setup, vehicle: u32, route: &[u32]) -> Result<(), AllocError>
         requires laws { Laws }
         requires known { All (λ c. c ≤ (setting setup.now).customers) route.now }
-        requires short { length route.now ≤ 1000 }
+        requires short { length route.now ≤ MOST_CUSTOMERS }
         requires low { 1 ≤ vehicle }
         requires high { vehicle ≤ (setting setup.now).vehicles }
         ensures { IfOk result (λ _. AreAhead (setting setup.now) vehicle route.now self.new) }
@@ -232,7 +233,7 @@ impl Spans {
     fn keep_behind(&mut self, setup: &Setup, vehicle: u32, route: &[u32]) -> Result<(), AllocError>
         requires laws { Laws }
         requires known { All (λ c. c ≤ (setting setup.now).customers) route.now }
-        requires short { length route.now ≤ 1000 }
+        requires short { length route.now ≤ MOST_CUSTOMERS }
         requires low { 1 ≤ vehicle }
         requires high { vehicle ≤ (setting setup.now).vehicles }
         ensures { IfOk result (λ _. AreBehind (setting setup.now) vehicle route.now self.new) }

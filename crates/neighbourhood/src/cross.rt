@@ -7,6 +7,7 @@ ghost use Rattle.way_costs.specs.Rows.{IsCutRow, lost_by_cut, gained_by_cut};
 
 use crate::best::Best;
 use crate::searched::{Gathered, Search};
+use limits::MOST_STOPS;
 use move_core::Move;
 use move_judge::must_keep;
 use way_costs::{CutRow, first_gain, may_gain, row, way_at};
@@ -27,7 +28,7 @@ fn cross_row(search: &Search, crosses: &Crosses, first: u32, end: u32, best: Bes
     requires order { first ≤ end }
     requires ways { IsCutRow crosses.now.ways end }
     requires most { All (λ x. x ≤ crosses.now.ways.most) crosses.now.ways.edges.now }
-    requires short { length crosses.now.ways.on.now ≤ 1002 }
+    requires short { length crosses.now.ways.on.now ≤ MOST_STOPS }
     requires fixed { crosses.now.lost < 2 ^ 34 }
     requires possible { (l : ℕ) → l < end → IsPossible (searched search.now) (Cross search.now.v crosses.now.keep search.now.w l) }
     requires saving { (l : ℕ) → l < end → Saves (searched search.now) (Cross search.now.v crosses.now.keep search.now.w l)

@@ -7,6 +7,7 @@ ghost use Rattle.way_costs.specs.Rows.{IsReverseRow, lost_by_reverse, gained_by_
 
 use crate::best::Best;
 use crate::searched::{Gathered, Search};
+use limits::MOST_STOPS;
 use move_core::Move;
 use move_judge::first_free;
 use way_costs::{ReverseRow, first_reverse_gain, may_reverse_gain, row, way_at};
@@ -27,7 +28,7 @@ fn reverse_row(search: &Search, reverses: &Reverses, end: u32, best: Best) -> Be
     requires inside { search.now.v ≡ search.now.w }
     requires order { reverses.now.first < end }
     requires ways { IsReverseRow reverses.now.ways end }
-    requires short { length reverses.now.ways.here.now ≤ 1002 }
+    requires short { length reverses.now.ways.here.now ≤ MOST_STOPS }
     requires fixed { (reverses.now.lost < 2 ^ 50) × (reverses.now.gained < 2 ^ 50) }
     requires possible { (last : ℕ) → reverses.now.first < last → last < end
         → IsPossible (searched search.now) (Reverse search.now.v reverses.now.first last) }

@@ -13,6 +13,7 @@ ghost use Rattle.way_costs.specs.Ways.{hop};
 
 use crate::best::Best;
 use crate::searched::{Gathered, Search};
+use limits::MOST_STOPS;
 use move_core::Move;
 use move_judge::{first_free, loose_from};
 use way_costs::{CutRow, first_gain, hop, may_gain, row, way_at};
@@ -38,7 +39,7 @@ fn shift_row(search: &Search, shifts: Shifts, offset: u32, first: u32, end: u32,
     requires order { first ≤ end }
     requires ways { IsCutRow shifts.ways (end + offset - 1) }
     requires most { All (λ x. x ≤ shifts.ways.most) shifts.ways.edges.now }
-    requires short { length shifts.ways.on.now ≤ 1002 }
+    requires short { length shifts.ways.on.now ≤ MOST_STOPS }
     requires fixed { (shifts.lost < 2 ^ 34) × (shifts.gained < 2 ^ 34) }
     requires possible { (at : ℕ) → first ≤ at → at < end
         → IsPossible (searched search.now) (Shift search.now.v shifts.place shifts.count search.now.w at) }

@@ -7,6 +7,7 @@ ghost use Rattle.way_costs.specs.Rows.{IsSwapRow, lost_by_swap, gained_by_swap};
 
 use crate::best::Best;
 use crate::searched::{Gathered, Search};
+use limits::MOST_STOPS;
 use move_core::Move;
 use move_judge::{first_free, may_leave};
 use way_costs::{SwapRow, first_swap_gain, may_swap_gain, row, way_at};
@@ -29,7 +30,7 @@ fn swap_row(search: &Search, swaps: Swaps, first: u32, end: u32, best: Best) -> 
     requires near { search.now.v ≡ search.now.w → swaps.place < first }
     requires ways { IsSwapRow swaps.ways end }
     requires most { All (λ x. x ≤ swaps.ways.most) swaps.ways.edges.now }
-    requires short { length swaps.ways.here.now ≤ 1002 }
+    requires short { length swaps.ways.here.now ≤ MOST_STOPS }
     requires fixed { swaps.lost < 2 ^ 34 }
     requires possible { (at : ℕ) → first ≤ at → at < end
         → IsPossible (searched search.now) (Swap search.now.v swaps.place search.now.w at) }

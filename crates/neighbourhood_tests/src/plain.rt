@@ -5,6 +5,7 @@ ghost use Rattle.dimension_core.specs.Setup.{setting};
 
 use callback_store::Meter;
 use dimension_core::{Setup, first_out};
+use limits::MOST_CUSTOMERS;
 use move_core::Move;
 use pin_core::View;
 use plan_core::{Plan, Route, route_cost};
@@ -13,7 +14,7 @@ use std::sync::Arc;
 
 /// Whether a route has customers up to a number alone, and not too many.
 fn is_known(customers: u32, route: &[u32]) -> bool
-    ensures { IsTrue result → All (λ c. c ≤ customers) route.now × (length route.now ≤ 1000) }
+    ensures { IsTrue result → All (λ c. c ≤ customers) route.now × (length route.now ≤ MOST_CUSTOMERS) }
 {
     if route.len() > 1000 {
         return false;

@@ -6,6 +6,7 @@ use crate::plain::{Near, plain_best};
 use crate::views::{below, is_view, some_dimensions, some_plan, some_view};
 use callback_store::{Meter, Registry, Transit, Unary};
 use dimension_core::Setup;
+use limits::MOST_CUSTOMERS;
 use neighbourhood::{Searcher, best_move};
 use pin_core::View;
 use plan_core::Plan;
@@ -74,7 +75,7 @@ fn compare_view<R: Abort + AllocGlobal>(
     rng: &mut Lcg64Xsh32,
     tally: &mut Tally,
 )
-    requires some { (1 ≤ customers) × (customers ≤ 1000) }
+    requires some { (1 ≤ customers) × (customers ≤ MOST_CUSTOMERS) }
     requires customers { (setting setup.now).customers ≡ customers }
     requires vehicles { (setting setup.now).vehicles ≡ 3 }
 {

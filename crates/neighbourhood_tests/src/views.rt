@@ -11,6 +11,7 @@ ghost use Rattle.neighbourhood.specs.View.{IsViewOf};
 use crate::plain::is_fit;
 use callback_store::{Meter, Registry, TransitId};
 use dimension_core::{Dimension, Range, Setup};
+use limits::MOST_CUSTOMERS;
 use move_core::{Move, moves_keep_plans, moves_name_vehicles};
 use pin_core::View;
 use plan_core::{Plan, Route, routes_replaced};
@@ -127,7 +128,7 @@ pub(crate) fn some_plan(
     customers: u32,
     rng: &mut Lcg64Xsh32,
 ) -> Plan
-    requires { (1 ≤ customers) × (customers ≤ 1000) }
+    requires { (1 ≤ customers) × (customers ≤ MOST_CUSTOMERS) }
     ensures { (result.customers ≡ customers) × (length result.routes ≡ 3) }
 {
     let mut plan = Plan::new(alloc, customers, 3).expect(rt, "memory");

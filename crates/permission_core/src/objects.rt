@@ -5,6 +5,7 @@ ghost use Rattle.std.specs.Prelude.{is_some, is_none, IfSome};
 ghost use Rattle.role_hierarchy.specs.Words.{joined};
 ghost use Rattle.permission_core.specs.Objects.{AreWords, index_of, number_of, is_object, first_of, size_of, is_bad_range, with_range, without_range};
 
+use limits::{MOST_CUSTOMERS, MOST_VEHICLES};
 use std::marker::Model;
 
 /// What a session may do to an object. For what an operation is needed is decided by the crates above; here it is one row of a role's
@@ -60,8 +61,8 @@ impl Object {
     /// Its number, which does not depend on the sizes: the board is 0, vehicle k is k, customer c is 1000 + c. `None` where there is no
     /// such object among this many customers and vehicles, of which there are at most 1,000 each.
     pub fn number(self, customers: u32, vehicles: u32) -> Option<u32>
-        requires customers { customers ≤ 1000 }
-        requires vehicles { vehicles ≤ 1000 }
+        requires customers { customers ≤ MOST_CUSTOMERS }
+        requires vehicles { vehicles ≤ MOST_VEHICLES }
         ensures there { is_some result ≡ is_object customers vehicles self }
         ensures value { IfSome result (λ number. number ≡ number_of self) }
         ensures small { IfSome result (λ number. number < 2048) }
@@ -92,8 +93,8 @@ impl ObjectRange {
     /// The numbers of its first object and of the one past its last; `None` where the range is empty, begins at 0, or ends above the
     /// customers or vehicles, of which there are at most 1,000 each.
     pub fn span(self, customers: u32, vehicles: u32) -> Option<(u32, u32)>
-        requires customers { customers ≤ 1000 }
-        requires vehicles { vehicles ≤ 1000 }
+        requires customers { customers ≤ MOST_CUSTOMERS }
+        requires vehicles { vehicles ≤ MOST_VEHICLES }
         ensures bad { is_none result ≡ is_bad_range customers vehicles self }
         ensures first { IfSome result (λ r. r.0 ≡ first_of self) }
         ensures size { IfSome result (λ r. r.1 - r.0 ≡ size_of self) }

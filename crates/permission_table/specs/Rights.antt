@@ -1,6 +1,7 @@
 -- What is compiled for a session after a change of rights.
 use Rattle.std.specs.Prelude.{ℕ, zero, suc, ◌-◌, ◌*◌, ◌/◌, Bool, nat_le, nat_lt, ◌&&◌, ◌==◌, if◌then◌else◌, List, [], ◌∷◌, map, slice_set, bit_or, bit_and}
 use Rattle.std.specs.Option.{option_map_or}
+use Rattle.limits.specs.declared.TheConstants.{MOST_ROLES}
 use Rattle.role_hierarchy.specs.Roles.{has}
 use Rattle.permission_core.specs.declared.objects.Operation.{Operation}
 use Rattle.permission_core.specs.declared.objects.Operation.TheVariants.{View, Move, Pin, Freeze, Admin, Audit, Override}
@@ -17,7 +18,7 @@ rows_joined p roles operation (suc n) =
 
 -- the objects to which one of the roles may do it
 unfoldable pub row_made : PolicyState → ℕ → Operation → ℕ
-row_made p roles operation = rows_joined p roles operation 256
+row_made p roles operation = rows_joined p roles operation MOST_ROLES
 
 -- the object is in one of the words from low on, up to but not including high
 abbrev pub is_in_words : ℕ → ℕ → ℕ → Bool

@@ -17,6 +17,7 @@ ghost use Rattle.permission_table.specs.Compiled.{AreCompiled, WillBeCompiled, S
 use crate::row::SessionRows;
 use callback_store::Meter;
 use indexmap::IndexMap;
+use limits::{MOST_CUSTOMERS, MOST_VEHICLES};
 use permission_core::{Object, ObjectRange, Operation};
 use policy_core::Policy;
 use separation_core::Name;
@@ -45,6 +46,7 @@ impl Drop for Tables {
 
 impl Model for Tables {
     ghost use Rattle.std.specs.Prelude.{◌≤◌};
+    ghost use Rattle.limits.specs.declared.TheConstants.{MOST_CUSTOMERS, MOST_VEHICLES};
     ghost use Rattle.permission_table.specs.Tables.{TablesState};
 
     ghost Value = { TablesState };
@@ -53,7 +55,7 @@ impl Model for Tables {
 
     ghost view = { state_of };
 
-    ghost invariant = { λ a. (a.customers ≤ 1000) × (a.vehicles ≤ 1000) };
+    ghost invariant = { λ a. (a.customers ≤ MOST_CUSTOMERS) × (a.vehicles ≤ MOST_VEHICLES) };
 }
 
 /// What becomes of a session's rows: these rows, or none.
@@ -80,8 +82,8 @@ impl Model for Rows {
 impl Tables {
     /// Tables over these customers and vehicles, at most 1,000 of each, with rows for no session and room for the first.
     pub fn new(alloc: Global, customers: u32, vehicles: u32) -> Result<Tables, AllocError>
-        requires customers { customers ≤ 1000 }
-        requires vehicles { vehicles ≤ 1000 }
+        requires customers { customers ≤ MOST_CUSTOMERS }
+        requires vehicles { vehicles ≤ MOST_VEHICLES }
         ensures empty { IfOk result (λ tables. tables ≡ no_rows customers vehicles tables.room) }
         ensures compiled { IfOk result (λ tables. (p : PolicyState) → p.sessions ≡ [] → AreCompiled tables p) }
     {
@@ -331,8 +333,8 @@ fn slot_or_zero(policy: &Policy, role: Name) -> u8
 
 /// The words in which the objects of the range are, from the first of the two places on, up to but not including the second.
 fn words_of(range: ObjectRange, customers: u32, vehicles: u32) -> (u32, u32)
-    requires customers { customers ≤ 1000 }
-    requires vehicles { vehicles ≤ 1000 }
+    requires customers { customers ≤ MOST_CUSTOMERS }
+    requires vehicles { vehicles ≤ MOST_VEHICLES }
     ensures order { result.0 ≤ result.1 }
     ensures small { result.1 ≤ 32 }
     ensures whole { is_bad_range customers vehicles range ≡ false → (number : ℕ) → first_of range ≤ number →

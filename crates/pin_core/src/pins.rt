@@ -6,6 +6,7 @@ ghost use Rattle.pin_core.specs.Pins.{StandsOn, IsHeld, DoPinsHold, AreFreezesKe
 ghost use Rattle.pin_core.specs.Allowed.{AreAllTouched, IsFirstThawed, IsFirstLoose, IsPinFault};
 
 use crate::fault::PinFault;
+use limits::{MOST_CUSTOMERS, MOST_VEHICLES};
 use plan_core::{NewRoute, Plan, Touch, routes_replaced};
 use std::alloc::{AllocError, Global};
 use std::marker::Model;
@@ -39,8 +40,8 @@ fn begin_alike(count: usize, route: &[u32], other: &[u32]) -> bool
 impl Pins {
     /// No customer is pinned and no stop is frozen. Both numbers are at most 1,000.
     pub fn new(alloc: Global, customers: u32, vehicles: u32) -> Result<Pins, AllocError>
-        requires customers { customers ≤ 1000 }
-        requires vehicles { vehicles ≤ 1000 }
+        requires customers { customers ≤ MOST_CUSTOMERS }
+        requires vehicles { vehicles ≤ MOST_VEHICLES }
         ensures { IfOk result (λ pins. pins ≡ record { pins = replicate customers None; fronts = replicate vehicles 0 }) }
     {
         let pins = vec![in alloc; None; customers as usize]?;
@@ -269,8 +270,8 @@ fn would_stay<R: NewRoute>(
 
 /// The draft of a vehicle's new route, if it has one.
 fn new_route<R: NewRoute>(new_routes: &[R], vehicle: u32) -> Option<&R>
-    ensures named { (routes : List (List ℕ)) → MatchOption result (¬ IsNamed (routes_by R.draft routes new_routes.now) vehicle) (λ new. (k : ℕ)
-        × (slice_get (routes_by R.draft routes new_routes.now) k ≡ Some (vehicle, drafted routes (R.draft new.now)))) }
+    ensures named { (routes : List (List ℕ)) → MatchOption result (¬ IsNamed (routes_by R.draft routes new_routes.now) vehicle)
+        (λ new. (k : ℕ) × (slice_get (routes_by R.draft routes new_routes.now) k ≡ Some (vehicle, drafted routes (R.draft new.now)))) }
     ensures own { IfSome result (λ new. ((R.draft new.now).vehicle ≡ vehicle) × Contains new_routes.now new.now) }
 {
     for new in new_routes {

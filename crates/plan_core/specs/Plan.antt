@@ -1,4 +1,5 @@
 use Rattle.std.specs.declared.sync.Arc.{Arc}
+use Rattle.limits.specs.declared.TheConstants.{MOST_CUSTOMERS, MOST_EVENTS, MOST_VEHICLES}
 pub use Rattle.dimension_core.specs.NewRoutes.{Changes}
 use Rattle.std.specs.Prelude.{map, ◌≡◌, ℕ, ◌+◌, ◌-◌, ◌≤◌, ◌⊎◌, List, [], ◌∷◌, length, slice_get, slice_set, slice_index, slice_index_or, Some}
 
@@ -82,8 +83,8 @@ stamp_of plan v = slice_index plan.stamps (v - 1)
 
 -- what is known of the numbers of every plan
 pub record AreSizes (plan : PlanState) : Type 0 where
-  pub customers : plan.customers ≤ 1000
-  pub vehicles : length plan.routes ≤ 1000
+  pub customers : plan.customers ≤ MOST_CUSTOMERS
+  pub vehicles : length plan.routes ≤ MOST_VEHICLES
   pub stamps : length plan.stamps ≡ length plan.routes
   pub stamped : (v : ℕ) → stamp_of plan v ≤ plan.version
-  pub version : plan.version ≤ 16777216
+  pub version : plan.version ≤ MOST_EVENTS

@@ -11,6 +11,7 @@ ghost use Rattle.plan_core.specs.Plan.{routes_of};
 use crate::route::Route;
 use callback_store::{Meter, Registry, TransitId};
 use dimension_core::Setup;
+use limits::{LARGEST_ROUTE_COST, MOST_CUSTOMERS, MOST_VEHICLES};
 use std::sync::Arc;
 
 /// The sum of the setup's cost callback over neighbouring stops of a route: the depot, its customers, the depot; 0 where the route is
@@ -19,9 +20,9 @@ use std::sync::Arc;
 /// It asks the callback once for each customer and once for the return, and not at all where the route is empty.
 pub fn route_cost(setup: &Setup, route: &[u32], meter: &mut Meter) -> u64
     requires known { All (λ c. c ≤ (setting setup.now).customers) route.now }
-    requires short { length route.now ≤ 1000 }
+    requires short { length route.now ≤ MOST_CUSTOMERS }
     ensures value { result ≡ route_cost (table_at (setting setup.now).tables (setting setup.now).cost) route.now }
-    ensures small { result ≤ 1001000000000 }
+    ensures small { result ≤ LARGEST_ROUTE_COST }
     ensures just { AsksJust meter.old meter.new (route_asks route.now) }
     ensures sound { IsSetting (setting setup.now) }
 {
@@ -33,9 +34,9 @@ fn cost_of_route(registry: &Registry, cost: TransitId, route: &[u32], meter: &mu
     requires registered { cost < length (tables registry.now) }
     requires depot { 0 < nodes_of (tables registry.now) }
     requires known { All (λ c. c < nodes_of (tables registry.now)) route.now }
-    requires short { length route.now ≤ 1000 }
+    requires short { length route.now ≤ MOST_CUSTOMERS }
     ensures value { result ≡ route_cost (table_at (tables registry.now) cost) route.now }
-    ensures small { result ≤ 1001000000000 }
+    ensures small { result ≤ LARGEST_ROUTE_COST }
     ensures just { AsksJust meter.old meter.new (route_asks route.now) }
 {
     if route.is_empty() {
@@ -60,8 +61,8 @@ pub(crate) fn cost_of_routes(
     requires registered { cost < length (tables registry.now) }
     requires depot { 0 < nodes_of (tables registry.now) }
     requires known { All (λ r. All (λ c. c < nodes_of (tables registry.now)) r.value) routes.now }
-    requires short { All (λ r. length r.value ≤ 1000) routes.now }
-    requires few { length routes.now ≤ 1000 }
+    requires short { All (λ r. length r.value ≤ MOST_CUSTOMERS) routes.now }
+    requires few { length routes.now ≤ MOST_VEHICLES }
     ensures value { result ≡ cost_of (table_at (tables registry.now) cost) (routes_of routes.now) }
     ensures just { AsksJust meter.old meter.new (asks_of (routes_of routes.now)) }
 {

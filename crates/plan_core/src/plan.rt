@@ -10,6 +10,7 @@ use crate::replace::exchange_all;
 use crate::route::{Route, place_in};
 use callback_store::Meter;
 use dimension_core::Setup;
+use limits::{MOST_CUSTOMERS, MOST_EVENTS, MOST_VEHICLES};
 use std::alloc::{AllocError, Global};
 use std::marker::Model;
 use std::sync::Arc;
@@ -52,8 +53,8 @@ impl Model for Plan {
 impl Plan {
     /// A plan of empty routes, before any commit. Both numbers are at most 1,000.
     pub fn new(alloc: Global, customers: u32, vehicles: u32) -> Result<Plan, AllocError>
-        requires customers { customers ≤ 1000 }
-        requires vehicles { vehicles ≤ 1000 }
+        requires customers { customers ≤ MOST_CUSTOMERS }
+        requires vehicles { vehicles ≤ MOST_VEHICLES }
         ensures { IfOk result (λ plan. plan
             ≡ record { customers = customers; routes = replicate vehicles []; version = 0; stamps = replicate vehicles 0 }) }
     {
@@ -92,7 +93,7 @@ impl Plan {
         requires low { 1 ≤ vehicle }
         requires high { vehicle ≤ length self.now.routes }
         ensures value { result.now.value ≡ route_at self.now.routes vehicle }
-        ensures short { length result.now.value ≤ 1000 }
+        ensures short { length result.now.value ≤ MOST_CUSTOMERS }
         ensures known { All (λ c. (1 ≤ c) × (c ≤ self.now.customers)) result.now.value }
         ensures sound { IsPlan self.now.customers self.now.routes }
     {
@@ -158,7 +159,7 @@ impl Plan {
     pub fn replace(&mut self, changes: Vec<(u32, Arc<Route>)>) -> Vec<(u32, Arc<Route>)>
         requires changes { AreChanges (length self.old.routes) (changes_of changes.items) }
         requires plan { IsPlan self.old.customers (with_routes (changes_of changes.items) self.old.routes) }
-        requires room { self.old.version < 16777216 }
+        requires room { self.old.version < MOST_EVENTS }
         ensures plan { self.new ≡ replaced (changes_of changes.items) self.old }
         ensures former { changes_of result.items ≡ former self.old.routes (changes_of changes.items) }
     {

@@ -1,6 +1,7 @@
 ghost use Rattle.std.specs.Prelude.{◌≡◌, ◌==◌, ◌-◌, ◌≤◌, ◌++◌, ℕ, List, length, [], slice_get, Some, MatchOption, Contains, OnOk};
 
 use crate::append::append_part;
+use limits::MOST_CUSTOMERS;
 use std::alloc::AllocError;
 use std::marker::Model;
 use std::mem::replace;
@@ -89,7 +90,7 @@ impl Route {
 
 /// The place of a customer in a route, counted from 1, or none.
 pub(crate) fn place_in(route: &[u32], customer: u32) -> Option<u32>
-    requires { length route.now ≤ 1000 }
+    requires { length route.now ≤ MOST_CUSTOMERS }
     ensures { MatchOption result (¬ Contains route.now customer) (λ place. (1 ≤ place)
         × (slice_get route.now (place - 1) ≡ Some customer)) }
 {

@@ -1,5 +1,6 @@
 -- What is kept while a picture is made.
 use Rattle.std.specs.Prelude.{◌≤◌, max, List, fold}
+use Rattle.limits.specs.declared.TheConstants.{LATEST_TIME}
 use Rattle.solomon_reader.specs.declared.instance.Node.{Node}
 use Rattle.plan_picture.specs.declared.layout.Layout.{Layout}
 use Rattle.plan_picture.specs.declared.scale.Extent.{Extent}
@@ -20,7 +21,7 @@ pub record IsLayout (l : Layout) : Type 0 where
   pub span : 1 ≤ l.frame.span
   pub most : 1 ≤ l.most
   pub some_time : 1 ≤ l.clock.span
-  pub few_times : l.clock.span ≤ 99999990
-  pub from : l.clock.from ≤ 99999990
+  pub few_times : l.clock.span ≤ LATEST_TIME
+  pub from : l.clock.from ≤ LATEST_TIME
   pub top : l.top ≤ 1000000
   pub bottom : l.bottom ≤ 1000000

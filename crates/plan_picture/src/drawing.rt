@@ -8,6 +8,7 @@ ghost use Rattle.plan_picture.specs.Marks.{leg_of, leg_in, leg_home, legs_of, la
 
 use crate::layout::Layout;
 use crate::scale::x_of;
+use limits::{LONGEST_TRAVEL, MOST_CUSTOMERS, MOST_VEHICLES};
 use plan_marks::{
     Depot, Label, Lane, Leg, Mark, Tick, place_of, point_of, push_customers, push_entries,
 };
@@ -213,8 +214,8 @@ fn push_ticks(marks: &mut Vec<Mark>, layout: &Layout) -> Result<(), AllocError>
 fn lane_of(layout: &Layout, k: usize, visit: &Visit) -> Lane
     requires layout { IsLayout layout.now }
     requires leave { visit.now.leave ≤ 4394967285 }
-    requires home { visit.now.home ≤ 141421342 }
-    requires few { k ≤ 1000 }
+    requires home { visit.now.home ≤ LONGEST_TRAVEL }
+    requires few { k ≤ MOST_CUSTOMERS }
     ensures { result ≡ lane_of layout.now k visit.now }
 {
     let clock = layout.clock;
@@ -245,8 +246,8 @@ fn push_lane(
 ) -> Result<(), AllocError>
     requires layout { IsLayout layout.now }
     requires leave { visit.now.leave ≤ 4394967285 }
-    requires home { visit.now.home ≤ 141421342 }
-    requires few { k ≤ 1000 }
+    requires home { visit.now.home ≤ LONGEST_TRAVEL }
+    requires few { k ≤ MOST_CUSTOMERS }
     ensures { OnOk result (marks.new.items ≡ marks.old.items ++ lanes_of layout.now k visit.now) }
 {
     if !visit.row.is_planned() {
@@ -301,7 +302,7 @@ pub fn picture(
     tours: &[Tour],
 ) -> Result<Vec<Mark>, AllocError>
     requires rows { AreRows roads.now rows.now }
-    requires tours { length tours.now ≤ 1000 }
+    requires tours { length tours.now ≤ MOST_VEHICLES }
     requires layout { IsLayout layout.now }
     ensures { IfOk result (λ marks. marks.items ≡ marks_of roads.now layout.now rows.now tours.now) }
 {

@@ -6,6 +6,7 @@ ghost use Rattle.plan_picture.specs.Texts.{size_text, opening_text, sums_line, h
 
 use crate::layout::Layout;
 use crate::style::{HEADINGS, STYLE};
+use limits::MOST_VEHICLES;
 use plan_marks::{push_escaped, push_text};
 use plan_sums::{Row, Tour, cost, open_count, push_filled};
 use std::alloc::AllocError;
@@ -98,7 +99,7 @@ pub fn push_head(
     tours: &[Tour],
 ) -> Result<(), AllocError>
     requires layout { IsLayout layout.now }
-    requires few { length tours.now ≤ 1000 }
+    requires few { length tours.now ≤ MOST_VEHICLES }
     requires small { All (λ tour. tour.distance ≤ 1000141421342) tours.now }
     ensures { OnOk result (string_bytes out.new ≡ string_bytes out.old ++ head_text layout.now name.now rows.now tours.now) }
 {

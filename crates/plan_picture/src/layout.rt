@@ -6,6 +6,7 @@ ghost use Rattle.plan_picture.specs.Drawn.{IsLayout};
 ghost use Rattle.plan_picture.specs.Marks.{layout_of};
 
 use crate::scale::{Clock, clock_of, ground_of};
+use limits::{MOST_CUSTOMERS, MOST_VEHICLES};
 use plan_marks::Frame;
 use plan_sums::{Roads, Row, Tour, open_count};
 
@@ -27,8 +28,8 @@ pub struct Layout {
 impl Layout {
     /// The layout of the picture of a listing with these sums.
     pub fn new(roads: &Roads, rows: &[Row], tours: &[Tour]) -> Layout
-        requires rows { length rows.now ≤ 1000 }
-        requires tours { length tours.now ≤ 1000 }
+        requires rows { length rows.now ≤ MOST_CUSTOMERS }
+        requires tours { length tours.now ≤ MOST_VEHICLES }
         ensures value { result ≡ layout_of roads.now rows.now tours.now }
         ensures sound { IsLayout result }
     {

@@ -6,6 +6,7 @@ ghost use Rattle.plan_sums.specs.Places.{ArePlaces};
 ghost use Rattle.plan_picture.specs.Drawn.{extent_of};
 ghost use Rattle.plan_picture.specs.Scales.{most_demand, frame_of, clock_of, x_of};
 
+use limits::LATEST_TIME;
 use plan_marks::Frame;
 use plan_sums::Roads;
 use solomon_reader::Node;
@@ -86,8 +87,8 @@ pub(crate) fn ground_of(nodes: &[Node]) -> Ground
 pub(crate) fn clock_of(roads: &Roads) -> Clock
     ensures value { result ≡ clock_of roads.now.nodes }
     ensures some { 1 ≤ result.span }
-    ensures few { result.span ≤ 99999990 }
-    ensures from { result.from ≤ 99999990 }
+    ensures few { result.span ≤ LATEST_TIME }
+    ensures from { result.from ≤ LATEST_TIME }
 {
     let depot = roads.depot();
     Clock {
@@ -99,7 +100,7 @@ pub(crate) fn clock_of(roads: &Roads) -> Clock
 /// Where a time stands on the timelines.
 pub(crate) fn x_of(clock: &Clock, time: u64) -> u64
     requires some { 1 ≤ clock.now.span }
-    requires few { clock.now.span ≤ 99999990 }
+    requires few { clock.now.span ≤ LATEST_TIME }
     ensures { result ≡ x_of clock.now time }
 {
     1600 + time.saturating_sub(clock.from).min(clock.span) * 10_800 / clock.span

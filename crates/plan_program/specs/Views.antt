@@ -1,6 +1,7 @@
 -- What is written of a plan: its picture, or its sums.
 use Rattle.std.specs.Prelude.{◌≡◌, ℕ, ◌≤◌, ◌⊎◌, All, List, length, Option, Ok}
 use Rattle.std.specs.Io.KnownBytes.{Appends, Keeps}
+use Rattle.limits.specs.declared.TheConstants.{MOST_VEHICLES}
 use Rattle.line_engine.specs.Running.{AppendsPrefix}
 use Rattle.solomon_reader.specs.Checks.{fault}
 use Rattle.solomon_reader.specs.Instances.{Plain}
@@ -67,7 +68,7 @@ pub record IsOpened (instance output : List ℕ) (p : Places) (rows : List Row) 
   pub listed : AreLastRows p output rows
   pub are : AreRows p rows
   pub sums : tours ≡ tours_of p rows
-  pub few : length tours ≤ 1000
+  pub few : length tours ≤ MOST_VEHICLES
   pub small : All (λ tour. tour.distance ≤ 1000141421342) tours
 
 -- why they are not there

@@ -11,6 +11,7 @@ ghost use Rattle.plan_program.specs.Holding.{IsHeld};
 ghost use Rattle.plan_program.specs.Stops.{IsWriting};
 
 use crate::stop::ViewStop;
+use limits::MOST_VEHICLES;
 use line_engine::{RunFault, write_whole};
 use plan_marks::Mark;
 use plan_picture::{Layout, picture, push_end, push_head, push_mark};
@@ -70,7 +71,7 @@ pub(crate) fn write_picture<W: Write>(
 ) -> Result<(), ViewStop>
     requires rows { AreRows roads.now rows.now }
     requires tours { tours.now ≡ tours_of roads.now rows.now }
-    requires few { length tours.now ≤ 1000 }
+    requires few { length tours.now ≤ MOST_VEHICLES }
     requires small { All (λ tour. tour.distance ≤ 1000141421342) tours.now }
     ensures ok { OnOk result (Appends (W.contents writer.old) (W.contents writer.new) (svg_text roads.now rows.now)) }
     ensures part { OnErr result (AppendsPrefix (W.contents writer.old) (W.contents writer.new) (svg_text roads.now rows.now)) }

@@ -9,6 +9,7 @@ ghost use Rattle.plan_sums.specs.Texts.{sums_text, tour_text};
 ghost use Rattle.plan_program.specs.Stops.{IsWriting};
 
 use crate::stop::ViewStop;
+use limits::MOST_VEHICLES;
 use line_engine::write_whole;
 use plan_sums::{Roads, Row, Tour, push_total, push_tour};
 use std::alloc::{AllocError, Global};
@@ -33,7 +34,7 @@ pub(crate) fn write_sums<W: Write>(
     writer: &mut W,
 ) -> Result<(), ViewStop>
     requires tours { tours.now ≡ tours_of roads.now rows.now }
-    requires few { length tours.now ≤ 1000 }
+    requires few { length tours.now ≤ MOST_VEHICLES }
     requires small { All (λ tour. tour.distance ≤ 1000141421342) tours.now }
     ensures ok { OnOk result (Appends (W.contents writer.old) (W.contents writer.new) (sums_text roads.now rows.now)) }
     ensures part { OnErr result (AppendsPrefix (W.contents writer.old) (W.contents writer.new) (sums_text roads.now rows.now)) }

@@ -1,5 +1,6 @@
 -- An instance, and the travel between its nodes.
 use Rattle.std.specs.Prelude.{ℕ, ◌+◌, ◌*◌, ◌≤◌, List, length, All}
+use Rattle.limits.specs.declared.TheConstants.{LARGEST_FIELD, MOST_NODES, MOST_VEHICLES}
 use Rattle.solomon_reader.specs.declared.instance.Node.{Node}
 use Rattle.solomon_reader.specs.Instances.{IsNode}
 use Rattle.travel_table.specs.Travel.{node_at, travel_between}
@@ -14,10 +15,10 @@ pub record Places : Type 0 where
 -- what is kept: the numbers are those of an instance
 pub record ArePlaces (p : Places) : Type 0 where
   pub some_vehicles : 1 ≤ p.vehicles
-  pub few_vehicles : p.vehicles ≤ 1000
-  pub capacity : p.capacity ≤ 9999999
+  pub few_vehicles : p.vehicles ≤ MOST_VEHICLES
+  pub capacity : p.capacity ≤ LARGEST_FIELD
   pub some_nodes : 2 ≤ length p.nodes
-  pub few_nodes : length p.nodes ≤ 1001
+  pub few_nodes : length p.nodes ≤ MOST_NODES
   pub nodes : All IsNode p.nodes
 
 -- the travel from a node to another, in tenths

@@ -1,5 +1,6 @@
 -- What has come of the lines, rows and sums of a listing so far.
 use Rattle.std.specs.Prelude.{◌≡◌, ℕ, ◌+◌, ◌*◌, ◌<◌, ◌≤◌, Bool, true, false, List, ◌∷◌, [], ◌++◌, Option, Some, None}
+use Rattle.limits.specs.declared.TheConstants.{LONGEST_TRAVEL}
 use Rattle.plan_sums.specs.declared.row.Row.{Row}
 use Rattle.plan_sums.specs.declared.finding.Span.{Span}
 use Rattle.plan_sums.specs.declared.finding.Search.{Search}
@@ -45,4 +46,4 @@ pub record IsTallied (p : Places) (rows : List Row) (n : ℕ) (tally : Tally) : 
   pub here : (k : ℕ) → k + 1 ≡ n → tally.first ≤ k
   pub first : (k : ℕ) → k + 1 ≡ n → tally.first ≡ first_of rows k
   pub ways : tally.ways ≡ ways p rows tally.first n
-  pub small : tally.ways ≤ n * 141421342
+  pub small : tally.ways ≤ n * LONGEST_TRAVEL

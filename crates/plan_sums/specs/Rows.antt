@@ -1,6 +1,7 @@
 -- Rows of a listing.
 use Rattle.std.specs.Prelude.{◌≡◌, ℕ, ◌+◌, ◌-◌, ◌<◌, ◌≤◌, Bool, nat_lt, nat_le, ◌==◌, ◌&&◌, ◌||◌, not, true, false, List, length, take, slice_index_or}
 use Rattle.std.specs.List.{list_any}
+use Rattle.limits.specs.declared.TheConstants.{MOST_CUSTOMERS}
 use Rattle.plan_sums.specs.declared.row.Row.{Row}
 use Rattle.plan_sums.specs.Places.{Places}
 
@@ -24,7 +25,7 @@ pub record IsRow (p : Places) (row : Row) : Type 0 where
 
 -- rows of the instance, at most one for each customer
 pub record AreRows (p : Places) (rows : List Row) : Type 0 where
-  pub few : length rows ≤ 1000
+  pub few : length rows ≤ MOST_CUSTOMERS
   pub each : (k : ℕ) → k < length rows → IsRow p (row_at rows k)
 
 -- ---- which row may come next in a listing

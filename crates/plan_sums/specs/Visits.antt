@@ -1,5 +1,6 @@
 -- What a listing shows of a stop: from where the vehicle comes, when it is there, and where it goes.
 use Rattle.std.specs.Prelude.{ℕ, ◌+◌, ◌-◌, ◌*◌, ◌<◌, ◌≤◌, Bool, not, nat_lt, ◌==◌, ◌&&◌, ◌||◌, if◌then◌else◌, List, length, Option, Some, None, IfSome}
+use Rattle.limits.specs.declared.TheConstants.{LONGEST_TRAVEL}
 use Rattle.travel_table.specs.Travel.{node_at}
 use Rattle.plan_sums.specs.declared.row.Row.{Row}
 use Rattle.plan_sums.specs.declared.visit.Visit.{Visit}
@@ -65,6 +66,6 @@ visit_at p rows k = record {
 pub record IsVisit (p : Places) (v : Visit) : Type 0 where
   pub customer : v.row.customer < length p.nodes
   pub from : IfSome v.from (λ i. i < length p.nodes)
-  pub way : v.way ≤ 141421342
-  pub home : v.home ≤ 141421342
+  pub way : v.way ≤ LONGEST_TRAVEL
+  pub home : v.home ≤ LONGEST_TRAVEL
   pub leave : v.leave ≤ 4394967285

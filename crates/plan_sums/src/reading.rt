@@ -12,6 +12,7 @@ use crate::finding::{Span, last_listing};
 use crate::lines::lines_of;
 use crate::roads::Roads;
 use crate::row::Row;
+use limits::MOST_CUSTOMERS;
 use std::alloc::{AllocError, Global};
 use text_words::{keep_all_words, number_of};
 
@@ -121,7 +122,7 @@ impl Taken {
     fn fits(&self, roads: &Roads, row: &Row) -> bool
         requires { AreTaken roads.now self.now.rows.items self.now.seen.items }
         ensures value { result ≡ fits roads.now self.now.rows.items row.now }
-        ensures few { OnTrue result (length self.now.rows.items < 1000) }
+        ensures few { OnTrue result (length self.now.rows.items < MOST_CUSTOMERS) }
     {
         self.rows.len() + 1 < roads.nodes().len()
             && is_row(roads, row)

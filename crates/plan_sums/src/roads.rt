@@ -5,6 +5,7 @@ ghost use Rattle.solomon_reader.specs.Instances.{view, IsSound};
 ghost use Rattle.travel_table.specs.Travel.{IsNear, node_at};
 ghost use Rattle.plan_sums.specs.Places.{ArePlaces, time_between, travel_of};
 
+use limits::{LARGEST_FIELD, LONGEST_TRAVEL, MOST_NODES, MOST_VEHICLES};
 use solomon_reader::{Instance, Node};
 use std::marker::Model;
 use travel_table::travel_between;
@@ -68,7 +69,7 @@ impl Roads {
     /// How many vehicles there are, 1 to 1,000.
     pub fn vehicles(&self) -> u32
         ensures value { result ≡ self.now.vehicles }
-        ensures small { result ≤ 1000 }
+        ensures small { result ≤ MOST_VEHICLES }
     {
         self.instance.vehicles
     }
@@ -76,7 +77,7 @@ impl Roads {
     /// What a vehicle may carry.
     pub fn capacity(&self) -> u32
         ensures value { result ≡ self.now.capacity }
-        ensures small { result ≤ 9999999 }
+        ensures small { result ≤ LARGEST_FIELD }
     {
         self.instance.capacity
     }
@@ -85,7 +86,7 @@ impl Roads {
     pub fn size(&self) -> u32
         ensures value { result ≡ length self.now.nodes }
         ensures low { 2 ≤ result }
-        ensures high { result ≤ 1001 }
+        ensures high { result ≤ MOST_NODES }
     {
         self.instance.nodes.len() as u32
     }
@@ -94,10 +95,10 @@ impl Roads {
     pub fn node(&self, node: u32) -> Node
         requires { node < length self.now.nodes }
         ensures value { result ≡ node_at self.now.nodes node }
-        ensures demand { result.demand ≤ 9999999 }
+        ensures demand { result.demand ≤ LARGEST_FIELD }
         ensures ready { result.ready ≤ result.due }
-        ensures due { result.due ≤ 9999999 }
-        ensures service { result.service ≤ 9999999 }
+        ensures due { result.due ≤ LARGEST_FIELD }
+        ensures service { result.service ≤ LARGEST_FIELD }
         ensures near { IsNear result }
     {
         self.instance.nodes[node as usize]
@@ -107,7 +108,7 @@ impl Roads {
     pub fn depot(&self) -> Node
         ensures value { result ≡ node_at self.now.nodes 0 }
         ensures ready { result.ready ≤ result.due }
-        ensures due { result.due ≤ 9999999 }
+        ensures due { result.due ≤ LARGEST_FIELD }
     {
         self.instance.nodes[0]
     }
@@ -117,7 +118,7 @@ impl Roads {
         requires from { from < length self.now.nodes }
         requires to { to < length self.now.nodes }
         ensures value { result ≡ travel_of self.now from to }
-        ensures small { result ≤ 141421342 }
+        ensures small { result ≤ LONGEST_TRAVEL }
     {
         u64::from(travel_between(&self.node(from), &self.node(to)))
     }

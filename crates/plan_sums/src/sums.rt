@@ -7,6 +7,7 @@ ghost use Rattle.plan_sums.specs.Texts.{open_count, time_text, tour_text, total_
 use crate::pieces::push_filled;
 use crate::row::Row;
 use crate::tour::{Tour, cost};
+use limits::MOST_VEHICLES;
 use std::alloc::AllocError;
 
 /// Appends a time, or a hyphen where it is not known.
@@ -68,7 +69,7 @@ pub fn push_total(
     rows: &[Row],
     tours: &[Tour],
 ) -> Result<(), AllocError>
-    requires few { length tours.now ≤ 1000 }
+    requires few { length tours.now ≤ MOST_VEHICLES }
     requires small { All (λ tour. tour.distance ≤ 1000141421342) tours.now }
     ensures { OnOk result (string_bytes out.new ≡ string_bytes out.old ++ total_text vehicles rows.now tours.now) }
 {

@@ -11,6 +11,7 @@ ghost use Rattle.plan_sums.specs.Tours.{ways, ends_tour, tour_at, tour_of, tours
 use crate::roads::Roads;
 use crate::row::Row;
 use crate::visit::{is_first, is_last, visit_at};
+use limits::{LONGEST_TRAVEL, MOST_VEHICLES};
 use std::alloc::{AllocError, Global};
 
 /// The sums of a vehicle, by its rows in a listing. Times and ways are in tenths.
@@ -97,7 +98,7 @@ impl Tally {
         requires rows { AreRows roads.now rows.now }
         requires within { k < length rows.now }
         requires way { way ≡ way_at roads.now rows.now k }
-        requires small { way ≤ 141421342 }
+        requires small { way ≤ LONGEST_TRAVEL }
         ensures { IsTallied roads.now rows.now (k + 1) result }
     {
         if is_first(rows, k) {
@@ -149,7 +150,7 @@ fn push_if_last(
 pub fn tours(alloc: Global, roads: &Roads, rows: &[Row]) -> Result<Vec<Tour>, AllocError>
     requires { AreRows roads.now rows.now }
     ensures value { IfOk result (λ v. v.items ≡ tours_of roads.now rows.now) }
-    ensures few { IfOk result (λ v. length v.items ≤ 1000) }
+    ensures few { IfOk result (λ v. length v.items ≤ MOST_VEHICLES) }
     ensures small { IfOk result (λ v. All (λ tour. tour.distance ≤ 1000141421342) v.items) }
 {
     let mut tours = Vec::new(alloc);
@@ -163,7 +164,7 @@ pub fn tours(alloc: Global, roads: &Roads, rows: &[Row]) -> Result<Vec<Tour>, Al
 
 /// What the tours cost: the sum of their ways.
 pub fn cost(tours: &[Tour]) -> u64
-    requires few { length tours.now ≤ 1000 }
+    requires few { length tours.now ≤ MOST_VEHICLES }
     requires small { All (λ tour. tour.distance ≤ 1000141421342) tours.now }
     ensures { result ≡ cost_of tours.now }
 {

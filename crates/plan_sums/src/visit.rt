@@ -7,6 +7,7 @@ ghost use Rattle.plan_sums.specs.Visits.{share_vehicle, is_next_stop, goes_on, i
 
 use crate::roads::Roads;
 use crate::row::Row;
+use limits::{LARGEST_FIELD, LONGEST_TRAVEL};
 use solomon_reader::Node;
 
 /// What a listing shows of the stop of a row. Times and ways are in tenths.
@@ -88,7 +89,7 @@ fn way_from(roads: &Roads, from: Option<u32>, to: u32) -> u64
     requires from { IfSome from (λ i. i < length roads.now.nodes) }
     requires to { to < length roads.now.nodes }
     ensures value { result ≡ way_from roads.now from to }
-    ensures small { result ≤ 141421342 }
+    ensures small { result ≤ LONGEST_TRAVEL }
 {
     match from {
         Some(from) => roads.travel(from, to),
@@ -111,7 +112,7 @@ fn arrival(roads: &Roads, rows: &[Row], k: usize) -> u64
 
 /// When a vehicle leaves the stop of a row.
 fn leave(row: &Row, node: &Node) -> u64
-    requires { node.now.service ≤ 9999999 }
+    requires { node.now.service ≤ LARGEST_FIELD }
     ensures value { result ≡ row.now.early + node.now.service * 10 }
     ensures small { result ≤ 4394967285 }
 {

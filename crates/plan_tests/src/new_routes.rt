@@ -3,6 +3,7 @@ ghost use Rattle.std.specs.Prelude.{◌≡◌, ◌≤◌, [], ◌∷◌, length,
 ghost use Rattle.plan_core.specs.Plan.{changes_of};
 ghost use Rattle.plan_core.specs.Tested.{is_plan};
 
+use limits::MOST_CUSTOMERS;
 use plan_core::{Drafts, Plan, Route, plans_are_tested};
 use std::alloc::Global;
 use std::process::Abort;
@@ -41,7 +42,7 @@ pub(crate) fn one_change(
     customers: &[u32],
 ) -> Vec<(u32, Arc<Route>)>
     ensures changes { changes_of result.items ≡ (vehicle, customers.now) ∷ [] }
-    ensures short { length customers.now ≤ 1000 → All (λ c. length c.1.value ≤ 1000) result.items }
+    ensures short { length customers.now ≤ MOST_CUSTOMERS → All (λ c. length c.1.value ≤ MOST_CUSTOMERS) result.items }
 {
     let route = shared(rt, alloc, customers);
     let mut changes = Vec::with_capacity(alloc, 1).expect(rt, "memory");
@@ -59,8 +60,8 @@ pub(crate) fn pair(
     second: &[u32],
 ) -> Vec<(u32, Arc<Route>)>
     ensures changes { changes_of result.items ≡ (v, first.now) ∷ (w, second.now) ∷ [] }
-    ensures short { length first.now ≤ 1000 → length second.now ≤ 1000
-        → All (λ c. length c.1.value ≤ 1000) result.items }
+    ensures short { length first.now ≤ MOST_CUSTOMERS → length second.now ≤ MOST_CUSTOMERS
+        → All (λ c. length c.1.value ≤ MOST_CUSTOMERS) result.items }
 {
     let mut changes = one_change(rt, alloc, v, first);
     let route = shared(rt, alloc, second);
@@ -76,7 +77,7 @@ pub(crate) fn plan_of(
     first: &[u32],
     second: &[u32],
 ) -> Plan
-    requires customers { customers ≤ 1000 }
+    requires customers { customers ≤ MOST_CUSTOMERS }
     requires plan { is_plan customers (first.now ∷ second.now ∷ []) ≡ true }
     ensures { result
         ≡ record { customers = customers; routes = first.now ∷ second.now ∷ []; version = 1; stamps = 1 ∷ 1 ∷ [] } }

@@ -12,6 +12,7 @@ use crate::comparing::{compare, compare_meter};
 use crate::new_routes::{one_change, one_draft, pair};
 use callback_store::{Meter, Registry, Transit, TransitId, Unary};
 use dimension_core::{Dimension, Range, Setup, first_out};
+use limits::{MOST_CUSTOMERS, MOST_EVENTS};
 use plan_core::{Drafts, Plan, Route, plans_are_tested};
 use range_cache::{Cache, JudgeFault, Pending, Room};
 use std::alloc::{AllocError, Global};
@@ -56,9 +57,9 @@ fn commit(
     requires low { 1 ≤ vehicle }
     requires high { vehicle ≤ (setting setup.now).vehicles }
     requires known { All (λ c. c ≤ (setting setup.now).customers) customers.now }
-    requires short { length customers.now ≤ 1000 }
+    requires short { length customers.now ≤ MOST_CUSTOMERS }
     requires plan { IsPlan held.old.plan.customers (with_routes ((vehicle, customers.now) ∷ []) held.old.plan.routes) }
-    requires room { held.old.plan.version < 16777216 }
+    requires room { held.old.plan.version < MOST_EVENTS }
     ensures cache { IsCacheOf (setting setup.now) held.new.plan.routes held.new.cache }
     ensures plan { held.new.plan ≡ replaced ((vehicle, customers.now) ∷ []) held.old.plan }
 {
@@ -112,7 +113,7 @@ fn judge_written(
 ) -> Result<Pending, JudgeFault>
     requires cache { IsCacheOf (setting setup.now) plan.now.routes cache.now }
     requires known { AllKnown (setting setup.now) (changes_of changes.now) }
-    requires short { All (λ c. length c.1.value ≤ 1000) changes.now }
+    requires short { All (λ c. length c.1.value ≤ MOST_CUSTOMERS) changes.now }
     ensures of { IfOk result (λ pending. pending.of ≡ cache.now) }
     ensures fits { IfOk result (λ pending. AllFit (setting setup.now) (changes_of changes.now)) }
     ensures rows { IfOk result (λ pending. AreNewRows (setting setup.now) (changes_of changes.now) pending.rows) }
@@ -139,7 +140,7 @@ fn fault_of_drafts(
 ) -> Option<JudgeFault>
     requires cache { IsCacheOf (setting setup.now) plan.now.routes cache.now }
     requires known { AllKnown (setting setup.now) (drafts_of plan.now.routes drafts.now) }
-    requires short { All (λ d. length (drafted plan.now.routes d) ≤ 1000) drafts.now }
+    requires short { All (λ d. length (drafted plan.now.routes d) ≤ MOST_CUSTOMERS) drafts.now }
     requires fronts { AreFrontsWithin plan.now.routes drafts.now }
 {
     cache.judge(setup, plan, drafts.as_slice(), meter).err()

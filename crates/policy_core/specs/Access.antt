@@ -2,6 +2,7 @@
 use Rattle.std.specs.Prelude.{◌≡◌, ◌<◌, ℕ, zero, suc, Bool, true, false, ◌&&◌, ◌||◌, nat_eq, Option, Some}
 use Rattle.std.specs.Map.{lookup}
 use Rattle.std.specs.Option.{option_map}
+use Rattle.limits.specs.declared.TheConstants.{MOST_ROLES}
 use Rattle.role_hierarchy.specs.Order.{IsSenior, stands}
 use Rattle.role_hierarchy.specs.Roles.{has}
 use Rattle.role_hierarchy.specs.Below.{closed}
@@ -34,7 +35,7 @@ is_reached p below operation number slot = has below slot && has (row_of p slot 
 
 -- some role to which one of these is senior may do the operation to the object
 unfoldable pub reaches : PolicyState → ℕ → Operation → ℕ → Bool
-reaches p active operation number = some_below (is_reached p (closed p.order active) operation number) 256
+reaches p active operation number = some_below (is_reached p (closed p.order active) operation number) MOST_ROLES
 
 -- the roles to which an active one of the session is senior
 abbrev pub reached_roles : PolicyState → ℕ → Option ℕ
@@ -50,4 +51,4 @@ has_access p session operation object =
 abbrev pub CheckAccess : PolicyState → ℕ → Operation → Object → Type 0
 CheckAccess p session operation object =
     (s : Session) × (lookup (nat_eq session) p.sessions ≡ Some s) × (is_here p object ≡ true)
-    × ((a : ℕ) × (a < 256) × (has s.active a ≡ true) × ((b : ℕ) × IsSenior (stands p.order) a b × (has (row_of p b operation) (number_of object) ≡ true)))
+    × ((a : ℕ) × (a < MOST_ROLES) × (has s.active a ≡ true) × ((b : ℕ) × IsSenior (stands p.order) a b × (has (row_of p b operation) (number_of object) ≡ true)))

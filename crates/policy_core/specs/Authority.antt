@@ -2,6 +2,7 @@
 use Rattle.std.specs.Prelude.{◌≡◌, ◌<◌, ◌↔◌, ℕ, true, false, List, Some, nat_eq}
 use Rattle.std.specs.List.{list_all}
 use Rattle.std.specs.Map.{lookup}
+use Rattle.limits.specs.declared.TheConstants.{MOST_ROLES}
 use Rattle.role_hierarchy.specs.Order.{IsSenior, stands}
 use Rattle.role_hierarchy.specs.Roles.{has}
 use Rattle.policy_core.specs.declared.session.Session.{Session}
@@ -12,7 +13,7 @@ use Rattle.policy_core.specs.Commands.{slots_of}
 
 -- one of these roles is senior to the role
 abbrev pub IsBelow : PolicyState → ℕ → ℕ → Type 0
-IsBelow p roles role = (a : ℕ) × (a < 256) × (has roles a ≡ true) × IsSenior (stands p.order) a role
+IsBelow p roles role = (a : ℕ) × (a < MOST_ROLES) × (has roles a ≡ true) × IsSenior (stands p.order) a role
 
 -- the set holds exactly the roles to which one of these is senior
 abbrev pub AreBelow : PolicyState → ℕ → ℕ → Type 0

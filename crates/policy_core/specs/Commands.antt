@@ -3,6 +3,7 @@ use Rattle.std.specs.Prelude.{◌≡◌, ℕ, ◌+◌, not, ◌&&◌, ◌||◌, 
 use Rattle.std.specs.List.{list_all}
 use Rattle.std.specs.Option.{option_or, option_map_or}
 use Rattle.std.specs.Map.{lookup, remove_entry}
+use Rattle.limits.specs.declared.TheConstants.{MOST_SESSIONS, MOST_SETS, MOST_USERS}
 use Rattle.indexmap.specs.IndexMap.{insert_entry}
 use Rattle.role_hierarchy.specs.Roles.{has, with_role, without, is_within, first_free}
 use Rattle.role_hierarchy.specs.Order.{Order, stands, with_slot, with_pair, without_pair, without_slot}
@@ -33,7 +34,7 @@ Says e refusal = refusal ≡ Some e
 unfoldable pub add_user_refusal : PolicyState → List ℕ → Option Refusal
 add_user_refusal p user =
     if is_user p user then Some Already
-    else if nat_le 1024 (length p.users) then Some Full
+    else if nat_le MOST_USERS (length p.users) then Some Full
     else None
 
 abbrev pub user_added : PolicyState → List ℕ → PolicyState
@@ -179,7 +180,8 @@ unfoldable pub create_set_refusal : Separation → PolicyState → List ℕ → 
 create_set_refusal kind p name number roles =
     if not (list_all (is_role p) roles) then Some NoRole
     else option_or (as_refusal NotThere (new_refusal (sets_of kind p) name (slots_of p roles) number))
-    (option_or (broken_by kind (set_created kind p name number roles)) (if nat_le 64 (length (sets_of kind p)) then Some Full else None))
+    (option_or (broken_by kind (set_created kind p name number roles))
+    (if nat_le MOST_SETS (length (sets_of kind p)) then Some Full else None))
 
 -- AddSsdRoleMember (6.3), AddDsdRoleMember (6.4)
 abbrev pub member_added : Separation → PolicyState → List ℕ → List ℕ → PolicyState
@@ -228,7 +230,7 @@ open_refusal p user roles =
     else if not (list_all (is_role p) roles) then Some NoRole
     else if not (is_within (slots_of p roles) (authorized_for p user)) then Some NotAuthorized
     else option_or (broken_dsd (opened p user roles))
-    (if nat_le 1024 (length p.sessions) || nat_le 4294967295 p.last then Some Full else None)
+    (if nat_le MOST_SESSIONS (length p.sessions) || nat_le 4294967295 p.last then Some Full else None)
 
 -- DeleteSession (6.1)
 abbrev pub shut : PolicyState → ℕ → PolicyState

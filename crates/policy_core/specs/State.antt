@@ -4,6 +4,7 @@ use Rattle.std.specs.Prelude.{◌≡◌, ◌≤◌, ℕ, Bool, true, false, ◌&
 use Rattle.std.specs.List.{list_any}
 use Rattle.std.specs.Map.{lookup}
 use Rattle.std.specs.Option.{option_map, option_or}
+use Rattle.limits.specs.declared.TheConstants.{MOST_CUSTOMERS, MOST_SESSIONS, MOST_USERS, MOST_VEHICLES}
 use Rattle.indexmap.specs.IndexMap.{insert_entry}
 use Rattle.role_hierarchy.specs.Roles.{has}
 use Rattle.role_hierarchy.specs.Order.{Order, no_order, is_there, role_count}
@@ -81,10 +82,10 @@ pub record IsPolicy (p : PolicyState) : Type 0 where
   pub dsd : first_breaking (counted_all p) p.dsd ≡ None
   pub slots : HasSlots p.roles p.order.roles
   pub numbers : rise 0 p.last (numbers_of p.sessions) ≡ true
-  pub few_customers : p.customers ≤ 1000
-  pub few_vehicles : p.vehicles ≤ 1000
-  pub few_users : length p.users ≤ 1024
-  pub few_sessions : length p.sessions ≤ 1024
+  pub few_customers : p.customers ≤ MOST_CUSTOMERS
+  pub few_vehicles : p.vehicles ≤ MOST_VEHICLES
+  pub few_users : length p.users ≤ MOST_USERS
+  pub few_sessions : length p.sessions ≤ MOST_SESSIONS
   pub free : (slot : ℕ) → is_there p.order slot ≡ false → IsBare p slot
   pub count : length p.roles ≡ role_count p.order
 

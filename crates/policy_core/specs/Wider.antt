@@ -1,5 +1,6 @@
 -- What one more pair in the order adds for users and sessions.
 use Rattle.std.specs.Prelude.{◌≡◌, ◌<◌, ◌↔◌, true, ℕ, if◌then◌else◌, List, [], ◌∷◌, ◌++◌, bit_or}
+use Rattle.limits.specs.declared.TheConstants.{MOST_ROLES}
 use Rattle.role_hierarchy.specs.Roles.{has}
 use Rattle.role_hierarchy.specs.Order.{Order, IsSenior, stands}
 use Rattle.role_hierarchy.specs.Below.{closed, juniors_of}
@@ -7,7 +8,7 @@ use Rattle.policy_core.specs.declared.session.Session.{Session}
 
 -- the set holds the roles that are senior to the role
 abbrev pub AreSeniors : Order → ℕ → ℕ → Type 0
-AreSeniors order s seniors = (a : ℕ) → (has seniors a ≡ true) ↔ ((a < 256) × IsSenior (stands order) a s)
+AreSeniors order s seniors = (a : ℕ) → (has seniors a ≡ true) ↔ ((a < MOST_ROLES) × IsSenior (stands order) a s)
 
 -- what is below the roles with one more pair, where the pair's senior is below them; otherwise nothing is added
 abbrev pub wider : Order → ℕ → ℕ → ℕ → List ℕ

@@ -14,6 +14,7 @@ ghost use Rattle.policy_core.specs.Opening.{opening, set_up};
 use crate::refusal::Refusal;
 use crate::session::{Counting, Session};
 use indexmap::IndexMap;
+use limits::{MOST_CUSTOMERS, MOST_ROLES, MOST_VEHICLES};
 use permission_core::{ObjectRange, Operation, Permissions};
 use role_hierarchy::{Hierarchy, RoleSet};
 use separation_core::{Name, Sets};
@@ -70,8 +71,8 @@ impl Model for Policy {
 impl Policy {
     /// The policy over these customers and vehicles, at most 1,000 of each, with no user, role or session.
     pub fn new(alloc: Global, customers: u32, vehicles: u32) -> Result<Policy, AllocError>
-        requires customers { customers ≤ 1000 }
-        requires vehicles { vehicles ≤ 1000 }
+        requires customers { customers ≤ MOST_CUSTOMERS }
+        requires vehicles { vehicles ≤ MOST_VEHICLES }
         ensures { IfOk result (λ policy. policy ≡ no_policy customers vehicles) }
     {
         let order = Hierarchy::new(alloc)?;
@@ -99,8 +100,8 @@ impl Policy {
     /// The policy that a board begins with, over these customers and vehicles, at most 1,000 of each: the user `root`, assigned to the role
     /// `root`, which may `admin` the board and nothing else, and session 1 of that user with that role active.
     pub fn opening(alloc: Global, customers: u32, vehicles: u32) -> Result<Policy, AllocError>
-        requires customers { customers ≤ 1000 }
-        requires vehicles { vehicles ≤ 1000 }
+        requires customers { customers ≤ MOST_CUSTOMERS }
+        requires vehicles { vehicles ≤ MOST_VEHICLES }
         ensures { IfOk result (λ policy. policy ≡ opening customers vehicles) }
     {
         let Some(root) = Name::new(b"root") else {
@@ -165,7 +166,7 @@ impl Policy {
 
     /// A law, for callers' proofs: no slot is free for a role exactly where there are 256 roles.
     pub fn is_full_by_count(&self)
-        ensures { (first_free self.now.order.roles ≡ None) ↔ (length self.now.roles ≡ 256) }
+        ensures { (first_free self.now.order.roles ≡ None) ↔ (length self.now.roles ≡ MOST_ROLES) }
     {
         self.is_policy();
         self.order.is_full_by_count();
@@ -195,7 +196,7 @@ impl Policy {
     /// How many customers there are, at most 1,000.
     pub fn customers(&self) -> u32
         ensures value { result ≡ self.now.customers }
-        ensures small { result ≤ 1000 }
+        ensures small { result ≤ MOST_CUSTOMERS }
     {
         self.customers
     }
@@ -210,7 +211,7 @@ impl Policy {
     /// How many vehicles there are, at most 1,000.
     pub fn vehicles(&self) -> u32
         ensures value { result ≡ self.now.vehicles }
-        ensures small { result ≤ 1000 }
+        ensures small { result ≤ MOST_VEHICLES }
     {
         self.vehicles
     }

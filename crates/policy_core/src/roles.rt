@@ -16,6 +16,7 @@ use crate::policy::Policy;
 use crate::refusal::Refusal;
 use crate::session::{Counting, Session};
 use indexmap::IndexMap;
+use limits::MOST_ROLES;
 use role_hierarchy::{Hierarchy, RoleSet};
 use separation_core::Name;
 use std::alloc::AllocError;
@@ -28,8 +29,8 @@ impl Policy {
         ensures allowed { OnOk result (add_role_refusal self.old role ≡ None) }
         ensures err { OnErr result (self.new ≡ self.old) }
         ensures refused { IfErr result (λ e. Says e (add_role_refusal self.old role)) }
-        ensures room { OnOk result (length self.old.roles < 256) }
-        ensures full { IfErr result (λ e. e ≡ Refusal.Full → length self.old.roles ≡ 256) }
+        ensures room { OnOk result (length self.old.roles < MOST_ROLES) }
+        ensures full { IfErr result (λ e. e ≡ Refusal.Full → length self.old.roles ≡ MOST_ROLES) }
     {
         if self.roles.contains_key(&role) {
             return Err(Refusal::Already);

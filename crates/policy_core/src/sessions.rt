@@ -12,6 +12,7 @@ use crate::policy::Policy;
 use crate::refusal::Refusal;
 use crate::session::{Counting, Session};
 use indexmap::IndexMap;
+use limits::MOST_SESSIONS;
 use role_hierarchy::{Hierarchy, RoleSet};
 use separation_core::{Name, Sets};
 
@@ -39,7 +40,7 @@ impl Policy {
         ensures refused { result_err result ≡ open_refusal self.now user roles.now }
         ensures session { IfOk result (λ session. session ≡ record { user = user; active = slots_of self.now roles.now }) }
         ensures room { OnOk result (self.now.last < 4294967295) }
-        ensures few { OnOk result (length self.now.sessions < 1024) }
+        ensures few { OnOk result (length self.now.sessions < MOST_SESSIONS) }
         ensures there { OnOk result (list_all (is_role self.now) roles.now ≡ true) }
         ensures whole { OnOk result (broken_dsd (opened self.now user roles.now) ≡ None) }
     {
@@ -55,7 +56,7 @@ impl Policy {
         if let Some(refusal) = self.refusal_of_active(active) {
             return Err(refusal);
         }
-        if self.sessions.len() >= 1024 || self.last == u32::MAX {
+        if self.sessions.len() >= MOST_SESSIONS || self.last == u32::MAX {
             return Err(Refusal::Full);
         }
         Ok(Session::of(user, active))

@@ -19,6 +19,7 @@ use crate::separation::Separation;
 use crate::session::{Counting, Session};
 use crate::sessions::count;
 use indexmap::IndexMap;
+use limits::MOST_SETS;
 use role_hierarchy::{Hierarchy, RoleSet};
 use separation_core::{Limit, Name, Sets};
 
@@ -73,7 +74,7 @@ impl Policy {
         if let Some(refusal) = self.refusal_of_limit(kind, name, set, number) {
             return Err(refusal);
         }
-        if self.sets(kind).len() >= 64 {
+        if self.sets(kind).len() >= MOST_SETS {
             return Err(Refusal::Full);
         }
         Ok(set)

@@ -11,6 +11,7 @@ use crate::policy::Policy;
 use crate::refusal::Refusal;
 use crate::session::Session;
 use indexmap::IndexMap;
+use limits::MOST_USERS;
 use role_hierarchy::RoleSet;
 use separation_core::Name;
 use std::alloc::AllocError;
@@ -24,7 +25,7 @@ impl Policy {
         ensures err { OnErr result (self.new ≡ self.old) }
         ensures refused { IfErr result (λ e. Says e (add_user_refusal self.old user)) }
     {
-        if self.users.len() >= 1024 {
+        if self.users.len() >= MOST_USERS {
             return Err(self.refusal_of_one_more(user));
         }
         self.ssd.are_sets();
@@ -38,7 +39,7 @@ impl Policy {
     /// Why a user is not added where there are as many as there may be.
     #[tactic(auto, unfolding(crate::specs::Commands::add_user_refusal))]
     fn refusal_of_one_more(&self, user: Name) -> Refusal
-        requires { 1024 ≤ length self.now.users }
+        requires { MOST_USERS ≤ length self.now.users }
         ensures { add_user_refusal self.now user ≡ Some result }
     {
         if self.users.contains_key(&user) {

@@ -1,5 +1,6 @@
 -- The setting of the board that an instance opens.
 use Rattle.std.specs.Prelude.{◌≡◌, ◌-◌, List, [], ◌∷◌, length, true, false}
+use Rattle.limits.specs.declared.TheConstants.{MOST_PROGRAM_EVENTS}
 use Rattle.callback_store.specs.Tables.{Table, node_values, pair_values}
 use Rattle.dimension_core.specs.Setting.{Setting}
 use Rattle.solomon_reader.specs.Instances.{Plain}
@@ -29,5 +30,5 @@ standard_setting s = record {
   tables = standard_tables s;
   dimensions = load_bounds s 0 ∷ time_bounds s 1 ∷ [];
   cost = 2;
-  max_events = 1000000;
+  max_events = MOST_PROGRAM_EVENTS;
 }

@@ -8,8 +8,8 @@ ghost use Rattle.program_parts.specs.Streams.{IsUnreadable, path_line, stop_line
 ghost use Rattle.program_parts.specs.declared.stop.Stop.TheVariants.{Open};
 
 use crate::fault_line::tell_path;
-use crate::head::MOST_BYTES;
 use crate::stop::{Stop, stopped};
+use limits::LARGEST_FILE;
 use std::alloc::Global;
 use std::fs;
 use std::io::{self, ErrorKind, Read, Write};
@@ -18,11 +18,11 @@ use std::rt::Files;
 /// All bytes of an instance's file, of which there may be 16,777,216. An error of the file, and more bytes, are errors.
 pub fn read_file<I: Read + Drop>(alloc: Global, file: I) -> io::Result<Vec<u8>>
     ensures whole { IfOk result (λ text. IfSome (I.remaining file) (λ bytes. text.items ≡ bytes)) }
-    ensures small { IfOk result (λ text. length text.items ≤ 16777216) }
+    ensures small { IfOk result (λ text. length text.items ≤ LARGEST_FILE) }
 {
     let mut text = Vec::new(alloc);
-    file.take(MOST_BYTES as u64 + 1).read_to_end(&mut text)?;
-    if text.len() > MOST_BYTES {
+    file.take(LARGEST_FILE as u64 + 1).read_to_end(&mut text)?;
+    if text.len() > LARGEST_FILE {
         return Err(io::Error::from(ErrorKind::FileTooLarge));
     }
     Ok(text)
@@ -30,7 +30,7 @@ pub fn read_file<I: Read + Drop>(alloc: Global, file: I) -> io::Result<Vec<u8>>
 
 /// All bytes of the file at a path, as `read_file` has it. A file that does not open is an error too.
 pub fn read_path<R: Files>(rt: &R, alloc: Global, path: &str) -> io::Result<Vec<u8>>
-    ensures { IfOk result (λ text. length text.items ≤ 16777216) }
+    ensures { IfOk result (λ text. length text.items ≤ LARGEST_FILE) }
 {
     read_file(alloc, fs::open(rt, path)?)
 }

@@ -6,12 +6,10 @@ ghost use Rattle.program_parts.specs.Stops.{IsUnread};
 ghost use Rattle.program_parts.specs.Head.{mark, ends_instance, halves, IsHead, IsMarked, Took, Fed, AreRead};
 
 use crate::stop::Stop;
+use limits::LARGEST_FILE;
 use line_engine::RunFault;
 use std::alloc::Global;
 use std::io::Read;
-
-/// How many bytes an instance may have.
-pub(crate) const MOST_BYTES: usize = 16_777_216;
 
 /// How many bytes are read at a time.
 const CHUNK_BYTES: usize = 65_536;
@@ -51,7 +49,7 @@ impl Head {
     /// Takes one byte, and tells whether it ends the line `%%`, which is then left out.
     fn take(&mut self, byte: u8) -> Result<bool, Stop>
         requires head { IsHead self.old.text.items self.old.line }
-        requires short { self.old.line ≤ 16777216 }
+        requires short { self.old.line ≤ LARGEST_FILE }
         ensures took { IfOk result (λ found. Took self.old.text.items self.new.text.items self.new.line byte found) }
         ensures fault { IfErr result IsUnread }
     {
@@ -63,12 +61,12 @@ impl Head {
         } else {
             self.text.push(byte)?;
             self.line = self.text.len();
-            if self.line > MOST_BYTES {
+            if self.line > LARGEST_FILE {
                 return Err(Stop::Run(RunFault::Read));
             }
         }
         // A line `%%` that is still to come has at most three bytes before its end.
-        if self.text.len() > MOST_BYTES + 3 {
+        if self.text.len() > LARGEST_FILE + 3 {
             return Err(Stop::Run(RunFault::Read));
         }
         Ok(false)
@@ -77,7 +75,7 @@ impl Head {
     /// Takes bytes up to the end of the line `%%`: how many they are, or none where that line does not end there.
     fn feed(&mut self, piece: &[u8]) -> Result<Option<usize>, Stop>
         requires head { IsHead self.old.text.items self.old.line }
-        requires short { self.old.line ≤ 16777216 }
+        requires short { self.old.line ≤ LARGEST_FILE }
         ensures within { IfOk result (λ used. IfSome used (λ n. n ≤ length piece.now)) }
         ensures fed { IfOk result (λ used. Fed self.old.text.items self.new.text.items self.new.line piece.now used) }
         ensures fault { IfErr result IsUnread }
@@ -94,13 +92,13 @@ impl Head {
     fn finish(mut self) -> Result<Vec<u8>, Stop>
         requires { IsHead self.text.items self.line }
         ensures halves { IfOk result (λ text. halves self.text.items ≡ record { instance = text.items; script = [] }) }
-        ensures short { IfOk result (λ text. length text.items ≤ 16777216) }
+        ensures short { IfOk result (λ text. length text.items ≤ LARGEST_FILE) }
         ensures fault { IfErr result IsUnread }
     {
         if is_bare_mark(&self.text[self.line..]) {
             self.text.truncate(self.line);
         }
-        if self.text.len() > MOST_BYTES {
+        if self.text.len() > LARGEST_FILE {
             return Err(Stop::Run(RunFault::Read));
         }
         Ok(self.text)
@@ -128,7 +126,7 @@ pub fn read_parts<I: Read>(alloc: Global, reader: &mut I) -> Result<Parts, Stop>
     ensures parts { IfOk result (λ parts. AreRead (I.remaining reader.old) (I.remaining reader.new) parts.instance.items
         (drop parts.used parts.piece.items) parts.goes_on) }
     ensures within { IfOk result (λ parts. parts.used ≤ length parts.piece.items) }
-    ensures short { IfOk result (λ parts. length parts.instance.items ≤ 16777216) }
+    ensures short { IfOk result (λ parts. length parts.instance.items ≤ LARGEST_FILE) }
     ensures fault { IfErr result IsUnread }
 {
     let mut chunk = vec![in alloc; 0u8; CHUNK_BYTES]?;

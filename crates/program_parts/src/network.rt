@@ -7,6 +7,7 @@ ghost use Rattle.travel_table.specs.Travel.{node_at, travel_at};
 ghost use Rattle.program_parts.specs.Network.{IsNetwork, demand_at, time_between};
 
 use callback_store::{Matrix, StayMatrix, Vector};
+use limits::{LATEST_TIME, MOST_NODES};
 use solomon_reader::{Instance, Node};
 use std::alloc::{AllocError, Global};
 use std::marker::Model;
@@ -68,7 +69,7 @@ impl Network {
     pub fn size(&self) -> u32
         ensures value { result ≡ length self.now.nodes }
         ensures low { 2 ≤ result }
-        ensures high { result ≤ 1001 }
+        ensures high { result ≤ MOST_NODES }
     {
         self.instance.nodes.len() as u32
     }
@@ -90,7 +91,7 @@ impl Network {
     /// The due date of the depot, in tenths.
     pub(crate) fn horizon(&self) -> u64
         ensures value { result ≡ (node_at self.now.nodes 0).due * 10 }
-        ensures small { result ≤ 99999990 }
+        ensures small { result ≤ LATEST_TIME }
     {
         u64::from(self.instance.nodes[0].due) * 10
     }

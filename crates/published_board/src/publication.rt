@@ -18,6 +18,7 @@ use crate::trail::{Head, Naming, Trail, open};
 use board_rules::{histories_grow_by_entries, legal_histories_leave_good_states};
 use core::mem::replace_with;
 use left_right::writer::Writer;
+use limits::MOST_VEHICLES;
 use pin_core::View;
 use std::alloc::{AllocError, Global};
 use std::marker::{Model, PhantomData};
@@ -111,7 +112,7 @@ impl Publication {
         requires readers { (0 < readers) × (readers < 2 ^ 32) }
         requires legal { IsLegal (M.history about.now) }
         requires view { view ≡ view_of (state_after (M.history about.now).opening.setting (M.history about.now).entries) }
-        requires few { length view.routes ≤ 1000 }
+        requires few { length view.routes ≤ MOST_VEHICLES }
         requires entries { entries ≡ length (M.history about.now).entries }
         ensures opening { IfOk result (λ p. p.opening ≡ (M.history about.now).opening) }
         ensures entries { IfOk result (λ p. p.entries ≡ (M.history about.now).entries) }

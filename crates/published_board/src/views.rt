@@ -12,13 +12,14 @@ ghost use Rattle.published_board.specs.Shelves.{cells_of, Shows, view_of};
 
 use crate::shown::{Cells, Lane, put};
 use crate::trail::Trail;
+use limits::MOST_VEHICLES;
 use pin_core::View;
 use plan_core::Route;
 use std::alloc::{AllocError, Global};
 use std::sync::Arc;
 
 /// No fleet has more vehicles.
-const MOST: usize = 1000;
+const MOST: usize = MOST_VEHICLES as usize;
 
 impl Cells {
     /// The cells of a view of the state of which the log tells, after so many entries.
@@ -28,7 +29,7 @@ impl Cells {
         base: &Trail,
         entries: u64,
     ) -> Result<Cells, AllocError>
-        requires few { length view.routes ≤ 1000 }
+        requires few { length view.routes ≤ MOST_VEHICLES }
         requires routes { view.routes ≡ (told base.now).routes }
         ensures lanes { IfOk result (λ x. x.lanes.items ≡ lanes_of base.now entries (length view.routes)) }
         ensures rest { IfOk result (λ x. (x.pins.items ≡ view.pinned) × (x.frozen.items ≡ view.frozen) × (x.version ≡ view.version)) }
@@ -147,7 +148,7 @@ fn lanes(
     base: &Trail,
     entry: u64,
 ) -> Result<Vec<Lane>, AllocError>
-    requires few { length routes.now ≤ 1000 }
+    requires few { length routes.now ≤ MOST_VEHICLES }
     requires routes { routes_of routes.now ≡ (told base.now).routes }
     ensures { IfOk result (λ v. v.items ≡ lanes_of base.now entry (length routes.now)) }
 {

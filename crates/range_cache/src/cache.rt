@@ -20,6 +20,7 @@ use crate::pending::{Pending, Room};
 use crate::row::Row;
 use callback_store::Meter;
 use dimension_core::{Setup, spans_go_on};
+use limits::MOST_CUSTOMERS;
 use plan_core::{NewRoute, Plan, common_front, fronts_are_common};
 use std::alloc::{AllocError, Global};
 use std::marker::Model;
@@ -97,11 +98,12 @@ impl Cache {
     ) -> Result<Pending, JudgeFault>
         requires cache { IsCacheOf (setting setup.now) plan.now.routes self.now }
         requires known { AllKnown (setting setup.now) (routes_by R.draft plan.now.routes new_routes.now) }
-        requires short { All (λ r. length (drafted plan.now.routes (R.draft r)) ≤ 1000) new_routes.now }
+        requires short { All (λ r. length (drafted plan.now.routes (R.draft r)) ≤ MOST_CUSTOMERS) new_routes.now }
         requires fronts { DoFrontsStay R.draft plan.now.routes new_routes.now }
         ensures of { IfOk result (λ pending. pending.of ≡ self.now) }
         ensures fits { IfOk result (λ pending. AllFit (setting setup.now) (routes_by R.draft plan.now.routes new_routes.now)) }
-        ensures rows { IfOk result (λ pending. AreNewRows (setting setup.now) (routes_by R.draft plan.now.routes new_routes.now) pending.rows) }
+        ensures rows { IfOk result
+            (λ pending. AreNewRows (setting setup.now) (routes_by R.draft plan.now.routes new_routes.now) pending.rows) }
         ensures fault { IfErr result (IsJudgeFault (setting setup.now) (routes_by R.draft plan.now.routes new_routes.now)) }
         ensures asks { AsksAtMost meter.old meter.new
             (judge_asks (length (setting setup.now).dimensions) plan.now.routes (routes_by R.draft plan.now.routes new_routes.now)) }
@@ -130,11 +132,12 @@ impl Cache {
     ) -> Result<Pending, JudgeFault>
         requires cache { IsCacheOf (setting setup.now) plan.now.routes self.now }
         requires known { AllKnown (setting setup.now) (routes_by R.draft plan.now.routes new_routes.now) }
-        requires short { All (λ r. length (drafted plan.now.routes (R.draft r)) ≤ 1000) new_routes.now }
+        requires short { All (λ r. length (drafted plan.now.routes (R.draft r)) ≤ MOST_CUSTOMERS) new_routes.now }
         requires fronts { DoFrontsStay R.draft plan.now.routes new_routes.now }
         ensures of { IfOk result (λ pending. pending.of ≡ self.now) }
         ensures fits { IfOk result (λ pending. AllFit (setting setup.now) (routes_by R.draft plan.now.routes new_routes.now)) }
-        ensures rows { IfOk result (λ pending. AreNewRows (setting setup.now) (routes_by R.draft plan.now.routes new_routes.now) pending.rows) }
+        ensures rows { IfOk result
+            (λ pending. AreNewRows (setting setup.now) (routes_by R.draft plan.now.routes new_routes.now) pending.rows) }
         ensures fault { IfErr result (IsJudgeFault (setting setup.now) (routes_by R.draft plan.now.routes new_routes.now)) }
         ensures asks { AsksAtMost meter.old meter.new
             (judge_asks (length (setting setup.now).dimensions) plan.now.routes (routes_by R.draft plan.now.routes new_routes.now)) }
@@ -171,10 +174,11 @@ impl Cache {
     ) -> Result<(), JudgeFault>
         requires cache { IsCacheOf (setting setup.now) plan.now.routes self.now }
         requires known { AllKnown (setting setup.now) (routes_by R.draft plan.now.routes new_routes.now) }
-        requires short { All (λ r. length (drafted plan.now.routes (R.draft r)) ≤ 1000) new_routes.now }
+        requires short { All (λ r. length (drafted plan.now.routes (R.draft r)) ≤ MOST_CUSTOMERS) new_routes.now }
         requires fronts { DoFrontsStay R.draft plan.now.routes new_routes.now }
         ensures fits { OnOk result (AllFit (setting setup.now) (routes_by R.draft plan.now.routes new_routes.now)) }
-        ensures fresh { OnOk result (AreFreshOf R.draft (setting setup.now) plan.now.routes new_routes.now room.new.fresh.items (length new_routes.now)) }
+        ensures fresh { OnOk result
+            (AreFreshOf R.draft (setting setup.now) plan.now.routes new_routes.now room.new.fresh.items (length new_routes.now)) }
         ensures held { OnOk result (length new_routes.now ≤ length room.new.fresh.items) }
         ensures fault { IfErr result (IsJudgeFault (setting setup.now) (routes_by R.draft plan.now.routes new_routes.now)) }
         ensures asks { AsksAtMost meter.old meter.new
@@ -210,11 +214,12 @@ impl Cache {
         requires low { 1 ≤ (R.draft new.now).vehicle }
         requires high { (R.draft new.now).vehicle ≤ (setting setup.now).vehicles }
         requires known { All (λ c. c ≤ (setting setup.now).customers) (drafted plan.now.routes (R.draft new.now)) }
-        requires short { length (drafted plan.now.routes (R.draft new.now)) ≤ 1000 }
+        requires short { length (drafted plan.now.routes (R.draft new.now)) ≤ MOST_CUSTOMERS }
         requires front { (R.draft new.now).kept ≤ length (route_at plan.now.routes (R.draft new.now).vehicle) }
         ensures fits { OnOk result (FitsAll (setting setup.now) (R.draft new.now).vehicle (drafted plan.now.routes (R.draft new.now))) }
         ensures fresh { OnOk result (IsFreshOf (setting setup.now) plan.now.routes (R.draft new.now) fresh.new) }
-        ensures fault { IfErr result (IsRowFault (setting setup.now) (R.draft new.now).vehicle (drafted plan.now.routes (R.draft new.now))) }
+        ensures fault { IfErr result
+            (IsRowFault (setting setup.now) (R.draft new.now).vehicle (drafted plan.now.routes (R.draft new.now))) }
         ensures asks { AsksAtMost meter.old meter.new (length (setting setup.now).dimensions
             * walk_asks (route_at plan.now.routes (R.draft new.now).vehicle) (drafted plan.now.routes (R.draft new.now))) }
         ensures whole { OnOk result (AsksJust meter.old meter.new (length (setting setup.now).dimensions

@@ -12,6 +12,7 @@ use crate::fault::JudgeFault;
 use crate::walk::{Axis, Course, walk};
 use callback_store::Meter;
 use dimension_core::{Range, Setup};
+use limits::MOST_CUSTOMERS;
 use plan_core::append_part;
 use std::alloc::{AllocError, Global};
 use std::marker::Model;
@@ -81,7 +82,7 @@ impl Row {
         requires low { 1 ≤ vehicle }
         requires high { vehicle ≤ (setting setup.now).vehicles }
         requires known { All (λ c. c ≤ (setting setup.now).customers) (before.now ++ after.now) }
-        requires short { length (before.now ++ after.now) ≤ 1000 }
+        requires short { length (before.now ++ after.now) ≤ MOST_CUSTOMERS }
         requires front { HasFront (setting setup.now) vehicle (length before.now) (before.now ++ after.now) self.now }
         ensures fits { OnOk result (FitsAll (setting setup.now) vehicle (before.now ++ after.now)) }
         ensures tail { OnOk result (IsTailOf (setting setup.now) vehicle (length before.now) (before.now ++ after.now) fresh.new) }
@@ -92,7 +93,8 @@ impl Row {
             (length (setting setup.now).dimensions * walk_asks before.now (before.now ++ after.now))) }
         ensures least { IfErr result (λ f. Asks meter.old meter.new (row_asks (walk_asks before.now (before.now ++ after.now)) f)
             (length (setting setup.now).dimensions * walk_asks before.now (before.now ++ after.now))) }
-        ensures missed { IfErr result (AsksToRowFault (setting setup.now) before.now vehicle (before.now ++ after.now) meter.old meter.new) }
+        ensures missed { IfErr result
+            (AsksToRowFault (setting setup.now) before.now vehicle (before.now ++ after.now) meter.old meter.new) }
     {
         let count = setup.dimensions().len();
         let stops = before.len() + after.len();
@@ -127,7 +129,7 @@ impl Row {
         fresh: &Row,
     ) -> Result<(), AllocError>
         requires within { front ≤ self.now.stops }
-        requires short { front + fresh.now.stops ≤ 1000 }
+        requires short { front + fresh.now.stops ≤ MOST_CUSTOMERS }
         requires sized { length self.now.ranges ≡ length (setting setup.now).dimensions * self.now.stops }
         requires fresh { length fresh.now.ranges ≡ length (setting setup.now).dimensions * fresh.now.stops }
         ensures { OnOk result (IsJoin (length (setting setup.now).dimensions) front self.now fresh.now row.new) }

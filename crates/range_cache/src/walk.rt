@@ -13,6 +13,7 @@ ghost use Rattle.range_cache.specs.Track.{IsSpanAt, IsTrack};
 
 use callback_store::{Callback, Meter, Slot};
 use dimension_core::{Range, Setup, misses_are_found, range_after, spans_go_on};
+use limits::LARGEST_CUMUL;
 
 /// A vehicle (from 1) in a dimension (from 0).
 #[derive(Clone, Copy)]
@@ -33,7 +34,7 @@ fn begin(setup: &Setup, axis: Axis, route: &[u32], kept: &[Range]) -> Option<(Ra
         (λ at. IsSpanOf (setting setup.now) axis.dimension axis.vehicle (take (length kept.now) route.now) at.0) }
     ensures node { IfSome result (λ at. at.1 ≡ last_of 0 (take (length kept.now) route.now)) }
     ensures known { IfSome result (λ at. at.1 ≤ (setting setup.now).customers) }
-    ensures small { IfSome result (λ at. at.0.hi ≤ 1000000000000) }
+    ensures small { IfSome result (λ at. at.0.hi ≤ LARGEST_CUMUL) }
 {
     spans_go_on();
     let Axis { dimension, vehicle } = axis;
@@ -76,7 +77,8 @@ pub(crate) fn walk(
     requires kept { IsTrack (setting setup.now) axis.dimension axis.vehicle (course.now.before.now ++ course.now.after.now)
         course.now.kept.now }
     requires room { vec_len ranges.old + length course.now.after.now ≤ vec_capacity ranges.old }
-    ensures bounds { IsTrue result ↔ FitsIn (setting setup.now) axis.dimension axis.vehicle (course.now.before.now ++ course.now.after.now) }
+    ensures bounds { IsTrue result
+        ↔ FitsIn (setting setup.now) axis.dimension axis.vehicle (course.now.before.now ++ course.now.after.now) }
     ensures ranges { IsTrue result → (more : List Range) × (ranges.new.items ≡ ranges.old.items ++ more)
         × (length more ≡ length course.now.after.now)
         × IsTrackAfter (setting setup.now) axis.dimension axis.vehicle (length course.now.before.now)
@@ -119,7 +121,8 @@ fn walk_by<C: Callback>(
     requires kept { IsTrack (setting setup.now) axis.dimension axis.vehicle (course.now.before.now ++ course.now.after.now)
         course.now.kept.now }
     requires room { vec_len ranges.old + length course.now.after.now ≤ vec_capacity ranges.old }
-    ensures bounds { IsTrue result ↔ FitsIn (setting setup.now) axis.dimension axis.vehicle (course.now.before.now ++ course.now.after.now) }
+    ensures bounds { IsTrue result
+        ↔ FitsIn (setting setup.now) axis.dimension axis.vehicle (course.now.before.now ++ course.now.after.now) }
     ensures ranges { IsTrue result → (more : List Range) × (ranges.new.items ≡ ranges.old.items ++ more)
         × (length more ≡ length course.now.after.now)
         × IsTrackAfter (setting setup.now) axis.dimension axis.vehicle (length course.now.before.now)

@@ -4,6 +4,7 @@ ghost use Rattle.role_hierarchy.specs.Roles.{has, with_role, first_free};
 ghost use Rattle.role_hierarchy.specs.Reach.{Closes, cleared, linked};
 
 use crate::role_set::RoleSet;
+use limits::MOST_ROLES;
 use std::alloc::{AllocError, Global};
 use std::marker::Model;
 use thiserror::Error;
@@ -27,7 +28,7 @@ pub enum HierarchyFault {
 
 /// Adds the pair to rows that have all that is below each role.
 fn link(reach: &mut [RoleSet], senior: u8, junior: u8)
-    requires { length reach.old ≡ 256 }
+    requires { length reach.old ≡ MOST_ROLES }
     ensures { reach.new ≡ linked reach.old senior junior }
 {
     let below = reach[junior as usize];
@@ -40,7 +41,7 @@ fn link(reach: &mut [RoleSet], senior: u8, junior: u8)
 
 /// Adds the pairs of one senior.
 fn link_row(reach: &mut [RoleSet], senior: u8, juniors: RoleSet)
-    requires { length reach.old ≡ 256 }
+    requires { length reach.old ≡ MOST_ROLES }
     ensures { (pair : ℕ → ℕ → Bool) → Closes pair reach.old →
         Closes (λ a b. pair a b || (a == senior && has juniors b)) reach.new }
 {
@@ -54,7 +55,7 @@ fn link_row(reach: &mut [RoleSet], senior: u8, juniors: RoleSet)
 
 /// Takes away each pair of which the role is part.
 fn clear(pairs: &mut [RoleSet], role: u8)
-    requires { length pairs.old ≡ 256 }
+    requires { length pairs.old ≡ MOST_ROLES }
     ensures { pairs.new ≡ cleared pairs.old role }
 {
     for row in pairs.iter_mut() {
@@ -65,8 +66,8 @@ fn clear(pairs: &mut [RoleSet], role: u8)
 
 /// Makes each row contain its own role alone.
 fn separate(reach: &mut [RoleSet])
-    requires { length reach.old ≡ 256 }
-    ensures { (k : ℕ) → k < 256 → slice_index reach.new k ≡ with_role 0 k }
+    requires { length reach.old ≡ MOST_ROLES }
+    ensures { (k : ℕ) → k < MOST_ROLES → slice_index reach.new k ≡ with_role 0 k }
 {
     for role in 0..256u32 {
         let mut alone = RoleSet::new();
@@ -77,8 +78,8 @@ fn separate(reach: &mut [RoleSet])
 
 /// The rows of these pairs, computed from the pairs alone.
 fn rebuild(pairs: &[RoleSet], reach: &mut [RoleSet])
-    requires pairs { length pairs.now ≡ 256 }
-    requires reach { length reach.old ≡ 256 }
+    requires pairs { length pairs.now ≡ MOST_ROLES }
+    requires reach { length reach.old ≡ MOST_ROLES }
     ensures { Closes (λ a b. has (slice_index pairs.now a) b) reach.new }
 {
     separate(reach);
@@ -119,8 +120,8 @@ impl Hierarchy {
     pub fn new(alloc: Global) -> Result<Hierarchy, AllocError>
         ensures { IfOk result (λ h. h ≡ no_order) }
     {
-        let pairs = vec![in alloc; RoleSet::new(); 256]?;
-        let mut reach = vec![in alloc; RoleSet::new(); 256]?;
+        let pairs = vec![in alloc; RoleSet::new(); MOST_ROLES]?;
+        let mut reach = vec![in alloc; RoleSet::new(); MOST_ROLES]?;
         rebuild(&pairs, &mut reach);
         Ok(Hierarchy {
             used: RoleSet::new(),
@@ -139,7 +140,7 @@ impl Hierarchy {
     /// How many roles are there, at most 256.
     pub fn count(&self) -> u32
         ensures value { result ≡ role_count self.now }
-        ensures small { result ≤ 256 }
+        ensures small { result ≤ MOST_ROLES }
     {
         self.used.count()
     }
@@ -153,7 +154,7 @@ impl Hierarchy {
 
     /// A law, for callers' proofs: no slot is free exactly where there are 256 roles.
     pub fn is_full_by_count(&self)
-        ensures { (first_free self.now.roles ≡ None) ↔ (role_count self.now ≡ 256) }
+        ensures { (first_free self.now.roles ≡ None) ↔ (role_count self.now ≡ MOST_ROLES) }
     {
         self.used.is_small();
     }
@@ -173,10 +174,10 @@ impl Hierarchy {
         ensures least { IfOk result (λ r. first_free self.old.roles ≡ Some r) }
         ensures fresh { IfOk result (λ r. is_there self.old r ≡ false) }
         ensures alone { IfOk result (λ r. IsAlone self.old r) }
-        ensures room { OnOk result (role_count self.old < 256) }
+        ensures room { OnOk result (role_count self.old < MOST_ROLES) }
         ensures count { OnOk result (role_count self.new ≡ role_count self.old + 1) }
         ensures err { OnErr result (self.new ≡ self.old) }
-        ensures refusal { IfErr result (λ e. (e ≡ HierarchyFault.Full) × (role_count self.old ≡ 256)) }
+        ensures refusal { IfErr result (λ e. (e ≡ HierarchyFault.Full) × (role_count self.old ≡ MOST_ROLES)) }
         ensures none { OnErr result (first_free self.old.roles ≡ None) }
     {
         self.used.is_small();
@@ -281,7 +282,7 @@ impl Hierarchy {
 
     /// The roles that are senior to the role, itself among them. It looks at each of the 256 slots.
     pub fn seniors(&self, role: u8) -> RoleSet
-        ensures { (a : ℕ) → (has result a ≡ true) ↔ ((a < 256) × IsSenior (stands self.now) a role) }
+        ensures { (a : ℕ) → (has result a ≡ true) ↔ ((a < MOST_ROLES) × IsSenior (stands self.now) a role) }
     {
         let mut above = RoleSet::new();
         for senior in 0..256u32 {

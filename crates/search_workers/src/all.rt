@@ -11,6 +11,7 @@ use crate::share::{Share, WorkFault, WorkOf};
 use crate::worker::{Order, Work, Worker, work_at};
 use board_lock::{Desk, DeskOf, Naming};
 use dimension_core::Setup;
+use limits::MOST_WORKERS;
 use std::alloc::Global;
 use std::snapshot::Snapshot;
 use std::sync::{Arc, Wait};
@@ -146,7 +147,7 @@ fn start_all<
     gate: &'s G,
 ) -> Result<Vec<Share<N, R>>, WorkFault>
     requires setups { All (λ d. setting d.setup.value ≡ N.opening.setting) desks.items }
-    requires few { length desks.items ≤ 63 }
+    requires few { length desks.items ≤ MOST_WORKERS }
     requires lengths { (length orders.sessions.items ≡ length desks.items) × (length orders.seeds.items ≡ length desks.items) }
     ensures { IfOk result (λ v. AllWorked N.opening orders.rounds orders.sessions.items orders.seeds.items (map (λ d. d.seat) desks.items)
         (map (λ s. s.desk.seat) v.items) (map (λ s. s.tally) v.items) × All (λ s. setting s.desk.setup.value ≡ N.opening.setting) v.items) }
@@ -208,7 +209,7 @@ pub fn work_all<
     gate: &G,
 ) -> Result<Vec<Share<N, R>>, WorkFault>
     requires setups { All (λ d. setting d.setup.value ≡ N.opening.setting) desks.items }
-    requires few { length desks.items ≤ 63 }
+    requires few { length desks.items ≤ MOST_WORKERS }
     requires lengths { (length sessions.items ≡ length desks.items) × (length seeds.items ≡ length desks.items) }
     ensures worked { IfOk result (λ v. AllWorked N.opening rounds sessions.items seeds.items (map (λ d. d.seat) desks.items)
         (map (λ s. s.desk.seat) v.items) (map (λ s. s.tally) v.items)) }
@@ -223,7 +224,7 @@ pub fn work_all<
         thread::scope_env(),
         rt,
         move |scope| -> Result<Vec<Share<N, R>>, WorkFault>
-            requires { All (λ d. setting d.setup.value ≡ N.opening.setting) desks.items × (length desks.items ≤ 63)
+            requires { All (λ d. setting d.setup.value ≡ N.opening.setting) desks.items × (length desks.items ≤ MOST_WORKERS)
                 × (length orders.sessions.items ≡ length desks.items) × (length orders.seeds.items ≡ length desks.items) }
             ensures { IfOk result (λ v. AllWorked N.opening orders.rounds orders.sessions.items orders.seeds.items
                 (map (λ d. d.seat) desks.items) (map (λ s. s.desk.seat) v.items) (map (λ s. s.tally) v.items)

@@ -1,5 +1,6 @@
 -- The sets by role: for each role the places of the sets that have it.
 use Rattle.std.specs.Prelude.{◌≡◌, ℕ, ◌<◌, ◌↔◌, Bool, true, false, List, length, Option, Some, None, slice_get, slice_index}
+use Rattle.limits.specs.declared.TheConstants.{MOST_ROLES}
 use Rattle.role_hierarchy.specs.Roles.{has}
 use Rattle.separation_core.specs.declared.sets.Limit.{Limit}
 use Rattle.separation_core.specs.Groups.{Groups, AreSets, is_broken}
@@ -28,5 +29,5 @@ BreaksAt given places groups = (place : ℕ) × (g : List ℕ × Limit) × (has 
 -- What the sets keep: beside them their index, which has its 256 rows where there is a set.
 pub record IsKept (groups : Groups) (rows : List ℕ) : Type 0 where
   pub sets : AreSets groups
-  pub whole : 0 < length groups → length rows ≡ 256
+  pub whole : 0 < length groups → length rows ≡ MOST_ROLES
   pub index : IsIndex rows groups

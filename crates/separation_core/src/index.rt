@@ -8,15 +8,16 @@ ghost use Rattle.separation_core.specs.Groups.{Groups};
 use crate::name::Name;
 use crate::sets::Limit;
 use indexmap::IndexMap;
+use limits::{MOST_ROLES, MOST_SETS};
 use role_hierarchy::RoleSet;
 use std::alloc::AllocError;
 
 /// Gives the index its rows, if it has none.
 pub(crate) fn provide(rows: &mut Vec<u64>) -> Result<(), AllocError>
-    ensures ok { OnOk result (length rows.new.items ≡ 256) }
+    ensures ok { OnOk result (length rows.new.items ≡ MOST_ROLES) }
     ensures kept { (groups : Groups) → IsKept groups rows.old.items → IsKept groups rows.new.items }
 {
-    match rows.resize(256, 0) {
+    match rows.resize(MOST_ROLES, 0) {
         Ok(()) => Ok(()),
         Err(e) => Err(e),
     }
@@ -24,9 +25,9 @@ pub(crate) fn provide(rows: &mut Vec<u64>) -> Result<(), AllocError>
 
 /// Marks the set at the place in the row of each of its roles.
 pub(crate) fn mark(rows: &mut [u64], place: u32, roles: RoleSet)
-    requires rows { length rows.old ≡ 256 }
+    requires rows { length rows.old ≡ MOST_ROLES }
     requires place { place < 64 }
-    ensures { (role q : ℕ) → role < 256 → has (slice_index rows.new role) q
+    ensures { (role q : ℕ) → role < MOST_ROLES → has (slice_index rows.new role) q
         ≡ (has (slice_index rows.old role) q || (q == place && has roles role)) }
 {
     roles.is_small();
@@ -39,8 +40,8 @@ pub(crate) fn mark(rows: &mut [u64], place: u32, roles: RoleSet)
 
 /// Writes each row again.
 pub(crate) fn renew(rows: &mut [u64], groups: &IndexMap<Name, Limit>)
-    requires rows { length rows.old ≡ 256 }
-    requires few { length groups.now.entries ≤ 64 }
+    requires rows { length rows.old ≡ MOST_ROLES }
+    requires few { length groups.now.entries ≤ MOST_SETS }
     ensures { IsIndex rows.new groups.now.entries }
 {
     rows.fill(0);
@@ -53,7 +54,7 @@ pub(crate) fn renew(rows: &mut [u64], groups: &IndexMap<Name, Limit>)
 
 /// The places of the sets that have one of the roles, each a digit 1.
 pub(crate) fn places_of(rows: &[u64], roles: RoleSet) -> u64
-    requires { length rows.now ≡ 256 }
+    requires { length rows.now ≡ MOST_ROLES }
     ensures { IsPlaces result rows.now roles }
 {
     roles.is_small();

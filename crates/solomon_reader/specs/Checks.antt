@@ -1,6 +1,7 @@
 -- What is checked of an instance file, in the order of the file.
 use Rattle.std.specs.Prelude.{ℕ, ◌+◌, Bool, false, ◌&&◌, ◌||◌, List, [], ◌∷◌, ◌++◌, length, get_or, Result, Ok, Err, nat_lt, nat_le, ◌==◌, if◌then◌else◌, codes}
 use Rattle.std.specs.List.{list_all}
+use Rattle.limits.specs.declared.TheConstants.{MOST_NODES, MOST_VEHICLES}
 use Rattle.text_words.specs.Words.{words}
 use Rattle.text_words.specs.Checks.{Check, IsFirstFailed}
 use Rattle.solomon_reader.specs.Cuts.{Numbered}
@@ -84,7 +85,7 @@ abbrev pub fleet_line_checks : ℕ → List (List ℕ) → List (Check Fault)
 fleet_line_checks n fields =
     check Fleet n (length fields == 2)
     ∷ check Number n (list_all is_field fields)
-    ∷ check Count n (nat_le 1 (value_at 0 fields) && nat_le (value_at 0 fields) 1000)
+    ∷ check Count n (nat_le 1 (value_at 0 fields) && nat_le (value_at 0 fields) MOST_VEHICLES)
     ∷ []
 
 abbrev pub fleet_checks : ℕ → List Numbered → List (Check Fault)
@@ -94,7 +95,7 @@ fleet_checks missing (line ∷ more) = fleet_line_checks line.number (words line
 -- the checks of a node row on line n, with this many rows before it
 abbrev pub row_checks : ℕ → ℕ → List (List ℕ) → List (Check Fault)
 row_checks count n fields =
-    check Count n (nat_lt count 1001)
+    check Count n (nat_lt count MOST_NODES)
     ∷ check Fields n (length fields == 7)
     ∷ check Number n (list_all is_field fields)
     ∷ check Order n (value_at 0 fields == count)

@@ -3,13 +3,14 @@ use Rattle.std.specs.Prelude.{◌≡◌, ℕ, ◌+◌, ◌≤◌, Bool, true, fa
 use Rattle.std.specs.List.{slice_split, list_all, AllByRecursion}
 use Rattle.std.specs.Str.{all_ascii_digits, str_to_ascii_lowercase, str_eq_ignore_ascii_case}
 use Rattle.std.specs.Str.Parse.{digits_value}
+use Rattle.limits.specs.declared.TheConstants.{LONGEST_INSTANCE_NAME, MOST_DIGITS}
 use Rattle.text_words.specs.Words.{is_gap, number}
 
 -- ---- numbers
 
 -- the value of 1 to 7 digits
 abbrev pub whole_number : List ℕ → Option ℕ
-whole_number digits = if nat_le (length digits) 7 then number digits else None
+whole_number digits = if nat_le (length digits) MOST_DIGITS then number digits else None
 
 -- one or more zeros
 abbrev pub is_zeros : List ℕ → Bool
@@ -43,7 +44,7 @@ pub record IsNumber (word : List ℕ) (n : ℕ) : Type 0 where
   pub tail : List ℕ
   pub whole : word ≡ digits ++ tail
   pub some : 1 ≤ length digits
-  pub few : length digits ≤ 7
+  pub few : length digits ≤ MOST_DIGITS
   pub each : all_ascii_digits digits ≡ true
   pub value : digits_value 10 digits ≡ n
   pub zeros : IsZeroTail tail
@@ -78,7 +79,7 @@ is_name_byte b = nat_le 32 b && nat_le b 126
 
 -- 1 to 64 such bytes
 abbrev pub is_name : List ℕ → Bool
-is_name text = nat_le 1 (length text) && (nat_le (length text) 64 && list_all is_name_byte text)
+is_name text = nat_le 1 (length text) && (nat_le (length text) LONGEST_INSTANCE_NAME && list_all is_name_byte text)
 
 abbrev pub AreGaps : List ℕ → Type 0
 AreGaps = AllByRecursion (λ b. is_gap b ≡ true)
@@ -96,5 +97,5 @@ pub record IsTrimmed (line name : List ℕ) : Type 0 where
 -- 1 to 64 bytes from space to ~
 pub record IsName (name : List ℕ) : Type 0 where
   pub some : 1 ≤ length name
-  pub few : length name ≤ 64
+  pub few : length name ≤ LONGEST_INSTANCE_NAME
   pub printed : AllByRecursion (λ b. (32 ≤ b) × (b ≤ 126)) name

@@ -1,6 +1,7 @@
 -- An instance, and the lines that describe it.
 use Rattle.std.specs.Prelude.{◌≡◌, ℕ, ◌+◌, ◌≤◌, List, [], ◌∷◌, length, get_or, All, codes, string_bytes}
 use Rattle.std.specs.List.{AllZip}
+use Rattle.limits.specs.declared.TheConstants.{LARGEST_FIELD, MOST_NODES, MOST_VEHICLES}
 use Rattle.text_words.specs.Words.{words}
 use Rattle.solomon_reader.specs.Cuts.{Numbered}
 use Rattle.solomon_reader.specs.Fields.{IsNumber, IsKeyword, IsTrimmed, IsName}
@@ -50,30 +51,30 @@ pub record IsInstance (lines : List Numbered) (i : Plain) : Type 0 where
   pub fleet_words : AllZip IsKeyword (codes "NUMBER" ∷ codes "CAPACITY" ∷ []) (words fleet_heading.text)
   pub fleet : AllZip IsNumber (words fleet_line.text) (i.vehicles ∷ i.capacity ∷ [])
   pub some_vehicles : 1 ≤ i.vehicles
-  pub few_vehicles : i.vehicles ≤ 1000
+  pub few_vehicles : i.vehicles ≤ MOST_VEHICLES
   pub customer : AllZip IsKeyword (codes "CUSTOMER" ∷ []) (words customer_line.text)
   pub heading : BeginsWith (codes "CUST") (words node_heading.text)
   pub nodes : AreRows 0 rows i.nodes
   pub some_nodes : 2 ≤ length i.nodes
-  pub few_nodes : length i.nodes ≤ 1001
+  pub few_nodes : length i.nodes ≤ MOST_NODES
 
 -- ---- what every instance keeps
 
 -- numbers of at most seven digits, and a window that is not empty
 pub record IsNode (n : Node) : Type 0 where
-  pub x : n.x ≤ 9999999
-  pub y : n.y ≤ 9999999
-  pub demand : n.demand ≤ 9999999
+  pub x : n.x ≤ LARGEST_FIELD
+  pub y : n.y ≤ LARGEST_FIELD
+  pub demand : n.demand ≤ LARGEST_FIELD
   pub ready : n.ready ≤ n.due
-  pub due : n.due ≤ 9999999
-  pub service : n.service ≤ 9999999
+  pub due : n.due ≤ LARGEST_FIELD
+  pub service : n.service ≤ LARGEST_FIELD
 
 -- the sizes that the format allows, and a depot without demand
 pub record IsSound (i : Plain) : Type 0 where
   pub some_vehicles : 1 ≤ i.vehicles
-  pub few_vehicles : i.vehicles ≤ 1000
-  pub capacity : i.capacity ≤ 9999999
+  pub few_vehicles : i.vehicles ≤ MOST_VEHICLES
+  pub capacity : i.capacity ≤ LARGEST_FIELD
   pub some_nodes : 2 ≤ length i.nodes
-  pub few_nodes : length i.nodes ≤ 1001
+  pub few_nodes : length i.nodes ≤ MOST_NODES
   pub nodes : All IsNode i.nodes
   pub depot : (d : Node) → (get_or i.nodes 0 d).demand ≡ 0

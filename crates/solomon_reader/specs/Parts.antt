@@ -1,5 +1,6 @@
 -- What each part of the reader answers, from the lines that are left.
 use Rattle.std.specs.Prelude.{ℕ, Bool, ◌&&◌, ◌||◌, nat_lt, nat_le, List, [], ◌∷◌, Result, Ok, Err, ◌==◌, if◌then◌else◌}
+use Rattle.limits.specs.declared.TheConstants.{MOST_NODES, MOST_VEHICLES}
 use Rattle.text_words.specs.Words.{words}
 use Rattle.solomon_reader.specs.Cuts.{Numbered}
 use Rattle.solomon_reader.specs.Fields.{is_field, field_value, trimmed}
@@ -24,7 +25,7 @@ unfoldable pub fleet_of : ℕ → List (List ℕ) → Result (ℕ × ℕ) Fault
 fleet_of n (vehicles ∷ capacity ∷ []) = do
   v ← number_field vehicles n
   c ← number_field capacity n
-  range ← need (nat_le 1 v && nat_le v 1000) Count n
+  range ← need (nat_le 1 v && nat_le v MOST_VEHICLES) Count n
   Ok (v, c)
 fleet_of n _ = fault Fleet n
 
@@ -42,7 +43,7 @@ row_fields_of n _ = fault Fields n
 
 unfoldable pub row_of : ℕ → ℕ → List (List ℕ) → Result Node Fault
 row_of count n fields = do
-  room ← need (nat_lt count 1001) Count n
+  room ← need (nat_lt count MOST_NODES) Count n
   row ← row_fields_of n fields
   order ← need (row.0 == count) Order n
   window ← need (nat_le row.1.ready row.1.due) Window n

@@ -5,15 +5,13 @@ ghost use Rattle.solomon_reader.specs.Fields.{whole_number, is_zeros, field, is_
 ghost use Rattle.solomon_reader.specs.Checks.{is_vehicle, is_fleet_heading, is_customer, is_node_heading, heading_test};
 
 use crate::fault::Kind;
+use limits::{LONGEST_INSTANCE_NAME, MOST_DIGITS};
 use text_words::{cut_at, is_gap, number_by_digits};
-
-/// The greatest length of a name.
-const MAX_NAME: usize = 64;
 
 fn whole_number(digits: &[u8]) -> Option<u32>
     ensures { result ≡ whole_number digits.now }
 {
-    if digits.len() > 7 {
+    if digits.len() > MOST_DIGITS {
         return None;
     }
     number_by_digits(digits)
@@ -138,7 +136,7 @@ fn is_name_byte(byte: u8) -> bool
 pub fn is_name(text: &[u8]) -> bool
     ensures { result ≡ is_name text.now }
 {
-    if text.is_empty() || text.len() > MAX_NAME {
+    if text.is_empty() || text.len() > LONGEST_INSTANCE_NAME {
         return false;
     }
     text.iter().all(|byte| is_name_byte(*byte))

@@ -12,13 +12,11 @@ use crate::fault::{Kind, ReadFault};
 use crate::fields::{is_heading, is_name, number_in, trimmed};
 use crate::instance::{Instance, Node};
 use crate::lines::Lines;
+use limits::{MOST_NODES, MOST_VEHICLES};
 use std::alloc::Global;
 
 /// The greatest number of nodes, including the depot.
-const MAX_NODES: usize = 1001;
-
-/// The greatest number of vehicles.
-const MAX_VEHICLES: u32 = 1000;
+const MAX_NODES: usize = MOST_NODES as usize;
 
 /// How many words of a heading line matter at most.
 const HEADING_WORDS: usize = 2;
@@ -84,7 +82,7 @@ fn fleet_fields(number: usize, words: &[&[u8]]) -> Result<(u32, u32), ReadFault>
     };
     let vehicles = number_at(vehicles, number)?;
     let capacity = number_at(capacity, number)?;
-    if vehicles < 1 || vehicles > MAX_VEHICLES {
+    if vehicles < 1 || vehicles > MOST_VEHICLES {
         return Err(ReadFault::At(Kind::Count, number));
     }
     Ok((vehicles, capacity))

@@ -1,5 +1,6 @@
 use Rattle.std.specs.Prelude.{◌≡◌, ℕ, ◌+◌, ◌*◌, ◌<◌, ◌≤◌, List, length, slice_index, slice_index_or}
 use Rattle.std.specs.Int.{abs_diff}
+use Rattle.limits.specs.declared.TheConstants.{LARGEST_FIELD, LONGEST_TRAVEL}
 use Rattle.solomon_reader.specs.declared.instance.Node.{Node}
 use Rattle.travel_table.specs.Root.{IsRoot, root_of}
 use Rattle.travel_table.specs.declared.travel.Point.{Point}
@@ -32,18 +33,18 @@ travel_at d i j = slice_index d.entries (i * d.size + j)
 -- what every table of travel keeps
 pub record AreDistances (d : Distances) : Type 0 where
   pub square : length d.entries ≡ d.size * d.size
-  pub small : (k : ℕ) → k < length d.entries → slice_index d.entries k ≤ 141421342
+  pub small : (k : ℕ) → k < length d.entries → slice_index d.entries k ≤ LONGEST_TRAVEL
 
 -- the table has the travel between any two of the nodes
 pub record IsTravelOf (nodes : List Node) (d : Distances) : Type 0 where
   pub sized : d.size ≡ length nodes
   pub travel : (i j : ℕ) → i < length nodes → j < length nodes → IsTravel nodes i j (travel_at d i j)
-  pub small : (i j : ℕ) → i < length nodes → j < length nodes → travel_at d i j ≤ 141421342
+  pub small : (i j : ℕ) → i < length nodes → j < length nodes → travel_at d i j ≤ LONGEST_TRAVEL
 
 -- no coordinate is above 9,999,999
 pub record IsNear (node : Node) : Type 0 where
-  pub x : node.x ≤ 9999999
-  pub y : node.y ≤ 9999999
+  pub x : node.x ≤ LARGEST_FIELD
+  pub y : node.y ≤ LARGEST_FIELD
 
 -- where a node is
 abbrev pub point_of : Node → Point
@@ -51,8 +52,8 @@ point_of node = record { x = node.x; y = node.y }
 
 -- no coordinate is above 9,999,999
 pub record IsNearPoint (point : Point) : Type 0 where
-  pub x : point.x ≤ 9999999
-  pub y : point.y ≤ 9999999
+  pub x : point.x ≤ LARGEST_FIELD
+  pub y : point.y ≤ LARGEST_FIELD
 
 -- the point at a number, and the origin where there is none
 abbrev pub point_at : List Point → ℕ → Point
@@ -69,7 +70,7 @@ IsWay points i j t = IsRoot (square_apart (point_at points i) (point_at points j
 -- Each pair of a point and itself or a later one, in the order of the rows, up to this many entries, has its way both ways.
 pub record AreKnown (points : List Point) (entries : List ℕ) (count : ℕ) : Type 0 where
   pub counted : length entries ≡ length points * length points
-  pub small : (k : ℕ) → k < length entries → slice_index entries k ≤ 141421342
+  pub small : (k : ℕ) → k < length entries → slice_index entries k ≤ LONGEST_TRAVEL
   pub own : (a : ℕ) → a < length points → a * length points + a < count → slice_index entries (a * length points + a) ≡ 0
   pub there : (a b : ℕ) → a < b → b < length points → a * length points + b < count → IsWay points a b (slice_index entries (a * length points + b))
   pub back : (a b : ℕ) → a < b → b < length points → a * length points + b < count → IsWay points a b (slice_index entries (b * length points + a))

@@ -5,6 +5,7 @@ ghost use Rattle.travel_table.specs.Root.{IsRoot};
 ghost use Rattle.travel_table.specs.Travel.{square_between, point_of, square_apart, IsNearPoint, IsNear, IsTravel, IsTravelOf, AreKnown, Distances, node_at, travel_at, travel_between};
 
 use crate::square_root::{TEN_UP, root_near, whole_part};
+use limits::LONGEST_TRAVEL;
 use solomon_reader::{Instance, Node};
 use std::alloc::{AllocError, Global};
 use std::marker::Model;
@@ -78,7 +79,7 @@ fn way_between(a: Point, b: Point) -> u32
     requires from { IsNearPoint a }
     requires to { IsNearPoint b }
     ensures root { IsRoot (square_apart a b) result }
-    ensures small { result ≤ 141421342 }
+    ensures small { result ≤ LONGEST_TRAVEL }
 {
     let square = apart(a, b);
     let guess = whole_part((square as i64 as f64).sqrt() * TEN_UP);
@@ -93,7 +94,7 @@ pub fn travel_between(a: &Node, b: &Node) -> u32
     requires to { IsNear b.now }
     ensures value { result ≡ travel_between a.now b.now }
     ensures root { IsRoot (square_between a.now b.now) result }
-    ensures small { result ≤ 141421342 }
+    ensures small { result ≤ LONGEST_TRAVEL }
 {
     way_between(point_of(a), point_of(b))
 }
@@ -164,7 +165,7 @@ impl Travel {
     pub fn entries(&self) -> Result<Arc<Vec<u32>>, AllocError>
         ensures value { IfOk result (λ r. r.value.items ≡ self.now.entries) }
         ensures square { IfOk result (λ r. length r.value.items ≡ self.now.size * self.now.size) }
-        ensures small { IfOk result (λ r. All (λ x. x ≤ 141421342) r.value.items) }
+        ensures small { IfOk result (λ r. All (λ x. x ≤ LONGEST_TRAVEL) r.value.items) }
     {
         self.entries.clone()
     }
@@ -174,7 +175,7 @@ impl Travel {
         requires from { i < self.now.size }
         requires to { j < self.now.size }
         ensures value { result ≡ travel_at self.now i j }
-        ensures small { result ≤ 141421342 }
+        ensures small { result ≤ LONGEST_TRAVEL }
     {
         self.entries[i as usize * self.size + j as usize]
     }

@@ -1,4 +1,5 @@
 use Rattle.std.specs.Prelude.{◌≡◌, ◌≤◌, ◌<◌, ℕ, ◌+◌, ◌-◌, ◌*◌, ◌^◌, ◌==◌, if◌then◌else◌, List, [], ◌∷◌, ◌++◌, length, slice_index, take, drop, All, Bool, true, false}
+use Rattle.limits.specs.declared.TheConstants.{MOST_STOPS}
 use Rattle.plan_core.specs.Plan.{route_at}
 use Rattle.callback_store.specs.Tables.{Table, entry}
 use Rattle.plan_core.specs.Cost.{way}
@@ -21,7 +22,7 @@ pub record AreStops (customers : ℕ) (routes : List (List ℕ)) (v : ℕ) (all 
   pub high : v ≤ length routes
   pub is : all ≡ 0 ∷ stops (route_at routes v)
   pub sized : length all ≡ length (route_at routes v) + 2
-  pub short : length all ≤ 1002
+  pub short : length all ≤ MOST_STOPS
   pub known : All (λ c. c ≤ customers) all
 
 -- the ways between stops, driven back

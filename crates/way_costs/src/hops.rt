@@ -8,6 +8,7 @@ ghost use Rattle.way_costs.specs.Ways.{hop, AreStops};
 
 use callback_store::Meter;
 use dimension_core::Setup;
+use limits::LARGEST_ANSWER;
 use pin_core::View;
 use plan_core::routes_are_known;
 use std::alloc::AllocError;
@@ -19,7 +20,7 @@ pub fn hop(setup: &Setup, i: u32, j: u32) -> u64
     requires from { i ≤ (setting setup.now).customers }
     requires to { j ≤ (setting setup.now).customers }
     ensures value { result ≡ hop (table_at (setting setup.now).tables (setting setup.now).cost) i j }
-    ensures small { result ≤ 1000000000 }
+    ensures small { result ≤ LARGEST_ANSWER }
 {
     if j == 0 && i == 0 {
         return 0;

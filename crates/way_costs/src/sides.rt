@@ -10,6 +10,7 @@ ghost use Rattle.way_costs.specs.Ways.{AreStops, AreEdges, AreHopsFrom};
 use crate::hops::fill_stops_of_both;
 use crate::table::{Manner, add_edges, fill_edges, fill_sums, fill_turned, fill_ways, most_of};
 use dimension_core::Setup;
+use limits::MOST_STOPS;
 use pin_core::View;
 use plan_core::routes_are_known;
 use std::alloc::{AllocError, Global};
@@ -134,7 +135,7 @@ impl Ways {
         requires from { All (λ c. c ≤ (setting setup.now).customers) from.now }
         requires to { All (λ c. c ≤ (setting setup.now).customers) to.now }
         requires some { (1 ≤ length from.now) × (1 ≤ length to.now) }
-        requires short { (length from.now ≤ 1002) × (length to.now ≤ 1002) }
+        requires short { (length from.now ≤ MOST_STOPS) × (length to.now ≤ MOST_STOPS) }
         ensures ways { IfOk result (λ _. AreWaysBetween
             (table_at (setting setup.now).tables (setting setup.now).cost) from.now to.now self.new) }
         ensures floors { IfOk result (λ _. AreFloored from.now to.now self.new) }
@@ -155,7 +156,7 @@ impl Ways {
     pub fn gather_among(&mut self, setup: &Setup, stops: &[u32]) -> Result<(), AllocError>
         requires known { All (λ c. c ≤ (setting setup.now).customers) stops.now }
         requires some { 1 ≤ length stops.now }
-        requires short { length stops.now ≤ 1002 }
+        requires short { length stops.now ≤ MOST_STOPS }
         ensures { IfOk result (λ _. AreWaysBetween
             (table_at (setting setup.now).tables (setting setup.now).cost) stops.now stops.now self.new) }
     {
@@ -184,7 +185,7 @@ impl Along {
         requires sized { length cells.now ≡ length stops.old.items * length stops.old.items }
         requires depot { (rest : List ℕ) × (stops.old.items ≡ 0 ∷ rest) }
         requires long { 2 ≤ length stops.old.items }
-        requires short { length stops.old.items ≤ 1002 }
+        requires short { length stops.old.items ≤ MOST_STOPS }
         ensures { IfOk result (λ _. (edges : List ℕ) × (stops.new.items ≡ stops.old.items ++ edges)
             × ((t : Table) → AreHopsFrom false t stops.old.items stops.old.items 0 1 cells.now
             → IsAlong t stops.old.items edges self.new)) }

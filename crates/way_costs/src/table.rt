@@ -8,6 +8,7 @@ ghost use Rattle.way_costs.specs.Ways.{entry_by, hop, hop_by, AreHopsFrom, AreFl
 use crate::known::{is_read_across, known_by, known_ways};
 use callback_store::{Callback, Matrix, Meter, Slot};
 use dimension_core::Setup;
+use limits::MOST_STOPS;
 use std::alloc::AllocError;
 
 /// The answers for the ways from a stop to each of some others, as they are driven or driven back.
@@ -310,7 +311,7 @@ fn fill_rows<C: Callback>(
     requires from { All (λ c. c ≤ (setting setup.now).customers) from.now }
     requires to { All (λ c. c ≤ (setting setup.now).customers) to.now }
     requires some { (1 ≤ length from.now) × (1 ≤ length to.now) }
-    requires short { (length from.now ≤ 1002) × (length to.now ≤ 1002) }
+    requires short { (length from.now ≤ MOST_STOPS) × (length to.now ≤ MOST_STOPS) }
     requires room { length cells.old ≡ length from.now * length to.now }
     ensures hops { AreHopsFrom asking.now.manner.turned (table_at (setting setup.now).tables (setting setup.now).cost) from.now to.now
         (if asking.now.manner.turned then 1 else 0) (if asking.now.manner.turned then 0 else 1) cells.new }
@@ -342,7 +343,7 @@ fn fill_by<C: Callback>(
     requires from { All (λ c. c ≤ (setting setup.now).customers) from.now }
     requires to { All (λ c. c ≤ (setting setup.now).customers) to.now }
     requires some { (1 ≤ length from.now) × (1 ≤ length to.now) }
-    requires short { (length from.now ≤ 1002) × (length to.now ≤ 1002) }
+    requires short { (length from.now ≤ MOST_STOPS) × (length to.now ≤ MOST_STOPS) }
     requires room { length cells.old ≡ length from.now * length to.now }
     ensures hops { AreHopsFrom manner.turned (table_at (setting setup.now).tables (setting setup.now).cost) from.now to.now
         (if manner.turned then 1 else 0) (if manner.turned then 0 else 1) cells.new }
@@ -371,7 +372,7 @@ fn fill_known(
     requires from { All (λ c. c ≤ (setting setup.now).customers) from.now }
     requires to { All (λ c. c ≤ (setting setup.now).customers) to.now }
     requires some { (1 ≤ length from.now) × (1 ≤ length to.now) }
-    requires short { (length from.now ≤ 1002) × (length to.now ≤ 1002) }
+    requires short { (length from.now ≤ MOST_STOPS) × (length to.now ≤ MOST_STOPS) }
     requires room { length cells.old ≡ length from.now * length to.now }
     ensures hops { AreHopsFrom manner.turned (table_at (setting setup.now).tables (setting setup.now).cost) from.now to.now
         (if manner.turned then 1 else 0) (if manner.turned then 0 else 1) cells.new }
@@ -394,7 +395,7 @@ fn fill_cells(setup: &Setup, manner: Manner, from: &[u32], to: &[u32], cells: &m
     requires from { All (λ c. c ≤ (setting setup.now).customers) from.now }
     requires to { All (λ c. c ≤ (setting setup.now).customers) to.now }
     requires some { (1 ≤ length from.now) × (1 ≤ length to.now) }
-    requires short { (length from.now ≤ 1002) × (length to.now ≤ 1002) }
+    requires short { (length from.now ≤ MOST_STOPS) × (length to.now ≤ MOST_STOPS) }
     requires room { length cells.old ≡ length from.now * length to.now }
     ensures hops { AreHopsFrom manner.turned (table_at (setting setup.now).tables (setting setup.now).cost) from.now to.now
         (if manner.turned then 1 else 0) (if manner.turned then 0 else 1) cells.new }
@@ -422,7 +423,7 @@ pub(crate) fn fill_ways(
     requires from { All (λ c. c ≤ (setting setup.now).customers) from.now }
     requires to { All (λ c. c ≤ (setting setup.now).customers) to.now }
     requires some { (1 ≤ length from.now) × (1 ≤ length to.now) }
-    requires short { (length from.now ≤ 1002) × (length to.now ≤ 1002) }
+    requires short { (length from.now ≤ MOST_STOPS) × (length to.now ≤ MOST_STOPS) }
     ensures hops { IfOk result (λ _. AreHopsFrom manner.turned (table_at (setting setup.now).tables (setting setup.now).cost) from.now
         to.now (if manner.turned then 1 else 0) (if manner.turned then 0 else 1) cells.new.items) }
     ensures floors { IfOk result (λ _. AreFloors from.now to.now (if manner.turned then 1 else 0) (if manner.turned then 0 else 1)
@@ -515,7 +516,7 @@ fn cell(cells: &[u32], width: usize, from: usize, to: usize) -> u32
 #[inline(always)]
 fn turn_column(width: usize, cells: &[u32], column: usize, line: &mut [u32])
     requires sized { length cells.now ≡ width * width }
-    requires short { width ≤ 1002 }
+    requires short { width ≤ MOST_STOPS }
     requires room { length line.old + 1 ≡ width }
     requires column { column < width }
     ensures sized { length line.new ≡ length line.old }
@@ -530,7 +531,7 @@ fn turn_column(width: usize, cells: &[u32], column: usize, line: &mut [u32])
 #[inline(always)]
 fn turn_at(width: usize, cells: &[u32], column: usize, back: &mut [u32], at: usize)
     requires sized { length cells.now ≡ width * width }
-    requires short { width ≤ 1002 }
+    requires short { width ≤ MOST_STOPS }
     requires column { column < width }
     requires room { at + (width - 1) ≤ length back.old }
     ensures sized { length back.new ≡ length back.old }
@@ -546,7 +547,7 @@ fn turn_at(width: usize, cells: &[u32], column: usize, back: &mut [u32], at: usi
 fn turn(width: usize, cells: &[u32], back: &mut [u32])
     requires sized { length cells.now ≡ width * width }
     requires room { length back.old ≡ width * width }
-    requires short { width ≤ 1002 }
+    requires short { width ≤ MOST_STOPS }
     ensures { IsTurned width width cells.now back.new }
 {
     for i in 1..width {
@@ -562,7 +563,7 @@ pub(crate) fn fill_turned(
     back: &mut Vec<u32>,
 ) -> Result<(), AllocError>
     requires sized { length cells.now ≡ length stops.now * length stops.now }
-    requires short { length stops.now ≤ 1002 }
+    requires short { length stops.now ≤ MOST_STOPS }
     ensures { IfOk result (λ _. IsTurned (length stops.now) (length stops.now) cells.now back.new.items) }
 {
     let width = stops.len();
@@ -614,7 +615,7 @@ fn add_sums(
     requires sized { length cells.now ≡ length stops.now * length stops.now }
     requires depot { (rest : List ℕ) × (stops.now ≡ 0 ∷ rest) }
     requires long { 2 ≤ length stops.now }
-    requires short { length stops.now ≤ 1002 }
+    requires short { length stops.now ≤ MOST_STOPS }
     ensures { IfOk result (λ _. (t : Table) → AreHopsFrom false t stops.now stops.now 0 1 cells.now
         → AddsSums turned t stops.now (length stops.now - 1) sums.old.items sums.new.items) }
 {
@@ -634,7 +635,7 @@ pub(crate) fn fill_sums(stops: &[u32], cells: &[u32], sums: &mut Vec<u64>) -> Re
     requires sized { length cells.now ≡ length stops.now * length stops.now }
     requires depot { (rest : List ℕ) × (stops.now ≡ 0 ∷ rest) }
     requires long { 2 ≤ length stops.now }
-    requires short { length stops.now ≤ 1002 }
+    requires short { length stops.now ≤ MOST_STOPS }
     ensures { IfOk result (λ _. (t : Table) → AreHopsFrom false t stops.now stops.now 0 1 cells.now
         → AreBothSums t stops.now sums.new.items) }
 {

@@ -8,6 +8,7 @@ use crate::search::{Searched, Waiting, join_all, start_crew};
 use crate::setups::{SetupOf, Setups};
 use board_lock::Naming;
 use desk_text::{Seated, run_desk_lines};
+use limits::MOST_WORKERS;
 use line_engine::{Counts, RunFault};
 use std::alloc::Global;
 use std::io::{Eprint, Read, Write};
@@ -36,7 +37,7 @@ pub(crate) fn beside<
 ) -> Both<N, D>
     requires setup { setting workers.setup.value ≡ N.opening.setting }
     requires hall { S.setting_of front.old.setup.setup ≡ N.opening.setting }
-    requires few { length workers.seats.items ≤ 63 }
+    requires few { length workers.seats.items ≤ MOST_WORKERS }
     ensures ok { IfOk result.0 (λ counts. IsHeld N.opening front.old.seat front.new.seat (I.remaining live.old) (I.remaining live.new)
         (O.contents writer.old) (O.contents writer.new) counts.lines counts.refused) }
     ensures err { IfErr result.0 (λ fault. IsHeldAtStop N.opening fault front.old.seat front.new.seat

@@ -13,6 +13,7 @@ use board_lock::make_foyer;
 use board_text::{BoardFront, run_noted_lines};
 use callback_store::Registry;
 use dimension_core::Setup;
+use limits::MOST_PROGRAM_EVENTS;
 use program_parts::{Network, Stop, standard_pair};
 use solomon_reader::Instance;
 use std::io::{Eprint, Read, Write};
@@ -21,9 +22,6 @@ use std::snapshot::Snapshot;
 use std::sync::{Arc, Wait};
 use std::thread::Threads;
 use std::time::Clock;
-
-/// How many events the board's journal holds.
-const MAX_EVENTS: u32 = 1_000_000;
 
 /// Whether a line counted as refused, of a script or of what came after it.
 fn either(first: u64, hall: Result<u64, Stop>) -> Result<bool, Stop>
@@ -91,7 +89,7 @@ pub(crate) fn run_with<
         registry,
         pair,
         cost,
-        MAX_EVENTS,
+        MOST_PROGRAM_EVENTS,
     )?;
     let setup = Arc::new(alloc, setup)?;
     let lines = setup.clone()?;

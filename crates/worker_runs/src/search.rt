@@ -4,6 +4,7 @@
 //! function that knows of its types no more than that each may go.
 ghost use Rattle.std.specs.Prelude.{◌≡◌, ◌≤◌, IfSome, OnOk, true, length, map, ◌++◌, ◌∷◌, []};
 ghost use Rattle.std.specs.Option.{IsSomeAnd};
+ghost use Rattle.limits.specs.declared.TheConstants.{MOST_WORKERS};
 ghost use Rattle.dimension_core.specs.Setup.{setting};
 ghost use Rattle.worker_runs.specs.Halls.{AreDone, post, posts};
 
@@ -65,7 +66,7 @@ struct Assignment<N: Naming, D: Wait + Drop> {
     seat: Seat<N, D>,
     worker: u32,
     orders: Orders,
-    ghost few: { worker ≤ 63 },
+    ghost few: { worker ≤ MOST_WORKERS },
 }
 
 /// What a worker gives back.
@@ -199,7 +200,7 @@ fn start_all<
     gate: &G,
 ) -> Crew<N, D>
     requires setup { setting setup.now.value ≡ N.opening.setting }
-    requires few { length seats.items ≤ 63 }
+    requires few { length seats.items ≤ MOST_WORKERS }
     ensures { result.whole ≡ true → map (λ h. post h.promise.assignment.value.worker h.promise.assignment.value.orders
         h.promise.assignment.value.seat) result.threads.items ≡ posts orders 0 seats.items }
 {
@@ -240,7 +241,7 @@ pub(crate) fn start_crew<
     W: Threads + Wait + Clock + Eprint + Copy + Send + Sync + 'static,
 >(rt: W, alloc: Global, workers: Waiting<N, D>) -> Crew<N, D>
     requires setup { setting workers.setup.value ≡ N.opening.setting }
-    requires few { length workers.seats.items ≤ 63 }
+    requires few { length workers.seats.items ≤ MOST_WORKERS }
     ensures { result.whole ≡ true → map (λ h. post h.promise.assignment.value.worker h.promise.assignment.value.orders
         h.promise.assignment.value.seat) result.threads.items ≡ posts workers.orders 0 workers.seats.items }
 {

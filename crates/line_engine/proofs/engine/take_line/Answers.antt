@@ -28,8 +28,8 @@ returns-in_err-serve-clause-err g c =
     let none : length c.args.partial.now.items ≡ 0 = grind (arith, nat_tests) in
     rw (p.1, p.2) ([], same_held _ _ c.in_err-serve.ensures.held, take_broken g.F.Front.step g.F.Front.refuses _ _ _ c.args.partial.now.items c.args.more.now c.args.more.now _ (short_line _ c.requires.plain (omega arith)) (behind_none _ _ none) c.in_err-serve.ensures.err)
 
-pub returns-then-more-le-MOST_BYTES-clause-ok : goal.returns-then-more-le-MOST_BYTES-clause-ok
-returns-then-more-le-MOST_BYTES-clause-ok g c =
+pub returns-then-more-le-LONGEST_LINE-clause-ok : goal.returns-then-more-le-LONGEST_LINE-clause-ok
+returns-then-more-le-LONGEST_LINE-clause-ok g c =
     let none : length c.args.partial.now.items ≡ 0 = grind (arith, nat_tests) in
     let s = c.in_ok-serve.ensures.ok in
     (s.0, s.1, take_done g.F.Front.step _ _ _ c.args.partial.now.items c.args.more.now c.args.more.now _ _ _ _ _ _ _ (short_line _ c.requires.plain (omega arith)) (behind_none _ _ none) (nil_of _ none) s.2)

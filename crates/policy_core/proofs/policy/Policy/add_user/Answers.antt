@@ -10,7 +10,7 @@ pub invariant_of-self : goal.invariant_of-self
 invariant_of-self c =
     let p = state_of c.self.inside in
     let here = c.len.ensures.len in
-    let below = c.if-len-ge1024.false in
+    let below = c.if-len-ge-MOST_USERS.false in
     let same = ap (λ (q : PolicyState). length q.users) c.self.view_is in
     let room : length c.args.self.now.users < 1024 = omega (arith, here, below, same) in
     either (λ (users : List (List ℕ × ℕ)). IsPolicy (record p { users = users })) c.add_new.result p.users (insert_entry bytes_eq p.users c.args.user 0) c.add_new.new.users.entries
