@@ -1,3 +1,4 @@
 pub mod ObjectLaws
 pub mod Objects
+pub mod OperationLaws
 pub mod Permissions

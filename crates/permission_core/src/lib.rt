@@ -7,5 +7,5 @@ mod objects;
 mod permissions;
 
 pub use laws::objects_have_numbers_of_their_own;
-pub use objects::{Object, ObjectRange, ObjectSet, Operation};
+pub use objects::{OPERATIONS, Object, ObjectRange, ObjectSet, Operation};
 pub use permissions::Permissions;

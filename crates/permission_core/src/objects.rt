@@ -8,6 +8,9 @@ ghost use Rattle.permission_core.specs.Objects.{AreWords, index_of, number_of, i
 use limits::{MOST_CUSTOMERS, MOST_VEHICLES};
 use std::marker::Model;
 
+/// How many operations there are. A role has a row for each.
+pub const OPERATIONS: usize = 7;
+
 /// What a session may do to an object. For what an operation is needed is decided by the crates above; here it is one row of a role's
 /// permissions.
 #[derive(Clone, Copy, Debug, PartialEq, Eq)]
@@ -29,20 +32,23 @@ pub enum Operation {
 }
 
 impl Operation {
-    /// Its place among the rows of a role, 0 to 6.
+    /// Each operation, in the order of their rows.
+    pub const ALL: [Operation; OPERATIONS] = [
+        Operation::View,
+        Operation::Move,
+        Operation::Pin,
+        Operation::Freeze,
+        Operation::Admin,
+        Operation::Audit,
+        Operation::Override,
+    ];
+
+    /// Its place among the rows of a role, from 0.
     pub fn index(self) -> usize
         ensures value { result ≡ index_of self }
-        ensures small { result < 7 }
+        ensures small { result < OPERATIONS }
     {
-        match self {
-            Operation::View => 0,
-            Operation::Move => 1,
-            Operation::Pin => 2,
-            Operation::Freeze => 3,
-            Operation::Admin => 4,
-            Operation::Audit => 5,
-            Operation::Override => 6,
-        }
+        self as usize
     }
 }
 

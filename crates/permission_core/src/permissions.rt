@@ -1,26 +1,27 @@
 //! Which role may do what to which objects.
-ghost use Rattle.std.specs.Prelude.{◌≡◌, ◌≤◌, ◌<◌, ◌-◌, IfOk, length};
+ghost use Rattle.std.specs.Prelude.{◌≡◌, ◌≤◌, ◌<◌, ◌-◌, ◌*◌, IfOk, length};
 ghost use Rattle.role_hierarchy.specs.Roles.{has};
 ghost use Rattle.permission_core.specs.Objects.{with_range, without_range};
 ghost use Rattle.permission_core.specs.Permissions.{row_at, row_set, no_rows, rows_cleared};
 
-use crate::objects::{ObjectSet, Operation};
+use crate::objects::{OPERATIONS, ObjectSet, Operation};
+use limits::MOST_ROLES;
 use std::alloc::{AllocError, Global};
 use std::marker::Model;
 
 /// Empties the rows of the slot.
 fn empty(rows: &mut Vec<ObjectSet>, slot: u8)
-    requires { length rows.old.items ≡ 1792 }
+    requires { length rows.old.items ≡ OPERATIONS * MOST_ROLES }
     ensures rows { rows.new.items ≡ rows_cleared rows.old.items slot }
-    ensures whole { length rows.new.items ≡ 1792 }
+    ensures whole { length rows.new.items ≡ OPERATIONS * MOST_ROLES }
 {
-    for operation in 0..7usize {
-        rows[7 * slot as usize + operation] = ObjectSet::new();
+    for operation in 0..OPERATIONS {
+        rows[OPERATIONS * slot as usize + operation] = ObjectSet::new();
     }
 }
 
-/// The permissions of 256 roles: for each slot and operation a set of objects, PA of ANSI INCITS 359-2004, 6.1. Contracts see the list of
-/// the sets, with that of a slot and an operation at 7 times the slot plus the operation. Only `new` and `copy` take memory.
+/// The permissions of all roles: for each slot and operation a set of objects, PA of ANSI INCITS 359-2004, 6.1. Contracts see the list of
+/// the sets, slot by slot, with one for each operation. Only `new` and `copy` take memory.
 #[derive(Drop)]
 pub struct Permissions {
     rows: Vec<ObjectSet>,
@@ -28,13 +29,15 @@ pub struct Permissions {
 
 impl Model for Permissions {
     ghost use Rattle.permission_core.specs.Permissions.{Rows};
-    ghost use Rattle.std.specs.Prelude.{◌≡◌, length};
+    ghost use Rattle.limits.specs.declared.TheConstants.{MOST_ROLES};
+    ghost use Rattle.permission_core.specs.declared.objects.TheConstants.{OPERATIONS};
+    ghost use Rattle.std.specs.Prelude.{◌≡◌, ◌*◌, length};
 
     ghost Value = { Rows };
 
     ghost view = { λ a. a.rows.items };
 
-    ghost invariant = { λ a. length a.rows.items ≡ 1792 };
+    ghost invariant = { λ a. length a.rows.items ≡ OPERATIONS * MOST_ROLES };
 }
 
 impl Permissions {
@@ -42,7 +45,7 @@ impl Permissions {
     pub fn new(alloc: Global) -> Result<Permissions, AllocError>
         ensures { IfOk result (λ rows. rows ≡ no_rows) }
     {
-        let rows = vec![in alloc; ObjectSet::new(); 1792]?;
+        let rows = vec![in alloc; ObjectSet::new(); OPERATIONS * MOST_ROLES]?;
         Ok(Permissions { rows })
     }
 
@@ -50,7 +53,7 @@ impl Permissions {
     pub fn row(&self, slot: u8, operation: Operation) -> &ObjectSet
         ensures { result.now ≡ row_at self.now slot operation }
     {
-        &self.rows[7 * slot as usize + operation.index()]
+        &self.rows[OPERATIONS * slot as usize + operation.index()]
     }
 
     /// Whether the role may do the operation to the object of that number: one bit.
@@ -68,7 +71,7 @@ impl Permissions {
         requires small { end ≤ 2048 }
         ensures { self.new ≡ row_set self.old slot operation (with_range (row_at self.old slot operation) first (end - first)) }
     {
-        let place = 7 * slot as usize + operation.index();
+        let place = OPERATIONS * slot as usize + operation.index();
         self.rows[place].insert_range(first, end);
     }
 
@@ -78,7 +81,7 @@ impl Permissions {
         requires small { end ≤ 2048 }
         ensures { self.new ≡ row_set self.old slot operation (without_range (row_at self.old slot operation) first (end - first)) }
     {
-        let place = 7 * slot as usize + operation.index();
+        let place = OPERATIONS * slot as usize + operation.index();
         self.rows[place].remove_range(first, end);
     }
 

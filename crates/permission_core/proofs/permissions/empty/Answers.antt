@@ -1,5 +1,6 @@
-use Rattle.std.proofs.Common.{◌≡◌, ℕ, ◌*◌, ◌+◌, ◌∙◌}
+use Rattle.std.proofs.Common.{◌*◌, ◌+◌, ◌∙◌}
 use Rattle.std.proofs.lemmas.List.{length-set}
+use Rattle.permission_core.specs.declared.objects.TheConstants.{OPERATIONS}
 use Rattle.permission_core.proofs.RowLaws.{cleared_rows-none, cleared_rows-next}
 use Rattle.permission_core.proofs.permissions.empty.Goals as goal
 
@@ -8,7 +9,7 @@ loop-operation-init c = (c.requires, cleared_rows-none c.args.rows.now.items c.a
 
 pub loop-operation-preserved : goal.loop-operation-preserved
 loop-operation-preserved c =
-    let place = 7 * c.args.slot + c.loop-operation.operation in (
+    let place = OPERATIONS * c.args.slot + c.loop-operation.operation in (
       length-set c.loop-operation.rows.items place c.new.result ∙ c.loop-operation.invariant.0,
       cleared_rows-next c.args.rows.now.items c.loop-operation.rows.items c.args.slot c.loop-operation.operation c.new.result c.loop-operation.invariant.1 c.new.ensures,
     )
