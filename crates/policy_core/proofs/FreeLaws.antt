@@ -1,11 +1,12 @@
 -- A slot that is free has no permission, user, session or set, and keeps none.
-use Rattle.std.proofs.Common.{◌≡◌, ◌≢◌, ◌<◌, ℕ, zero, suc, ◌+◌, ◌*◌, Bool, true, false, cond, not, ◌&&◌, ◌||◌, inl, inr, List, [], ◌∷◌, map, filter, length, set, get_or, replicate, Option, Some, None, sym, refl, ap, ap₂, ◌∙◌, arith}
+use Rattle.std.proofs.Common.{◌≡◌, ◌≢◌, ◌<◌, ◌≤◌, ℕ, zero, suc, ◌+◌, ◌*◌, Bool, true, false, cond, not, ◌&&◌, ◌||◌, inl, inr, List, [], ◌∷◌, map, filter, length, set, get_or, replicate, Option, Some, None, sym, refl, ap, ap₂, ◌∙◌, arith}
 use Rattle.std.specs.Prelude.{bytes_eq, is_some, unwrap_or, fold}
 use Rattle.std.specs.List.{list_any, list_all}
 use Rattle.std.specs.Map.{lookup, remove_entry}
 use Rattle.indexmap.specs.IndexMap.{insert_entry}
 use Rattle.std.proofs.lemmas.Bool.{false≢true, or_parts, and_parts, cases_eq, cases_lt, eq-eqb, ne_eqb}
 use Rattle.std.proofs.lemmas.List.{get_or-set_same, get_or-set_other, get_or_past, get_or-replicate, length-set, length-replicate}
+use Rattle.limits.specs.declared.TheConstants.{MOST_ROLES}
 use Rattle.role_hierarchy.specs.Roles.{has, with_role, without}
 use Rattle.role_hierarchy.specs.RoleLaws.{has-empty, has-with_role, has-without}
 use Rattle.role_hierarchy.specs.Order.{Order, Chain, stands}
@@ -14,10 +15,11 @@ use Rattle.role_hierarchy.specs.BelowLaws.{has-closed}
 use Rattle.separation_core.specs.Groups.{Groups, is_in_some, with_set, changed, without_set}
 use Rattle.separation_core.specs.declared.sets.Limit.{Limit}
 use Rattle.permission_core.specs.declared.objects.Operation.{Operation}
+use Rattle.permission_core.specs.declared.objects.TheConstants.{OPERATIONS}
 use Rattle.permission_core.specs.Objects.{index_of}
-use Rattle.permission_core.specs.Permissions.{Rows, row_at, row_set, no_rows, cleared_rows, rows_cleared}
+use Rattle.permission_core.specs.OperationLaws.{index_small}
+use Rattle.permission_core.specs.Permissions.{Rows, row_place, row_at, row_set, no_rows, cleared_rows, rows_cleared}
 use Rattle.policy_core.specs.declared.session.Session.{Session}
-use Rattle.policy_core.specs.RowLaws.{index_small}
 use Rattle.policy_core.specs.State.{PolicyState, HasSlots, AreBare, AreThere, is_role, slot_of}
 use Rattle.policy_core.specs.Commands.{slots_of}
 
@@ -144,7 +146,7 @@ module _ (p : PolicyState) (slots : HasSlots p.roles p.order.roles) where
 -- rows of other slots
 pub row_other : (rows : Rows) (a slot : ℕ) (operation other : Operation) (row : ℕ) → slot ≢ a → row_at (row_set rows a operation row) slot other ≡ row_at rows slot other
 row_other rows a slot operation other row apart =
-    get_or-set_other rows (7 * a + index_of operation) (7 * slot + index_of other) row 0
+    get_or-set_other rows (row_place a operation) (row_place slot other) row 0
     (λ same. apart (omega (arith, index_small operation, index_small other, same)))
 
 set_none : (rows : Rows) (i : ℕ) → get_or (set rows i 0) i 0 ≡ 0
@@ -153,33 +155,33 @@ set_none rows i = elim (cases_lt i (length rows)) [
   | inr past ↦ get_or_past (set rows i 0) i 0 (omega (arith, past, length-set rows i 0))
 ]
 
-cleared_other : (rows : Rows) (a slot n : ℕ) (operation : Operation) → n < 8 → slot ≢ a → row_at (cleared_rows rows a n) slot operation ≡ row_at rows slot operation
+cleared_other : (rows : Rows) (a slot n : ℕ) (operation : Operation) → n ≤ OPERATIONS → slot ≢ a → row_at (cleared_rows rows a n) slot operation ≡ row_at rows slot operation
 unfolding cleared_rows
 cleared_other rows a slot zero operation small apart = refl
 cleared_other rows a slot (suc n) operation small apart =
-    get_or-set_other (cleared_rows rows a n) (7 * a + n) (7 * slot + index_of operation) 0 0 (λ same. apart (omega (arith, index_small operation, small, same)))
+    get_or-set_other (cleared_rows rows a n) (OPERATIONS * a + n) (row_place slot operation) 0 0 (λ same. apart (omega (arith, index_small operation, small, same)))
     ∙ cleared_other rows a slot n operation (omega (arith, small)) apart
 
-cleared_own : (rows : Rows) (a n i : ℕ) → i < n → get_or (cleared_rows rows a n) (7 * a + i) 0 ≡ 0
+cleared_own : (rows : Rows) (a n i : ℕ) → i < n → get_or (cleared_rows rows a n) (OPERATIONS * a + i) 0 ≡ 0
 unfolding cleared_rows
 cleared_own rows a zero i h = absurd (omega (arith, h))
 cleared_own rows a (suc n) i h = elim (cases_eq i n) [
-  | inl e ↦ ap (λ k. get_or (set (cleared_rows rows a n) (7 * a + n) 0) (7 * a + k) 0) e ∙ set_none (cleared_rows rows a n) (7 * a + n)
+  | inl e ↦ ap (λ k. get_or (set (cleared_rows rows a n) (OPERATIONS * a + n) 0) (OPERATIONS * a + k) 0) e ∙ set_none (cleared_rows rows a n) (OPERATIONS * a + n)
   | inr ne ↦
-      get_or-set_other (cleared_rows rows a n) (7 * a + n) (7 * a + i) 0 0 (λ same. ne (omega (arith, same)))
+      get_or-set_other (cleared_rows rows a n) (OPERATIONS * a + n) (OPERATIONS * a + i) 0 0 (λ same. ne (omega (arith, same)))
       ∙ cleared_own rows a n i (omega (arith, h, ne))
 ]
 
 pub rows_bare : (rows : Rows) (a slot : ℕ) (operation : Operation) → (slot ≢ a → row_at rows slot operation ≡ 0) → row_at (rows_cleared rows a) slot operation ≡ 0
 rows_bare rows a slot operation before = elim (cases_eq slot a) [
-  | inl e ↦ ap (λ s. row_at (rows_cleared rows a) s operation) e ∙ cleared_own rows a 7 (index_of operation) (index_small operation)
-  | inr ne ↦ cleared_other rows a slot 7 operation (omega arith) ne ∙ before ne
+  | inl e ↦ ap (λ s. row_at (rows_cleared rows a) s operation) e ∙ cleared_own rows a OPERATIONS (index_of operation) (index_small operation)
+  | inr ne ↦ cleared_other rows a slot OPERATIONS operation (omega arith) ne ∙ before ne
 ]
 
 pub no_rows_bare : (slot : ℕ) (operation : Operation) → row_at no_rows slot operation ≡ 0
-no_rows_bare slot operation = elim (cases_lt (7 * slot + index_of operation) 1792) [
-  | inl within ↦ get_or-replicate 1792 (7 * slot + index_of operation) 0 0 within
-  | inr past ↦ get_or_past (replicate 1792 0) (7 * slot + index_of operation) 0 (omega (arith, past, length-replicate {A = ℕ} 1792 0))
+no_rows_bare slot operation = elim (cases_lt (row_place slot operation) (OPERATIONS * MOST_ROLES)) [
+  | inl within ↦ get_or-replicate (OPERATIONS * MOST_ROLES) (row_place slot operation) 0 0 within
+  | inr past ↦ get_or_past (replicate (OPERATIONS * MOST_ROLES) 0) (row_place slot operation) 0 (omega (arith, past, length-replicate {A = ℕ} (OPERATIONS * MOST_ROLES) 0))
 ]
 
 -- the same where one part differs

@@ -23,13 +23,9 @@ fn copy_rows(grants: &mut Permissions, from: &Permissions, slot: u8)
     requires { rows_cleared grants.old slot ≡ rows_cleared from.now slot }
     ensures { grants.new ≡ from.now }
 {
-    copy_row(grants, from, slot, Operation::View);
-    copy_row(grants, from, slot, Operation::Move);
-    copy_row(grants, from, slot, Operation::Pin);
-    copy_row(grants, from, slot, Operation::Freeze);
-    copy_row(grants, from, slot, Operation::Admin);
-    copy_row(grants, from, slot, Operation::Audit);
-    copy_row(grants, from, slot, Operation::Override);
+    for operation in Operation::ALL {
+        copy_row(grants, from, slot, operation);
+    }
 }
 
 /// Copies one row: empties it, and grants what the other has.

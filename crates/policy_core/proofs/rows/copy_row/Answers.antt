@@ -1,7 +1,7 @@
 use Rattle.std.proofs.Common.{◌+◌, ◌-◌, ◌*◌, sym, ap, ◌∙◌, arith}
 use Rattle.role_hierarchy.specs.Roles.{has}
-use Rattle.permission_core.specs.Objects.{index_of, without_range}
-use Rattle.permission_core.specs.Permissions.{row_set}
+use Rattle.permission_core.specs.Objects.{without_range}
+use Rattle.permission_core.specs.Permissions.{row_place, row_set}
 use Rattle.policy_core.specs.Parts.{members_below}
 use Rattle.policy_core.proofs.MemberLaws.{below_none, below_all, held_again, held_on, past_words, emptied}
 use Rattle.policy_core.proofs.rows.copy_row.Goals as goal
@@ -14,14 +14,14 @@ loop-place-init c =
 
 pub copy_word-requires-clause-below : goal.copy_word-requires-clause-below
 copy_word-requires-clause-below c =
-    held_again c.args.grants.now c.loop-place.grants (7 * c.args.slot + index_of c.args.operation) (members_below c.row-row.result.now (64 * c.loop-place.place)) c.loop-place.invariant
+    held_again c.args.grants.now c.loop-place.grants (row_place c.args.slot c.args.operation) (members_below c.row-row.result.now (64 * c.loop-place.place)) c.loop-place.invariant
 
 pub loop-place-preserved : goal.loop-place-preserved
 loop-place-preserved c =
     let row = c.row-row.result.now in
     let p = c.loop-place.place in
     c.copy_word.ensures
-    ∙ held_on c.args.grants.now c.loop-place.grants (7 * c.args.slot + index_of c.args.operation) (members_below row (64 * p)) (members_below row (64 * (p + 1))) c.loop-place.invariant
+    ∙ held_on c.args.grants.now c.loop-place.grants (row_place c.args.slot c.args.operation) (members_below row (64 * p)) (members_below row (64 * (p + 1))) c.loop-place.invariant
 
 pub returns : goal.returns
 returns c =
