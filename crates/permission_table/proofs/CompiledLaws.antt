@@ -15,7 +15,7 @@ use Rattle.policy_core.specs.State.{PolicyState}
 use Rattle.policy_core.specs.Access.{some_below, is_reached, reaches, is_here, has_access, reached_roles}
 use Rattle.permission_table.specs.Bits.{SessionAccess, row_in, allowed_by}
 use Rattle.permission_table.specs.Tables.{TablesState, RowsState, rows_of, rows_after, is_among}
-use Rattle.permission_table.specs.Compiled.{AreCompiled, WillBeCompiled, SameAccessBut, HasSizes, HasSeven, AreRowsOf, AreChangesOf, reach_in}
+use Rattle.permission_table.specs.Compiled.{AreCompiled, WillBeCompiled, SameAccessBut, HasSizes, HasAllRows, AreRowsOf, AreChangesOf, reach_in}
 use Rattle.permission_table.specs.Unions.{AreUnions}
 use Rattle.permission_table.proofs.SomeLaws.{some_below-at, some_below-found}
 use Rattle.permission_table.specs.Rights.{all_changed}
@@ -59,7 +59,7 @@ module _ (p : PolicyState) (session : ℕ) where
           record {
             there = ap is_some (sym at);
             reached = ap Some unions.reach ∙ reached;
-            seven = unions.seven;
+            whole = unions.whole;
             bits = bits_at s at access (subst (λ r. AreUnions p r access) same unions) (subst (λ r. (q : ℕ) → has r q ≡ true → q < 256) same small);
           }
 
@@ -71,7 +71,7 @@ module _ (p : PolicyState) (session : ℕ) where
       at_session None at reach = record {
         there = ap is_some (sym at);
         reached = reached;
-        seven = tt;
+        whole = tt;
         bits = λ operation object.
             and_false (is_object p.customers p.vehicles object)
             ∙ ap (λ (o : Option Session). is_some o && (is_here p object && reaches p (unwrap_or o (record { user = []; active = 0 })).active operation (number_of object))) (sym at);
@@ -129,7 +129,7 @@ module _ (p : PolicyState) (t : TablesState) (changes : List (ℕ × Option Sess
   compiled sizes before were same = (
     (λ session operation object. bits_by session operation object (is_among sessions session) refl),
     (λ session. reached_by session (is_among sessions session) refl),
-    (λ session. seven_by session (is_among sessions session) refl),
+    (λ session. whole_by session (is_among sessions session) refl),
   )
     where
       bits_by : (session : ℕ) (operation : Operation) (object : Object) (b : Bool) → is_among sessions session ≡ b → allowed_by t.customers t.vehicles (after session) operation object ≡ has_access p session operation object
@@ -145,9 +145,9 @@ module _ (p : PolicyState) (t : TablesState) (changes : List (ℕ × Option Sess
       reached_by session true h = (rebuilt session h).reached
       reached_by session false h = ap reach_in (others session h) ∙ were.1 session ∙ sym (same.reach session h)
 
-      seven_by : (session : ℕ) (b : Bool) → is_among sessions session ≡ b → HasSeven (after session)
-      seven_by session true h = (rebuilt session h).seven
-      seven_by session false h = subst HasSeven (sym (others session h)) (were.2 session)
+      whole_by : (session : ℕ) (b : Bool) → is_among sessions session ≡ b → HasAllRows (after session)
+      whole_by session true h = (rebuilt session h).whole
+      whole_by session false h = subst HasAllRows (sym (others session h)) (were.2 session)
 
 -- rows that are put in place say what they were made for
 pub put_compiled : (rows : RowsState) (t : TablesState) → rows.of.customers ≡ t.customers → rows.of.vehicles ≡ t.vehicles → ((q : ℕ) → rows_of t q ≡ rows_after rows q) →
@@ -159,7 +159,7 @@ put_compiled rows t customers vehicles put p will = (
       ∙ ap (λ k. allowed_by k rows.of.vehicles (rows_after rows session) operation object) (sym customers)
       ∙ will.0 session operation object),
   (λ session. ap reach_in (put session) ∙ will.1 session),
-  (λ session. subst HasSeven (sym (put session)) (will.2 session)),
+  (λ session. subst HasAllRows (sym (put session)) (will.2 session)),
 )
 
 -- where there are no rows, they say CheckAccess of a policy without sessions
@@ -173,7 +173,7 @@ none_compiled t empty p none = (
   (λ session.
       ap (λ (es : List (ℕ × SessionAccess)). reach_in (lookup (nat_eq session) es)) empty
       ∙ ap (λ (es : List (ℕ × Session)). option_map (λ s. closed p.order s.active) (lookup (nat_eq session) es)) (sym none)),
-  (λ session. subst (λ (es : List (ℕ × SessionAccess)). HasSeven (lookup (nat_eq session) es)) (sym empty) tt),
+  (λ session. subst (λ (es : List (ℕ × SessionAccess)). HasAllRows (lookup (nat_eq session) es)) (sym empty) tt),
 )
 
 -- what tables say, session by session
@@ -181,7 +181,7 @@ pub each_rows : (t : TablesState) (p : PolicyState) → HasSizes p t → AreComp
 each_rows t p sizes are session = record {
   there = sym (is_some-map (λ (access : SessionAccess). access.reach) (rows_of t session)) ∙ ap is_some (are.1 session) ∙ is_some-map (λ (s : Session). closed p.order s.active) (lookup (nat_eq session) p.sessions);
   reached = are.1 session;
-  seven = are.2 session;
+  whole = are.2 session;
   bits = λ operation object.
       ap (λ k. allowed_by k p.vehicles (rows_of t session) operation object) sizes.customers
       ∙ ap (λ k. allowed_by t.customers k (rows_of t session) operation object) sizes.vehicles
@@ -199,5 +199,5 @@ all_rows t q sizes f each =
           ∙ ap (λ k. allowed_by q.customers k (option_map (f session) (rows_of t session)) operation object) (sym sizes.vehicles)
           ∙ (each session).bits operation object),
       (λ session. ap reach_in (found session) ∙ (each session).reached),
-      (λ session. subst HasSeven (sym (found session)) (each session).seven),
+      (λ session. subst HasAllRows (sym (found session)) (each session).whole),
     )

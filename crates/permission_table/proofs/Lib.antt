@@ -1,5 +1,6 @@
 pub mod AccessLaws
 pub mod CompiledLaws
+pub mod EachLaws
 pub mod PutLaws
 pub mod PlaceLaws
 pub mod RightsLaws

@@ -12,23 +12,23 @@ use Rattle.role_hierarchy.specs.Order.{Order, without_pair, without_slot}
 use Rattle.role_hierarchy.specs.Below.{IsOrder, closed, juniors_of}
 use Rattle.role_hierarchy.specs.BelowLaws.{closed-with_pair}
 use Rattle.permission_core.specs.declared.objects.Operation.{Operation}
-use Rattle.permission_core.specs.declared.objects.Operation.TheVariants.{View, Move, Pin, Freeze, Admin, Audit, Override}
 use Rattle.permission_core.specs.declared.objects.Object.{Object}
 use Rattle.permission_core.specs.declared.objects.ObjectRange.{ObjectRange}
 use Rattle.permission_core.specs.Objects.{index_of, number_of, is_object, first_of, size_of, is_bad_range, with_range, without_range}
 use Rattle.permission_core.specs.ObjectLaws.{has-with_range}
+use Rattle.permission_core.specs.OperationLaws.{index_small}
 use Rattle.permission_core.specs.Permissions.{Rows, cleared_rows}
 use Rattle.policy_core.specs.declared.session.Session.{Session}
 use Rattle.policy_core.specs.declared.refusal.Refusal.TheVariants.{NoRole, BadObject}
 use Rattle.policy_core.specs.State.{PolicyState, is_session, is_role, slot_of}
 use Rattle.policy_core.specs.Access.{row_of, some_below, is_reached, reaches, is_here, has_access, reached_roles}
-use Rattle.policy_core.specs.RowLaws.{index_small}
 use Rattle.policy_core.specs.Commands.{granted, grant_refusal, revoked, inherited, uninherited, role_gone, kept_authorized}
 use Rattle.permission_table.specs.Bits.{SessionAccess, row_in}
 use Rattle.permission_table.specs.Rights.{is_in_words, part_of, rows_joined, row_made, with_row_in, granted_to, revoked_from, all_made, followed, refreshed, refreshed_above, made_anew, refreshed_without, all_changed}
 use Rattle.permission_table.specs.Unions.{IsUnion}
 use Rattle.permission_table.specs.Tables.{TablesState, rows_of}
 use Rattle.permission_table.specs.Compiled.{AreCompiled, HasSizes, AreRowsOf, does_reach}
+use Rattle.permission_table.proofs.EachLaws.{at_operation}
 use Rattle.permission_table.proofs.CompiledLaws.{same_tests, and_false, rows_none, is_some-map, each_rows, all_rows}
 use Rattle.permission_table.proofs.WordLaws.{has-part_of}
 use Rattle.permission_table.proofs.SomeLaws.{some_below-at, some_below-within, some_below-same}
@@ -92,10 +92,10 @@ module _ (p : PolicyState) (session : ℕ) where
   pub row_says : (access : SessionAccess) → Some access.reach ≡ reached_roles p session → length access.rows ≡ 7
       → ((operation : Operation) (object : Object) → is_here p object ≡ true → has (row_in access operation) (number_of object) ≡ some_below (is_reached p access.reach operation (number_of object)) 256)
       → AreRowsOf p session (Some access)
-  row_says access reached seven each = record {
+  row_says access reached whole each = record {
     there = ap is_some reached ∙ is_some-map (λ (s : Session). closed p.order s.active) (lookup (nat_eq session) p.sessions);
     reached = reached;
-    seven = seven;
+    whole = whole;
     bits = λ operation object. by operation object (is_here p object) refl ∙ sym (access_at access.reach reached operation object);
   }
     where
@@ -174,11 +174,11 @@ module _ (p q : PolicyState) (role : ℕ) (operation : Operation) (differ : Diff
       → AreRowsOf q session (Some (with_row_in access operation row))
   another session access rows row right =
       row_says q session (with_row_in access operation row) (rows.reached ∙ sym (reached_stays session))
-      (length-set access.rows (index_of operation) row ∙ rows.seven)
+      (length-set access.rows (index_of operation) row ∙ rows.whole)
       (λ other object here. elim (cases_eq (index_of other) (index_of operation)) [
         | inl same ↦
             (ap (λ k. has (get_or (set access.rows (index_of operation) row) k 0) (number_of object)) same
-            ∙ ap (λ r. has r (number_of object)) (get_or-set_same access.rows (index_of operation) row 0 (omega (arith, rows.seven, index_small operation)))
+            ∙ ap (λ r. has r (number_of object)) (get_or-set_same access.rows (index_of operation) row 0 (omega (arith, rows.whole, index_small operation)))
             ∙ right object here
             ∙ ap (λ k. some_below (λ b. has access.reach b && has (get_or q.grants (7 * b + k) 0) (number_of object)) 256) (sym same))
         | inr apart ↦
@@ -188,7 +188,7 @@ module _ (p q : PolicyState) (role : ℕ) (operation : Operation) (differ : Diff
 
   unconcerned : (session : ℕ) (access : SessionAccess) → AreRowsOf p session (Some access) → has access.reach role ≡ false → AreRowsOf q session (Some access)
   unconcerned session access rows none =
-      row_says q session access (rows.reached ∙ sym (reached_stays session)) rows.seven
+      row_says q session access (rows.reached ∙ sym (reached_stays session)) rows.whole
       (λ other object here. stays session access rows other object here (λ in_role. absurd (true≢false (sym in_role ∙ none))))
 
   -- the role may do less, or more
@@ -284,21 +284,14 @@ module _ (p : PolicyState) (role : List ℕ) (operation : Operation) (range : Ob
 -- a session that reaches the roles that it reached, or others
 made_says : (q : PolicyState) (session roles : ℕ) → Some roles ≡ reached_roles q session → AreRowsOf q session (Some (all_made q roles))
 unfolding all_made
-made_says q session roles reached = row_says q session (all_made q roles) reached refl by
-  where
-    by : (operation : Operation) (object : Object) → is_here q object ≡ true → has (row_in (all_made q roles) operation) (number_of object) ≡ some_below (is_reached q roles operation (number_of object)) 256
-    by View object here = has-row_made q roles View (number_of object)
-    by Move object here = has-row_made q roles Move (number_of object)
-    by Pin object here = has-row_made q roles Pin (number_of object)
-    by Freeze object here = has-row_made q roles Freeze (number_of object)
-    by Admin object here = has-row_made q roles Admin (number_of object)
-    by Audit object here = has-row_made q roles Audit (number_of object)
-    by Override object here = has-row_made q roles Override (number_of object)
+made_says q session roles reached =
+    row_says q session (all_made q roles) reached refl
+    (λ operation object here. ap (λ r. has r (number_of object)) (at_operation (row_made q roles) operation) ∙ has-row_made q roles operation (number_of object))
 
 module _ (p q : PolicyState) (customers : q.customers ≡ p.customers) (vehicles : q.vehicles ≡ p.vehicles) (session : ℕ) (access : SessionAccess) (rows : AreRowsOf p session (Some access))
     (same : (k : ℕ) (operation : Operation) → has access.reach k ≡ true → row_of q k operation ≡ row_of p k operation) where
   as_before : Some access.reach ≡ reached_roles q session → AreRowsOf q session (Some access)
-  as_before reached = row_says q session access reached rows.seven (λ operation object here.
+  as_before reached = row_says q session access reached rows.whole (λ operation object here.
       row_read p session access rows operation object (sym (ap₂ (λ c v. is_object c v object) customers vehicles) ∙ here)
       ∙ same_below p q access.reach operation (number_of object) (λ k. same k operation))
 

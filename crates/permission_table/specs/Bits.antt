@@ -5,7 +5,7 @@ use Rattle.permission_core.specs.declared.objects.Operation.{Operation}
 use Rattle.permission_core.specs.declared.objects.Object.{Object}
 use Rattle.permission_core.specs.Objects.{index_of, number_of, is_object}
 
--- What is compiled for a session: the roles that its active roles reach, and seven rows, one for each operation, as sets of objects.
+-- What is compiled for a session: the roles that its active roles reach, and its rows, one for each operation, as sets of objects.
 pub record SessionAccess : Type 0 where
   pub reach : ℕ
   pub rows : List ℕ

@@ -5,6 +5,7 @@ use Rattle.std.specs.Option.{option_map}
 use Rattle.role_hierarchy.specs.Roles.{has}
 use Rattle.permission_core.specs.declared.objects.Operation.{Operation}
 use Rattle.permission_core.specs.declared.objects.Object.{Object}
+use Rattle.permission_core.specs.declared.objects.TheConstants.{OPERATIONS}
 use Rattle.policy_core.specs.State.{PolicyState, is_session}
 use Rattle.policy_core.specs.Access.{has_access, reached_roles}
 use Rattle.permission_table.specs.Bits.{SessionAccess, allowed_by}
@@ -26,13 +27,13 @@ reach_in found = option_map (λ access. access.reach) found
 abbrev pub AreReachesOf : (ℕ → Option SessionAccess) → PolicyState → Type 0
 AreReachesOf found p = (session : ℕ) → reach_in (found session) ≡ reached_roles p session
 
--- a session has seven rows, where it has any
-abbrev pub HasSeven : Option SessionAccess → Type 0
-HasSeven found = IfSome found (λ access. length access.rows ≡ 7)
+-- a session has a row for each operation, where it has any
+abbrev pub HasAllRows : Option SessionAccess → Type 0
+HasAllRows found = IfSome found (λ access. length access.rows ≡ OPERATIONS)
 
 -- what is compiled says CheckAccess of this policy, and which roles each session reaches
 abbrev pub IsCompiled : (ℕ → Operation → Object → Bool) → (ℕ → Option SessionAccess) → PolicyState → Type 0
-IsCompiled bit found p = AreBitsOf bit p × AreReachesOf found p × ((session : ℕ) → HasSeven (found session))
+IsCompiled bit found p = AreBitsOf bit p × AreReachesOf found p × ((session : ℕ) → HasAllRows (found session))
 
 -- the tables say it
 abbrev pub AreCompiled : TablesState → PolicyState → Type 0
@@ -53,12 +54,12 @@ pub record HasSizes (p : PolicyState) (t : TablesState) : Type 0 where
   pub customers : p.customers ≡ t.customers
   pub vehicles : p.vehicles ≡ t.vehicles
 
--- This is what is compiled for a session by the policy: nothing where there is no such session, or else the roles that it reaches, and seven
--- rows in which each bit is CheckAccess.
+-- This is what is compiled for a session by the policy: nothing where there is no such session, or else the roles that it reaches, and a row
+-- for each operation, in which each bit is CheckAccess.
 pub record AreRowsOf (p : PolicyState) (session : ℕ) (found : Option SessionAccess) : Type 0 where
   pub there : is_some found ≡ is_session p session
   pub reached : reach_in found ≡ reached_roles p session
-  pub seven : HasSeven found
+  pub whole : HasAllRows found
   pub bits : (operation : Operation) (object : Object) → allowed_by p.customers p.vehicles found operation object ≡ has_access p session operation object
 
 -- each session that has a change gets its rows by the policy

@@ -4,7 +4,7 @@ use Rattle.std.specs.Option.{option_map_or}
 use Rattle.limits.specs.declared.TheConstants.{MOST_ROLES}
 use Rattle.role_hierarchy.specs.Roles.{has}
 use Rattle.permission_core.specs.declared.objects.Operation.{Operation}
-use Rattle.permission_core.specs.declared.objects.Operation.TheVariants.{View, Move, Pin, Freeze, Admin, Audit, Override}
+use Rattle.permission_core.specs.declared.objects.TheConstants.Operation.{ALL}
 use Rattle.permission_core.specs.Objects.{index_of, with_range}
 use Rattle.policy_core.specs.State.{PolicyState}
 use Rattle.policy_core.specs.Access.{row_of, reached_roles}
@@ -42,12 +42,13 @@ unfoldable pub revoked_from : PolicyState → ℕ → Operation → ℕ → Sess
 revoked_from p role operation session access =
     if has access.reach role then with_row_in access operation (row_made p access.reach operation) else access
 
--- the rows of a session that reaches these roles
+-- for each operation the objects to which one of the roles may do it
+abbrev pub rows_made : PolicyState → ℕ → List ℕ
+rows_made p roles = map (row_made p roles) ALL
+
+-- what is compiled for a session that reaches these roles
 unfoldable pub all_made : PolicyState → ℕ → SessionAccess
-all_made p roles = record {
-  reach = roles;
-  rows = row_made p roles View ∷ row_made p roles Move ∷ row_made p roles Pin ∷ row_made p roles Freeze ∷ row_made p roles Admin ∷ row_made p roles Audit ∷ row_made p roles Override ∷ [];
-}
+all_made p roles = record { reach = roles; rows = rows_made p roles }
 
 -- a session gets new rows where it reaches other roles than before
 unfoldable pub followed : PolicyState → ℕ → SessionAccess → SessionAccess

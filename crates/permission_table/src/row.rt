@@ -6,12 +6,13 @@ ghost use Rattle.permission_core.specs.Objects.{index_of};
 ghost use Rattle.policy_core.specs.Access.{row_of};
 ghost use Rattle.permission_table.specs.Bits.{row_in};
 ghost use Rattle.permission_table.specs.Unions.{AreUnions};
-ghost use Rattle.permission_table.specs.Rights.{row_made, part_of, granted_to, revoked_from, followed, all_made};
+ghost use Rattle.permission_table.specs.Rights.{row_made, rows_made, part_of, granted_to, revoked_from, followed, all_made};
 
-use permission_core::Operation;
+use permission_core::{OPERATIONS, Operation};
 use policy_core::Policy;
 use role_hierarchy::RoleSet;
 use std::alloc::{AllocError, Global};
+use std::array;
 use std::marker::Model;
 
 /// The objects to which a session may do one operation. Contracts see the number whose binary digits are 1 at them.
@@ -110,37 +111,35 @@ fn join_words(words: &mut [u64; 32], one: &[u64; 32], other: &[u64; 32])
     }
 }
 
-/// Seven rows without objects.
-fn no_rows() -> [Row; 7]
-    ensures seven { length result ≡ 7 }
+/// Rows without objects, one for each operation.
+fn no_rows() -> [Row; OPERATIONS]
+    ensures whole { length result ≡ OPERATIONS }
     ensures empty { (operation : AnOperation) → slice_index result (index_of operation) ≡ 0 }
 {
-    [
-        Row::new(),
-        Row::new(),
-        Row::new(),
-        Row::new(),
-        Row::new(),
-        Row::new(),
-        Row::new(),
-    ]
+    array::from_fn(|_| Row::new())
 }
 
 /// What the two roles may do joins the rows, one for each operation.
-fn join_all(rows: &mut [Row; 7], policy: &Policy, two: (u8, u8))
-    requires seven { length rows.old ≡ 7 }
-    ensures seven { length rows.new ≡ 7 }
+fn join_all(rows: &mut [Row; OPERATIONS], policy: &Policy, two: (u8, u8))
+    requires whole { length rows.old ≡ OPERATIONS }
+    ensures whole { length rows.new ≡ OPERATIONS }
     ensures joined { (operation : AnOperation) → slice_index rows.new (index_of operation)
         ≡ bit_or (bit_or (slice_index rows.old (index_of operation)) (row_of policy.now two.0 operation))
         (row_of policy.now two.1 operation) }
 {
-    rows[0].join(policy, two, Operation::View);
-    rows[1].join(policy, two, Operation::Move);
-    rows[2].join(policy, two, Operation::Pin);
-    rows[3].join(policy, two, Operation::Freeze);
-    rows[4].join(policy, two, Operation::Admin);
-    rows[5].join(policy, two, Operation::Audit);
-    rows[6].join(policy, two, Operation::Override);
+    for operation in Operation::ALL {
+        rows[operation.index()].join(policy, two, operation);
+    }
+}
+
+/// The rows become those of a session that reaches these roles, one for each operation.
+fn make_all(rows: &mut [Row; OPERATIONS], policy: &Policy, roles: RoleSet)
+    requires { length rows.old ≡ OPERATIONS }
+    ensures { rows.new ≡ rows_made policy.now roles }
+{
+    for operation in Operation::ALL {
+        rows[operation.index()] = Row::of(policy, roles, operation);
+    }
 }
 
 /// The next two roles of the set that are not below `from`; where only one is left, it comes twice.
@@ -161,18 +160,19 @@ fn two_from(roles: RoleSet, from: u32) -> Option<(u8, u8)>
 #[derive(Drop)]
 pub struct SessionRows {
     reach: RoleSet,
-    rows: Box<[Row; 7]>,
+    rows: Box<[Row; OPERATIONS]>,
 }
 
 impl Model for SessionRows {
     ghost use Rattle.std.specs.Prelude.{◌≡◌, length};
+    ghost use Rattle.permission_core.specs.declared.objects.TheConstants.{OPERATIONS};
     ghost use Rattle.permission_table.specs.Bits.{SessionAccess};
 
     ghost Value = { SessionAccess };
 
     ghost view = { λ a. record { reach = a.reach; rows = a.rows.value } };
 
-    ghost invariant = { λ a. length a.rows.value ≡ 7 };
+    ghost invariant = { λ a. length a.rows.value ≡ OPERATIONS };
 }
 
 impl SessionRows {
@@ -254,14 +254,6 @@ impl SessionRows {
         ensures { self.new ≡ all_made policy.now roles }
     {
         self.reach = roles;
-        *self.rows = [
-            Row::of(policy, roles, Operation::View),
-            Row::of(policy, roles, Operation::Move),
-            Row::of(policy, roles, Operation::Pin),
-            Row::of(policy, roles, Operation::Freeze),
-            Row::of(policy, roles, Operation::Admin),
-            Row::of(policy, roles, Operation::Audit),
-            Row::of(policy, roles, Operation::Override),
-        ];
+        make_all(&mut self.rows, policy, roles);
     }
 }

@@ -10,7 +10,7 @@ loop-two-init c =
     let same = c.in_ok-rows.ensures.ok in
     record {
       small = omega arith;
-      seven = ap length same ∙ c.no_rows.ensures.seven;
+      whole = ap length same ∙ c.no_rows.ensures.whole;
       rows = λ operation.
           union_none c.args.policy.now c.args.roles operation (slice_index c.in_ok-rows.rows.value (index_of operation))
           (ap (λ (rows : List ℕ). slice_index rows (index_of operation)) same ∙ c.no_rows.ensures.empty operation);
@@ -24,7 +24,7 @@ loop-two-preserved c =
     let found = c.in-Some.ensures in
     record {
       small = omega (arith, c.is_small.ensures other found.members.1);
-      seven = c.join_all.ensures.seven;
+      whole = c.join_all.ensures.whole;
       rows = λ operation.
           union_two p c.args.roles operation (slice_index c.loop-two.rows.value (index_of operation)) c.loop-two.from one other
           (slice_index c.join_all.new.rows (index_of operation)) found.order.1 found.members found.between found.order.0
