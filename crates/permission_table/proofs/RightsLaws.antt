@@ -14,10 +14,11 @@ use Rattle.role_hierarchy.specs.BelowLaws.{closed-with_pair}
 use Rattle.permission_core.specs.declared.objects.Operation.{Operation}
 use Rattle.permission_core.specs.declared.objects.Object.{Object}
 use Rattle.permission_core.specs.declared.objects.ObjectRange.{ObjectRange}
+use Rattle.permission_core.specs.declared.objects.TheConstants.{OPERATIONS}
 use Rattle.permission_core.specs.Objects.{index_of, number_of, is_object, first_of, size_of, is_bad_range, with_range, without_range}
 use Rattle.permission_core.specs.ObjectLaws.{has-with_range}
 use Rattle.permission_core.specs.OperationLaws.{index_small}
-use Rattle.permission_core.specs.Permissions.{Rows, cleared_rows}
+use Rattle.permission_core.specs.Permissions.{Rows, row_place, cleared_rows}
 use Rattle.policy_core.specs.declared.session.Session.{Session}
 use Rattle.policy_core.specs.declared.refusal.Refusal.TheVariants.{NoRole, BadObject}
 use Rattle.policy_core.specs.State.{PolicyState, is_session, is_role, slot_of}
@@ -89,7 +90,7 @@ module _ (p : PolicyState) (session : ℕ) where
       ∙ rows.bits operation object ∙ access_at access.reach rows.reached operation object
       ∙ ap (λ t. t && some_below (is_reached p access.reach operation (number_of object)) 256) here
 
-  pub row_says : (access : SessionAccess) → Some access.reach ≡ reached_roles p session → length access.rows ≡ 7
+  pub row_says : (access : SessionAccess) → Some access.reach ≡ reached_roles p session → length access.rows ≡ OPERATIONS
       → ((operation : Operation) (object : Object) → is_here p object ≡ true → has (row_in access operation) (number_of object) ≡ some_below (is_reached p access.reach operation (number_of object)) 256)
       → AreRowsOf p session (Some access)
   row_says access reached whole each = record {
@@ -143,7 +144,7 @@ pub record DifferInRow (p q : PolicyState) (role : ℕ) (operation : Operation) 
   pub vehicles : q.vehicles ≡ p.vehicles
   pub order : q.order ≡ p.order
   pub sessions : q.sessions ≡ p.sessions
-  pub rows : (k : ℕ) → k ≢ 7 * role + index_of operation → get_or q.grants k 0 ≡ get_or p.grants k 0
+  pub rows : (k : ℕ) → k ≢ row_place role operation → get_or q.grants k 0 ≡ get_or p.grants k 0
 
 module _ (p q : PolicyState) (role : ℕ) (operation : Operation) (differ : DifferInRow p q role operation) where
   reached_stays : (session : ℕ) → reached_roles q session ≡ reached_roles p session
@@ -155,7 +156,7 @@ module _ (p q : PolicyState) (role : ℕ) (operation : Operation) (differ : Diff
 
   -- the rows of every other role, and of every other operation, are the same
   row_other : (k : ℕ) (other : Operation) → (k ≡ role → index_of other ≢ index_of operation) → row_of q k other ≡ row_of p k other
-  row_other k other apart = differ.rows (7 * k + index_of other) (λ e.
+  row_other k other apart = differ.rows (row_place k other) (λ e.
       let one : k ≡ role = omega (arith, e, index_small other, index_small operation) in
       let two : index_of other ≡ index_of operation = omega (arith, e, one) in
       apart one two)
@@ -180,7 +181,7 @@ module _ (p q : PolicyState) (role : ℕ) (operation : Operation) (differ : Diff
             (ap (λ k. has (get_or (set access.rows (index_of operation) row) k 0) (number_of object)) same
             ∙ ap (λ r. has r (number_of object)) (get_or-set_same access.rows (index_of operation) row 0 (omega (arith, rows.whole, index_small operation)))
             ∙ right object here
-            ∙ ap (λ k. some_below (λ b. has access.reach b && has (get_or q.grants (7 * b + k) 0) (number_of object)) 256) (sym same))
+            ∙ ap (λ k. some_below (λ b. has access.reach b && has (get_or q.grants (OPERATIONS * b + k) 0) (number_of object)) 256) (sym same))
         | inr apart ↦
             (ap (λ r. has r (number_of object)) (get_or-set_other access.rows (index_of operation) (index_of other) row 0 apart)
             ∙ stays session access rows other object here (λ in_role. apart))
@@ -252,7 +253,7 @@ module _ (p q : PolicyState) (role : ℕ) (operation : Operation) (differ : Diff
 -- the two commands
 module _ (p : PolicyState) (role : List ℕ) (operation : Operation) (range : ObjectRange) where
   abbrev place : ℕ
-  place = 7 * slot_of p role + index_of operation
+  place = row_place (slot_of p role) operation
 
   pub differ_granted : DifferInRow p (granted p role operation range) (slot_of p role) operation
   differ_granted = record {
@@ -357,10 +358,10 @@ module _ (p : PolicyState) (senior junior : List ℕ) (session : ℕ) where
 apart_granted : (p : PolicyState) (role : List ℕ) (operation : Operation) (range : ObjectRange) (words : ℕ × ℕ)
     → ((number : ℕ) → first_of range ≤ number → number < first_of range + size_of range → (words.0 ≤ number / 64) × (number / 64 < words.1))
     → (number : ℕ) → is_in_words words.0 words.1 number ≡ false → has (row_of (granted p role operation range) (slot_of p role) operation) number ≡ has (row_of p (slot_of p role) operation) number
-apart_granted p role operation range words whole number out = elim (cases_lt (7 * slot_of p role + index_of operation) (length p.grants)) [
+apart_granted p role operation range words whole number out = elim (cases_lt (row_place (slot_of p role) operation) (length p.grants)) [
   | inl within ↦
       (let old = row_of p (slot_of p role) operation in
-      ap (λ r. has r number) (get_or-set_same p.grants (7 * slot_of p role + index_of operation) (with_range old (first_of range) (size_of range)) 0 within)
+      ap (λ r. has r number) (get_or-set_same p.grants (row_place (slot_of p role) operation) (with_range old (first_of range) (size_of range)) 0 within)
       ∙ same_tests _ _
       (λ h. elim ((has-with_range old (first_of range) (size_of range) number).0 h) [
         | inl before ↦ before
@@ -368,17 +369,17 @@ apart_granted p role operation range words whole number out = elim (cases_lt (7 
       ])
       (λ h. (has-with_range old (first_of range) (size_of range) number).1 (inl h)))
   | inr past ↦
-      ap (λ r. has r number) (get_or_past (set p.grants (7 * slot_of p role + index_of operation) _) (7 * slot_of p role + index_of operation) 0
-      (omega (arith, past, length-set p.grants (7 * slot_of p role + index_of operation) (with_range (row_of p (slot_of p role) operation) (first_of range) (size_of range))))
-      ∙ sym (get_or_past p.grants (7 * slot_of p role + index_of operation) 0 past))
+      ap (λ r. has r number) (get_or_past (set p.grants (row_place (slot_of p role) operation) _) (row_place (slot_of p role) operation) 0
+      (omega (arith, past, length-set p.grants (row_place (slot_of p role) operation) (with_range (row_of p (slot_of p role) operation) (first_of range) (size_of range))))
+      ∙ sym (get_or_past p.grants (row_place (slot_of p role) operation) 0 past))
 ]
 
 -- the rows of other roles than the one that is gone
-cleared_other : (rows : Rows) (slot k i n : ℕ) → k ≢ slot → i < 7 → n ≤ 7 → get_or (cleared_rows rows slot n) (7 * k + i) 0 ≡ get_or rows (7 * k + i) 0
+cleared_other : (rows : Rows) (slot k i n : ℕ) → k ≢ slot → i < OPERATIONS → n ≤ OPERATIONS → get_or (cleared_rows rows slot n) (OPERATIONS * k + i) 0 ≡ get_or rows (OPERATIONS * k + i) 0
 unfolding cleared_rows
 cleared_other rows slot k i zero apart small few = refl
 cleared_other rows slot k i (suc n) apart small few =
-    get_or-set_other (cleared_rows rows slot n) (7 * slot + n) (7 * k + i) 0 0 (λ e. apart (omega (arith, e, small, few)))
+    get_or-set_other (cleared_rows rows slot n) (OPERATIONS * slot + n) (OPERATIONS * k + i) 0 0 (λ e. apart (omega (arith, e, small, few)))
     ∙ cleared_other rows slot k i n apart small (omega (arith, few))
 
 -- one role less
@@ -410,7 +411,7 @@ module _ (p : PolicyState) (role : List ℕ) (session : ℕ) where
       by : (t : Bool) → has access.reach (slot_of p role) ≡ t → AreRowsOf gone session (Some (cond t (made_anew gone session access) (refreshed gone session access)))
       by true e = made_without access rows
       by false e = refreshed_rows p gone refl refl session access rows
-          (λ k operation in_k. cleared_other p.grants (slot_of p role) k (index_of operation) 7 (λ same. true≢false (sym in_k ∙ ap (has access.reach) same ∙ e)) (index_small operation) (omega arith))
+          (λ k operation in_k. cleared_other p.grants (slot_of p role) k (index_of operation) OPERATIONS (λ same. true≢false (sym in_k ∙ ap (has access.reach) same ∙ e)) (index_small operation) (omega arith))
           there_without
 
 -- what each change makes of a session, by cases
