@@ -3,6 +3,7 @@ pub mod CompiledLaws
 pub mod EachLaws
 pub mod PutLaws
 pub mod PlaceLaws
+pub mod ReachLaws
 pub mod RightsLaws
 pub mod SomeLaws
 pub mod UnionLaws

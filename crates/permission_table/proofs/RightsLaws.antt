@@ -545,3 +545,47 @@ module _ (t : TablesState) (p : PolicyState) (role : List ℕ) (are : AreCompile
       (all_rows t (role_gone p role) fits (refreshed_without (role_gone p role) (slot_of p role)) (λ session.
       deleted_rows p role session (rows_of t session)
       (each_rows t p (record { customers = fits.customers; vehicles = fits.vehicles }) are session)))) sizes
+
+-- a session that does not reach the role is left as it is
+pub granted_same : (p : PolicyState) (role : ℕ) (operation : Operation) (words : ℕ × ℕ) (session : ℕ) (access : SessionAccess) → has access.reach role ≡ false → granted_to p role operation words session access ≡ access
+unfolding granted_to
+granted_same p role operation words session access h =
+    ap (λ t. cond t (with_row_in access operation (bit_or (row_in access operation) (part_of words.0 words.1 (row_of p role operation)))) access) h
+
+pub revoked_same : (p : PolicyState) (role : ℕ) (operation : Operation) (session : ℕ) (access : SessionAccess) → has access.reach role ≡ false → revoked_from p role operation session access ≡ access
+unfolding revoked_from
+revoked_same p role operation session access h = ap (λ t. cond t (with_row_in access operation (row_made p access.reach operation)) access) h
+
+pub above_same : (p : PolicyState) (role session : ℕ) (access : SessionAccess) → has access.reach role ≡ false → refreshed_above p role session access ≡ access
+unfolding refreshed_above
+above_same p role session access h = ap (λ t. cond t (refreshed p session access) access) h
+
+-- what a session reaches after a change of its rows
+pub granted_reach : (p : PolicyState) (role : ℕ) (operation : Operation) (words : ℕ × ℕ) (session : ℕ) (access : SessionAccess) → (granted_to p role operation words session access).reach ≡ access.reach
+unfolding granted_to
+granted_reach p role operation words session access =
+    by (has access.reach role)
+  where
+    by : (t : Bool) → (cond t (with_row_in access operation (bit_or (row_in access operation) (part_of words.0 words.1 (row_of p role operation)))) access).reach ≡ access.reach
+    by true = refl
+    by false = refl
+
+pub revoked_reach : (p : PolicyState) (role : ℕ) (operation : Operation) (session : ℕ) (access : SessionAccess) → (revoked_from p role operation session access).reach ≡ access.reach
+unfolding revoked_from
+revoked_reach p role operation session access = by (has access.reach role)
+  where
+    by : (t : Bool) → (cond t (with_row_in access operation (row_made p access.reach operation)) access).reach ≡ access.reach
+    by true = refl
+    by false = refl
+
+pub followed_reach : (p : PolicyState) (roles : ℕ) (access : SessionAccess) → (followed p roles access).reach ≡ roles
+unfolding followed all_made
+followed_reach p roles access = by (nat_eq roles access.reach) refl
+  where
+    by : (t : Bool) → nat_eq roles access.reach ≡ t → (cond t access (all_made p roles)).reach ≡ roles
+    by true h = sym (eqb-true roles access.reach h)
+    by false h = refl
+
+pub made_reach : (p : PolicyState) (roles : ℕ) → (all_made p roles).reach ≡ roles
+unfolding all_made
+made_reach p roles = refl

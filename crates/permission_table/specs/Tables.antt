@@ -1,11 +1,11 @@
 -- Tables of permissions as data, and the rows that are to be put into them.
-use Rattle.std.specs.Prelude.{ℕ, Bool, List, [], Option, None, Some, nat_eq, slice_get, unwrap_or}
-use Rattle.std.specs.Option.{option_map}
+use Rattle.std.specs.Prelude.{ℕ, Bool, List, [], Option, nat_eq, unwrap_or}
 use Rattle.std.specs.List.{list_any}
 use Rattle.std.specs.Map.{lookup}
 use Rattle.permission_core.specs.declared.objects.Operation.{Operation}
 use Rattle.permission_core.specs.declared.objects.Object.{Object}
 use Rattle.permission_table.specs.Bits.{SessionAccess, allowed_by}
+use Rattle.permission_table.specs.Reaching.{rows_in}
 
 -- For each session that has rows what is compiled for it, and how many more sessions there is room for.
 pub record TablesState : Type 0 where
@@ -29,8 +29,7 @@ rows_of t session = lookup (nat_eq session) t.rows
 
 -- what is compiled for the session whose rows are at a place
 abbrev pub rows_at : TablesState → Option ℕ → Option SessionAccess
-rows_at t None = None
-rows_at t (Some i) = option_map (λ row. row.1) (slice_get t.rows i)
+rows_at t place = rows_in t.rows place
 
 -- what the tables say of a session, an operation and an object
 abbrev pub allows : TablesState → ℕ → Operation → Object → Bool

@@ -2,7 +2,9 @@
 #![tactic(auto)]
 
 mod laws;
+mod reaching;
 mod row;
+mod sessions;
 mod tables;
 
 pub use laws::{access_depends_on_reached_roles, compiled_is_check_access};

@@ -231,12 +231,12 @@ impl SessionRows {
         }
     }
 
-    /// Whether the session reaches the role.
+    /// The roles that the session reaches.
     #[inline(always)]
-    pub(crate) fn reaches(&self, role: u8) -> bool
-        ensures { result ≡ has self.now.reach role }
+    pub(crate) fn reach(&self) -> RoleSet
+        ensures { result ≡ self.now.reach }
     {
-        self.reach.contains(role)
+        self.reach
     }
 
     /// The session reaches these roles: where they are others than before, its rows are made anew.

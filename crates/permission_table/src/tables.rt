@@ -2,7 +2,6 @@
 ghost use Rattle.std.specs.Prelude.{◌≡◌, ◌<◌, ◌≤◌, ◌+◌, ◌/◌, ℕ, List, true, false, [], None, IfOk, OnOk, length, nat_eq, is_some, unwrap_or, ◌==◌, if◌then◌else◌};
 ghost use Rattle.std.specs.Map.{lookup};
 ghost use Rattle.std.specs.Option.{option_map};
-ghost use Rattle.indexmap.specs.IndexMap.{spare};
 ghost use Rattle.callback_store.specs.Meter.{after_probe};
 ghost use Rattle.permission_core.specs.declared.objects.ObjectRange.{ObjectRange as ARange};
 ghost use Rattle.role_hierarchy.specs.Below.{IsOrder};
@@ -11,12 +10,12 @@ ghost use Rattle.policy_core.specs.State.{PolicyState, slot_of};
 ghost use Rattle.policy_core.specs.Commands.{granted, grant_refusal, revoked, inherited, uninherited, role_gone};
 ghost use Rattle.permission_table.specs.Bits.{allowed_by};
 ghost use Rattle.permission_table.specs.Tables.{TablesState, RowsState, no_rows, rows_of, rows_at, allows, rows_after, will_allow, is_among};
-ghost use Rattle.permission_table.specs.Rights.{granted_to, revoked_from, refreshed, refreshed_above, made_anew, refreshed_without, changed_at, all_changed};
+ghost use Rattle.permission_table.specs.Rights.{granted_to, revoked_from, refreshed, refreshed_above, made_anew, refreshed_without, all_changed};
 ghost use Rattle.permission_table.specs.Compiled.{AreCompiled, WillBeCompiled, SameAccessBut, HasSizes, AreRowsOf, AreChangesOf};
 
 use crate::row::SessionRows;
+use crate::sessions::Sessions;
 use callback_store::Meter;
-use indexmap::IndexMap;
 use limits::{MOST_CUSTOMERS, MOST_VEHICLES};
 use permission_core::{Object, ObjectRange, Operation};
 use policy_core::Policy;
@@ -30,7 +29,7 @@ use std::snapshot::Snapshot;
 pub struct Tables {
     customers: u32,
     vehicles: u32,
-    rows: IndexMap<u32, SessionRows>,
+    rows: Sessions,
 }
 
 // Written by hand: a derived drop is expanded, down to each list, at every place where a value is dropped.
@@ -90,7 +89,7 @@ impl Tables {
         Ok(Tables {
             customers,
             vehicles,
-            rows: IndexMap::with_capacity(alloc, 1)?,
+            rows: Sessions::new(alloc)?,
         })
     }
 
@@ -111,7 +110,7 @@ impl Tables {
         ensures compiled { IfOk result (λ rows. (before : PolicyState) → AreCompiled self.old before →
             SameAccessBut sessions.now before policy.now → WillBeCompiled rows policy.now) }
     {
-        let changes = changes_for(*self.rows.allocator(), policy, sessions)?;
+        let changes = changes_for(self.rows.allocator(), policy, sessions)?;
         self.rows.reserve(sessions.len())?;
         Ok(Rows {
             of: Snapshot::of(self),
@@ -198,7 +197,7 @@ impl Tables {
     pub fn session_rows(&self, session: u32) -> Option<&SessionRows>
         ensures { option_map (λ rows. rows.now) result ≡ rows_of self.now session }
     {
-        self.rows.get(&session)
+        self.rows.get(session)
     }
 
     /// Where the session's rows are, and none where it has none: a number for `rows_at`, for a caller that asks about a few objects now and
@@ -207,7 +206,7 @@ impl Tables {
     pub fn place_of(&self, session: u32) -> Option<usize>
         ensures { rows_at self.now result ≡ rows_of self.now session }
     {
-        self.rows.get_index_of(&session)
+        self.rows.place_of(session)
     }
 
     /// The rows at a place that `place_of` gave.
@@ -215,7 +214,7 @@ impl Tables {
     pub fn rows_at(&self, place: Option<usize>) -> Option<&SessionRows>
         ensures { option_map (λ rows. rows.now) result ≡ rows_at self.now place }
     {
-        let (_, rows) = self.rows.get_index(place?)?;
+        let (_, rows) = self.rows.at(place?)?;
         Some(rows)
     }
 
@@ -295,32 +294,13 @@ fn changes_for(alloc: Global, policy: &Policy, sessions: &[u32]) -> Result<Vec<C
 }
 
 /// Puts the changes in place; there is room for all of them.
-fn put_all(rows: &mut IndexMap<u32, SessionRows>, mut changes: Vec<Change>)
-    requires { length changes.items ≤ spare rows.old }
+fn put_all(rows: &mut Sessions, mut changes: Vec<Change>)
+    requires { length changes.items ≤ rows.old.room }
     ensures { (session : ℕ) → lookup (nat_eq session) rows.new.entries
         ≡ unwrap_or (lookup (nat_eq session) changes.items) (lookup (nat_eq session) rows.old.entries) }
 {
     while let Some((session, found)) = changes.pop() {
-        put_one(rows, session, found);
-    }
-}
-
-/// Puts the session's rows in place, or takes its rows away.
-fn put_one(rows: &mut IndexMap<u32, SessionRows>, session: u32, found: Option<SessionRows>)
-    requires { 0 < spare rows.old }
-    ensures rows { (q : ℕ) → lookup (nat_eq q) rows.new.entries
-        ≡ (if q == session then found else lookup (nat_eq q) rows.old.entries) }
-    ensures room { spare rows.old ≤ spare rows.new + 1 }
-{
-    match found {
-        Some(made) => {
-            let Ok(_) = rows.insert(session, made) else {
-                unreachable!()
-            };
-        }
-        None => {
-            let _ = rows.swap_remove(&session);
-        }
+        rows.put(session, found);
     }
 }
 
@@ -348,7 +328,7 @@ fn words_of(range: ObjectRange, customers: u32, vehicles: u32) -> (u32, u32)
 
 /// What each session gains where the role may do more of the operation.
 fn grant_all(
-    rows: &mut IndexMap<u32, SessionRows>,
+    rows: &mut Sessions,
     policy: &Policy,
     role: u8,
     operation: Operation,
@@ -357,152 +337,55 @@ fn grant_all(
     requires order { words.0 ≤ words.1 }
     requires small { words.1 ≤ 32 }
     ensures rows { rows.new.entries ≡ all_changed (granted_to policy.now role operation words) rows.old.entries }
-    ensures room { spare rows.new ≡ spare rows.old }
+    ensures room { rows.new.room ≡ rows.old.room }
 {
-    for place in 0..rows.len() {
-        grant_at(rows, place, policy, role, operation, words);
-    }
-}
-
-/// The same for the session at this place.
-#[inline(always)]
-fn grant_at(
-    rows: &mut IndexMap<u32, SessionRows>,
-    place: usize,
-    policy: &Policy,
-    role: u8,
-    operation: Operation,
-    words: (u32, u32),
-)
-    requires order { words.0 ≤ words.1 }
-    requires small { words.1 ≤ 32 }
-    ensures rows { rows.new.entries ≡ changed_at (granted_to policy.now role operation words) rows.old.entries place }
-    ensures room { spare rows.new ≡ spare rows.old }
-{
-    if let Some(found) = rows.get_index_mut(place) {
-        found.grant(policy, role, operation, words);
+    let mut from = 0;
+    while let Some(place) = rows.next_that_reaches(role, from) {
+        rows.grant_at(place, policy, role, operation, words);
+        from = place + 1;
     }
 }
 
 /// What each session loses where the role may do less of the operation.
-fn revoke_all(
-    rows: &mut IndexMap<u32, SessionRows>,
-    policy: &Policy,
-    role: u8,
-    operation: Operation,
-)
+fn revoke_all(rows: &mut Sessions, policy: &Policy, role: u8, operation: Operation)
     ensures rows { rows.new.entries ≡ all_changed (revoked_from policy.now role operation) rows.old.entries }
-    ensures room { spare rows.new ≡ spare rows.old }
+    ensures room { rows.new.room ≡ rows.old.room }
 {
-    for place in 0..rows.len() {
-        revoke_at(rows, place, policy, role, operation);
-    }
-}
-
-/// The same for the session at this place.
-#[inline(always)]
-fn revoke_at(
-    rows: &mut IndexMap<u32, SessionRows>,
-    place: usize,
-    policy: &Policy,
-    role: u8,
-    operation: Operation,
-)
-    ensures rows { rows.new.entries ≡ changed_at (revoked_from policy.now role operation) rows.old.entries place }
-    ensures room { spare rows.new ≡ spare rows.old }
-{
-    if let Some(found) = rows.get_index_mut(place) {
-        found.revoke(policy, role, operation);
+    let mut from = 0;
+    while let Some(place) = rows.next_that_reaches(role, from) {
+        rows.revoke_at(place, policy, role, operation);
+        from = place + 1;
     }
 }
 
 /// New rows for each session that reaches the role, and now reaches other roles than before.
-fn inherit_all(rows: &mut IndexMap<u32, SessionRows>, policy: &Policy, role: u8)
+fn inherit_all(rows: &mut Sessions, policy: &Policy, role: u8)
     ensures rows { rows.new.entries ≡ all_changed (refreshed_above policy.now role) rows.old.entries }
-    ensures room { spare rows.new ≡ spare rows.old }
+    ensures room { rows.new.room ≡ rows.old.room }
 {
-    for place in 0..rows.len() {
-        inherit_at(rows, place, policy, role);
-    }
-}
-
-/// The same for the session at this place.
-#[inline(always)]
-fn inherit_at(rows: &mut IndexMap<u32, SessionRows>, place: usize, policy: &Policy, role: u8)
-    ensures rows { rows.new.entries ≡ changed_at (refreshed_above policy.now role) rows.old.entries place }
-    ensures room { spare rows.new ≡ spare rows.old }
-{
-    let Some((_, found)) = rows.get_index(place) else {
-        return;
-    };
-    if found.reaches(role) {
-        refresh_at(rows, place, policy);
+    let mut from = 0;
+    while let Some(place) = rows.next_that_reaches(role, from) {
+        rows.inherit_at(place, policy, role);
+        from = place + 1;
     }
 }
 
 /// New rows for each session that now reaches other roles than before.
-fn refresh_all(rows: &mut IndexMap<u32, SessionRows>, policy: &Policy)
+fn refresh_all(rows: &mut Sessions, policy: &Policy)
     ensures rows { rows.new.entries ≡ all_changed (refreshed policy.now) rows.old.entries }
-    ensures room { spare rows.new ≡ spare rows.old }
+    ensures room { rows.new.room ≡ rows.old.room }
 {
     for place in 0..rows.len() {
-        refresh_at(rows, place, policy);
-    }
-}
-
-/// The same for the session at this place.
-fn refresh_at(rows: &mut IndexMap<u32, SessionRows>, place: usize, policy: &Policy)
-    ensures rows { rows.new.entries ≡ changed_at (refreshed policy.now) rows.old.entries place }
-    ensures room { spare rows.new ≡ spare rows.old }
-{
-    let Some((session, _)) = rows.get_index(place) else {
-        return;
-    };
-    let Some(roles) = policy.reached_roles(*session) else {
-        return;
-    };
-    if let Some(found) = rows.get_index_mut(place) {
-        found.follow(policy, roles);
+        rows.refresh_at(place, policy);
     }
 }
 
 /// New rows for each session that reached the role, which is gone, or that now reaches other roles than before.
-fn delete_all(rows: &mut IndexMap<u32, SessionRows>, policy: &Policy, role: u8)
+fn delete_all(rows: &mut Sessions, policy: &Policy, role: u8)
     ensures rows { rows.new.entries ≡ all_changed (refreshed_without policy.now role) rows.old.entries }
-    ensures room { spare rows.new ≡ spare rows.old }
+    ensures room { rows.new.room ≡ rows.old.room }
 {
     for place in 0..rows.len() {
-        delete_at(rows, place, policy, role);
-    }
-}
-
-/// The same for the session at this place.
-fn delete_at(rows: &mut IndexMap<u32, SessionRows>, place: usize, policy: &Policy, role: u8)
-    ensures rows { rows.new.entries ≡ changed_at (refreshed_without policy.now role) rows.old.entries place }
-    ensures room { spare rows.new ≡ spare rows.old }
-{
-    let Some((_, found)) = rows.get_index(place) else {
-        return;
-    };
-    if found.reaches(role) {
-        make_at(rows, place, policy);
-    } else {
-        refresh_at(rows, place, policy);
-    }
-}
-
-/// New rows for the session at this place.
-fn make_at(rows: &mut IndexMap<u32, SessionRows>, place: usize, policy: &Policy)
-    ensures rows { rows.new.entries ≡ changed_at (made_anew policy.now) rows.old.entries place }
-    ensures room { spare rows.new ≡ spare rows.old }
-{
-    let Some((session, _)) = rows.get_index(place) else {
-        return;
-    };
-    let Some(roles) = policy.reached_roles(*session) else {
-        return;
-    };
-    if let Some(found) = rows.get_index_mut(place) {
-        found.make(policy, roles);
+        rows.delete_at(place, policy, role);
     }
 }

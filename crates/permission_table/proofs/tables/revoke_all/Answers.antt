@@ -1,6 +1,8 @@
-use Rattle.std.proofs.Common.{refl, ap, ◌∙◌, arith}
-use Rattle.permission_table.specs.Rights.{revoked_from, changed_at}
-use Rattle.permission_table.proofs.PlaceLaws.{changed_none, changed_next, changed_past}
+use Rattle.std.proofs.Common.{refl, ◌∙◌}
+use Rattle.permission_table.specs.Rights.{revoked_from}
+use Rattle.permission_table.proofs.PlaceLaws.{changed_none}
+use Rattle.permission_table.proofs.ReachLaws.{changed_upto, changed_last}
+use Rattle.permission_table.proofs.RightsLaws.{revoked_same}
 use Rattle.permission_table.proofs.tables.revoke_all.Goals as goal
 
 pub loop-place-init : goal.loop-place-init
@@ -8,11 +10,11 @@ loop-place-init c = record { rows = changed_none (revoked_from c.args.policy.now
 
 pub loop-place-preserved : goal.loop-place-preserved
 loop-place-preserved c = record {
-  rows = c.revoke_at.ensures.rows ∙ ap (λ es. changed_at (revoked_from c.args.policy.now c.args.role c.args.operation) es c.loop-place.place) c.loop-place.invariant.rows ∙ changed_next (revoked_from c.args.policy.now c.args.role c.args.operation) c.args.rows.now.entries c.loop-place.place;
+  rows = changed_upto (revoked_from c.args.policy.now c.args.role c.args.operation) c.args.role (revoked_same c.args.policy.now c.args.role c.args.operation) c.args.rows.now.entries c.loop-place.rows.entries c.revoke_at.new.self.entries c.loop-place.from c.in-Some.place
+      c.loop-place.invariant.rows c.in-Some.ensures.from c.in-Some.ensures.between c.revoke_at.ensures.rows;
   room = c.revoke_at.ensures.room ∙ c.loop-place.invariant.room;
 }
 
 pub returns-clause-rows : goal.returns-clause-rows
 returns-clause-rows c =
-    c.loop-place.invariant.rows
-    ∙ changed_past (revoked_from c.args.policy.now c.args.role c.args.operation) c.args.rows.now.entries c.loop-place.place (omega (arith, c.loop-place-test.false, c.len-place-end.ensures.len))
+    changed_last (revoked_from c.args.policy.now c.args.role c.args.operation) c.args.role (revoked_same c.args.policy.now c.args.role c.args.operation) c.args.rows.now.entries c.loop-place.rows.entries c.loop-place.from c.loop-place.invariant.rows c.in_default.ensures.none

@@ -1,11 +1,13 @@
-use Rattle.std.proofs.Common.{◌≡◌}
-use Rattle.indexmap.specs.IndexMap.{spare}
+use Rattle.std.proofs.Common.{◌≡◌, ◌-◌}
 use Rattle.permission_table.specs.Rights.{revoked_from}
 use Rattle.permission_table.proofs.PlaceLaws.{changed_first}
 use Rattle.permission_table.proofs.tables.revoke_all.Given as goal
 
 abbrev pub invariant-loop-place : goal.invariant-loop-place
 invariant-loop-place l = record {
-  rows : l.rows.entries ≡ changed_first (revoked_from l.policy l.role l.operation) l.initial.rows.entries l.place;
-  room : spare l.rows ≡ spare l.initial.rows;
+  rows : l.rows.entries ≡ changed_first (revoked_from l.policy l.role l.operation) l.initial.rows.entries l.from;
+  room : l.rows.room ≡ l.initial.rows.room;
 }
+
+abbrev pub decreases-loop-place : goal.decreases-loop-place
+decreases-loop-place l = 9223372036854775808 - l.from

@@ -1,5 +1,4 @@
 use Rattle.std.proofs.Common.{◌≡◌, ℕ, List, ap, ap₂, sym, subst, ◌∙◌}
-use Rattle.indexmap.specs.IndexMap.{spare}
 use Rattle.permission_table.specs.Bits.{SessionAccess}
 use Rattle.permission_table.specs.Rights.{refreshed_without}
 use Rattle.permission_table.specs.Tables.{TablesState}
@@ -11,7 +10,7 @@ pub returns-clause-compiled : goal.returns-clause-compiled
 returns-clause-compiled c before role are of after =
     let q = c.args.policy.now in
     let old : TablesState = c.args.self.now in
-    let new : TablesState = record { customers = c.self.inside.customers; vehicles = c.self.inside.vehicles; rows = c.delete_all.new.rows.entries; room = spare c.delete_all.new.rows } in
+    let new : TablesState = record { customers = c.self.inside.customers; vehicles = c.self.inside.vehicles; rows = c.delete_all.new.rows.entries; room = c.delete_all.new.rows.room } in
     let f : ℕ → SessionAccess → SessionAccess = refreshed_without q c.args.slot in
     let is : new ≡ with_all old f =
     ap₂ (λ (es : List (ℕ × SessionAccess)) (n : ℕ). record { customers = c.self.inside.customers; vehicles = c.self.inside.vehicles; rows = es; room = n }) c.delete_all.ensures.rows c.delete_all.ensures.room

@@ -1,5 +1,4 @@
 use Rattle.std.proofs.Common.{◌≡◌, ℕ, List, ap, ap₂, sym, subst, ◌∙◌, arith}
-use Rattle.indexmap.specs.IndexMap.{spare}
 use Rattle.permission_core.specs.Objects.{is_bad_range}
 use Rattle.policy_core.specs.State.{PolicyState}
 use Rattle.permission_table.specs.Bits.{SessionAccess}
@@ -13,7 +12,7 @@ pub returns-clause-compiled : goal.returns-clause-compiled
 returns-clause-compiled c before are free after =
     let q = c.args.policy.now in
     let old : TablesState = c.args.self.now in
-    let new : TablesState = record { customers = c.self.inside.customers; vehicles = c.self.inside.vehicles; rows = c.grant_all.new.rows.entries; room = spare c.grant_all.new.rows } in
+    let new : TablesState = record { customers = c.self.inside.customers; vehicles = c.self.inside.vehicles; rows = c.grant_all.new.rows.entries; room = c.grant_all.new.rows.room } in
     let f : ℕ → SessionAccess → SessionAccess = granted_to q c.slot_or_zero-slot.result c.args.operation c.words_of-words.result in
     let is : new ≡ with_all old f =
     ap₂ (λ (es : List (ℕ × SessionAccess)) (n : ℕ). record { customers = c.self.inside.customers; vehicles = c.self.inside.vehicles; rows = es; room = n }) c.grant_all.ensures.rows c.grant_all.ensures.room

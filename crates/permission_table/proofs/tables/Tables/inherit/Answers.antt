@@ -1,5 +1,4 @@
 use Rattle.std.proofs.Common.{◌≡◌, ℕ, List, ap, ap₂, sym, subst, ◌∙◌, arith}
-use Rattle.indexmap.specs.IndexMap.{spare}
 use Rattle.permission_table.specs.Bits.{SessionAccess}
 use Rattle.permission_table.specs.Rights.{refreshed_above}
 use Rattle.permission_table.specs.Tables.{TablesState}
@@ -11,7 +10,7 @@ pub returns-clause-compiled : goal.returns-clause-compiled
 returns-clause-compiled c before are is_order after =
     let q = c.args.policy.now in
     let old : TablesState = c.args.self.now in
-    let new : TablesState = record { customers = c.self.inside.customers; vehicles = c.self.inside.vehicles; rows = c.inherit_all.new.rows.entries; room = spare c.inherit_all.new.rows } in
+    let new : TablesState = record { customers = c.self.inside.customers; vehicles = c.self.inside.vehicles; rows = c.inherit_all.new.rows.entries; room = c.inherit_all.new.rows.room } in
     let f : ℕ → SessionAccess → SessionAccess = refreshed_above q c.slot_or_zero-above.result in
     let is : new ≡ with_all old f =
     ap₂ (λ (es : List (ℕ × SessionAccess)) (n : ℕ). record { customers = c.self.inside.customers; vehicles = c.self.inside.vehicles; rows = es; room = n }) c.inherit_all.ensures.rows c.inherit_all.ensures.room

@@ -1,8 +1,7 @@
-use Rattle.indexmap.specs.IndexMap.{spare}
 use Rattle.permission_table.proofs.CompiledLaws.{none_compiled}
 use Rattle.permission_table.proofs.tables.Tables.new.Goals as goal
 
 pub returns-clause-compiled : goal.returns-clause-compiled
 returns-clause-compiled c =
-    let made = c.in_ok-with_capacity.field-0 in
-    none_compiled (record { customers = c.args.customers; vehicles = c.args.vehicles; rows = made.entries; room = spare made }) c.in_ok-with_capacity.ensures.empty
+    let made = c.in_ok-new.field-0 in
+    none_compiled (record { customers = c.args.customers; vehicles = c.args.vehicles; rows = made.entries; room = made.room }) c.in_ok-new.ensures

@@ -1,5 +1,4 @@
 use Rattle.std.proofs.Common.{◌≡◌, ℕ, List, subst, ap, ◌∙◌, sym}
-use Rattle.indexmap.specs.IndexMap.{spare}
 use Rattle.permission_table.specs.Bits.{SessionAccess}
 use Rattle.permission_table.specs.Tables.{TablesState}
 use Rattle.permission_table.specs.Compiled.{AreCompiled, HasSizes}
@@ -14,7 +13,7 @@ pub returns-clause-compiled : goal.returns-clause-compiled
 returns-clause-compiled c before =
     let old : TablesState = c.args.self.now in
     let t : TablesState = c.of.result.value in
-    let room : ℕ = spare c.reserve.new.self in
+    let room : ℕ = c.reserve.new.self.room in
     let grown : t ≡ record old { room = room } =
     c.of.ensures
     ∙ ap (λ (es : List (ℕ × SessionAccess)). record { customers = c.self.inside.customers; vehicles = c.self.inside.vehicles; rows = es; room = room }) c.in_ok-reserve.ensures.entries

@@ -1,5 +1,4 @@
 use Rattle.std.proofs.Common.{◌≡◌, ℕ, List, ap, ap₂, sym, subst, ◌∙◌}
-use Rattle.indexmap.specs.IndexMap.{spare}
 use Rattle.permission_table.specs.Bits.{SessionAccess}
 use Rattle.permission_table.specs.Rights.{revoked_from}
 use Rattle.permission_table.specs.Tables.{TablesState}
@@ -11,7 +10,7 @@ pub returns-clause-compiled : goal.returns-clause-compiled
 returns-clause-compiled c before range are after =
     let q = c.args.policy.now in
     let old : TablesState = c.args.self.now in
-    let new : TablesState = record { customers = c.self.inside.customers; vehicles = c.self.inside.vehicles; rows = c.revoke_all.new.rows.entries; room = spare c.revoke_all.new.rows } in
+    let new : TablesState = record { customers = c.self.inside.customers; vehicles = c.self.inside.vehicles; rows = c.revoke_all.new.rows.entries; room = c.revoke_all.new.rows.room } in
     let f : ℕ → SessionAccess → SessionAccess = revoked_from q c.slot_or_zero-slot.result c.args.operation in
     let is : new ≡ with_all old f =
     ap₂ (λ (es : List (ℕ × SessionAccess)) (n : ℕ). record { customers = c.self.inside.customers; vehicles = c.self.inside.vehicles; rows = es; room = n }) c.revoke_all.ensures.rows c.revoke_all.ensures.room

@@ -1,0 +1,25 @@
+use Rattle.std.proofs.Common.{◌≡◌, ℕ, ◌*◌, ◌/◌, ◌%◌, ◌<◌, ◌+◌, List, length, set, ap, sym, ◌∙◌, arith, ◌&&◌, not, eqb, length-set}
+use Rattle.std.specs.Prelude.{nat_lt}
+use Rattle.std.proofs.lemmas.List.{get_or_default}
+use Rattle.role_hierarchy.specs.Roles.{has, without}
+use Rattle.permission_table.specs.Reaching.{is_marked}
+use Rattle.permission_table.proofs.ReachLaws.{index, inside, removed, member_next, leave_more}
+use Rattle.permission_table.proofs.reaching.Reaching.leave.Goals as goal
+
+pub loop-role-preserved : goal.loop-role-preserved
+loop-role-preserved c =
+    let sets : List ℕ = c.loop-role.self-inside.sets.items in
+    let r = c.in-Some.role in
+    let place = c.args.place in
+    let long : length sets ≡ length c.self.inside.sets.items = c.loop-role.invariant.places in
+    let whole : length sets % 256 ≡ 0 = ap (λ n. n % 256) long ∙ c.self.invariant in
+    let there : place < length sets = omega (arith, c.requires.place, ap length c.self.view_is, long) in record {
+      small = omega arith;
+      places = length-set sets _ _ ∙ long;
+      marks = λ role q low within.
+          ap (λ v. is_marked (set sets (256 * (place / 256) + r) v) role q) (c.remove.ensures ∙ ap (λ s. without s (place % 256)) (c.index_mut.ensures.value ∙ get_or_default sets (index r place) c.index_mut.result.now 0 (inside sets r place whole (omega arith) there)))
+          ∙ removed sets place r whole (omega arith) there role q low
+          ∙ ap (λ t. not (eqb q place && eqb role r) && t) (c.loop-role.invariant.marks role q low within)
+          ∙ leave_more (eqb q place) (eqb role r) (nat_lt role c.loop-role.from && has c.args.roles role) (is_marked c.self.inside.sets.items role q)
+          ∙ ap (λ t. not (eqb q place && t) && is_marked c.self.inside.sets.items role q) (sym (member_next c.args.roles c.loop-role.from r role c.in-Some.ensures.member c.in-Some.ensures.from c.in-Some.ensures.least));
+    }
