@@ -19,7 +19,10 @@ fn is_allowed(search: &Search, mv: Move) -> bool
     requires near { IsNear search.now.v search.now.w mv }
     ensures { IsTrue result ↔ IsAllowed (scope_of (searched search.now)) search.now.view.now search.now.skip.now mv }
 {
-    let (view, setup, v, w) = (search.view, search.setup, search.v, search.w);
+    let view = search.view;
+    let setup = search.setup;
+    let v = search.v;
+    let w = search.w;
     if !is_free(view, setup, search.skip, v, w, mv) {
         return false;
     }

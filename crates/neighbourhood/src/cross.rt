@@ -36,8 +36,11 @@ fn cross_row(search: &Search, crosses: &Crosses, first: u32, end: u32, best: Bes
     requires best { IsBestSoFar (searched search.now) (4 ∷ search.now.v ∷ crosses.now.keep ∷ search.now.w ∷ first ∷ []) best.found }
     ensures { IsBestSoFar (searched search.now) (4 ∷ search.now.v ∷ crosses.now.keep ∷ search.now.w ∷ end ∷ []) result.found }
 {
-    let (lost, ways) = (crosses.lost, crosses.ways);
-    let (least, begin, last) = (best.wanted(0), first as usize, end as usize);
+    let lost = crosses.lost;
+    let ways = crosses.ways;
+    let least = best.wanted(0);
+    let begin = first as usize;
+    let last = end as usize;
     if !may_gain(lost, least, &ways, begin, last) {
         return best;
     }
@@ -77,7 +80,9 @@ fn cross_over(search: &Search, gathered: &Gathered, keep: u32, begin: u32, best:
     ensures { IsBestSoFar (searched search.now)
         (4 ∷ search.now.v ∷ keep ∷ search.now.w ∷ (length gathered.now.to.now - 1) ∷ []) result.found }
 {
-    let (from_edges, most, width) = (gathered.from_edges, gathered.most, gathered.to.len());
+    let from_edges = gathered.from_edges;
+    let most = gathered.most;
+    let width = gathered.to.len();
     let index = keep as usize;
     let lost = way_at(from_edges, index);
     let here = row(gathered.out, width, index);
@@ -111,7 +116,8 @@ pub(crate) fn best_cross(search: &Search, gathered: &Gathered, best: Best) -> Be
     requires best { IsBestSoFar (searched search.now) (4 ∷ []) best.found }
     ensures { IsBestSoFar (searched search.now) (5 ∷ []) result.found }
 {
-    let (view, setup) = (search.view, search.setup);
+    let view = search.view;
+    let setup = search.setup;
     let least = must_keep(view, setup, search.v);
     let begin = must_keep(view, setup, search.w);
     let mut best = best;

@@ -38,12 +38,10 @@ fn reverse_row(search: &Search, reverses: &Reverses, end: u32, best: Best) -> Be
     requires best { IsBestSoFar (searched search.now) (3 ∷ search.now.v ∷ reverses.now.first ∷ (reverses.now.first + 1) ∷ []) best.found }
     ensures { IsBestSoFar (searched search.now) (3 ∷ search.now.v ∷ reverses.now.first ∷ end ∷ []) result.found }
 {
-    let (first, lost, gained, ways) = (
-        reverses.first,
-        reverses.lost,
-        reverses.gained,
-        reverses.ways,
-    );
+    let first = reverses.first;
+    let lost = reverses.lost;
+    let gained = reverses.gained;
+    let ways = reverses.ways;
     if first + 1 == end {
         return best;
     }
@@ -96,7 +94,9 @@ fn reverse_from(
     if first < first_free(search.view, search.setup, search.v) {
         return best;
     }
-    let (edges, out, width) = (gathered.to_edges, gathered.out, gathered.from.len());
+    let edges = gathered.to_edges;
+    let out = gathered.out;
+    let width = gathered.from.len();
     let index = first as usize;
     let reverses = Reverses {
         first,

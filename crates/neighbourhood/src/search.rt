@@ -225,7 +225,8 @@ impl Searcher {
         }
         self.sides.gather(view, setup, v, w)?;
         let sides = &self.sides;
-        let (stops, edges) = (sides.stops.as_slice(), sides.edges.as_slice());
+        let stops = sides.stops.as_slice();
+        let edges = sides.edges.as_slice();
         let (from, to, from_edges, to_edges) = parts_of(view, setup, v, stops, edges);
         self.ways.gather_between(setup, from, to)?;
         let ways = &self.ways;

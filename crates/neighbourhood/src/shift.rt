@@ -55,7 +55,9 @@ fn shift_row(search: &Search, shifts: Shifts, offset: u32, first: u32, end: u32,
     if first == end {
         return best;
     }
-    let (lost, gained, ways) = (shifts.lost, shifts.gained, shifts.ways);
+    let lost = shifts.lost;
+    let gained = shifts.gained;
+    let ways = shifts.ways;
     let least = best.wanted(gained);
     let begin = (first + offset) as usize - 1;
     let last = (end + offset) as usize - 1;
@@ -98,7 +100,8 @@ fn closing(search: &Search, gathered: &Gathered, before: usize, after: usize) ->
         (slice_index gathered.now.from.now before) (slice_index gathered.now.from.now after) }
     ensures small { result < 2 ^ 34 }
 {
-    let (from, width) = (gathered.from, gathered.to.len());
+    let from = gathered.from;
+    let width = gathered.to.len();
     if before == 0 {
         let comes = row(gathered.into, width, after);
         return way_at(comes, 0);
@@ -136,7 +139,9 @@ fn shift_over(
     if free < count {
         return best;
     }
-    let (from_edges, most, width) = (gathered.from_edges, gathered.most, gathered.to.len());
+    let from_edges = gathered.from_edges;
+    let most = gathered.most;
+    let width = gathered.to.len();
     let first = place as usize;
     let after = first + count as usize;
     let lost = u64::from(from_edges[first - 1]) + u64::from(from_edges[after - 1]);
@@ -185,7 +190,9 @@ fn shift_within(search: &Search, gathered: &Gathered, place: u32, count: u32, be
     if place < begin {
         return best;
     }
-    let (edges, out, width) = (gathered.to_edges, gathered.out, gathered.from.len());
+    let edges = gathered.to_edges;
+    let out = gathered.out;
+    let width = gathered.from.len();
     let first = place as usize;
     let after = first + count as usize;
     let closes = row(out, width, first - 1);

@@ -39,7 +39,8 @@ fn swap_row(search: &Search, swaps: Swaps, first: u32, end: u32, best: Best) -> 
     requires best { IsBestSoFar (searched search.now) (2 ∷ search.now.v ∷ swaps.place ∷ search.now.w ∷ first ∷ []) best.found }
     ensures { IsBestSoFar (searched search.now) (2 ∷ search.now.v ∷ swaps.entry.place ∷ search.now.w ∷ end ∷ []) result.found }
 {
-    let (lost, ways) = (swaps.lost, swaps.ways);
+    let lost = swaps.lost;
+    let ways = swaps.ways;
     let least = best.wanted(0);
     if !may_swap_gain(lost, least, &ways, first as usize, end as usize) {
         return best;
@@ -81,13 +82,17 @@ fn swap_over(search: &Search, gathered: &Gathered, place: u32, best: Best) -> Be
     ensures { IsBestSoFar (searched search.now)
         (2 ∷ search.now.v ∷ place ∷ search.now.w ∷ (length gathered.now.to.now - 1) ∷ []) result.found }
 {
-    let (view, setup) = (search.view, search.setup);
+    let view = search.view;
+    let setup = search.setup;
     if !may_leave(view, setup, search.v, place, 1) {
         return best;
     }
     let begin = first_free(view, setup, search.w);
-    let (from_edges, most, width) = (gathered.from_edges, gathered.most, gathered.to.len());
-    let (out, into) = (gathered.out, gathered.into);
+    let from_edges = gathered.from_edges;
+    let most = gathered.most;
+    let width = gathered.to.len();
+    let out = gathered.out;
+    let into = gathered.into;
     let index = place as usize;
     let lost = way_at(from_edges, index - 1) + way_at(from_edges, index);
     let before = row(out, width, index - 1);
@@ -127,7 +132,8 @@ fn swap_within(search: &Search, gathered: &Gathered, place: u32, best: Best) -> 
     ensures { IsBestSoFar (searched search.now)
         (2 ∷ search.now.v ∷ place ∷ search.now.w ∷ (length gathered.now.from.now - 1) ∷ []) result.found }
 {
-    let (edges, width) = (gathered.to_edges, gathered.from.len());
+    let edges = gathered.to_edges;
+    let width = gathered.from.len();
     let index = place as usize;
     if index + 2 >= width {
         return best;
@@ -135,7 +141,8 @@ fn swap_within(search: &Search, gathered: &Gathered, place: u32, best: Best) -> 
     if place < first_free(search.view, search.setup, search.v) {
         return best;
     }
-    let (out, into) = (gathered.out, gathered.into);
+    let out = gathered.out;
+    let into = gathered.into;
     let before = row(out, width, index - 1);
     let here = row(out, width, index);
     let back = row(into, width, index);
