@@ -1,5 +1,7 @@
 -- A place that was found in a row: it lies before the end, and its number fits.
-use Rattle.std.proofs.Common.{Fits, w32, w64, ◌≢◌, ◌^◌, ℕ, ◌+◌, ◌-◌, ◌<◌, ◌≤◌, arith}
+use Rattle.std.proofs.Common.{Fits, w32, w64, ◌≡◌, ◌≢◌, ◌^◌, ℕ, ◌+◌, ◌-◌, ◌<◌, ◌≤◌, arith}
+use Rattle.move_core.specs.declared.moves.Move.{Move}
+use Rattle.neighbourhood.specs.Searched.{Searched, Saves, new_cost, old_cost}
 
 pub found_in : (k end n : ℕ) → k ≤ end → k ≢ end → end ≤ n → k < n
 found_in k end n h other fits = omega arith
@@ -27,3 +29,51 @@ fixed_small x h = omega arith
 
 pub fixed_wide : (x : ℕ) → x < 2 ^ 50 → x < 2 ^ 51
 fixed_wide x h = omega arith
+
+pub found_under : (k end : ℕ) → k ≤ end → k ≢ end → k < end
+found_under k end h other = omega arith
+
+pub found_below : (k end : ℕ) → k ≤ end → k ≢ end → k + 1 ≤ end
+found_below k end h other = omega arith
+
+-- the places that were passed over, from a on up to b
+pub same : (n : ℕ) → n ≤ n
+same n = omega arith
+
+pub on : (a b k : ℕ) → a ≤ b → b ≤ k → a ≤ k
+on a b k h l = omega arith
+
+pub on_next : (a b k : ℕ) → a ≤ b → b ≤ k → a ≤ k + 1
+on_next a b k h l = omega arith
+
+pub above : (a b k : ℕ) → a + 1 ≤ b → b ≤ k → a < k
+above a b k h l = omega arith
+
+pub above_next : (a b k : ℕ) → a + 1 ≤ b → b ≤ k → a + 1 ≤ k + 1
+above_next a b k h l = omega arith
+
+pub behind : (p a b k : ℕ) → p < a → a ≤ b → b ≤ k → p < k
+behind p a b k h l m = omega arith
+
+pub before : (k b end : ℕ) → k < b → b ≤ end → k < end
+before k b end h l = omega arith
+
+pub before_end : (k b end : ℕ) → b ≡ end → k < end → k < b
+before_end k b end e h = omega arith
+
+pub found_low : (k end : ℕ) → k < end → k + 1 ≤ end
+found_low k end h = omega arith
+
+pub passed : (k b end : ℕ) → k < b → b + 1 ≤ end → k < end
+passed k b end h l = omega arith
+
+pub both_ways : (a end : ℕ) → end ≤ a → a ≤ end → a ≡ end
+both_ways a end h l = omega arith
+
+-- a move that saves no more than is gained already
+pub no_more : (q : Searched) (mv : Move) (lost l gained g wanted gain : ℕ) → Saves q mv (lost + l) (gained + g) → lost + l ≤ wanted + g → wanted ≡ gained + gain
+    → old_cost q - new_cost q mv ≤ gain
+no_more q mv lost l gained g wanted gain saving none most = omega arith
+
+pub no_more_lost : (q : Searched) (mv : Move) (lost l g wanted gain : ℕ) → Saves q mv (lost + l) g → lost + l ≤ wanted + g → wanted ≡ 0 + gain → old_cost q - new_cost q mv ≤ gain
+no_more_lost q mv lost l g wanted gain saving none most = omega arith

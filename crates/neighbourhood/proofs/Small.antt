@@ -203,6 +203,21 @@ shift_after a k end o n test h other fits = omega arith
 pub shift_next_casts : (k o end n : ℕ) → k ≤ end + o - 1 → end + o - 1 < n → n ≤ 1002 → Fits w32 (k + 1 - o + 1)
 shift_next_casts k o end n h fits short = omega arith
 
+pub shift_under : (f k end o : ℕ) → 1 ≤ f → f ≤ k → k < end → k + o - 1 < end + o - 1
+shift_under f k end o h l m = omega arith
+
+pub shift_before : (k r o end : ℕ) → 1 ≤ k → r + 1 - o ≡ end → k < end → k + o - 1 < r
+shift_before k r o end h e l = omega arith
+
+pub shift_on : (f a o r : ℕ) → f ≤ a → a + o - 1 ≤ r → f ≤ r + 1 - o
+shift_on f a o r h l = omega arith
+
+pub shift_found : (end o r : ℕ) → 1 ≤ end → r ≤ end + o - 1 → r + 1 - o ≢ end → r + 1 - o < end
+shift_found end o r h l other = omega arith
+
+pub shift_same : (r o : ℕ) → o ≤ r + 1 → r + 1 - o + o - 1 ≡ r
+shift_same r o h = omega arith
+
 pub shift_goes_on : (a k end o : ℕ) → a < end → a + o - 1 ≤ k → end - (k + 1 - o + 1) < end - a
 shift_goes_on a k end o test h = omega arith
 

@@ -1,62 +1,47 @@
-use Rattle.std.proofs.Common.{◌≡◌, ℕ, ◌+◌, arith, subst, [], ◌∷◌, refl}
-use Rattle.neighbourhood.specs.Search.{IsBestSoFar}
+use Rattle.std.proofs.Common.{ℕ, ◌+◌, arith, subst, [], ◌∷◌, refl}
+use Rattle.move_core.specs.declared.moves.Move.TheVariants.{Cross}
+use Rattle.way_costs.specs.Rows.{lost_by_cut, gained_by_cut}
+use Rattle.neighbourhood.specs.Search.{gain_of, IsBestSoFar}
 use Rattle.neighbourhood.specs.Searched.{searched}
-use Rattle.neighbourhood.proofs.Found.{fixed_small, found_adds, found_after, found_casts, found_in, found_next}
+use Rattle.neighbourhood.proofs.Found.{before, before_end, both_ways, fixed_small, found_adds, found_after, found_below, found_casts, found_in, found_next, found_under, no_more_lost, on_next, same}
 use Rattle.neighbourhood.proofs.Rows.{cross_next, crosses_past}
 use Rattle.neighbourhood.proofs.Small.{goes_on, lost_fits, lost_low, two_fit}
 use Rattle.neighbourhood.proofs.cross.cross_row.Goals as goal
 
 pub returns-then-there-end : goal.returns-then-there-end
 returns-then-there-end g c =
-    let end = c.if-there-end.true in
-    let test = c.row-test.true in
-    crosses_past (searched c.args.search.now) c.requires.search c.args.crosses.now.keep c.row.keep_other c.args.end c.row.best.found (omega arith)
-    (λ k h l q.
-    let low = c.row.invariant.low in
-    let saving = c.requires.saving k l in
-    let none = c.first_gain-found.ensures.none k (omega arith) (omega arith) in
-    let most = c.wanted.ensures.value in
-    omega arith)
+    let q = searched c.args.search.now in
+    crosses_past q c.requires.search c.args.crosses.now.keep c.row.keep_other c.args.end c.row.best.found c.row.invariant.high
+    (λ k h l counts. no_more_lost q (Cross q.v c.args.crosses.now.keep q.w k) c.args.crosses.now.lost (lost_by_cut c.args.crosses.now.ways k) (gained_by_cut c.args.crosses.now.ways k) c.wanted.result (gain_of c.row.best.found)
+    (c.requires.saving k l) (c.first_gain-found.ensures.none k (before_end k c.first_gain-found.result c.args.end c.if-there-end.true l) h) c.wanted.ensures.value)
     c.row.invariant.best
 
 pub row-preserved : goal.row-preserved
 row-preserved g c =
-    let test = c.row-test.true in
-    let from = c.first_gain-found.ensures.low in
-    let to = c.first_gain-found.ensures.high in
-    let other = c.if-there-end.false in
-    let low = c.row.invariant.low in
     let q = searched c.args.search.now in
     let past =
-    crosses_past q c.requires.search c.args.crosses.now.keep c.row.keep_other c.first_gain-found.result c.row.best.found (omega arith)
-    (λ k h l q.
-    let low = c.row.invariant.low in
-    let saving = c.requires.saving k (omega arith) in
-    let none = c.first_gain-found.ensures.none k (omega arith) (omega arith) in
-    let most = c.wanted.ensures.value in
-    omega arith)
+    crosses_past q c.requires.search c.args.crosses.now.keep c.row.keep_other c.first_gain-found.result c.row.best.found c.first_gain-found.ensures.low
+    (λ k h l counts. no_more_lost q (Cross q.v c.args.crosses.now.keep q.w k) c.args.crosses.now.lost (lost_by_cut c.args.crosses.now.ways k) (gained_by_cut c.args.crosses.now.ways k) c.wanted.result (gain_of c.row.best.found)
+    (c.requires.saving k (before k c.first_gain-found.result c.args.end l c.first_gain-found.ensures.high)) (c.first_gain-found.ensures.none k l h) c.wanted.ensures.value)
     c.row.invariant.best in
     record {
-      low = omega arith;
-      high = omega arith;
+      low = on_next c.args.first c.row.keep_other c.first_gain-found.result c.row.invariant.low c.first_gain-found.ensures.low;
+      high = found_below c.first_gain-found.result c.args.end c.first_gain-found.ensures.high c.if-there-end.false;
       best = c.or_better-best.ensures (4 ∷ q.v ∷ c.args.crosses.now.keep ∷ q.w ∷ (c.first_gain-found.result + 1) ∷ []) (cross_next q c.requires.search c.args.crosses.now.keep c.first_gain-found.result) past;
     }
 
 pub returns : goal.returns
 returns g c =
-    let e : c.row.keep_other ≡ c.args.end = let test = c.row-test.false in let high = c.row.invariant.high in omega arith in
+    let e = both_ways c.row.keep_other c.args.end c.row-test.false c.row.invariant.high in
     let q = searched c.args.search.now in
     subst (λ (k : ℕ). IsBestSoFar q (4 ∷ q.v ∷ c.args.crosses.now.keep ∷ q.w ∷ k ∷ []) c.row.best.found) e c.row.invariant.best
 
 pub returns-then-not-may_gain : goal.returns-then-not-may_gain
 returns-then-not-may_gain g c =
-    let order = c.requires.order in
-    crosses_past (searched c.args.search.now) c.requires.search c.args.crosses.now.keep c.args.first c.args.end c.args.best.found (omega arith)
-    (λ k h l q.
-    let saving = c.requires.saving k l in
-    let none = c.may_gain.ensures c.if-not-may_gain.true k (omega arith) (omega arith) in
-    let most = c.wanted-least.ensures.value in
-    omega arith)
+    let q = searched c.args.search.now in
+    crosses_past q c.requires.search c.args.crosses.now.keep c.args.first c.args.end c.args.best.found c.requires.order
+    (λ k h l counts. no_more_lost q (Cross q.v c.args.crosses.now.keep q.w k) c.args.crosses.now.lost (lost_by_cut c.args.crosses.now.ways k) (gained_by_cut c.args.crosses.now.ways k) c.wanted-least.result (gain_of c.args.best.found)
+    (c.requires.saving k l) (c.may_gain.ensures c.if-not-may_gain.true k l h) c.wanted-least.ensures.value)
     c.requires.best
 
 pub may_gain-requires-clause-row : goal.may_gain-requires-clause-row
@@ -72,22 +57,17 @@ pub or_better-best-requires-clause-near : goal.or_better-best-requires-clause-ne
 or_better-best-requires-clause-near g c = (refl, refl, c.requires.apart)
 
 pub row-init : goal.row-init
-row-init g c = record { low = omega arith; high = c.requires.order; best = c.requires.best }
+row-init g c = record { low = same c.args.first; high = c.requires.order; best = c.requires.best }
 
 pub may_gain-requires-clause-most : goal.may_gain-requires-clause-most
 may_gain-requires-clause-most g c = c.requires.most
 
 pub or_better-best-requires-clause-possible : goal.or_better-best-requires-clause-possible
-or_better-best-requires-clause-possible g c =
-    let to = c.first_gain-found.ensures.high in
-    let other = c.if-there-end.false in
-    c.requires.possible c.first_gain-found.result (omega arith)
+or_better-best-requires-clause-possible g c = c.requires.possible c.first_gain-found.result (found_under c.first_gain-found.result c.args.end c.first_gain-found.ensures.high c.if-there-end.false)
 
 pub or_better-best-requires-clause-saving : goal.or_better-best-requires-clause-saving
 or_better-best-requires-clause-saving g c =
-    let to = c.first_gain-found.ensures.high in
-    let other = c.if-there-end.false in
-    let saving = c.requires.saving c.first_gain-found.result (omega arith) in
+    let saving = c.requires.saving c.first_gain-found.result (found_under c.first_gain-found.result c.args.end c.first_gain-found.ensures.high c.if-there-end.false) in
     let f0 = c.way_at.ensures.value in
     let f1 = c.way_at-in-row.ensures.value in
     let f2 = c.way_at-in-row-2.ensures.value in

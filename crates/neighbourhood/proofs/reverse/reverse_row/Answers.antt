@@ -1,62 +1,47 @@
-use Rattle.std.proofs.Common.{◌≡◌, ℕ, ◌+◌, arith, subst, [], ◌∷◌, refl}
-use Rattle.neighbourhood.specs.Search.{IsBestSoFar}
+use Rattle.std.proofs.Common.{ℕ, ◌+◌, arith, subst, [], ◌∷◌, refl}
+use Rattle.move_core.specs.declared.moves.Move.TheVariants.{Reverse}
+use Rattle.way_costs.specs.Rows.{lost_by_reverse, gained_by_reverse}
+use Rattle.neighbourhood.specs.Search.{gain_of, IsBestSoFar}
 use Rattle.neighbourhood.specs.Searched.{searched}
-use Rattle.neighbourhood.proofs.Found.{fixed_wide, found_adds, found_after, found_casts, found_in, found_next}
+use Rattle.neighbourhood.proofs.Found.{above, above_next, before, before_end, both_ways, fixed_wide, found_adds, found_after, found_below, found_casts, found_in, found_next, found_under, no_more, same}
 use Rattle.neighbourhood.proofs.Rows.{reverse_next, reverses_past}
 use Rattle.neighbourhood.proofs.Small.{first_casts, first_fits, first_order, goes_on, wide_sum_fits, wide_sum_way_fits, wide_sum_way_low, wide_way_fits, wide_way_sum_fits, wide_way_sum_way_fits}
 use Rattle.neighbourhood.proofs.reverse.reverse_row.Goals as goal
 
 pub returns-then-there-end : goal.returns-then-there-end
 returns-then-there-end g c =
-    let end = c.if-there-end.true in
-    let test = c.row-test.true in
-    reverses_past (searched c.args.search.now) c.requires.search c.args.reverses.now.first c.row.last c.args.end c.row.best.found (omega arith)
-    (λ k h l q.
-    let low = c.row.invariant.low in
-    let saving = c.requires.saving k (omega arith) l in
-    let none = c.first_reverse_gain-found.ensures.none k (omega arith) (omega arith) in
-    let most = c.wanted-least-in-row.ensures.value in
-    omega arith)
+    let q = searched c.args.search.now in
+    reverses_past q c.requires.search c.args.reverses.now.first c.row.last c.args.end c.row.best.found c.row.invariant.high
+    (λ k h l counts. no_more q (Reverse q.v c.args.reverses.now.first k) c.args.reverses.now.lost (lost_by_reverse c.args.reverses.now.ways k) c.args.reverses.now.gained (gained_by_reverse c.args.reverses.now.ways k) c.wanted-least-in-row.result (gain_of c.row.best.found)
+    (c.requires.saving k (above c.args.reverses.now.first c.row.last k c.row.invariant.low h) l) (c.first_reverse_gain-found.ensures.none k (before_end k c.first_reverse_gain-found.result c.args.end c.if-there-end.true l) h) c.wanted-least-in-row.ensures.value)
     c.row.invariant.best
 
 pub row-preserved : goal.row-preserved
 row-preserved g c =
-    let test = c.row-test.true in
-    let from = c.first_reverse_gain-found.ensures.low in
-    let to = c.first_reverse_gain-found.ensures.high in
-    let other = c.if-there-end.false in
-    let low = c.row.invariant.low in
     let q = searched c.args.search.now in
     let past =
-    reverses_past q c.requires.search c.args.reverses.now.first c.row.last c.first_reverse_gain-found.result c.row.best.found (omega arith)
-    (λ k h l q.
-    let low = c.row.invariant.low in
-    let saving = c.requires.saving k (omega arith) (omega arith) in
-    let none = c.first_reverse_gain-found.ensures.none k (omega arith) (omega arith) in
-    let most = c.wanted-least-in-row.ensures.value in
-    omega arith)
+    reverses_past q c.requires.search c.args.reverses.now.first c.row.last c.first_reverse_gain-found.result c.row.best.found c.first_reverse_gain-found.ensures.low
+    (λ k h l counts. no_more q (Reverse q.v c.args.reverses.now.first k) c.args.reverses.now.lost (lost_by_reverse c.args.reverses.now.ways k) c.args.reverses.now.gained (gained_by_reverse c.args.reverses.now.ways k) c.wanted-least-in-row.result (gain_of c.row.best.found)
+    (c.requires.saving k (above c.args.reverses.now.first c.row.last k c.row.invariant.low h) (before k c.first_reverse_gain-found.result c.args.end l c.first_reverse_gain-found.ensures.high)) (c.first_reverse_gain-found.ensures.none k l h) c.wanted-least-in-row.ensures.value)
     c.row.invariant.best in
     record {
-      low = omega arith;
-      high = omega arith;
+      low = above_next c.args.reverses.now.first c.row.last c.first_reverse_gain-found.result c.row.invariant.low c.first_reverse_gain-found.ensures.low;
+      high = found_below c.first_reverse_gain-found.result c.args.end c.first_reverse_gain-found.ensures.high c.if-there-end.false;
       best = c.or_better-best.ensures (3 ∷ q.v ∷ c.args.reverses.now.first ∷ (c.first_reverse_gain-found.result + 1) ∷ []) (reverse_next q c.requires.search c.args.reverses.now.first c.first_reverse_gain-found.result) past;
     }
 
 pub returns : goal.returns
 returns g c =
-    let e : c.row.last ≡ c.args.end = let test = c.row-test.false in let high = c.row.invariant.high in omega arith in
+    let e = both_ways c.row.last c.args.end c.row-test.false c.row.invariant.high in
     let q = searched c.args.search.now in
     subst (λ (k : ℕ). IsBestSoFar q (3 ∷ q.v ∷ c.args.reverses.now.first ∷ k ∷ []) c.row.best.found) e c.row.invariant.best
 
 pub returns-then-not-may_reverse_gain : goal.returns-then-not-may_reverse_gain
 returns-then-not-may_reverse_gain g c =
-    let order = c.requires.order in
-    reverses_past (searched c.args.search.now) c.requires.search c.args.reverses.now.first (c.args.reverses.now.first + 1) c.args.end c.args.best.found (omega arith)
-    (λ k h l q.
-    let saving = c.requires.saving k (omega arith) l in
-    let none = c.may_reverse_gain.ensures c.if-not-may_reverse_gain.true k (omega arith) (omega arith) in
-    let most = c.wanted-least.ensures.value in
-    omega arith)
+    let q = searched c.args.search.now in
+    reverses_past q c.requires.search c.args.reverses.now.first (c.args.reverses.now.first + 1) c.args.end c.args.best.found (first_order c.args.reverses.now.first c.args.end c.requires.order)
+    (λ k h l counts. no_more q (Reverse q.v c.args.reverses.now.first k) c.args.reverses.now.lost (lost_by_reverse c.args.reverses.now.ways k) c.args.reverses.now.gained (gained_by_reverse c.args.reverses.now.ways k) c.wanted-least.result (gain_of c.args.best.found)
+    (c.requires.saving k (above c.args.reverses.now.first (c.args.reverses.now.first + 1) k (same (c.args.reverses.now.first + 1)) h) l) (c.may_reverse_gain.ensures c.if-not-may_reverse_gain.true k l h) c.wanted-least.ensures.value)
     c.requires.best
 
 pub may_reverse_gain-requires-clause-row : goal.may_reverse_gain-requires-clause-row
@@ -72,7 +57,7 @@ pub or_better-best-requires-clause-near : goal.or_better-best-requires-clause-ne
 or_better-best-requires-clause-near g c = (refl, c.requires.inside)
 
 pub row-init : goal.row-init
-row-init g c = record { low = omega arith; high = (let order = c.requires.order in omega arith); best = c.requires.best }
+row-init g c = record { low = same (c.args.reverses.now.first + 1); high = first_order c.args.reverses.now.first c.args.end c.requires.order; best = c.requires.best }
 
 pub returns-then-first-end : goal.returns-then-first-end
 returns-then-first-end g c =
@@ -81,19 +66,11 @@ returns-then-first-end g c =
 
 pub or_better-best-requires-clause-possible : goal.or_better-best-requires-clause-possible
 or_better-best-requires-clause-possible g c =
-    let low = c.row.invariant.low in
-    let from = c.first_reverse_gain-found.ensures.low in
-    let to = c.first_reverse_gain-found.ensures.high in
-    let other = c.if-there-end.false in
-    c.requires.possible c.first_reverse_gain-found.result (omega arith) (omega arith)
+    c.requires.possible c.first_reverse_gain-found.result (above c.args.reverses.now.first c.row.last c.first_reverse_gain-found.result c.row.invariant.low c.first_reverse_gain-found.ensures.low) (found_under c.first_reverse_gain-found.result c.args.end c.first_reverse_gain-found.ensures.high c.if-there-end.false)
 
 pub or_better-best-requires-clause-saving : goal.or_better-best-requires-clause-saving
 or_better-best-requires-clause-saving g c =
-    let low = c.row.invariant.low in
-    let from = c.first_reverse_gain-found.ensures.low in
-    let to = c.first_reverse_gain-found.ensures.high in
-    let other = c.if-there-end.false in
-    let saving = c.requires.saving c.first_reverse_gain-found.result (omega arith) (omega arith) in
+    let saving = c.requires.saving c.first_reverse_gain-found.result (above c.args.reverses.now.first c.row.last c.first_reverse_gain-found.result c.row.invariant.low c.first_reverse_gain-found.ensures.low) (found_under c.first_reverse_gain-found.result c.args.end c.first_reverse_gain-found.ensures.high c.if-there-end.false) in
     let f0 = c.way_at.ensures.value in
     let f1 = c.way_at-in-row.ensures.value in
     let f2 = c.way_at-in-row-2.ensures.value in

@@ -1,55 +1,39 @@
-use Rattle.std.proofs.Common.{◌≡◌, ℕ, ◌+◌, ◌-◌, arith, ap, subst, [], ◌∷◌, refl}
+use Rattle.std.proofs.Common.{ℕ, ◌+◌, ◌-◌, arith, ap, subst, [], ◌∷◌, refl}
+use Rattle.move_core.specs.declared.moves.Move.TheVariants.{Shift}
 use Rattle.way_costs.specs.Rows.{lost_by_cut, gained_by_cut}
-use Rattle.neighbourhood.specs.Search.{IsBestSoFar}
+use Rattle.neighbourhood.specs.Search.{gain_of, IsBestSoFar}
 use Rattle.neighbourhood.specs.Searched.{searched}
 use Rattle.neighbourhood.proofs.Shifts.{shift_next, shifts_past}
-use Rattle.neighbourhood.proofs.Found.{fixed_small, found_adds, found_next}
-use Rattle.neighbourhood.proofs.Small.{after_low, lost_fits, lost_low, lost_two_fit, shift_after, shift_back, shift_casts, shift_end_casts, shift_end_fits, shift_fits, shift_goes_on, shift_in, shift_low, shift_next_casts, shift_order}
+use Rattle.neighbourhood.proofs.Found.{begun, both_ways, fixed_small, found_adds, found_low, found_next, no_more, on, on_next, passed, same}
+use Rattle.neighbourhood.proofs.Small.{after_low, lost_fits, lost_low, lost_two_fit, shift_after, shift_back, shift_before, shift_casts, shift_end_casts, shift_end_fits, shift_fits, shift_found, shift_goes_on, shift_in, shift_low, shift_next_casts, shift_on, shift_order, shift_same, shift_under}
 use Rattle.neighbourhood.proofs.shift.shift_row.Goals as goal
 
 pub returns-then-not-may_gain : goal.returns-then-not-may_gain
 returns-then-not-may_gain g c =
-    let order = c.requires.order in
-    shifts_past (searched c.args.search.now) c.requires.search c.args.shifts.place c.args.shifts.count c.args.first c.args.end c.args.best.found (omega arith)
-    (λ k h l q.
-    let saving = c.requires.saving k h l in
-    let none = c.may_gain.ensures c.if-not-may_gain.true (k + c.args.offset - 1) (omega arith) (omega arith) in
-    let most = c.wanted-least.ensures.value in
-    omega arith)
+    let q = searched c.args.search.now in
+    shifts_past q c.requires.search c.args.shifts.place c.args.shifts.count c.args.first c.args.end c.args.best.found c.requires.order
+    (λ k h l counts. no_more q (Shift q.v c.args.shifts.place c.args.shifts.count q.w k) c.args.shifts.lost (lost_by_cut c.args.shifts.ways (k + c.args.offset - 1)) c.args.shifts.gained (gained_by_cut c.args.shifts.ways (k + c.args.offset - 1)) c.wanted-least.result (gain_of c.args.best.found)
+    (c.requires.saving k h l) (c.may_gain.ensures c.if-not-may_gain.true (k + c.args.offset - 1) (shift_under c.args.first k c.args.end c.args.offset c.requires.low h l) (shift_order c.args.first k c.args.offset h)) c.wanted-least.ensures.value)
     c.requires.best
 
 pub returns-then-next-end : goal.returns-then-next-end
 returns-then-next-end g c =
-    let end = c.if-next-end.true in
-    let test = c.row-test.true in
-    shifts_past (searched c.args.search.now) c.requires.search c.args.shifts.place c.args.shifts.count c.row.at c.args.end c.row.best.found (omega arith)
-    (λ k h l q.
-    let low = c.row.invariant.low in
-    let saving = c.requires.saving k (omega arith) l in
-    let none = c.first_gain-found.ensures.none (k + c.args.offset - 1) (omega arith) (omega arith) in
-    let most = c.wanted-least-in-row.ensures.value in
-    omega arith)
+    let q = searched c.args.search.now in
+    shifts_past q c.requires.search c.args.shifts.place c.args.shifts.count c.row.at c.args.end c.row.best.found c.row.invariant.high
+    (λ k h l counts. no_more q (Shift q.v c.args.shifts.place c.args.shifts.count q.w k) c.args.shifts.lost (lost_by_cut c.args.shifts.ways (k + c.args.offset - 1)) c.args.shifts.gained (gained_by_cut c.args.shifts.ways (k + c.args.offset - 1)) c.wanted-least-in-row.result (gain_of c.row.best.found)
+    (c.requires.saving k (on c.args.first c.row.at k c.row.invariant.low h) l)
+    (c.first_gain-found.ensures.none (k + c.args.offset - 1) (shift_before k c.first_gain-found.result c.args.offset c.args.end (begun c.row.at k (begun c.args.first c.row.at c.requires.low c.row.invariant.low) h) c.if-next-end.true l) (shift_order c.row.at k c.args.offset h)) c.wanted-least-in-row.ensures.value)
     c.row.invariant.best
 
 pub or_better-best-requires-clause-possible : goal.or_better-best-requires-clause-possible
 or_better-best-requires-clause-possible g c =
-    let low = c.row.invariant.low in
-    let from = c.first_gain-found.ensures.low in
-    let to = c.first_gain-found.ensures.high in
-    let other = c.if-next-end.false in
-    let begin = c.requires.low in
-    c.requires.possible (c.first_gain-found.result + 1 - c.args.offset) (omega arith) (omega arith)
+    c.requires.possible (c.first_gain-found.result + 1 - c.args.offset) (shift_on c.args.first c.row.at c.args.offset c.first_gain-found.result c.row.invariant.low c.first_gain-found.ensures.low) (shift_found c.args.end c.args.offset c.first_gain-found.result (begun c.args.first c.args.end c.requires.low c.requires.order) c.first_gain-found.ensures.high c.if-next-end.false)
 
 pub or_better-best-requires-clause-saving : goal.or_better-best-requires-clause-saving
 or_better-best-requires-clause-saving g c =
-    let low = c.row.invariant.low in
-    let from = c.first_gain-found.ensures.low in
-    let to = c.first_gain-found.ensures.high in
-    let other = c.if-next-end.false in
-    let begin = c.requires.low in
     let found = c.first_gain-found.result in
-    let saving = c.requires.saving (found + 1 - c.args.offset) (omega arith) (omega arith) in
-    let e : found + 1 - c.args.offset + c.args.offset - 1 ≡ found = omega arith in
+    let saving = c.requires.saving (found + 1 - c.args.offset) (shift_on c.args.first c.row.at c.args.offset c.first_gain-found.result c.row.invariant.low c.first_gain-found.ensures.low) (shift_found c.args.end c.args.offset c.first_gain-found.result (begun c.args.first c.args.end c.requires.low c.requires.order) c.first_gain-found.ensures.high c.if-next-end.false) in
+    let e = shift_same c.first_gain-found.result c.args.offset (shift_back c.row.at c.args.offset c.first_gain-found.result c.first_gain-found.ensures.low) in
     let lost = ap (λ (n : ℕ). lost_by_cut c.args.shifts.ways n) e in
     let gained = ap (λ (n : ℕ). gained_by_cut c.args.shifts.ways n) e in
     let f = c.way_at.ensures.value in
@@ -59,31 +43,25 @@ or_better-best-requires-clause-saving g c =
 
 pub row-preserved : goal.row-preserved
 row-preserved g c =
-    let test = c.row-test.true in
-    let from = c.first_gain-found.ensures.low in
-    let to = c.first_gain-found.ensures.high in
-    let other = c.if-next-end.false in
-    let low = c.row.invariant.low in
     let q = searched c.args.search.now in
     let next = c.first_gain-found.result + 1 - c.args.offset in
+    let reached = shift_on c.row.at c.row.at c.args.offset c.first_gain-found.result (same c.row.at) c.first_gain-found.ensures.low in
+    let below = found_low next c.args.end (shift_found c.args.end c.args.offset c.first_gain-found.result (begun c.args.first c.args.end c.requires.low c.requires.order) c.first_gain-found.ensures.high c.if-next-end.false) in
     let past =
-    shifts_past q c.requires.search c.args.shifts.place c.args.shifts.count c.row.at next c.row.best.found (omega arith)
-    (λ k h l q.
-    let low = c.row.invariant.low in
-    let saving = c.requires.saving k (omega arith) (omega arith) in
-    let none = c.first_gain-found.ensures.none (k + c.args.offset - 1) (omega arith) (omega arith) in
-    let most = c.wanted-least-in-row.ensures.value in
-    omega arith)
+    shifts_past q c.requires.search c.args.shifts.place c.args.shifts.count c.row.at next c.row.best.found reached
+    (λ k h l counts. no_more q (Shift q.v c.args.shifts.place c.args.shifts.count q.w k) c.args.shifts.lost (lost_by_cut c.args.shifts.ways (k + c.args.offset - 1)) c.args.shifts.gained (gained_by_cut c.args.shifts.ways (k + c.args.offset - 1)) c.wanted-least-in-row.result (gain_of c.row.best.found)
+    (c.requires.saving k (on c.args.first c.row.at k c.row.invariant.low h) (passed k next c.args.end l below))
+    (c.first_gain-found.ensures.none (k + c.args.offset - 1) (shift_before k c.first_gain-found.result c.args.offset next (begun c.row.at k (begun c.args.first c.row.at c.requires.low c.row.invariant.low) h) refl l) (shift_order c.row.at k c.args.offset h)) c.wanted-least-in-row.ensures.value)
     c.row.invariant.best in
     record {
-      low = omega arith;
-      high = omega arith;
+      low = on_next c.args.first c.row.at next c.row.invariant.low reached;
+      high = below;
       best = c.or_better-best.ensures (1 ∷ q.v ∷ c.args.shifts.place ∷ c.args.shifts.count ∷ q.w ∷ (next + 1) ∷ []) (shift_next q c.requires.search c.args.shifts.place c.args.shifts.count next) past;
     }
 
 pub returns : goal.returns
 returns g c =
-    let e : c.row.at ≡ c.args.end = let test = c.row-test.false in let high = c.row.invariant.high in omega arith in
+    let e = both_ways c.row.at c.args.end c.row-test.false c.row.invariant.high in
     let q = searched c.args.search.now in
     subst (λ (k : ℕ). IsBestSoFar q (1 ∷ q.v ∷ c.args.shifts.place ∷ c.args.shifts.count ∷ q.w ∷ k ∷ []) c.row.best.found) e c.row.invariant.best
 
@@ -100,7 +78,7 @@ pub or_better-best-requires-clause-near : goal.or_better-best-requires-clause-ne
 or_better-best-requires-clause-near g c = (refl, refl, c.requires.few)
 
 pub row-init : goal.row-init
-row-init g c = record { low = omega arith; high = c.requires.order; best = c.requires.best }
+row-init g c = record { low = same c.args.first; high = c.requires.order; best = c.requires.best }
 
 pub may_gain-requires-clause-most : goal.may_gain-requires-clause-most
 may_gain-requires-clause-most g c = c.requires.most

@@ -1,77 +1,56 @@
-use Rattle.std.proofs.Common.{◌≡◌, ℕ, ◌+◌, arith, subst, [], ◌∷◌, refl}
-use Rattle.neighbourhood.specs.Search.{IsBestSoFar}
+use Rattle.std.proofs.Common.{ℕ, ◌+◌, arith, subst, [], ◌∷◌, refl}
+use Rattle.move_core.specs.declared.moves.Move.TheVariants.{Swap}
+use Rattle.way_costs.specs.Rows.{lost_by_swap, gained_by_swap}
+use Rattle.neighbourhood.specs.Search.{gain_of, IsBestSoFar}
 use Rattle.neighbourhood.specs.Searched.{searched}
-use Rattle.neighbourhood.proofs.Found.{begun, fixed_small, found_adds, found_after, found_before, found_casts, found_in, found_next}
+use Rattle.neighbourhood.proofs.Found.{before, before_end, begun, behind, both_ways, fixed_small, found_adds, found_after, found_before, found_below, found_casts, found_in, found_next, found_under, no_more_lost, on, on_next, same}
 use Rattle.neighbourhood.proofs.Rows.{swap_next, swaps_past}
 use Rattle.neighbourhood.proofs.Small.{two_fit, three_fit, four_fit, lost_fits, lost_two_fit, lost_two_low, goes_on}
 use Rattle.neighbourhood.proofs.swap.swap_row.Goals as goal
 
 pub returns-then-there-end : goal.returns-then-there-end
 returns-then-there-end g c =
-    let end = c.if-there-end.true in
-    let test = c.row-test.true in
-    swaps_past (searched c.args.search.now) c.requires.search c.args.swaps.place c.row.at c.args.end c.row.best.found (omega arith)
-    (λ k h l q.
-    let low = c.row.invariant.low in
-    let saving = c.requires.saving k (omega arith) l in
-    let none = c.first_swap_gain-found.ensures.none k (omega arith) (omega arith) in
-    let most = c.wanted-least-in-row.ensures.value in
-    omega arith)
+    let q = searched c.args.search.now in
+    swaps_past q c.requires.search c.args.swaps.place c.row.at c.args.end c.row.best.found c.row.invariant.high
+    (λ k h l counts. no_more_lost q (Swap q.v c.args.swaps.place q.w k) c.args.swaps.lost (lost_by_swap c.args.swaps.ways k) (gained_by_swap c.args.swaps.ways k) c.wanted-least-in-row.result (gain_of c.row.best.found)
+    (c.requires.saving k (on c.args.first c.row.at k c.row.invariant.low h) l) (c.first_swap_gain-found.ensures.none k (before_end k c.first_swap_gain-found.result c.args.end c.if-there-end.true l) h) c.wanted-least-in-row.ensures.value)
     c.row.invariant.best
 
 pub row-preserved : goal.row-preserved
 row-preserved g c =
-    let test = c.row-test.true in
-    let from = c.first_swap_gain-found.ensures.low in
-    let to = c.first_swap_gain-found.ensures.high in
-    let other = c.if-there-end.false in
-    let low = c.row.invariant.low in
     let q = searched c.args.search.now in
     let past =
-    swaps_past q c.requires.search c.args.swaps.place c.row.at c.first_swap_gain-found.result c.row.best.found (omega arith)
-    (λ k h l q.
-    let low = c.row.invariant.low in
-    let saving = c.requires.saving k (omega arith) (omega arith) in
-    let none = c.first_swap_gain-found.ensures.none k (omega arith) (omega arith) in
-    let most = c.wanted-least-in-row.ensures.value in
-    omega arith)
+    swaps_past q c.requires.search c.args.swaps.place c.row.at c.first_swap_gain-found.result c.row.best.found c.first_swap_gain-found.ensures.low
+    (λ k h l counts. no_more_lost q (Swap q.v c.args.swaps.place q.w k) c.args.swaps.lost (lost_by_swap c.args.swaps.ways k) (gained_by_swap c.args.swaps.ways k) c.wanted-least-in-row.result (gain_of c.row.best.found)
+    (c.requires.saving k (on c.args.first c.row.at k c.row.invariant.low h) (before k c.first_swap_gain-found.result c.args.end l c.first_swap_gain-found.ensures.high)) (c.first_swap_gain-found.ensures.none k l h) c.wanted-least-in-row.ensures.value)
     c.row.invariant.best in
     record {
-      low = omega arith;
-      high = omega arith;
+      low = on_next c.args.first c.row.at c.first_swap_gain-found.result c.row.invariant.low c.first_swap_gain-found.ensures.low;
+      high = found_below c.first_swap_gain-found.result c.args.end c.first_swap_gain-found.ensures.high c.if-there-end.false;
       best = c.or_better-best.ensures (2 ∷ q.v ∷ c.args.swaps.place ∷ q.w ∷ (c.first_swap_gain-found.result + 1) ∷ []) (swap_next q c.requires.search c.args.swaps.place c.first_swap_gain-found.result) past;
     }
 
 pub returns : goal.returns
 returns g c =
-    let e : c.row.at ≡ c.args.end = let test = c.row-test.false in let high = c.row.invariant.high in omega arith in
+    let e = both_ways c.row.at c.args.end c.row-test.false c.row.invariant.high in
     let q = searched c.args.search.now in
     subst (λ (k : ℕ). IsBestSoFar q (2 ∷ q.v ∷ c.args.swaps.place ∷ q.w ∷ k ∷ []) c.row.best.found) e c.row.invariant.best
 
 pub returns-then-not-may_swap_gain : goal.returns-then-not-may_swap_gain
 returns-then-not-may_swap_gain g c =
-    let order = c.requires.order in
-    swaps_past (searched c.args.search.now) c.requires.search c.args.swaps.place c.args.first c.args.end c.args.best.found (omega arith)
-    (λ k h l q.
-    let saving = c.requires.saving k h l in
-    let none = c.may_swap_gain.ensures c.if-not-may_swap_gain.true k (omega arith) (omega arith) in
-    let most = c.wanted-least.ensures.value in
-    omega arith)
+    let q = searched c.args.search.now in
+    swaps_past q c.requires.search c.args.swaps.place c.args.first c.args.end c.args.best.found c.requires.order
+    (λ k h l counts. no_more_lost q (Swap q.v c.args.swaps.place q.w k) c.args.swaps.lost (lost_by_swap c.args.swaps.ways k) (gained_by_swap c.args.swaps.ways k) c.wanted-least.result (gain_of c.args.best.found)
+    (c.requires.saving k h l) (c.may_swap_gain.ensures c.if-not-may_swap_gain.true k l h) c.wanted-least.ensures.value)
     c.requires.best
 
 pub or_better-best-requires-clause-possible : goal.or_better-best-requires-clause-possible
 or_better-best-requires-clause-possible g c =
-    let low = c.row.invariant.low in
-    let from = c.first_swap_gain-found.ensures.low in
-    let to = c.first_swap_gain-found.ensures.high in
-    let other = c.if-there-end.false in
-    c.requires.possible c.first_swap_gain-found.result (omega arith) (omega arith)
+    c.requires.possible c.first_swap_gain-found.result (on c.args.first c.row.at c.first_swap_gain-found.result c.row.invariant.low c.first_swap_gain-found.ensures.low) (found_under c.first_swap_gain-found.result c.args.end c.first_swap_gain-found.ensures.high c.if-there-end.false)
 
 pub or_better-best-requires-clause-near : goal.or_better-best-requires-clause-near
 or_better-best-requires-clause-near g c =
-    let low = c.row.invariant.low in
-    let from = c.first_swap_gain-found.ensures.low in
-    (refl, refl, λ e. let near = c.requires.near e in omega arith)
+    (refl, refl, λ e. behind c.args.swaps.place c.args.first c.row.at c.first_swap_gain-found.result (c.requires.near e) c.row.invariant.low c.first_swap_gain-found.ensures.low)
 
 pub may_swap_gain-requires-clause-row : goal.may_swap_gain-requires-clause-row
 may_swap_gain-requires-clause-row g c = c.requires.ways
@@ -83,18 +62,14 @@ pub or_better-best-requires-clause-search : goal.or_better-best-requires-clause-
 or_better-best-requires-clause-search g c = c.requires.search
 
 pub row-init : goal.row-init
-row-init g c = record { low = omega arith; high = c.requires.order; best = c.requires.best }
+row-init g c = record { low = same c.args.first; high = c.requires.order; best = c.requires.best }
 
 pub may_swap_gain-requires-clause-most : goal.may_swap_gain-requires-clause-most
 may_swap_gain-requires-clause-most g c = c.requires.most
 
 pub or_better-best-requires-clause-saving : goal.or_better-best-requires-clause-saving
 or_better-best-requires-clause-saving g c =
-    let low = c.row.invariant.low in
-    let from = c.first_swap_gain-found.ensures.low in
-    let to = c.first_swap_gain-found.ensures.high in
-    let other = c.if-there-end.false in
-    let saving = c.requires.saving c.first_swap_gain-found.result (omega arith) (omega arith) in
+    let saving = c.requires.saving c.first_swap_gain-found.result (on c.args.first c.row.at c.first_swap_gain-found.result c.row.invariant.low c.first_swap_gain-found.ensures.low) (found_under c.first_swap_gain-found.result c.args.end c.first_swap_gain-found.ensures.high c.if-there-end.false) in
     let f0 = c.way_at.ensures.value in
     let f1 = c.way_at-in-row.ensures.value in
     let f2 = c.way_at-in-row-2.ensures.value in
