@@ -253,3 +253,39 @@ begin_room b n l h e = omega arith
 
 pub place_room : (p n : ℕ) → p < n - 1 → p + 1 < n
 place_room p n h = omega arith
+
+pub next_less : (p n : ℕ) → p + 1 < n → p < n
+next_less p n h = omega arith
+
+pub one_less : (p n : ℕ) → p + 1 < n → p - 1 < n
+one_less p n h = omega arith
+
+pub count_less : (p m n : ℕ) → p + m < n → p < n
+count_less p m n h = omega arith
+
+pub count_first : (p m n : ℕ) → p + m < n → p - 1 < n
+count_first p m n h = omega arith
+
+pub count_last : (p m n : ℕ) → p + m < n → p + m - 1 < n
+count_last p m n h = omega arith
+
+pub row_short : (m n : ℕ) → m ≡ n → n ≤ 1002 → m ≤ 1002
+row_short m n e h = omega arith
+
+pub row_edges : (e n : ℕ) → e + 1 ≡ n → n - 1 ≤ e
+row_edges e n h = omega arith
+
+pub row_long : (m n : ℕ) → m ≡ n → n - 1 ≤ m
+row_long m n e = omega arith
+
+pub row_last : (m n p : ℕ) → m ≡ n → p + 1 < n → n - 1 < m
+row_last m n p e h = omega arith
+
+pub wide_one : (n l : ℕ) → n ≡ l + 2 → 1 ≤ n - 1
+wide_one n l e = omega arith
+
+pub begin_order : (b n l : ℕ) → b ≤ l + 1 → n ≡ l + 2 → b ≤ n - 1
+begin_order b n l h e = omega arith
+
+pub too_early : (f k b : ℕ) → f < k → k < b → b ≡ f + 1 → ⊥
+too_early f k b h l e = absurd (omega arith)

@@ -6,7 +6,7 @@ use Rattle.neighbourhood.proofs.Orders.{cross_none}
 use Rattle.neighbourhood.proofs.Rows.{crosses_past}
 use Rattle.neighbourhood.proofs.Saved.{cross_most, cross_possible, cross_saved, into_room, out_room}
 use Rattle.neighbourhood.proofs.cross.cross_over.Goals.{then-last, else-last}
-use Rattle.neighbourhood.proofs.Small.{edge_at, one_small, place_fits, row_end, row_some, two_fit, two_fits, two_low, wide_some, wide_two}
+use Rattle.neighbourhood.proofs.Small.{edge_at, next_less, one_small, place_fits, row_end, row_short, row_some, two_fit, two_fits, two_low, wide_some, wide_two}
 use Rattle.neighbourhood.proofs.cross.cross_over.Goals as goal
 
 pub row-next-requires : goal.row-next-requires
@@ -98,9 +98,7 @@ returns-then-lost-from g c =
     c.requires.best
 
 pub row-here-requires : goal.row-here-requires
-row-here-requires g c =
-    let fit = c.requires.keep in
-    record { high = out_room (searched c.args.search.now) c.requires.search c.args.gathered.now c.requires.gathered (c.args.keep) (omega arith) }
+row-here-requires g c = record { high = out_room (searched c.args.search.now) c.requires.search c.args.gathered.now c.requires.gathered c.args.keep (next_less _ _ c.requires.keep) }
 
 pub cross_row-requires-clause-ways : goal.cross_row-requires-clause-ways
 cross_row-requires-clause-ways g c =
@@ -118,10 +116,7 @@ pub cross_row-requires-clause-most : goal.cross_row-requires-clause-most
 cross_row-requires-clause-most g c = c.requires.gathered.most
 
 pub cross_row-requires-clause-short : goal.cross_row-requires-clause-short
-cross_row-requires-clause-short g c =
-    let on = c.row-here.ensures.sized in
-    let short = c.requires.gathered.to.short in
-    omega arith
+cross_row-requires-clause-short g c = row_short _ _ c.row-here.ensures.sized c.requires.gathered.to.short
 
 pub way_at-lost-requires : goal.way_at-lost-requires
 way_at-lost-requires g c = edge_at c.args.keep _ _ c.requires.keep c.requires.gathered.from_edges.counted

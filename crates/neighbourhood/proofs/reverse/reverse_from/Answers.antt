@@ -3,7 +3,7 @@ use Rattle.neighbourhood.specs.Searched.{searched}
 use Rattle.neighbourhood.proofs.Rows.{reverses_past}
 use Rattle.neighbourhood.proofs.Saved.{reverse_possible, reverse_saved, edges_inside, out_room_inside}
 use Rattle.neighbourhood.proofs.Still.{reverse_free}
-use Rattle.neighbourhood.proofs.Small.{edge_before, last_order, sum_low, sums_at, way_sum_fits, way_sum_low, wide_some, width_casts}
+use Rattle.neighbourhood.proofs.Small.{edge_before, last_order, next_less, one_less, row_edges, row_last, row_long, row_short, sum_low, sums_at, way_sum_fits, way_sum_low, wide_some, width_casts}
 use Rattle.neighbourhood.proofs.reverse.reverse_from.Goals as goal
 
 pub reverse_row-requires-clause-possible : goal.reverse_row-requires-clause-possible
@@ -32,31 +32,26 @@ returns-then-first-first_free g c =
     c.requires.best
 
 pub row-requires : goal.row-requires
-row-requires g c =
-    let low = c.requires.first.0 in
-    let fit = c.requires.first.1 in
-    record { high = out_room_inside (searched c.args.search.now) c.requires.search c.args.gathered.now c.requires.gathered c.requires.inside (c.args.first - 1) (omega arith) }
+row-requires g c = record { high = out_room_inside (searched c.args.search.now) c.requires.search c.args.gathered.now c.requires.gathered c.requires.inside (c.args.first - 1) (one_less _ _ c.requires.first.1) }
 
 pub row-requires-2 : goal.row-requires-2
-row-requires-2 g c =
-    let fit = c.requires.first.1 in
-    record { high = out_room_inside (searched c.args.search.now) c.requires.search c.args.gathered.now c.requires.gathered c.requires.inside (c.args.first) (omega arith) }
+row-requires-2 g c = record { high = out_room_inside (searched c.args.search.now) c.requires.search c.args.gathered.now c.requires.gathered c.requires.inside c.args.first (next_less _ _ c.requires.first.1) }
 
 pub reverse_row-requires-clause-ways : goal.reverse_row-requires-clause-ways
 reverse_row-requires-clause-ways g c =
-    let fit = c.requires.first.1 in
-    let counted = edges_inside (searched c.args.search.now) c.requires.search c.args.gathered.now c.requires.gathered c.requires.inside in
     let on = c.requires.sums.sums.counted in
     let back = c.requires.sums.back_sums.counted in
-    let before = c.row.ensures.sized in
-    let here = c.row-2.ensures.sized in
-    record { edges = omega arith; sums = omega arith; back_sums = omega arith; before = omega arith; here = omega arith; small = c.requires.sums.small }
+    record {
+      edges = row_edges _ _ (edges_inside (searched c.args.search.now) c.requires.search c.args.gathered.now c.requires.gathered c.requires.inside);
+      sums = omega arith;
+      back_sums = omega arith;
+      before = row_long _ _ c.row.ensures.sized;
+      here = row_last _ _ _ c.row-2.ensures.sized c.requires.first.1;
+      small = c.requires.sums.small;
+    }
 
 pub reverse_row-requires-clause-short : goal.reverse_row-requires-clause-short
-reverse_row-requires-clause-short g c =
-    let here = c.row-2.ensures.sized in
-    let short = c.requires.gathered.from.short in
-    omega arith
+reverse_row-requires-clause-short g c = row_short _ _ c.row-2.ensures.sized c.requires.gathered.from.short
 
 pub reverse_row-requires-clause-best : goal.reverse_row-requires-clause-best
 reverse_row-requires-clause-best g c = c.requires.best

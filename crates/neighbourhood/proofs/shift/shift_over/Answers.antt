@@ -4,7 +4,7 @@ use Rattle.neighbourhood.specs.Searched.{searched, costs_of}
 use Rattle.neighbourhood.proofs.Saved.{out_room, shift_most, shift_saved, into_room, shift_possible}
 use Rattle.neighbourhood.proofs.Shifts.{shifts_past}
 use Rattle.neighbourhood.proofs.Still.{shift_free}
-use Rattle.neighbourhood.proofs.Small.{after_low, before_after, before_first, begin_high, begins, count_fits, gap_order, row_end, row_some, two_fit, two_low, two_more_fit, two_more_low, wide_some, width_casts}
+use Rattle.neighbourhood.proofs.Small.{after_low, before_after, before_first, begin_high, begins, count_fits, count_last, count_less, gap_order, row_end, row_short, row_some, too_early, two_fit, two_low, two_more_fit, two_more_low, wide_some, width_casts}
 use Rattle.neighbourhood.proofs.shift.shift_over.Goals as goal
 
 pub returns-then-free-count : goal.returns-then-free-count
@@ -20,11 +20,7 @@ returns-then-free-count g c =
     c.requires.best
 
 pub row-goes-requires : goal.row-goes-requires
-row-goes-requires g c =
-    let some = c.requires.count.0 in
-    let low = c.requires.place.0 in
-    let fit = c.requires.place.1 in
-    record { high = out_room (searched c.args.search.now) c.requires.search c.args.gathered.now c.requires.gathered (c.args.place + c.args.count - 1) (omega arith) }
+row-goes-requires g c = record { high = out_room (searched c.args.search.now) c.requires.search c.args.gathered.now c.requires.gathered (c.args.place + c.args.count - 1) (count_last _ _ _ c.requires.place.1) }
 
 pub returns-then-reach-floor : goal.returns-then-reach-floor
 returns-then-reach-floor g c =
@@ -79,17 +75,12 @@ shift_row-requires-clause-saving g c =
 pub shift_row-requires-clause-best : goal.shift_row-requires-clause-best
 shift_row-requires-clause-best g c =
     let q = searched c.args.search.now in
-    let begin = c.first_free-begin.ensures.value in
-    shifts_past q c.requires.search c.args.place c.args.count 1 c.first_free-begin.result c.args.best.found (omega arith)
-    (λ k l h counts.
-    let front = (shift_free q c.requires.search c.args.place c.args.count k c.requires.apart counts).1 in
-    absurd (omega arith))
+    shifts_past q c.requires.search c.args.place c.args.count 1 c.first_free-begin.result c.args.best.found (begins _ _ c.first_free-begin.ensures.value)
+    (λ k l h counts. absurd (too_early _ k c.first_free-begin.result (shift_free q c.requires.search c.args.place c.args.count k c.requires.apart counts).1 h c.first_free-begin.ensures.value))
     c.requires.best
 
 pub row-comes-requires : goal.row-comes-requires
-row-comes-requires g c =
-    let fit = c.requires.place.1 in
-    record { high = into_room (searched c.args.search.now) c.requires.search c.args.gathered.now c.requires.gathered (c.args.place) (omega arith) }
+row-comes-requires g c = record { high = into_room (searched c.args.search.now) c.requires.search c.args.gathered.now c.requires.gathered c.args.place (count_less _ _ _ c.requires.place.1) }
 
 pub shift_row-requires-clause-ways : goal.shift_row-requires-clause-ways
 shift_row-requires-clause-ways g c =
@@ -106,10 +97,7 @@ pub shift_row-requires-clause-most : goal.shift_row-requires-clause-most
 shift_row-requires-clause-most g c = c.requires.gathered.most
 
 pub shift_row-requires-clause-short : goal.shift_row-requires-clause-short
-shift_row-requires-clause-short g c =
-    let on = c.row-goes.ensures.sized in
-    let short = c.requires.gathered.to.short in
-    omega arith
+shift_row-requires-clause-short g c = row_short _ _ c.row-goes.ensures.sized c.requires.gathered.to.short
 
 pub shift_row-requires-clause-possible : goal.shift_row-requires-clause-possible
 shift_row-requires-clause-possible g c =

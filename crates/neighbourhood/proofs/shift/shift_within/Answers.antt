@@ -3,7 +3,7 @@ use Rattle.neighbourhood.specs.Searched.{searched}
 use Rattle.neighbourhood.proofs.Saved.{backwards_saved, forwards_saved, edges_inside, into_room_inside, out_room_inside, shift_inside_possible}
 use Rattle.neighbourhood.proofs.Shifts.{shift_still, shifts_past}
 use Rattle.neighbourhood.proofs.Still.{shift_inside_free}
-use Rattle.neighbourhood.proofs.Small.{after_low, before_after, before_first, begins, count_fits, count_in, next_casts, next_low, next_order, one_small, row_has, two_fit, two_small, width_casts}
+use Rattle.neighbourhood.proofs.Small.{after_low, before_after, before_first, begins, count_first, count_fits, count_in, count_last, count_less, next_casts, next_low, next_order, one_small, row_has, row_short, too_early, two_fit, two_small, width_casts}
 use Rattle.neighbourhood.proofs.shift.shift_within.Goals as goal
 
 pub returns-then-place-begin : goal.returns-then-place-begin
@@ -34,11 +34,8 @@ shift_row-forwards-requires-clause-saving g c =
 pub shift_row-forwards-requires-clause-best : goal.shift_row-forwards-requires-clause-best
 shift_row-forwards-requires-clause-best g c =
     let q = searched c.args.search.now in
-    let begin = c.first_free-begin.ensures.value in
-    shifts_past q c.requires.search c.args.place c.args.count 1 c.first_free-begin.result c.args.best.found (omega arith)
-    (λ k l h counts.
-    let front = (shift_inside_free q c.requires.search c.args.place c.args.count k c.requires.inside counts).1 in
-    absurd (omega arith))
+    shifts_past q c.requires.search c.args.place c.args.count 1 c.first_free-begin.result c.args.best.found (begins _ _ c.first_free-begin.ensures.value)
+    (λ k l h counts. absurd (too_early _ k c.first_free-begin.result (shift_inside_free q c.requires.search c.args.place c.args.count k c.requires.inside counts).1 h c.first_free-begin.ensures.value))
     c.requires.best
 
 pub shift_row-requires-clause-saving : goal.shift_row-requires-clause-saving
@@ -58,22 +55,13 @@ shift_row-requires-clause-best g c =
     shift_still (searched c.args.search.now) c.requires.search c.args.place c.args.count c.shift_row-forwards.result.found c.requires.inside c.shift_row-forwards.ensures
 
 pub row-closes-requires : goal.row-closes-requires
-row-closes-requires g c =
-    let low = c.requires.place.0 in
-    let fit = c.requires.place.1 in
-    record { high = out_room_inside (searched c.args.search.now) c.requires.search c.args.gathered.now c.requires.gathered c.requires.inside (c.args.place - 1) (omega arith) }
+row-closes-requires g c = record { high = out_room_inside (searched c.args.search.now) c.requires.search c.args.gathered.now c.requires.gathered c.requires.inside (c.args.place - 1) (count_first _ _ _ c.requires.place.1) }
 
 pub row-requires : goal.row-requires
-row-requires g c =
-    let fit = c.requires.place.1 in
-    record { high = into_room_inside (searched c.args.search.now) c.requires.search c.args.gathered.now c.requires.gathered c.requires.inside (c.args.place) (omega arith) }
+row-requires g c = record { high = into_room_inside (searched c.args.search.now) c.requires.search c.args.gathered.now c.requires.gathered c.requires.inside c.args.place (count_less _ _ _ c.requires.place.1) }
 
 pub row-requires-2 : goal.row-requires-2
-row-requires-2 g c =
-    let some = c.requires.count.0 in
-    let low = c.requires.place.0 in
-    let fit = c.requires.place.1 in
-    record { high = out_room_inside (searched c.args.search.now) c.requires.search c.args.gathered.now c.requires.gathered c.requires.inside (c.args.place + c.args.count - 1) (omega arith) }
+row-requires-2 g c = record { high = out_room_inside (searched c.args.search.now) c.requires.search c.args.gathered.now c.requires.gathered c.requires.inside (c.args.place + c.args.count - 1) (count_last _ _ _ c.requires.place.1) }
 
 pub shift_row-forwards-requires-clause-ways : goal.shift_row-forwards-requires-clause-ways
 shift_row-forwards-requires-clause-ways g c =
@@ -87,10 +75,7 @@ pub shift_row-forwards-requires-clause-most : goal.shift_row-forwards-requires-c
 shift_row-forwards-requires-clause-most g c = c.requires.gathered.most
 
 pub shift_row-forwards-requires-clause-short : goal.shift_row-forwards-requires-clause-short
-shift_row-forwards-requires-clause-short g c =
-    let on = c.row-2.ensures.sized in
-    let short = c.requires.gathered.from.short in
-    omega arith
+shift_row-forwards-requires-clause-short g c = row_short _ _ c.row-2.ensures.sized c.requires.gathered.from.short
 
 pub shift_row-forwards-requires-clause-possible : goal.shift_row-forwards-requires-clause-possible
 shift_row-forwards-requires-clause-possible g c =
@@ -112,10 +97,7 @@ pub shift_row-requires-clause-most : goal.shift_row-requires-clause-most
 shift_row-requires-clause-most g c = c.requires.gathered.most
 
 pub shift_row-requires-clause-short : goal.shift_row-requires-clause-short
-shift_row-requires-clause-short g c =
-    let on = c.row-2.ensures.sized in
-    let short = c.requires.gathered.from.short in
-    omega arith
+shift_row-requires-clause-short g c = row_short _ _ c.row-2.ensures.sized c.requires.gathered.from.short
 
 pub shift_row-requires-clause-possible : goal.shift_row-requires-clause-possible
 shift_row-requires-clause-possible g c =

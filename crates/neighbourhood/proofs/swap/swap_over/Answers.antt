@@ -4,16 +4,14 @@ use Rattle.neighbourhood.specs.Searched.{searched}
 use Rattle.neighbourhood.proofs.Rows.{swaps_past}
 use Rattle.neighbourhood.proofs.Saved.{into_room, out_room, swap_most, swap_possible, swap_saved}
 use Rattle.neighbourhood.proofs.Still.{swap_free}
-use Rattle.neighbourhood.proofs.Small.{two_small, two_fit, three_fit, four_fit, four_low, edge_before, edge_at, place_fits, wide_some, row_some, row_end, end_casts, leaves_room, begins}
+use Rattle.neighbourhood.proofs.Small.{begin_order, begins, edge_at, edge_before, end_casts, four_fit, four_low, leaves_room, next_less, one_less, place_fits, row_edges, row_end, row_long, row_short, row_some, three_fit, too_early, two_fit, two_small, wide_some}
 use Rattle.neighbourhood.proofs.swap.swap_over.Goals as goal
 
 pub row-next-requires : goal.row-next-requires
 row-next-requires g c = record { high = into_room (searched c.args.search.now) c.requires.search c.args.gathered.now c.requires.gathered (c.args.place + 1) c.requires.place.1 }
 
 pub row-back-requires : goal.row-back-requires
-row-back-requires g c =
-    let fit = c.requires.place.1 in
-    record { high = into_room (searched c.args.search.now) c.requires.search c.args.gathered.now c.requires.gathered c.args.place (omega arith) }
+row-back-requires g c = record { high = into_room (searched c.args.search.now) c.requires.search c.args.gathered.now c.requires.gathered c.args.place (next_less _ _ c.requires.place.1) }
 
 pub swap_row-requires-clause-saving : goal.swap_row-requires-clause-saving
 swap_row-requires-clause-saving g c =
@@ -39,11 +37,8 @@ returns-then-not-may_leave g c =
 pub swap_row-requires-clause-best : goal.swap_row-requires-clause-best
 swap_row-requires-clause-best g c =
     let q = searched c.args.search.now in
-    let begin = c.first_free-begin.ensures.value in
-    swaps_past q c.requires.search c.args.place 1 c.first_free-begin.result c.args.best.found (omega arith)
-    (λ k l h counts.
-    let front = (swap_free q c.requires.search c.args.place k c.requires.apart counts).1 in
-    absurd (omega arith))
+    swaps_past q c.requires.search c.args.place 1 c.first_free-begin.result c.args.best.found (begins _ _ c.first_free-begin.ensures.value)
+    (λ k l h counts. absurd (too_early _ k c.first_free-begin.result (swap_free q c.requires.search c.args.place k c.requires.apart counts).1 h c.first_free-begin.ensures.value))
     c.requires.best
 
 pub returns-then-lost-from : goal.returns-then-lost-from
@@ -69,42 +64,32 @@ returns-then-lost-from g c =
     c.requires.best
 
 pub row-before-requires : goal.row-before-requires
-row-before-requires g c =
-    let fit = c.requires.place.1 in
-    record { high = out_room (searched c.args.search.now) c.requires.search c.args.gathered.now c.requires.gathered (c.args.place - 1) (omega arith) }
+row-before-requires g c = record { high = out_room (searched c.args.search.now) c.requires.search c.args.gathered.now c.requires.gathered (c.args.place - 1) (one_less _ _ c.requires.place.1) }
 
 pub row-here-requires : goal.row-here-requires
-row-here-requires g c =
-    let fit = c.requires.place.1 in
-    record { high = out_room (searched c.args.search.now) c.requires.search c.args.gathered.now c.requires.gathered c.args.place (omega arith) }
+row-here-requires g c = record { high = out_room (searched c.args.search.now) c.requires.search c.args.gathered.now c.requires.gathered c.args.place (next_less _ _ c.requires.place.1) }
 
 pub swap_row-requires-clause-order : goal.swap_row-requires-clause-order
-swap_row-requires-clause-order g c =
-    let wide = c.requires.gathered.to.sized in
-    let high = c.first_free-begin.ensures.high in
-    omega arith
+swap_row-requires-clause-order g c = begin_order _ _ _ c.first_free-begin.ensures.high c.requires.gathered.to.sized
 
 pub swap_row-requires-clause-near : goal.swap_row-requires-clause-near
 swap_row-requires-clause-near g c = λ e. absurd (c.requires.apart e)
 
 pub swap_row-requires-clause-ways : goal.swap_row-requires-clause-ways
 swap_row-requires-clause-ways g c =
-    let wide = c.requires.gathered.to.sized in
-    let counted = c.requires.gathered.to_edges.counted in
-    let before = c.row-before.ensures.sized in
-    let here = c.row-here.ensures.sized in
-    let next = c.row-next.ensures.sized in
-    let back = c.row-back.ensures.sized in
-    record { edges = omega arith; before = omega arith; here = omega arith; next = omega arith; back = omega arith }
+    record {
+      edges = row_edges _ _ c.requires.gathered.to_edges.counted;
+      before = row_long _ _ c.row-before.ensures.sized;
+      here = row_end _ _ _ c.row-here.ensures.sized c.requires.gathered.to.sized;
+      next = row_long _ _ c.row-next.ensures.sized;
+      back = row_long _ _ c.row-back.ensures.sized;
+    }
 
 pub swap_row-requires-clause-most : goal.swap_row-requires-clause-most
 swap_row-requires-clause-most g c = c.requires.gathered.most
 
 pub swap_row-requires-clause-short : goal.swap_row-requires-clause-short
-swap_row-requires-clause-short g c =
-    let here = c.row-here.ensures.sized in
-    let short = c.requires.gathered.to.short in
-    omega arith
+swap_row-requires-clause-short g c = row_short _ _ c.row-here.ensures.sized c.requires.gathered.to.short
 
 pub swap_row-requires-clause-possible : goal.swap_row-requires-clause-possible
 swap_row-requires-clause-possible g c =

@@ -4,7 +4,7 @@ use Rattle.neighbourhood.specs.Searched.{searched}
 use Rattle.neighbourhood.proofs.Rows.{swap_beside, swaps_past}
 use Rattle.neighbourhood.proofs.Saved.{edges_inside, into_room_inside, next_saved, out_room_inside, swap_inside_possible, swap_inside_saved}
 use Rattle.neighbourhood.proofs.Still.{swap_inside_free}
-use Rattle.neighbourhood.proofs.Small.{count_fits, edge_two_at, edge_two_before, edge_two_next, next_casts, next_low, place_fits, row_has, row_two_next, three_fit, three_fits, three_low, two_casts, two_fit, two_fits, two_next_fits, two_order, two_small, wide_some, width_casts}
+use Rattle.neighbourhood.proofs.Small.{count_fits, edge_two_at, edge_two_before, edge_two_next, next_casts, next_less, next_low, one_less, place_fits, row_edges, row_has, row_last, row_long, row_short, row_two_next, three_fit, three_fits, three_low, two_casts, two_fit, two_fits, two_next_fits, two_order, two_small, wide_some, width_casts}
 use Rattle.neighbourhood.proofs.swap.swap_within.Goals as goal
 
 pub returns-then-index-width : goal.returns-then-index-width
@@ -28,20 +28,13 @@ returns-then-place-first_free g c =
     c.requires.best
 
 pub row-before-requires : goal.row-before-requires
-row-before-requires g c =
-    let low = c.requires.place.0 in
-    let fit = c.requires.place.1 in
-    record { high = out_room_inside (searched c.args.search.now) c.requires.search c.args.gathered.now c.requires.gathered c.requires.inside (c.args.place - 1) (omega arith) }
+row-before-requires g c = record { high = out_room_inside (searched c.args.search.now) c.requires.search c.args.gathered.now c.requires.gathered c.requires.inside (c.args.place - 1) (one_less _ _ c.requires.place.1) }
 
 pub row-here-requires : goal.row-here-requires
-row-here-requires g c =
-    let fit = c.requires.place.1 in
-    record { high = out_room_inside (searched c.args.search.now) c.requires.search c.args.gathered.now c.requires.gathered c.requires.inside (c.args.place) (omega arith) }
+row-here-requires g c = record { high = out_room_inside (searched c.args.search.now) c.requires.search c.args.gathered.now c.requires.gathered c.requires.inside c.args.place (next_less _ _ c.requires.place.1) }
 
 pub row-back-requires : goal.row-back-requires
-row-back-requires g c =
-    let fit = c.requires.place.1 in
-    record { high = into_room_inside (searched c.args.search.now) c.requires.search c.args.gathered.now c.requires.gathered c.requires.inside (c.args.place) (omega arith) }
+row-back-requires g c = record { high = into_room_inside (searched c.args.search.now) c.requires.search c.args.gathered.now c.requires.gathered c.requires.inside c.args.place (next_less _ _ c.requires.place.1) }
 
 pub row-requires : goal.row-requires
 row-requires g c =
@@ -97,22 +90,19 @@ swap_row-requires-clause-near g c = λ e. omega arith
 
 pub swap_row-requires-clause-ways : goal.swap_row-requires-clause-ways
 swap_row-requires-clause-ways g c =
-    let fit = c.requires.place.1 in
-    let counted = edges_inside (searched c.args.search.now) c.requires.search c.args.gathered.now c.requires.gathered c.requires.inside in
-    let before = c.row-before.ensures.sized in
-    let here = c.row-here.ensures.sized in
-    let next = c.row.ensures.sized in
-    let back = c.row-back.ensures.sized in
-    record { edges = omega arith; before = omega arith; here = omega arith; next = omega arith; back = omega arith }
+    record {
+      edges = row_edges _ _ (edges_inside (searched c.args.search.now) c.requires.search c.args.gathered.now c.requires.gathered c.requires.inside);
+      before = row_long _ _ c.row-before.ensures.sized;
+      here = row_last _ _ _ c.row-here.ensures.sized c.requires.place.1;
+      next = row_long _ _ c.row.ensures.sized;
+      back = row_long _ _ c.row-back.ensures.sized;
+    }
 
 pub swap_row-requires-clause-most : goal.swap_row-requires-clause-most
 swap_row-requires-clause-most g c = c.requires.gathered.most
 
 pub swap_row-requires-clause-short : goal.swap_row-requires-clause-short
-swap_row-requires-clause-short g c =
-    let here = c.row-here.ensures.sized in
-    let short = c.requires.gathered.from.short in
-    omega arith
+swap_row-requires-clause-short g c = row_short _ _ c.row-here.ensures.sized c.requires.gathered.from.short
 
 pub swap_row-requires-clause-fixed : goal.swap_row-requires-clause-fixed
 swap_row-requires-clause-fixed g c = two_small _ _ c.way_at.ensures.small c.way_at-2.ensures.small
