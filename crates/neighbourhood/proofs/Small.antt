@@ -289,3 +289,21 @@ begin_order b n l h e = omega arith
 
 pub too_early : (f k b : ℕ) → f < k → k < b → b ≡ f + 1 → ⊥
 too_early f k b h l e = absurd (omega arith)
+
+pub two_behind : (p at : ℕ) → p + 2 ≤ at → p < at
+two_behind p at h = omega arith
+
+pub two_apart : (p at : ℕ) → p + 2 ≤ at → p + 1 < at
+two_apart p at h = omega arith
+
+pub two_more : (p : ℕ) → p < p + 2
+two_more p = omega arith
+
+pub two_some : 1 ≤ 2
+two_some = omega arith
+
+pub all_of : (m n : ℕ) → m ≡ n → n ≤ m
+all_of m n e = omega arith
+
+pub not_both : (a b : ℕ) → a ≤ b → b < a → ⊥
+not_both a b h l = absurd (omega arith)

@@ -3,32 +3,28 @@ use Rattle.neighbourhood.specs.Searched.{searched}
 use Rattle.neighbourhood.proofs.Rows.{reverses_past}
 use Rattle.neighbourhood.proofs.Saved.{reverse_possible, reverse_saved, edges_inside, out_room_inside}
 use Rattle.neighbourhood.proofs.Still.{reverse_free}
-use Rattle.neighbourhood.proofs.Small.{edge_before, last_order, next_less, one_less, row_edges, row_last, row_long, row_short, sum_low, sums_at, way_sum_fits, way_sum_low, wide_some, width_casts}
+use Rattle.neighbourhood.proofs.Small.{all_of, edge_before, last_order, next_less, next_order, one_less, place_room, row_edges, row_last, row_long, row_short, sum_low, sums_at, too_early, way_sum_fits, way_sum_low, wide_some, width_casts}
 use Rattle.neighbourhood.proofs.reverse.reverse_from.Goals as goal
 
 pub reverse_row-requires-clause-possible : goal.reverse_row-requires-clause-possible
 reverse_row-requires-clause-possible g c =
     λ last l h.
-    reverse_possible (searched c.args.search.now) c.requires.search c.args.gathered.now c.requires.gathered c.requires.inside c.args.first last c.requires.first.0 l (omega arith)
+    reverse_possible (searched c.args.search.now) c.requires.search c.args.gathered.now c.requires.gathered c.requires.inside c.args.first last c.requires.first.0 l (place_room last _ h)
 
 pub reverse_row-requires-clause-saving : goal.reverse_row-requires-clause-saving
 reverse_row-requires-clause-saving g c =
     let f = c.way_at.ensures.value in
     λ last l h.
     let saved = reverse_saved (searched c.args.search.now) c.requires.search c.args.gathered.now c.requires.gathered c.requires.inside c.args.first last c.args.sums.now c.args.back_sums.now
-    c.row.result.now c.row-2.result.now c.requires.first.0 l (omega arith) c.requires.sums c.row.ensures.cells c.row-2.ensures.cells in
+    c.row.result.now c.row-2.result.now c.requires.first.0 l (place_room last _ h) c.requires.sums c.row.ensures.cells c.row-2.ensures.cells in
     omega arith
 
 pub returns-then-first-first_free : goal.returns-then-first-first_free
 returns-then-first-first_free g c =
     let q = searched c.args.search.now in
-    let fit = c.requires.first.1 in
-    let test = c.if-first-first_free.true in
-    let begin = c.first_free.ensures.value in
-    reverses_past q c.requires.search c.args.first (c.args.first + 1) (length c.args.gathered.now.from.now - 1) c.args.best.found (omega arith)
+    reverses_past q c.requires.search c.args.first (c.args.first + 1) (length c.args.gathered.now.from.now - 1) c.args.best.found (next_order c.args.first 1 _ c.requires.first.1)
     (λ k l h counts.
-    let front = reverse_free q c.requires.search c.args.first k counts in
-    absurd (omega arith))
+    absurd (too_early _ c.args.first c.first_free.result (reverse_free q c.requires.search c.args.first k counts) c.if-first-first_free.true c.first_free.ensures.value))
     c.requires.best
 
 pub row-requires : goal.row-requires
@@ -39,12 +35,10 @@ row-requires-2 g c = record { high = out_room_inside (searched c.args.search.now
 
 pub reverse_row-requires-clause-ways : goal.reverse_row-requires-clause-ways
 reverse_row-requires-clause-ways g c =
-    let on = c.requires.sums.sums.counted in
-    let back = c.requires.sums.back_sums.counted in
     record {
       edges = row_edges _ _ (edges_inside (searched c.args.search.now) c.requires.search c.args.gathered.now c.requires.gathered c.requires.inside);
-      sums = omega arith;
-      back_sums = omega arith;
+      sums = all_of _ _ c.requires.sums.sums.counted;
+      back_sums = all_of _ _ c.requires.sums.back_sums.counted;
       before = row_long _ _ c.row.ensures.sized;
       here = row_last _ _ _ c.row-2.ensures.sized c.requires.first.1;
       small = c.requires.sums.small;

@@ -4,19 +4,18 @@ use Rattle.neighbourhood.specs.Searched.{searched, costs_of}
 use Rattle.neighbourhood.proofs.Saved.{out_room, shift_most, shift_saved, into_room, shift_possible}
 use Rattle.neighbourhood.proofs.Shifts.{shifts_past}
 use Rattle.neighbourhood.proofs.Still.{shift_free}
-use Rattle.neighbourhood.proofs.Small.{after_low, before_after, before_first, begin_high, begins, count_fits, count_last, count_less, gap_order, row_end, row_short, row_some, too_early, two_fit, two_low, two_more_fit, two_more_low, wide_some, width_casts}
+use Rattle.neighbourhood.proofs.Found.{begun}
+use Rattle.neighbourhood.proofs.Small.{after_low, before_after, before_first, begin_high, begins, count_fits, count_last, count_less, gap_order, not_both, row_end, row_short, row_some, too_early, two_fit, two_low, two_more_fit, two_more_low, wide_some, width_casts}
 use Rattle.neighbourhood.proofs.shift.shift_over.Goals as goal
 
 pub returns-then-free-count : goal.returns-then-free-count
 returns-then-free-count g c =
     let q = searched c.args.search.now in
     let wide = c.requires.gathered.to.sized in
-    shifts_past q c.requires.search c.args.place c.args.count 1 (length c.args.gathered.now.to.now) c.args.best.found (omega arith)
+    shifts_past q c.requires.search c.args.place c.args.count 1 (length c.args.gathered.now.to.now) c.args.best.found (wide_some _ _ c.requires.gathered.to.sized)
     (λ k l h counts.
     let free = shift_free q c.requires.search c.args.place c.args.count k c.requires.apart counts in
-    let fit = c.requires.free (free.0, free.2) in
-    let few = c.if-free-count.true in
-    absurd (omega arith))
+    absurd (not_both c.args.count c.args.free (c.requires.free (free.0, free.2)) c.if-free-count.true))
     c.requires.best
 
 pub row-goes-requires : goal.row-goes-requires
@@ -34,7 +33,7 @@ returns-then-reach-floor g c =
     let f5 = c.way_at-2.ensures.value in
     let test = c.if-reach-floor.true in
     let bound = c.wanted-floor.ensures.value in
-    shifts_past q c.requires.search c.args.place c.args.count 1 (length a.to.now) c.args.best.found (omega arith)
+    shifts_past q c.requires.search c.args.place c.args.count 1 (length a.to.now) c.args.best.found (wide_some _ _ c.requires.gathered.to.sized)
     (λ at l h counts.
     let most = shift_most q c.requires.search a c.requires.gathered c.args.place c.args.count at (hop (costs_of q) (slice_index a.from.now (c.args.place - 1)) (slice_index a.from.now (c.args.place + c.args.count)))
     c.row-comes.result.now c.row-goes.result.now c.requires.apart c.requires.place.0 c.requires.count.0 c.requires.place.1 l h c.row-comes.ensures.cells c.row-goes.ensures.cells refl in
@@ -53,7 +52,7 @@ returns-then-reach-higher g c =
     let f5 = c.way_at-2.ensures.value in
     let test = c.if-reach-higher.true in
     let bound = c.wanted-higher.ensures.value in
-    shifts_past q c.requires.search c.args.place c.args.count 1 (length a.to.now) c.args.best.found (omega arith)
+    shifts_past q c.requires.search c.args.place c.args.count 1 (length a.to.now) c.args.best.found (wide_some _ _ c.requires.gathered.to.sized)
     (λ at l h counts.
     let most = shift_most q c.requires.search a c.requires.gathered c.args.place c.args.count at c.closing-gained.result
     c.row-comes.result.now c.row-goes.result.now c.requires.apart c.requires.place.0 c.requires.count.0 c.requires.place.1 l h c.row-comes.ensures.cells c.row-goes.ensures.cells c.closing-gained.ensures.value in
@@ -67,7 +66,7 @@ shift_row-requires-clause-saving g c =
     let begin = c.first_free-begin.ensures.value in
     λ at l h.
     let saved = shift_saved (searched c.args.search.now) c.requires.search c.args.gathered.now c.requires.gathered c.args.place c.args.count at c.closing-gained.result
-    c.row-comes.result.now c.row-goes.result.now c.requires.apart c.requires.place.0 c.requires.count.0 c.requires.place.1 (omega arith) h c.row-comes.ensures.cells c.row-goes.ensures.cells c.closing-gained.ensures.value in
+    c.row-comes.result.now c.row-goes.result.now c.requires.apart c.requires.place.0 c.requires.count.0 c.requires.place.1 (begun c.first_free-begin.result at (begins _ _ c.first_free-begin.ensures.value) l) h c.row-comes.ensures.cells c.row-goes.ensures.cells c.closing-gained.ensures.value in
     let e : at + 0 - 1 + 1 ≡ at + 0 = omega arith in
     let goes = ap (λ (n : ℕ). slice_index c.row-goes.result.now n) e in
     omega arith
@@ -102,7 +101,7 @@ shift_row-requires-clause-short g c = row_short _ _ c.row-goes.ensures.sized c.r
 pub shift_row-requires-clause-possible : goal.shift_row-requires-clause-possible
 shift_row-requires-clause-possible g c =
     let begin = c.first_free-begin.ensures.value in
-    λ at l h. shift_possible (searched c.args.search.now) c.requires.search c.args.gathered.now c.requires.gathered c.args.place c.args.count at c.requires.apart c.requires.place.0 c.requires.count.0 c.requires.place.1 (omega arith) h
+    λ at l h. shift_possible (searched c.args.search.now) c.requires.search c.args.gathered.now c.requires.gathered c.args.place c.args.count at c.requires.apart c.requires.place.0 c.requires.count.0 c.requires.place.1 (begun c.first_free-begin.result at (begins _ _ c.first_free-begin.ensures.value) l) h
 
 pub returns : goal.returns
 returns g c = c.shift_row.ensures

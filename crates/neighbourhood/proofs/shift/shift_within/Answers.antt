@@ -3,6 +3,7 @@ use Rattle.neighbourhood.specs.Searched.{searched}
 use Rattle.neighbourhood.proofs.Saved.{backwards_saved, forwards_saved, edges_inside, into_room_inside, out_room_inside, shift_inside_possible}
 use Rattle.neighbourhood.proofs.Shifts.{shift_still, shifts_past}
 use Rattle.neighbourhood.proofs.Still.{shift_inside_free}
+use Rattle.neighbourhood.proofs.Found.{begun, same}
 use Rattle.neighbourhood.proofs.Small.{after_low, before_after, before_first, begins, count_first, count_fits, count_in, count_last, count_less, next_casts, next_low, next_order, one_small, row_has, row_short, too_early, two_fit, two_small, width_casts}
 use Rattle.neighbourhood.proofs.shift.shift_within.Goals as goal
 
@@ -26,7 +27,7 @@ shift_row-forwards-requires-clause-saving g c =
     let begin = c.first_free-begin.ensures.value in
     λ at l h.
     let saved = forwards_saved (searched c.args.search.now) c.requires.search c.args.gathered.now c.requires.gathered c.requires.inside c.args.place c.args.count at
-    c.row.result.now c.row-2.result.now c.row-closes.result.now c.requires.place.0 c.requires.count.0 c.requires.place.1 (omega arith) h c.row.ensures.cells c.row-2.ensures.cells c.row-closes.ensures.cells in
+    c.row.result.now c.row-2.result.now c.row-closes.result.now c.requires.place.0 c.requires.count.0 c.requires.place.1 (begun c.first_free-begin.result at (begins _ _ c.first_free-begin.ensures.value) l) h c.row.ensures.cells c.row-2.ensures.cells c.row-closes.ensures.cells in
     let e : at + 0 - 1 + 1 ≡ at + 0 = omega arith in
     let goes = ap (λ (n : ℕ). slice_index c.row-2.result.now n) e in
     omega arith
@@ -171,7 +172,7 @@ pub shift_row-requires-clause-few : goal.shift_row-requires-clause-few
 shift_row-requires-clause-few g c = c.requires.count.1
 
 pub shift_row-requires-clause-low : goal.shift_row-requires-clause-low
-shift_row-requires-clause-low g c = next_low c.args.place 1 (omega arith)
+shift_row-requires-clause-low g c = next_low c.args.place 1 (same 1)
 
 pub shift_row-requires-clause-order : goal.shift_row-requires-clause-order
 shift_row-requires-clause-order g c = next_order c.args.place c.args.count _ c.requires.place.1

@@ -4,7 +4,8 @@ use Rattle.neighbourhood.specs.Searched.{searched}
 use Rattle.neighbourhood.proofs.Rows.{swaps_past}
 use Rattle.neighbourhood.proofs.Saved.{into_room, out_room, swap_most, swap_possible, swap_saved}
 use Rattle.neighbourhood.proofs.Still.{swap_free}
-use Rattle.neighbourhood.proofs.Small.{begin_order, begins, edge_at, edge_before, end_casts, four_fit, four_low, leaves_room, next_less, one_less, place_fits, row_edges, row_end, row_long, row_short, row_some, three_fit, too_early, two_fit, two_small, wide_some}
+use Rattle.neighbourhood.proofs.Found.{begun}
+use Rattle.neighbourhood.proofs.Small.{begin_order, begins, edge_at, edge_before, end_casts, four_fit, four_low, leaves_room, next_less, one_less, place_fits, place_room, row_edges, row_end, row_long, row_short, row_some, three_fit, too_early, two_fit, two_small, wide_one, wide_some}
 use Rattle.neighbourhood.proofs.swap.swap_over.Goals as goal
 
 pub row-next-requires : goal.row-next-requires
@@ -20,7 +21,7 @@ swap_row-requires-clause-saving g c =
     let begin = c.first_free-begin.ensures.value in
     λ at l h.
     let saved = swap_saved (searched c.args.search.now) c.requires.search c.args.gathered.now c.requires.gathered c.args.place at
-    c.row-before.result.now c.row-here.result.now c.row-next.result.now c.row-back.result.now c.requires.apart c.requires.place.0 c.requires.place.1 (omega arith) (omega arith)
+    c.row-before.result.now c.row-here.result.now c.row-next.result.now c.row-back.result.now c.requires.apart c.requires.place.0 c.requires.place.1 (begun c.first_free-begin.result at (begins _ _ c.first_free-begin.ensures.value) l) (place_room at _ h)
     c.row-before.ensures.cells c.row-here.ensures.cells c.row-next.ensures.cells c.row-back.ensures.cells in
     omega arith
 
@@ -28,7 +29,7 @@ pub returns-then-not-may_leave : goal.returns-then-not-may_leave
 returns-then-not-may_leave g c =
     let q = searched c.args.search.now in
     let wide = c.requires.gathered.to.sized in
-    swaps_past q c.requires.search c.args.place 1 (length c.args.gathered.now.to.now - 1) c.args.best.found (omega arith)
+    swaps_past q c.requires.search c.args.place 1 (length c.args.gathered.now.to.now - 1) c.args.best.found (wide_one _ _ c.requires.gathered.to.sized)
     (λ k l h counts.
     let free = swap_free q c.requires.search c.args.place k c.requires.apart counts in
     absurd (false≢true (sym c.if-not-may_leave.true ∙ c.may_leave.ensures.1 (free.0, free.2))))
@@ -55,10 +56,10 @@ returns-then-lost-from g c =
     let f7 = c.from.ensures in
     let test = c.if-lost-from.true in
     let bound = c.wanted-floor.ensures.value in
-    swaps_past q c.requires.search c.args.place 1 (length a.to.now - 1) c.args.best.found (omega arith)
+    swaps_past q c.requires.search c.args.place 1 (length a.to.now - 1) c.args.best.found (wide_one _ _ c.requires.gathered.to.sized)
     (λ at l h counts.
     let most = swap_most q c.requires.search a c.requires.gathered c.args.place at
-    c.row-before.result.now c.row-here.result.now c.row-next.result.now c.row-back.result.now c.requires.apart c.requires.place.0 c.requires.place.1 l (omega arith)
+    c.row-before.result.now c.row-here.result.now c.row-next.result.now c.row-back.result.now c.requires.apart c.requires.place.0 c.requires.place.1 l (place_room at _ h)
     c.row-before.ensures.cells c.row-here.ensures.cells c.row-next.ensures.cells c.row-back.ensures.cells in
     omega arith)
     c.requires.best
@@ -95,7 +96,7 @@ pub swap_row-requires-clause-possible : goal.swap_row-requires-clause-possible
 swap_row-requires-clause-possible g c =
     let begin = c.first_free-begin.ensures.value in
     λ at l h.
-    swap_possible (searched c.args.search.now) c.requires.search c.args.gathered.now c.requires.gathered c.args.place at (λ e. absurd (c.requires.apart e)) c.requires.place.0 c.requires.place.1 (omega arith) (omega arith)
+    swap_possible (searched c.args.search.now) c.requires.search c.args.gathered.now c.requires.gathered c.args.place at (λ e. absurd (c.requires.apart e)) c.requires.place.0 c.requires.place.1 (begun c.first_free-begin.result at (begins _ _ c.first_free-begin.ensures.value) l) (place_room at _ h)
 
 pub returns : goal.returns
 returns g c = c.swap_row.ensures

@@ -4,7 +4,8 @@ use Rattle.neighbourhood.specs.Searched.{searched}
 use Rattle.neighbourhood.proofs.Rows.{swap_beside, swaps_past}
 use Rattle.neighbourhood.proofs.Saved.{edges_inside, into_room_inside, next_saved, out_room_inside, swap_inside_possible, swap_inside_saved}
 use Rattle.neighbourhood.proofs.Still.{swap_inside_free}
-use Rattle.neighbourhood.proofs.Small.{count_fits, edge_two_at, edge_two_before, edge_two_next, next_casts, next_less, next_low, one_less, place_fits, row_edges, row_has, row_last, row_long, row_short, row_two_next, three_fit, three_fits, three_low, two_casts, two_fit, two_fits, two_next_fits, two_order, two_small, wide_some, width_casts}
+use Rattle.neighbourhood.proofs.Found.{above, same}
+use Rattle.neighbourhood.proofs.Small.{count_fits, edge_two_at, edge_two_before, edge_two_next, next_casts, next_less, next_low, next_order, one_less, place_fits, place_room, row_edges, row_has, row_last, row_long, row_short, row_two_next, three_fit, three_fits, three_low, too_early, two_apart, two_behind, two_casts, two_fit, two_fits, two_more, two_next_fits, two_order, two_small, two_some, wide_some, width_casts}
 use Rattle.neighbourhood.proofs.swap.swap_within.Goals as goal
 
 pub returns-then-index-width : goal.returns-then-index-width
@@ -18,13 +19,10 @@ returns-then-index-width g c =
 pub returns-then-place-first_free : goal.returns-then-place-first_free
 returns-then-place-first_free g c =
     let q = searched c.args.search.now in
-    let test = c.if-place-first_free.true in
-    let begin = c.first_free.ensures.value in
-    let room = c.if-index-width.false in
-    swaps_past q c.requires.search c.args.place (c.args.place + 1) (length c.args.gathered.now.from.now - 1) c.args.best.found (omega arith)
+    swaps_past q c.requires.search c.args.place (c.args.place + 1) (length c.args.gathered.now.from.now - 1) c.args.best.found (next_order c.args.place 1 _ c.requires.place.1)
     (λ k l h counts.
-    let front = swap_inside_free q c.requires.search c.args.place k c.requires.inside (omega arith) counts in
-    absurd (omega arith))
+    let front = swap_inside_free q c.requires.search c.args.place k c.requires.inside (above c.args.place (c.args.place + 1) k (same (c.args.place + 1)) l) counts in
+    absurd (too_early _ c.args.place c.first_free.result front c.if-place-first_free.true c.first_free.ensures.value))
     c.requires.best
 
 pub row-before-requires : goal.row-before-requires
@@ -80,13 +78,13 @@ pub swap_row-requires-clause-search : goal.swap_row-requires-clause-search
 swap_row-requires-clause-search g c = c.requires.search
 
 pub swap_row-requires-clause-low : goal.swap_row-requires-clause-low
-swap_row-requires-clause-low g c = next_low c.args.place 2 (omega arith)
+swap_row-requires-clause-low g c = next_low c.args.place 2 two_some
 
 pub swap_row-requires-clause-order : goal.swap_row-requires-clause-order
 swap_row-requires-clause-order g c = two_order c.args.place _ c.if-index-width.false
 
 pub swap_row-requires-clause-near : goal.swap_row-requires-clause-near
-swap_row-requires-clause-near g c = λ e. omega arith
+swap_row-requires-clause-near g c = λ e. two_more c.args.place
 
 pub swap_row-requires-clause-ways : goal.swap_row-requires-clause-ways
 swap_row-requires-clause-ways g c =
@@ -110,7 +108,7 @@ swap_row-requires-clause-fixed g c = two_small _ _ c.way_at.ensures.small c.way_
 pub swap_row-requires-clause-possible : goal.swap_row-requires-clause-possible
 swap_row-requires-clause-possible g c =
     λ at l h.
-    swap_inside_possible (searched c.args.search.now) c.requires.search c.args.gathered.now c.requires.gathered c.requires.inside c.args.place at (omega arith) c.requires.place.0 (omega arith)
+    swap_inside_possible (searched c.args.search.now) c.requires.search c.args.gathered.now c.requires.gathered c.requires.inside c.args.place at (two_behind c.args.place at l) c.requires.place.0 (place_room at _ h)
 
 pub swap_row-requires-clause-saving : goal.swap_row-requires-clause-saving
 swap_row-requires-clause-saving g c =
@@ -118,7 +116,7 @@ swap_row-requires-clause-saving g c =
     let f2 = c.way_at-2.ensures.value in
     λ at l h.
     let saved = swap_inside_saved (searched c.args.search.now) c.requires.search c.args.gathered.now c.requires.gathered c.requires.inside c.args.place at
-    c.row-before.result.now c.row-here.result.now c.row.result.now c.row-back.result.now c.requires.place.0 (omega arith) (omega arith)
+    c.row-before.result.now c.row-here.result.now c.row.result.now c.row-back.result.now c.requires.place.0 (two_apart c.args.place at l) (place_room at _ h)
     c.row-before.ensures.cells c.row-here.ensures.cells c.row.ensures.cells c.row-back.ensures.cells in
     omega arith
 
