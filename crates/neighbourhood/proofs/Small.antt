@@ -307,3 +307,31 @@ all_of m n e = omega arith
 
 pub not_both : (a b : ℕ) → a ≤ b → b < a → ⊥
 not_both a b h l = absurd (omega arith)
+
+-- the end of a row of crosses, before the last cut or at it
+pub below_then : (l end n : ℕ) → end ≡ n - 2 → l < end → l + 1 < n
+below_then l end n e h = omega arith
+
+pub below_else : (l end n : ℕ) → end ≡ n - 1 → l < end → l + 1 < n
+below_else l end n e h = omega arith
+
+pub begin_then : (b end n : ℕ) → end ≡ n - 2 → b + 2 ≤ n → b ≤ end
+begin_then b end n e h = omega arith
+
+pub begin_else : (b end n : ℕ) → end ≡ n - 1 → b + 2 ≤ n → b ≤ end
+begin_else b end n e h = omega arith
+
+pub end_then : (end n l : ℕ) → end ≡ n - 2 → n ≡ l + 2 → end + 1 ≤ n
+end_then end n l e w = omega arith
+
+pub end_else : (end n l : ℕ) → end ≡ n - 1 → n ≡ l + 2 → end + 1 ≤ n
+end_else end n l e w = omega arith
+
+pub end_edges : (end e n : ℕ) → end + 1 ≤ n → e + 1 ≡ n → end ≤ e
+end_edges end e n h c = omega arith
+
+pub end_long : (end m n : ℕ) → end + 1 ≤ n → m ≡ n → end ≤ m
+end_long end m n h e = omega arith
+
+pub end_after : (end m n : ℕ) → end + 1 ≤ n → m ≡ n → end < m
+end_after end m n h e = omega arith

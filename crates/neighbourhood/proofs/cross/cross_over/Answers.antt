@@ -6,7 +6,7 @@ use Rattle.neighbourhood.proofs.Orders.{cross_none}
 use Rattle.neighbourhood.proofs.Rows.{crosses_past}
 use Rattle.neighbourhood.proofs.Saved.{cross_most, cross_possible, cross_saved, into_room, out_room}
 use Rattle.neighbourhood.proofs.cross.cross_over.Goals.{then-last, else-last}
-use Rattle.neighbourhood.proofs.Small.{edge_at, next_less, one_small, place_fits, row_end, row_short, row_some, two_fit, two_fits, two_low, wide_some, wide_two}
+use Rattle.neighbourhood.proofs.Small.{begin_else, begin_then, below_else, below_then, edge_at, end_after, end_edges, end_else, end_long, end_then, next_less, one_small, place_fits, row_end, row_short, row_some, two_fit, two_fits, two_low, wide_some, wide_two}
 use Rattle.neighbourhood.proofs.cross.cross_over.Goals as goal
 
 pub row-next-requires : goal.row-next-requires
@@ -20,8 +20,8 @@ cross_row-requires-clause-possible g c =
     let fit = c.requires.keep in
     λ l h.
     let few : l + 1 < length c.args.gathered.now.to.now = elim c.if-last.branch [
-      | then-last w ↦ let e = w.end-is in omega arith
-      | else-last w ↦ let e = w.end-is in omega arith
+      | then-last w ↦ below_then l c.if-last.end _ w.end-is h
+      | else-last w ↦ below_else l c.if-last.end _ w.end-is h
     ] in
     let some : (c.args.keep < length (route_at q.view.routes q.v)) ⊎ (l < length (route_at q.view.routes q.w)) = elim c.if-last.branch [
       | then-last w ↦ let e = w.end-is in inr (omega arith)
@@ -39,8 +39,8 @@ cross_row-requires-clause-saving g c =
     let f = c.way_at-lost.ensures.value in
     λ l h.
     let few : l + 1 < length a.to.now = elim c.if-last.branch [
-      | then-last w ↦ let e = w.end-is in omega arith
-      | else-last w ↦ let e = w.end-is in omega arith
+      | then-last w ↦ below_then l c.if-last.end _ w.end-is h
+      | else-last w ↦ below_else l c.if-last.end _ w.end-is h
     ] in
     let some : (c.args.keep < length (route_at q.view.routes q.v)) ⊎ (l < length (route_at q.view.routes q.w)) = elim c.if-last.branch [
       | then-last w ↦ let e = w.end-is in inr (omega arith)
@@ -73,10 +73,9 @@ cross_row-requires-clause-best g c =
 
 pub cross_row-requires-clause-order : goal.cross_row-requires-clause-order
 cross_row-requires-clause-order g c =
-    let high = c.requires.begin in
     elim c.if-last.branch [
-      | then-last w ↦ let e = w.end-is in omega arith
-      | else-last w ↦ let e = w.end-is in omega arith
+      | then-last w ↦ begin_then c.args.begin c.if-last.end _ w.end-is c.requires.begin
+      | else-last w ↦ begin_else c.args.begin c.if-last.end _ w.end-is c.requires.begin
     ]
 
 pub returns-then-lost-from : goal.returns-then-lost-from
@@ -102,15 +101,15 @@ row-here-requires g c = record { high = out_room (searched c.args.search.now) c.
 
 pub cross_row-requires-clause-ways : goal.cross_row-requires-clause-ways
 cross_row-requires-clause-ways g c =
-    let counted = c.requires.gathered.to_edges.counted in
-    let wide = c.requires.gathered.to.sized in
-    let to = c.row-next.ensures.sized in
-    let on = c.row-here.ensures.sized in
     let high : c.if-last.end + 1 ≤ length c.args.gathered.now.to.now = elim c.if-last.branch [
-      | then-last w ↦ let e = w.end-is in omega arith
-      | else-last w ↦ let e = w.end-is in omega arith
+      | then-last w ↦ end_then c.if-last.end _ _ w.end-is c.requires.gathered.to.sized
+      | else-last w ↦ end_else c.if-last.end _ _ w.end-is c.requires.gathered.to.sized
     ] in
-    record { edges = omega arith; to = omega arith; on = omega arith }
+    record {
+      edges = end_edges c.if-last.end _ _ high c.requires.gathered.to_edges.counted;
+      to = end_long c.if-last.end _ _ high c.row-next.ensures.sized;
+      on = end_after c.if-last.end _ _ high c.row-here.ensures.sized;
+    }
 
 pub cross_row-requires-clause-most : goal.cross_row-requires-clause-most
 cross_row-requires-clause-most g c = c.requires.gathered.most
