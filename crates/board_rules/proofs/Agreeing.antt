@@ -6,7 +6,7 @@ use Rattle.move_core.specs.declared.moves.Move.{Move}
 use Rattle.move_core.specs.Moves.{named_by}
 use Rattle.board_rules.specs.declared.reply.Denial.{Denial}
 use Rattle.board_rules.specs.declared.reply.Denial.TheVariants.{NoSession, BadVehicle, AccessVehicle, Ahead, Stale, BadPlace, AccessCustomer, Frozen, Pinned, Bound}
-use Rattle.board_rules.specs.Rules.{Basis, Agree, IsVerdictBy, PassesVersion, PassesBase, PassesPins, first_stale, is_one_of}
+use Rattle.board_rules.specs.Rules.{Basis, Agree, IsVerdictBy, PassesVersion, PassesBase, PassesEffect, PassesCustomers, PassesFronts, PassesPins, first_stale, is_one_of}
 use Rattle.board_rules.proofs.Finds.{find_same}
 
 module _ (s : Setting) (b c : Basis) (base : ℕ) (mv : Move) (agree : Agree s b c) where
@@ -36,9 +36,21 @@ module _ (s : Setting) (b c : Basis) (base : ℕ) (mv : Move) (agree : Agree s b
   unfolding mixed
   base_same h = (h.0, sym (stale_same h.0) ∙ h.1)
 
+  effect_same : PassesEffect s mixed base mv → PassesEffect s c base mv
+  unfolding mixed
+  effect_same h = (base_same h.0, h.1)
+
+  customers_same : PassesCustomers s mixed base mv → PassesCustomers s c base mv
+  unfolding mixed
+  customers_same h = (effect_same h.0, h.1)
+
+  fronts_same : PassesFronts s mixed base mv → PassesFronts s c base mv
+  unfolding mixed
+  fronts_same h = (customers_same h.0, h.1)
+
   pins_same : PassesPins s mixed base mv → PassesPins s c base mv
   unfolding mixed
-  pins_same h = ((((base_same h.0.0.0.0, h.0.0.0.1), h.0.0.1), h.0.1), h.1)
+  pins_same h = (fronts_same h.0, h.1)
 
   by_changes : (verdict : Option Denial) → IsVerdictBy s mixed base mv verdict → IsVerdictBy s c base mv verdict
   unfolding mixed
@@ -49,9 +61,9 @@ module _ (s : Setting) (b c : Basis) (base : ℕ) (mv : Move) (agree : Agree s b
   by_changes (Some Ahead) h = h
   by_changes (Some (Stale v)) h = (h.0, sym (stale_same h.0) ∙ h.1)
   by_changes (Some BadPlace) h = (base_same h.0, h.1)
-  by_changes (Some (AccessCustomer v p)) h = ((base_same h.0.0, h.0.1), h.1)
-  by_changes (Some (Frozen v)) h = (((base_same h.0.0.0, h.0.0.1), h.0.1), h.1)
-  by_changes (Some (Pinned v p)) h = ((((base_same h.0.0.0.0, h.0.0.0.1), h.0.0.1), h.0.1), h.1)
+  by_changes (Some (AccessCustomer v p)) h = (effect_same h.0, h.1)
+  by_changes (Some (Frozen v)) h = (customers_same h.0, h.1)
+  by_changes (Some (Pinned v p)) h = (fronts_same h.0, h.1)
   by_changes (Some (Bound v d)) h = (pins_same h.0, h.1)
 
   pub verdict_same : (verdict : Option Denial) → IsVerdictBy s b base mv verdict → IsVerdictBy s c base mv verdict

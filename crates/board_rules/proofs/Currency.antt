@@ -16,6 +16,8 @@ use Rattle.board_rules.specs.declared.call.Entry.{Entry}
 use Rattle.board_rules.specs.declared.reply.Reply.{Reply}
 use Rattle.board_rules.specs.declared.reply.Reply.TheVariants.{Done, Session, Committed, Denied, Refused}
 use Rattle.board_rules.specs.State.{BoardState}
+use Rattle.board_rules.specs.Rules.{basis_of}
+use Rattle.board_rules.specs.RuleLaws.{effect_by_all}
 use Rattle.board_rules.specs.Step.{IsReply, after, committed}
 use Rattle.board_rules.specs.History.{Opening, state_after, IsLegal}
 use Rattle.board_rules.specs.Given.{Laws}
@@ -40,7 +42,7 @@ module _ (law : Laws) (s : Setting) (v : ℕ) (low : 1 ≤ v) (final : BoardStat
 
   has_effect : (state : BoardState) (session base n : ℕ) (mv : Move) → ∥ IsReply s state (Propose session base mv) (Committed n) ∥₁
       → effect s.customers state.routes mv ≡ Some (changes_by state.routes mv)
-  has_effect state session base n mv h = ∥∥₁_elim h (alone (effect s.customers state.routes mv) (Some (changes_by state.routes mv))) (λ right. right.1.0.0.0.0.1)
+  has_effect state session base n mv h = ∥∥₁_elim h (alone (effect s.customers state.routes mv) (Some (changes_by state.routes mv))) (λ right. (effect_by_all s (basis_of state session) base mv right.1).1)
     where
       alone : (a b : Option Changes) → IsProp (a ≡ b)
       alone a b = hlevel props

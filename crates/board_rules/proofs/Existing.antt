@@ -23,6 +23,7 @@ use Rattle.board_rules.specs.Policies.{policy_reply}
 use Rattle.board_rules.specs.Pinning.{pin_refusal, unpin_refusal, freeze_refusal, thaw_refusal}
 use Rattle.board_rules.specs.State.{BoardState}
 use Rattle.board_rules.specs.Rules.{Basis, IsVerdictBy, PassesEffect, PassesCustomers, PassesFronts, PassesPins, PassesSession, PassesFleet, PassesVehicles, PassesVersion, PassesBase, basis_of, are_in_fleet, first_barred_vehicle, first_stale, first_barred_customer, may_override, routes_after}
+use Rattle.board_rules.specs.RuleLaws.{effect_by_fronts, effect_by_pins}
 use Rattle.board_rules.specs.Step.{IsReply, refused_by}
 use Rattle.board_rules.specs.Good.{IsGood}
 use Rattle.board_rules.specs.Given.{Laws}
@@ -115,7 +116,7 @@ module _ (law : Laws) (spans : SpansGoOn) (s : Setting) (b : Basis) (base : ℕ)
   at_bounds : PassesPins s b base mv → Found
   unfolding Found
   at_bounds h =
-      let apart = (law.names.changes s.customers b.routes mv (changes_by b.routes mv) h.0.0.0.1).apart in
+      let apart = (law.names.changes s.customers b.routes mv (changes_by b.routes mv) (effect_by_pins s b base mv h).1).apart in
       elim (fit_or_out spans s (changes_by b.routes mv)) [
         | inl fit ↦ (None, (h, feasible_all s (changes_by b.routes mv) b.routes sized (subst (λ (n : ℕ). AreApart n (changes_by b.routes mv)) sized apart) fit feasible))
         | inr out ↦ (Some (Bound out.0 out.1.0), (h, out.1.1))
@@ -124,7 +125,7 @@ module _ (law : Laws) (spans : SpansGoOn) (s : Setting) (b : Basis) (base : ℕ)
   at_pins : PassesFronts s b base mv → Found
   unfolding Found
   at_pins h = elim (all_or_first (λ u. IsAllowed b.pins (may_override b) (routes_after b.routes mv) u.customer) (λ u. allowed_or_not u.customer) (touched_by b.routes mv)) [
-    | inl all ↦ at_bounds (h, all_allowed h.0.0 all)
+    | inl all ↦ at_bounds (h, all_allowed (effect_by_fronts s b base mv h) all)
     | inr t ↦ (Some (Pinned t.0.vehicle t.0.place), (h, (t.0, t.1, refl, refl)))
   ]
 

@@ -21,6 +21,7 @@ use Rattle.board_rules.specs.declared.reply.Reply.{Reply}
 use Rattle.board_rules.specs.declared.reply.Reply.TheVariants.{Done, Session, Committed, Denied, Refused}
 use Rattle.board_rules.specs.State.{BoardState, opening_state}
 use Rattle.board_rules.specs.Rules.{Basis, PassesAll, is_one_of, basis_of, routes_after}
+use Rattle.board_rules.specs.RuleLaws.{effect_by_all, fronts_by_all}
 use Rattle.board_rules.specs.Pinning.{vehicle_of, pin_guard, freeze_guard, pin_refusal, unpin_refusal, freeze_refusal, thaw_refusal, pinned}
 use Rattle.board_rules.specs.Step.{IsReply, after, committed, refused_by}
 use Rattle.board_rules.specs.Good.{IsGood}
@@ -90,12 +91,12 @@ module _ (law : Laws) (s : Setting) (state : BoardState) (good : IsGood s state)
       let count = law.routes.count (changes_by state.routes mv) state.routes in
       record {
         sized = count ∙ good.sized;
-        plan = law.keeps.plan s.customers state.routes mv (changes_by state.routes mv) good.plan h.0.0.0.0.1;
+        plan = law.keeps.plan s.customers state.routes mv (changes_by state.routes mv) good.plan (effect_by_all s (basis_of state session) base mv h).1;
         feasible = h.1;
         pinned = law.pins.rows state.pins (routes_after state.routes mv) ∙ good.pinned;
         frozen = good.frozen;
         pins = law.pins.released state.pins (routes_after state.routes mv);
-        fronts = law.pins.still state.pins state.routes (routes_after state.routes mv) count h.0.0.1 good.fronts;
+        fronts = law.pins.still state.pins state.routes (routes_after state.routes mv) count (fronts_by_all s (basis_of state session) base mv h) good.fronts;
       }
 
   -- other pins that hold, and frozen lengths that are within their routes

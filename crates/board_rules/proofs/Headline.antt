@@ -21,8 +21,8 @@ use Rattle.board_rules.specs.declared.reply.Reply.TheVariants.{Done, Session, Co
 use Rattle.board_rules.specs.Step.{IsReply}
 use Rattle.board_rules.specs.Override.{IsAllowed, DoPinsAllow}
 use Rattle.board_rules.specs.State.{BoardState}
-use Rattle.board_rules.specs.Rules.{Basis, IsVerdict, basis_of, are_in_fleet, is_one_of, is_changed_after, first_barred_vehicle, first_stale, first_barred_customer, may_override, routes_after}
-use Rattle.board_rules.specs.Proposals.{FailsFirst, SessionExists, AreInFleet, MayMove, MayMoveVehicles, AreCurrent, MayMoveCustomers, IsFree, PinsAllow, IsFirstFailed, MayCommit}
+use Rattle.board_rules.specs.Rules.{Basis, IsVerdict, PassesFleet, PassesVehicles, PassesVersion, PassesBase, PassesEffect, PassesCustomers, PassesFronts, PassesPins, basis_of, are_in_fleet, is_one_of, is_changed_after, first_barred_vehicle, first_stale, first_barred_customer, may_override, routes_after}
+use Rattle.board_rules.specs.Proposals.{FailsFirst, SessionExists, AreInFleet, MayMove, MayMoveVehicles, AreCurrent, MayMoveCustomers, IsFree, PinsAllow, StaysFeasible, MeetsFleet, MeetsVehicles, MeetsVersion, MeetsBase, MeetsEffect, MeetsCustomers, MeetsFronts, MeetsPins, IsFirstFailed, MayCommit}
 use Rattle.board_rules.proofs.Finds.{none_passes, none_found, first_passes, first_found, failing_same, all_by_place, place_by_all, list_all_from, list_all_by}
 
 -- nothing is found exactly where every element has what the test denies
@@ -51,6 +51,17 @@ one_of_both n k = (
   (λ h. let parts = and_parts _ _ h in (leb-true 1 k parts.0, leb-true k n parts.1)),
   (λ h. and_from _ _ (le-leb 1 k h.0) (le-leb k n h.1)),
 )
+
+-- what is the same both ways, said of two facts, and of a touched customer that stands at a place
+both_same : {A B C D : Type 0} → A ↔ B → C ↔ D → (A × C) ↔ (B × D)
+both_same p q = ((λ h. (p.0 h.0, q.0 h.1)), (λ h. (p.1 h.0, q.1 h.1)))
+
+itself : {A : Type 0} → A ↔ A
+itself = ((λ h. h), (λ h. h))
+
+touch_same : {P Q : Touch → Type 0} → ((t : Touch) → P t ↔ Q t) → (v p : ℕ)
+    → ((t : Touch) × P t × (t.vehicle ≡ v) × (t.place ≡ p)) ↔ ((t : Touch) × Q t × (t.vehicle ≡ v) × (t.place ≡ p))
+touch_same same v p = ((λ h. (h.0, (same h.0).0 h.1, h.2, h.3)), (λ h. (h.0, (same h.0).1 h.1, h.2, h.3)))
 
 module _ (by_commits : (commits : List (List ℕ)) (base v : ℕ) → (is_changed_after commits base v ≡ false) ↔ IsCurrentAt commits base v)
     (s : Setting) (state : BoardState) (session base : ℕ) (mv : Move)
@@ -109,64 +120,72 @@ module _ (by_commits : (commits : List (List ℕ)) (base v : ℕ) → (is_change
     (λ h. (h.0, failing_same _ _ (touched_by state.routes mv) h.0 t (λ u. (free u.customer).1) (λ u. (free u.customer).0) h.1)),
   )
 
+  -- ---- the rules in their order
+
+  meets_fleet : PassesFleet s b base mv ↔ MeetsFleet s state session base mv
+  meets_fleet = both_same itself fleet
+
+  meets_vehicles : PassesVehicles s b base mv ↔ MeetsVehicles s state session base mv
+  meets_vehicles = both_same meets_fleet vehicles
+
+  meets_version : PassesVersion s b base mv ↔ MeetsVersion s state session base mv
+  meets_version = both_same meets_vehicles itself
+
+  meets_base : PassesBase s b base mv ↔ MeetsBase s state session base mv
+  meets_base = both_same meets_version current
+
+  meets_effect : PassesEffect s b base mv ↔ MeetsEffect s state session base mv
+  meets_effect = both_same meets_base itself
+
+  meets_customers : PassesCustomers s b base mv ↔ MeetsCustomers s state session base mv
+  meets_customers = both_same meets_effect customers
+
+  meets_fronts : PassesFronts s b base mv ↔ MeetsFronts s state session base mv
+  meets_fronts = both_same meets_customers itself
+
+  meets_pins : PassesPins s b base mv ↔ MeetsPins s state session base mv
+  meets_pins = both_same meets_fronts pins
+
+  -- what meets every rule, by the names of the rules
+  may_commit : MeetsPins s state session base mv → StaysFeasible s state session base mv → MayCommit s state session base mv
+  may_commit by_pins feasible =
+      let by_fronts = by_pins.0 in
+      let by_customers = by_fronts.0 in
+      let by_effect = by_customers.0 in
+      let by_base = by_effect.0 in
+      let by_version = by_base.0 in
+      let by_vehicles = by_version.0 in
+      let by_fleet = by_vehicles.0 in
+      record {
+        exists = by_fleet.0;
+        fleet = by_fleet.1;
+        vehicles = by_vehicles.1;
+        made = by_version.1;
+        current = by_base.1;
+        possible = by_effect.1;
+        customers = by_customers.1;
+        fronts = by_fronts.1;
+        pins = by_pins.1;
+        feasible = feasible;
+      }
+
+  meets_all : MayCommit s state session base mv → MeetsPins s state session base mv
+  meets_all h = ((((((((h.exists, h.fleet), h.vehicles), h.made), h.current), h.possible), h.customers), h.fronts), h.pins)
+
   pub commits_exactly : IsVerdict s state session base mv None ↔ MayCommit s state session base mv
-  commits_exactly = (
-    (λ h. record {
-      exists = h.0.0.0.0.0.0.0.0.0;
-      fleet = fleet.0 h.0.0.0.0.0.0.0.0.1;
-      vehicles = vehicles.0 h.0.0.0.0.0.0.0.1;
-      made = h.0.0.0.0.0.0.1;
-      current = current.0 h.0.0.0.0.0.1;
-      possible = h.0.0.0.0.1;
-      customers = customers.0 h.0.0.0.1;
-      fronts = h.0.0.1;
-      pins = pins.0 h.0.1;
-      feasible = h.1;
-    }),
-    (λ h. (((((((((h.exists, fleet.1 h.fleet), vehicles.1 h.vehicles), h.made), current.1 h.current), h.possible), customers.1 h.customers), h.fronts), pins.1 h.pins), h.feasible)),
-  )
+  commits_exactly = ((λ h. may_commit (meets_pins.0 h.0) h.1), (λ h. (meets_pins.1 (meets_all h), h.feasible)))
 
   pub denies_exactly : (d : Denial) → IsVerdict s state session base mv (Some d) ↔ IsFirstFailed s state session base mv d
-  denies_exactly NoSession = failed _ (SessionExists s state session base mv) ((λ h. h), (λ h. h))
-  denies_exactly BadVehicle =
-      let same = failed (are_in_fleet s.vehicles mv) (AreInFleet s state session base mv) fleet in
-      ((λ h. (h.0, same.0 h.1)), (λ h. (h.0, same.1 h.1)))
-  denies_exactly (AccessVehicle v) = ((λ h. (h.0.0, fleet.0 h.0.1, (vehicle v).0 h.1)), (λ h. ((h.0, fleet.1 h.1), (vehicle v).1 h.2)))
-  denies_exactly Ahead = ((λ h. (h.0.0.0, fleet.0 h.0.0.1, vehicles.0 h.0.1, h.1)), (λ h. (((h.0, fleet.1 h.1), vehicles.1 h.2), h.3)))
-  denies_exactly (Stale v) = (
-    (λ h. (h.0.0.0.0, fleet.0 h.0.0.0.1, vehicles.0 h.0.0.1, h.0.1, (stale v).0 h.1)),
-    (λ h. ((((h.0, fleet.1 h.1), vehicles.1 h.2), h.3), (stale v).1 h.4)),
-  )
-  denies_exactly BadPlace = (
-    (λ h. (h.0.0.0.0.0, fleet.0 h.0.0.0.0.1, vehicles.0 h.0.0.0.1, h.0.0.1, current.0 h.0.1, h.1)),
-    (λ h. (((((h.0, fleet.1 h.1), vehicles.1 h.2), h.3), current.1 h.4), h.5)),
-  )
-  denies_exactly (AccessCustomer v p) = (
-    (λ h. (h.0.0.0.0.0.0, fleet.0 h.0.0.0.0.0.1, vehicles.0 h.0.0.0.0.1, h.0.0.0.1, current.0 h.0.0.1, h.0.1, (h.1.0, (customer h.1.0).0 h.1.1, h.1.2, h.1.3))),
-    (λ h. ((((((h.0, fleet.1 h.1), vehicles.1 h.2), h.3), current.1 h.4), h.5), (h.6.0, (customer h.6.0).1 h.6.1, h.6.2, h.6.3))),
-  )
-  denies_exactly (Frozen v) = (
-    (λ h. (h.0.0.0.0.0.0.0, fleet.0 h.0.0.0.0.0.0.1, vehicles.0 h.0.0.0.0.0.1, h.0.0.0.0.1, current.0 h.0.0.0.1, h.0.0.1, customers.0 h.0.1, h.1)),
-    (λ h. (((((((h.0, fleet.1 h.1), vehicles.1 h.2), h.3), current.1 h.4), h.5), customers.1 h.6), h.7)),
-  )
-  denies_exactly (Pinned v p) = (
-    (λ h. (
-      h.0.0.0.0.0.0.0.0,
-      fleet.0 h.0.0.0.0.0.0.0.1,
-      vehicles.0 h.0.0.0.0.0.0.1,
-      h.0.0.0.0.0.1,
-      current.0 h.0.0.0.0.1,
-      h.0.0.0.1,
-      customers.0 h.0.0.1,
-      h.0.1,
-      (h.1.0, (held_back h.1.0).0 h.1.1, h.1.2, h.1.3),
-    )),
-    (λ h. ((((((((h.0, fleet.1 h.1), vehicles.1 h.2), h.3), current.1 h.4), h.5), customers.1 h.6), h.7), (h.8.0, (held_back h.8.0).1 h.8.1, h.8.2, h.8.3))),
-  )
-  denies_exactly (Bound v d) = (
-    (λ h. (h.0.0.0.0.0.0.0.0.0, fleet.0 h.0.0.0.0.0.0.0.0.1, vehicles.0 h.0.0.0.0.0.0.0.1, h.0.0.0.0.0.0.1, current.0 h.0.0.0.0.0.1, h.0.0.0.0.1, customers.0 h.0.0.0.1, h.0.0.1, pins.0 h.0.1, h.1)),
-    (λ h. (((((((((h.0, fleet.1 h.1), vehicles.1 h.2), h.3), current.1 h.4), h.5), customers.1 h.6), h.7), pins.1 h.8), h.9)),
-  )
+  denies_exactly NoSession = failed _ (SessionExists s state session base mv) itself
+  denies_exactly BadVehicle = both_same itself (failed (are_in_fleet s.vehicles mv) (AreInFleet s state session base mv) fleet)
+  denies_exactly (AccessVehicle v) = both_same meets_fleet (vehicle v)
+  denies_exactly Ahead = both_same meets_vehicles itself
+  denies_exactly (Stale v) = both_same meets_version (stale v)
+  denies_exactly BadPlace = both_same meets_base itself
+  denies_exactly (AccessCustomer v p) = both_same meets_effect (touch_same customer v p)
+  denies_exactly (Frozen v) = both_same meets_customers itself
+  denies_exactly (Pinned v p) = both_same meets_fronts (touch_same held_back v p)
+  denies_exactly (Bound v d) = both_same meets_pins itself
 
 -- a right reply to a proposal is one of two
 pub committed_or_denied : (s : Setting) (state : BoardState) (session base : ℕ) (mv : Move) (reply : Reply) → IsReply s state (Propose session base mv) reply

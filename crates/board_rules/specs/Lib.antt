@@ -2,6 +2,7 @@ pub mod Policies
 pub mod Override
 pub mod State
 pub mod Rules
+pub mod RuleLaws
 pub mod Pinning
 pub mod Step
 pub mod Holds

@@ -73,22 +73,49 @@ module _ (s : Setting) (state : BoardState) (session base : ℕ) (mv : Move) whe
   abbrev pub StaysFeasible : Type 0
   StaysFeasible = IsFeasible s (routes_after state.routes mv)
 
+  -- ---- the rules in their order, each with those before it
+
+  abbrev pub MeetsSession : Type 0
+  MeetsSession = SessionExists
+
+  abbrev pub MeetsFleet : Type 0
+  MeetsFleet = MeetsSession × AreInFleet
+
+  abbrev pub MeetsVehicles : Type 0
+  MeetsVehicles = MeetsFleet × MayMoveVehicles
+
+  abbrev pub MeetsVersion : Type 0
+  MeetsVersion = MeetsVehicles × BaseIsMade
+
+  abbrev pub MeetsBase : Type 0
+  MeetsBase = MeetsVersion × AreCurrent
+
+  abbrev pub MeetsEffect : Type 0
+  MeetsEffect = MeetsBase × HasEffect
+
+  abbrev pub MeetsCustomers : Type 0
+  MeetsCustomers = MeetsEffect × MayMoveCustomers
+
+  abbrev pub MeetsFronts : Type 0
+  MeetsFronts = MeetsCustomers × FrontsAreKept
+
+  abbrev pub MeetsPins : Type 0
+  MeetsPins = MeetsFronts × PinsAllow
+
   -- the denial is that of the first rule that fails, and names the first vehicle or customer for which it fails
   abbrev pub IsFirstFailed : Denial → Type 0
   IsFirstFailed NoSession = ¬ SessionExists
-  IsFirstFailed BadVehicle = SessionExists × ¬ AreInFleet
-  IsFirstFailed (AccessVehicle v) = SessionExists × AreInFleet × FailsFirst (λ w. MayMove (objects.Vehicle w)) (named_by mv) v
-  IsFirstFailed Ahead = SessionExists × AreInFleet × MayMoveVehicles × (length state.commits < base)
-  IsFirstFailed (Stale v) = SessionExists × AreInFleet × MayMoveVehicles × BaseIsMade × FailsFirst (IsCurrentAt state.commits base) (named_by mv) v
-  IsFirstFailed BadPlace = SessionExists × AreInFleet × MayMoveVehicles × BaseIsMade × AreCurrent × (effect s.customers state.routes mv ≡ None)
-  IsFirstFailed (AccessCustomer v p) = SessionExists × AreInFleet × MayMoveVehicles × BaseIsMade × AreCurrent × HasEffect
+  IsFirstFailed BadVehicle = MeetsSession × ¬ AreInFleet
+  IsFirstFailed (AccessVehicle v) = MeetsFleet × FailsFirst (λ w. MayMove (objects.Vehicle w)) (named_by mv) v
+  IsFirstFailed Ahead = MeetsVehicles × (length state.commits < base)
+  IsFirstFailed (Stale v) = MeetsVersion × FailsFirst (IsCurrentAt state.commits base) (named_by mv) v
+  IsFirstFailed BadPlace = MeetsBase × (effect s.customers state.routes mv ≡ None)
+  IsFirstFailed (AccessCustomer v p) = MeetsEffect
       × ((t : Touch) × FailsFirst (λ u. MayMove (objects.Customer u.customer)) (touched_by state.routes mv) t × (t.vehicle ≡ v) × (t.place ≡ p))
-  IsFirstFailed (Frozen v) = SessionExists × AreInFleet × MayMoveVehicles × BaseIsMade × AreCurrent × HasEffect × MayMoveCustomers
-      × FailsFirst KeepsFront (named_by mv) v
-  IsFirstFailed (Pinned v p) = SessionExists × AreInFleet × MayMoveVehicles × BaseIsMade × AreCurrent × HasEffect × MayMoveCustomers × FrontsAreKept
+  IsFirstFailed (Frozen v) = MeetsCustomers × FailsFirst KeepsFront (named_by mv) v
+  IsFirstFailed (Pinned v p) = MeetsFronts
       × ((t : Touch) × FailsFirst (λ u. IsFree u.customer) (touched_by state.routes mv) t × (t.vehicle ≡ v) × (t.place ≡ p))
-  IsFirstFailed (Bound v d) = SessionExists × AreInFleet × MayMoveVehicles × BaseIsMade × AreCurrent × HasEffect × MayMoveCustomers × FrontsAreKept × PinsAllow
-      × IsOut s (changes_by state.routes mv) v d
+  IsFirstFailed (Bound v d) = MeetsPins × IsOut s (changes_by state.routes mv) v d
 
 -- Everything that a proposal has to meet.
 pub record MayCommit (s : Setting) (state : BoardState) (session base : ℕ) (mv : Move) : Type 0 where

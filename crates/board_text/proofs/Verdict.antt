@@ -11,6 +11,7 @@ use Rattle.move_core.specs.declared.moves.Move.{Move}
 use Rattle.move_core.specs.Moves.{changes_by, effect, is_possible}
 use Rattle.board_rules.specs.declared.reply.Denial.TheVariants as denials
 use Rattle.board_rules.specs.Rules.{Basis, IsVerdictBy}
+use Rattle.board_rules.specs.RuleLaws.{effect_by_pins}
 use Rattle.board_text.specs.declared.note.Note.{Note}
 use Rattle.board_text.specs.Notes.{IsBoundNote, excess_note}
 
@@ -29,7 +30,7 @@ out_range s (c ∷ cs) v d o stuck =
 pub bound_says : (s : Setting) (plan : PlanState) (b : Basis) (base : ℕ) (mv : Move) (v d : ℕ) → plan.customers ≡ s.customers → b.routes ≡ plan.routes
     → IsVerdictBy s b base mv (Some (denials.Bound v d)) → (is_possible plan.customers plan.routes mv ≡ true → 1 ≤ d → d ≤ length s.dimensions → ⊥) → ⊥
 bound_says s plan b base mv v d sized same verdict stuck =
-    let test = by_test Changes (changes_by b.routes mv) (is_possible s.customers b.routes mv) verdict.0.0.0.0.1 in
+    let test = by_test Changes (changes_by b.routes mv) (is_possible s.customers b.routes mv) (effect_by_pins s b base mv verdict.0).1 in
     let there = subst (λ (routes : List (List ℕ)). is_possible s.customers routes mv ≡ true) same test in
     let possible = subst (λ (n : ℕ). is_possible n plan.routes mv ≡ true) (sym sized) there in
     out_range s (changes_by b.routes mv) v d verdict.1 (λ low high. stuck possible low high)
