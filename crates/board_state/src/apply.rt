@@ -63,46 +63,18 @@ impl State {
             base,
             mv,
         };
-        match self.take_proposal(alloc, setup, &proposal, meter) {
+        if let Some(denial) = self.early_denial(setup, &proposal, meter) {
+            return Ok(Err(denial));
+        }
+        match self.take_move(alloc, setup, &proposal, meter) {
             Ok(version) => Ok(Ok(version)),
             Err(Stop::Denied(denial)) => Ok(Err(denial)),
             Err(Stop::NoMemory) => Err(AllocError),
         }
     }
 
-    /// Judges a proposal and puts it in place: the version that it commits, or what stops it.
-    #[inline(always)]
-    fn take_proposal(
-        &mut self,
-        alloc: Global,
-        setup: &Setup,
-        proposal: &Proposal,
-        meter: &mut Meter,
-    ) -> Result<u32, Stop>
-        requires ready { IsReady (setting setup.now) self.old }
-        requires place { rows_at self.old.tables proposal.now.place ≡ rows_of self.old.tables proposal.now.session }
-        ensures version { IfOk result (λ version. version ≡ self.old.plan.version + 1) }
-        ensures passes { OnOk result
-            (PassesAll (setting setup.now) (held_basis self.old proposal.now.session) proposal.now.base proposal.now.mv.now) }
-        ensures stop { IfErr result
-            (IsStop (setting setup.now) (held_basis self.old proposal.now.session) proposal.now.base proposal.now.mv.now) }
-        ensures holds { HoldsNext (setting setup.now) self.old self.new
-            (Propose proposal.now.session proposal.now.base proposal.now.mv.now) result (λ version. Committed version) }
-        ensures err { OnErr result (self.new ≡ self.old) }
-        ensures untried { self.old.policy.tried ≡ self.old.policy.now → self.new.policy.tried ≡ self.new.policy.now }
-        ensures work { IsWorkOfMove (setting setup.now) self.old proposal.now.mv.now (length (named_by proposal.now.mv.now))
-            (length (touched_by self.old.plan.routes proposal.now.mv.now)) result meter.old meter.new }
-        ensures most { IsWithinCost (setting setup.now) self.old
-            (Propose proposal.now.session proposal.now.base proposal.now.mv.now) meter.old meter.new }
-    {
-        if let Some(denial) = self.early_denial(setup, proposal, meter) {
-            return Err(Stop::Denied(denial));
-        }
-        self.take_move(alloc, setup, proposal, meter)
-    }
-
-    /// The same for a move that has an effect, which the rules up to that let pass. Out of line, so that a proposal that an earlier rule denies
-    /// pays nothing for the stack space of new routes.
+    /// Judges a move that has an effect, which the rules up to that let pass, and puts it in place: the version that it commits, or what
+    /// stops it. Out of line, so that a proposal that an earlier rule denies pays nothing for the stack space of new routes.
     #[inline(never)]
     fn take_move(
         &mut self,

@@ -131,7 +131,10 @@ impl State {
             base,
             mv,
         };
-        match self.judge_proposal(alloc, setup, &proposal, meter) {
+        if let Some(denial) = self.early_denial(setup, &proposal, meter) {
+            return Ok((Reply::Denied(denial), Change::Nothing));
+        }
+        match self.judge_move(alloc, setup, &proposal, meter) {
             Ok(new) => {
                 let (former, other) = self.former_routes(mv)?;
                 let commit = Commit {

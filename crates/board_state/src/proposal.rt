@@ -47,39 +47,6 @@ pub(crate) struct Proposal<'a> {
 }
 
 impl State {
-    /// Judges a proposal: the new routes that it may put in place, or the first rule that it fails. Where a rule denies it, the kept memory
-    /// is kept on.
-    #[inline(always)]
-    pub(crate) fn judge_proposal(
-        &mut self,
-        alloc: Global,
-        setup: &Setup,
-        proposal: &Proposal,
-        meter: &mut Meter,
-    ) -> Result<NewRoutes, Stop>
-        requires ready { IsReady (setting setup.now) self.old }
-        requires place { rows_at self.old.tables proposal.now.place ≡ rows_of self.old.tables proposal.now.session }
-        ensures same { self.new ≡ self.old }
-        ensures passes { OnOk result
-            (PassesAll (setting setup.now) (held_basis self.old proposal.now.session) proposal.now.base proposal.now.mv.now) }
-        ensures changes { IfOk result (λ new. changes_of new.changes.items ≡ changes_by self.old.plan.routes proposal.now.mv.now) }
-        ensures ready { IfOk result (ArePlaceableRoutes self.old) }
-        ensures made { IfOk result (AreMadeBy self.old proposal.now.mv.now) }
-        ensures ranges { IfOk result
-            (λ new. AreNewRows (setting setup.now) (changes_by self.old.plan.routes proposal.now.mv.now) new.pending.rows) }
-        ensures stop { IfErr result
-            (IsStop (setting setup.now) (held_basis self.old proposal.now.session) proposal.now.base proposal.now.mv.now) }
-        ensures work { IsWorkOfMove (setting setup.now) self.old proposal.now.mv.now (length (named_by proposal.now.mv.now))
-            (length (touched_by self.old.plan.routes proposal.now.mv.now)) result meter.old meter.new }
-        ensures most { IsWithinCost (setting setup.now) self.old
-            (Propose proposal.now.session proposal.now.base proposal.now.mv.now) meter.old meter.new }
-    {
-        if let Some(denial) = self.early_denial(setup, proposal, meter) {
-            return Err(Stop::Denied(denial));
-        }
-        self.judge_move(alloc, setup, proposal, meter)
-    }
-
     /// The denial of a proposal by a rule that needs no list of touched customers and no new route.
     #[inline(always)]
     pub(crate) fn early_denial(
@@ -130,7 +97,8 @@ impl State {
         None
     }
 
-    /// The rules from the touched customers on, of a move that has an effect.
+    /// The rules from the touched customers on, of a move that has an effect: the new routes that it may put in place, or the first rule that
+    /// it fails. Where a rule denies it, the kept memory is kept on.
     #[inline(always)]
     pub(crate) fn judge_move(
         &mut self,

@@ -3,8 +3,9 @@ use Rattle.dimension_core.specs.Setup.{setting}
 use Rattle.plan_core.specs.Plan.{AreApart, AreSizes, changes_of, replaced, with_routes}
 use Rattle.move_core.specs.Moves.{changes_by}
 use Rattle.pin_core.specs.Override.{after_commit}
+use Rattle.board_rules.specs.RuleLaws.{effect_by_all}
 use Rattle.range_cache.specs.Cache.{IsCacheOf}
-use Rattle.board_state.specs.Held.{HeldState}
+use Rattle.board_state.specs.Held.{HeldState, held_basis}
 use Rattle.board_state.proofs.Stepping.{new_holds}
 use Rattle.board_state.proofs.state.State.take_move.Goals as goal
 
@@ -14,7 +15,7 @@ returns-in-Ok-clause-holds g c state holds =
     let s = setting a.setup.now in
     let held = a.self.now in
     let sizes = subst (λ (h : HeldState). AreSizes h.plan) c.self.view_is c.version-version.ensures.sizes in
-    let effect = c.in-Ok.ensures.passes.0.0.0.0.1 in
+    let effect = (effect_by_all s (held_basis held a.proposal.now.session) a.proposal.now.base a.proposal.now.mv.now c.in-Ok.ensures.passes).1 in
     let put = c.replace.ensures in
     let is = c.judge_move.ensures.same in
     new_holds s held c.replace.new.self state c.in-Ok.new a.proposal.now.mv.now holds c.in-Ok.ensures.changes
