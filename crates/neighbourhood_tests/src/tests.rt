@@ -1,10 +1,11 @@
-ghost use Rattle.std.specs.Prelude.{◌≡◌, ◌+◌, ◌*◌, ◌%◌, ◌≤◌};
+ghost use Rattle.std.specs.Prelude.{◌≡◌, ◌+◌, ◌*◌, ◌%◌, ◌≤◌, length, All};
+ghost use Rattle.limits.specs.declared.TheConstants.{LARGEST_ANSWER};
 ghost use Rattle.dimension_core.specs.Setup.{setting};
 ghost use Rattle.neighbourhood.specs.View.{IsViewOf};
 
 use crate::plain::{Near, plain_best};
 use crate::views::{below, is_view, some_dimensions, some_plan, some_view};
-use callback_store::{Meter, Registry, Transit, Unary};
+use callback_store::{Matrix, Meter, Registry, Transit, TransitId, Unary};
 use dimension_core::Setup;
 use limits::MOST_CUSTOMERS;
 use neighbourhood::{Searcher, best_move};
@@ -13,6 +14,15 @@ use plan_core::Plan;
 use rand_pcg::Lcg64Xsh32;
 use std::alloc::Global;
 use std::process::Abort;
+use std::sync::Arc;
+
+/// How many views are compared of a setup of `rooms` times seven customers, whose costs of ways are given as a list or as a function.
+#[derive(Clone, Copy)]
+struct Sample {
+    rooms: u32,
+    views: u32,
+    listed: bool,
+}
 
 /// A searcher that is kept, how many answers were compared with its own, how many of them name a move, and how many differ.
 #[derive(Drop)]
@@ -90,17 +100,50 @@ fn compare_view<R: Abort + AllocGlobal>(
     }
 }
 
-/// Compares the answers on some views of a random setup of `rooms` times seven customers, whose callbacks are not the same both ways.
+/// Random answers for the ways between some nodes, which are not the same both ways.
+fn some_answers(rt: &impl Abort, alloc: Global, nodes: u32, rng: &mut Lcg64Xsh32) -> Vec<u32>
+    requires { nodes ≤ 1001 }
+    ensures sized { length result.items ≡ nodes * nodes }
+    ensures limited { All (λ x. x ≤ LARGEST_ANSWER) result.items }
+{
+    let mut answers = Vec::new(alloc);
+    for _cell in 0..nodes * nodes {
+        answers.push(below(rng, 101)).expect(rt, "memory");
+    }
+    answers
+}
+
+/// Registers such answers as the costs of ways.
+fn listed_costs(
+    rt: &impl Abort,
+    alloc: Global,
+    registry: &mut Registry,
+    nodes: u32,
+    rng: &mut Lcg64Xsh32,
+) -> TransitId
+    requires { nodes ≤ 1001 }
+{
+    let answers = some_answers(rt, alloc, nodes, rng);
+    let answers = Arc::new(alloc, answers).expect(rt, "memory");
+    let ways = Matrix::new(nodes, answers);
+    registry.register_matrix(ways).expect(rt, "room")
+}
+
+/// Compares the answers on some views of a random setup, whose callbacks are not the same both ways.
 fn compare_setup<R: Abort + AllocGlobal>(
     rt: &R,
     alloc: Global,
-    rooms: u32,
-    views: u32,
+    sample: Sample,
     rng: &mut Lcg64Xsh32,
     tally: &mut Tally,
 )
-    requires { (1 ≤ rooms) × (rooms ≤ 140) }
+    requires { (1 ≤ sample.rooms) × (sample.rooms ≤ 140) }
 {
+    let Sample {
+        rooms,
+        views,
+        listed,
+    } = sample;
     let customers = 7 * rooms;
     let (first, second, third) = (below(rng, 1000), below(rng, 1000), below(rng, 1000));
     let cost = Box::new(
@@ -125,7 +168,11 @@ fn compare_setup<R: Abort + AllocGlobal>(
     let drives = Transit::new(customers + 1, time.expect(rt, "memory"));
     let wants = Unary::new(customers + 1, load.expect(rt, "memory"));
     let mut registry = Registry::new(alloc);
-    let cost = registry.register(ways).expect(rt, "room");
+    let cost = if listed {
+        listed_costs(rt, alloc, &mut registry, customers + 1, rng)
+    } else {
+        registry.register(ways).expect(rt, "room")
+    };
     let time = registry.register(drives).expect(rt, "room");
     let load = registry.register_unary(wants).expect(rt, "room");
     let dimensions = some_dimensions(rt, alloc, &registry, (load, time), rooms, rng);
@@ -140,11 +187,10 @@ fn compare_setups<R: Abort + AllocGlobal>(
     rt: &R,
     seed: u64,
     setups: u32,
-    rooms: u32,
-    views: u32,
+    sample: Sample,
     wanted: (u32, u32, u32),
 )
-    requires { (1 ≤ rooms) × (rooms ≤ 140) }
+    requires { (1 ≤ sample.rooms) × (sample.rooms ≤ 140) }
 {
     let alloc = rt.alloc();
     let mut rng = Lcg64Xsh32::new(seed, 11);
@@ -155,7 +201,7 @@ fn compare_setups<R: Abort + AllocGlobal>(
         differ: 0,
     };
     for _ in 0..setups {
-        compare_setup(rt, alloc, rooms, views, &mut rng, &mut tally);
+        compare_setup(rt, alloc, sample, &mut rng, &mut tally);
     }
     assert_eq!(rt; (tally.answers, tally.moves, tally.differ), wanted);
 }
@@ -163,11 +209,32 @@ fn compare_setups<R: Abort + AllocGlobal>(
 /// On random views the answers are those of a plain search that builds each move and judges the whole plan after it.
 #[test]
 fn answers_as_a_plain_search(rt: HostRuntime) {
-    compare_setups(&rt, 2026, 80, 1, 4, (4863, 2370, 0));
+    let sample = Sample {
+        rooms: 1,
+        views: 4,
+        listed: false,
+    };
+    compare_setups(&rt, 2026, 80, sample, (4863, 2370, 0));
 }
 
 /// The same on routes so long that a row of candidates is gone through twice.
 #[test]
 fn answers_on_long_routes(rt: HostRuntime) {
-    compare_setups(&rt, 2027, 1, 6, 1, (24, 18, 0));
+    let sample = Sample {
+        rooms: 6,
+        views: 1,
+        listed: false,
+    };
+    compare_setups(&rt, 2027, 1, sample, (24, 18, 0));
+}
+
+/// The same where the costs of ways are read from a list.
+#[test]
+fn answers_by_listed_costs(rt: HostRuntime) {
+    let sample = Sample {
+        rooms: 1,
+        views: 4,
+        listed: true,
+    };
+    compare_setups(&rt, 2028, 6, sample, (410, 241, 0));
 }

@@ -47,22 +47,22 @@ new-wants-requires-clause-table g c =
     )
 
 pub overflow_mul-customers : goal.overflow_mul-customers
-overflow_mul-customers g c = customers_fit c.args.rooms c.requires.1
+overflow_mul-customers g c = customers_fit c.args.sample.rooms c.requires.1
 
 pub overflow_add-customers : goal.overflow_add-customers
-overflow_add-customers g c = nodes_fit c.args.rooms c.requires.1
+overflow_add-customers g c = nodes_fit c.args.sample.rooms c.requires.1
 
 pub overflow_add-customers-2 : goal.overflow_add-customers-2
-overflow_add-customers-2 g c = nodes_fit c.args.rooms c.requires.1
+overflow_add-customers-2 g c = nodes_fit c.args.sample.rooms c.requires.1
 
 pub overflow_add-customers-3 : goal.overflow_add-customers-3
-overflow_add-customers-3 g c = nodes_fit c.args.rooms c.requires.1
+overflow_add-customers-3 g c = nodes_fit c.args.sample.rooms c.requires.1
 
 pub some_dimensions-dimensions-requires : goal.some_dimensions-dimensions-requires
 some_dimensions-dimensions-requires g c = c.requires
 
 pub compare_view-requires-clause-some : goal.compare_view-requires-clause-some
-compare_view-requires-clause-some g c = some_customers c.args.rooms c.requires.0 c.requires.1
+compare_view-requires-clause-some g c = some_customers c.args.sample.rooms c.requires.0 c.requires.1
 
 pub compare_view-requires-clause-vehicles : goal.compare_view-requires-clause-vehicles
 compare_view-requires-clause-vehicles g c = ap (λ (s : Setting). s.vehicles) (rw c.expect-setup.ensures at c.new.ensures.ok)
