@@ -3,15 +3,12 @@ use Rattle.std.proofs.Common.{◌≡◌, ℕ, ◌+◌, ◌≤◌, ◌∙◌, Boo
 use Rattle.std.specs.Prelude.{IfErr, IfNone}
 use Rattle.callback_store.specs.declared.meter.Meter.{Meter}
 use Rattle.callback_store.specs.Meter.{Asks, after_probe}
-use Rattle.plan_core.specs.declared.touch.Touch.{Touch}
 use Rattle.plan_core.specs.Plan.{Changes}
-use Rattle.pin_core.specs.Pins.{PinState}
 use Rattle.board_rules.specs.declared.reply.Denial.{Denial}
-use Rattle.board_rules.specs.declared.reply.Denial.TheVariants.{NoSession, BadVehicle, AccessVehicle, Ahead, Stale, BadPlace, AccessCustomer, Frozen, Pinned, Bound}
 use Rattle.board_state.specs.declared.stop.Stop.{Stop}
 use Rattle.board_state.specs.declared.stop.Stop.TheVariants.{Denied, NoMemory}
-use Rattle.board_state.specs.Verdicts.{ComesEarly, IsLate, IsPinStop, asks_most, probes_least, probes_most, early_least, stop_asks, stop_asks_least, stop_least, stop_most}
-use Rattle.board_state.specs.Work.{Works, WorksJust, WorksAtMost, denial_least, denial_most, denial_asks, denial_asks_least}
+use Rattle.board_state.specs.Verdicts.{IsEarly, ComesEarly, IsLateAt, IsLate, IsPinnedAt, IsPinned, asks_most, probes_least, probes_most, early_least, stop_asks, stop_asks_least, stop_least, stop_most}
+use Rattle.board_state.specs.Work.{Works, WorksJust, WorksAtMost, Stage, at_vehicles, at_facts, at_customers, at_fronts, at_pins, at_bounds, stage_of, least_at, most_at, asks_at, asks_least_at}
 
 -- nothing was counted
 pub idle : (m : Meter) (asks probes : ℕ) → WorksAtMost m m asks probes
@@ -108,62 +105,58 @@ where_none {X} o P h e = subst (λ (x : Option X). IfNone x P) e h
 -- ---- judgements
 
 -- a whole judgement counts no less than any part of it, and no more
+all_probes : (n t l : ℕ) (at : Stage) → most_at n t l at ≤ n + t + l
+all_probes n t l at_vehicles = omega arith
+all_probes n t l at_facts = omega arith
+all_probes n t l at_customers = omega arith
+all_probes n t l at_fronts = omega arith
+all_probes n t l at_pins = omega arith
+all_probes n t l (at_bounds v d) = omega arith
+
 pub most_probes : {C : Type 0} (n t l : ℕ) (r : Result C Stop) → probes_most n t l r ≤ n + t + l
 most_probes n t l (Ok new) = omega arith
 most_probes n t l (Err NoMemory) = omega arith
-most_probes n t l (Err (Denied NoSession)) = omega arith
-most_probes n t l (Err (Denied BadVehicle)) = omega arith
-most_probes n t l (Err (Denied (AccessVehicle v))) = omega arith
-most_probes n t l (Err (Denied Ahead)) = omega arith
-most_probes n t l (Err (Denied (Stale v))) = omega arith
-most_probes n t l (Err (Denied BadPlace)) = omega arith
-most_probes n t l (Err (Denied (AccessCustomer v p))) = omega arith
-most_probes n t l (Err (Denied (Frozen v))) = omega arith
-most_probes n t l (Err (Denied (Pinned v p))) = omega arith
-most_probes n t l (Err (Denied (Bound v d))) = omega arith
+most_probes n t l (Err (Denied denial)) = all_probes n t l (stage_of denial)
+
+all_asks : (m : ℕ) (at : Stage) → asks_at m at ≤ m
+all_asks m at_vehicles = omega arith
+all_asks m at_facts = omega arith
+all_asks m at_customers = omega arith
+all_asks m at_fronts = omega arith
+all_asks m at_pins = omega arith
+all_asks m (at_bounds v d) = omega arith
 
 pub most_asks : {C : Type 0} (m : ℕ) (r : Result C Stop) → asks_most m r ≤ m
 most_asks m (Ok new) = omega arith
 most_asks m (Err NoMemory) = omega arith
-most_asks m (Err (Denied NoSession)) = omega arith
-most_asks m (Err (Denied BadVehicle)) = omega arith
-most_asks m (Err (Denied (AccessVehicle v))) = omega arith
-most_asks m (Err (Denied Ahead)) = omega arith
-most_asks m (Err (Denied (Stale v))) = omega arith
-most_asks m (Err (Denied BadPlace)) = omega arith
-most_asks m (Err (Denied (AccessCustomer v p))) = omega arith
-most_asks m (Err (Denied (Frozen v))) = omega arith
-most_asks m (Err (Denied (Pinned v p))) = omega arith
-most_asks m (Err (Denied (Bound v d))) = omega arith
+most_asks m (Err (Denied denial)) = all_asks m (stage_of denial)
 
 -- the rules from the touched customers on, after the probes of the named vehicles
+named_least_at : (n t l : ℕ) (at : Stage) → least_at n t l at ≤ n + least_at 0 t l at
+named_least_at n t l at_vehicles = omega arith
+named_least_at n t l at_facts = omega arith
+named_least_at n t l at_customers = omega arith
+named_least_at n t l at_fronts = omega arith
+named_least_at n t l at_pins = omega arith
+named_least_at n t l (at_bounds v d) = omega arith
+
 named_least : {C : Type 0} (n t l : ℕ) (r : Result C Stop) → probes_least n t l r ≤ n + probes_least 0 t l r
 named_least n t l (Ok new) = omega arith
 named_least n t l (Err NoMemory) = omega arith
-named_least n t l (Err (Denied NoSession)) = omega arith
-named_least n t l (Err (Denied BadVehicle)) = omega arith
-named_least n t l (Err (Denied (AccessVehicle v))) = omega arith
-named_least n t l (Err (Denied Ahead)) = omega arith
-named_least n t l (Err (Denied (Stale v))) = omega arith
-named_least n t l (Err (Denied BadPlace)) = omega arith
-named_least n t l (Err (Denied (AccessCustomer v p))) = omega arith
-named_least n t l (Err (Denied (Frozen v))) = omega arith
-named_least n t l (Err (Denied (Pinned v p))) = omega arith
-named_least n t l (Err (Denied (Bound v d))) = omega arith
+named_least n t l (Err (Denied denial)) = named_least_at n t l (stage_of denial)
+
+named_most_at : (n t l : ℕ) (at : Stage) → n + most_at 0 t l at ≤ most_at n t l at
+named_most_at n t l at_vehicles = omega arith
+named_most_at n t l at_facts = omega arith
+named_most_at n t l at_customers = omega arith
+named_most_at n t l at_fronts = omega arith
+named_most_at n t l at_pins = omega arith
+named_most_at n t l (at_bounds v d) = omega arith
 
 named_most : {C : Type 0} (n t l : ℕ) (r : Result C Stop) → n + probes_most 0 t l r ≤ probes_most n t l r
 named_most n t l (Ok new) = omega arith
 named_most n t l (Err NoMemory) = omega arith
-named_most n t l (Err (Denied NoSession)) = omega arith
-named_most n t l (Err (Denied BadVehicle)) = omega arith
-named_most n t l (Err (Denied (AccessVehicle v))) = omega arith
-named_most n t l (Err (Denied Ahead)) = omega arith
-named_most n t l (Err (Denied (Stale v))) = omega arith
-named_most n t l (Err (Denied BadPlace)) = omega arith
-named_most n t l (Err (Denied (AccessCustomer v p))) = omega arith
-named_most n t l (Err (Denied (Frozen v))) = omega arith
-named_most n t l (Err (Denied (Pinned v p))) = omega arith
-named_most n t l (Err (Denied (Bound v d))) = omega arith
+named_most n t l (Err (Denied denial)) = named_most_at n t l (stage_of denial)
 
 pub after_named : {C : Type 0} (a b c : Meter) (n t l i m : ℕ) (r : Result C Stop) → WorksJust a b 0 n → Works b c i m (probes_least 0 t l r) (probes_most 0 t l r)
     → Works a c i m (probes_least n t l r) (probes_most n t l r)
@@ -171,33 +164,31 @@ after_named a b c n t l i m r h q =
     both_within a b c 0 0 n n i m _ _ i m _ _ h q (omega arith) (omega arith) (named_least n t l r) (named_most n t l r)
 
 -- the rules on the new routes, after the probes of the touched customers
+touched_least_at : (t l : ℕ) (at : Stage) → least_at 0 t l at ≤ t + least_at 0 0 l at
+touched_least_at t l at_vehicles = omega arith
+touched_least_at t l at_facts = omega arith
+touched_least_at t l at_customers = omega arith
+touched_least_at t l at_fronts = omega arith
+touched_least_at t l at_pins = omega arith
+touched_least_at t l (at_bounds v d) = omega arith
+
 touched_least : {C : Type 0} (t l : ℕ) (r : Result C Stop) → probes_least 0 t l r ≤ t + probes_least 0 0 l r
 touched_least t l (Ok new) = omega arith
 touched_least t l (Err NoMemory) = omega arith
-touched_least t l (Err (Denied NoSession)) = omega arith
-touched_least t l (Err (Denied BadVehicle)) = omega arith
-touched_least t l (Err (Denied (AccessVehicle v))) = omega arith
-touched_least t l (Err (Denied Ahead)) = omega arith
-touched_least t l (Err (Denied (Stale v))) = omega arith
-touched_least t l (Err (Denied BadPlace)) = omega arith
-touched_least t l (Err (Denied (AccessCustomer v p))) = omega arith
-touched_least t l (Err (Denied (Frozen v))) = omega arith
-touched_least t l (Err (Denied (Pinned v p))) = omega arith
-touched_least t l (Err (Denied (Bound v d))) = omega arith
+touched_least t l (Err (Denied denial)) = touched_least_at t l (stage_of denial)
+
+touched_most_at : (t l : ℕ) (at : Stage) → IsLateAt at → t + most_at 0 0 l at ≤ most_at 0 t l at
+touched_most_at t l at_vehicles late = absurd late
+touched_most_at t l at_facts late = absurd late
+touched_most_at t l at_customers late = absurd late
+touched_most_at t l at_fronts late = omega arith
+touched_most_at t l at_pins late = omega arith
+touched_most_at t l (at_bounds v d) late = omega arith
 
 touched_most : {C : Type 0} (t l : ℕ) (r : Result C Stop) → IfErr r IsLate → t + probes_most 0 0 l r ≤ probes_most 0 t l r
 touched_most t l (Ok new) late = omega arith
 touched_most t l (Err NoMemory) late = omega arith
-touched_most t l (Err (Denied NoSession)) late = absurd late
-touched_most t l (Err (Denied BadVehicle)) late = absurd late
-touched_most t l (Err (Denied (AccessVehicle v))) late = absurd late
-touched_most t l (Err (Denied Ahead)) late = absurd late
-touched_most t l (Err (Denied (Stale v))) late = absurd late
-touched_most t l (Err (Denied BadPlace)) late = absurd late
-touched_most t l (Err (Denied (AccessCustomer v p))) late = absurd late
-touched_most t l (Err (Denied (Frozen v))) late = omega arith
-touched_most t l (Err (Denied (Pinned v p))) late = omega arith
-touched_most t l (Err (Denied (Bound v d))) late = omega arith
+touched_most t l (Err (Denied denial)) late = touched_most_at t l (stage_of denial) late
 
 pub after_touched : {C : Type 0} (a b c : Meter) (t l i m : ℕ) (r : Result C Stop) → IfErr r IsLate → WorksJust a b 0 t → Works b c i m (probes_least 0 0 l r) (probes_most 0 0 l r)
     → Works a c i m (probes_least 0 t l r) (probes_most 0 t l r)
@@ -206,17 +197,17 @@ after_touched a b c t l i m r late h q =
 
 -- a denial by one of the first rules
 pub denied_early : (a b : Meter) (n t l m : ℕ) (dimensions : ℕ) (routes : List (List ℕ)) (changes : Changes) (denial : Denial) → ComesEarly denial → Works a b 0 0 (early_least n (Some denial)) n
-    → Works a b (denial_asks_least dimensions routes changes denial) (denial_asks m denial) (denial_least n t l denial) (denial_most n t l denial)
-denied_early a b n t l m dimensions routes changes NoSession early h = h
-denied_early a b n t l m dimensions routes changes BadVehicle early h = h
-denied_early a b n t l m dimensions routes changes (AccessVehicle v) early h = h
-denied_early a b n t l m dimensions routes changes Ahead early h = h
-denied_early a b n t l m dimensions routes changes (Stale v) early h = h
-denied_early a b n t l m dimensions routes changes BadPlace early h = h
-denied_early a b n t l m dimensions routes changes (AccessCustomer v p) early h = absurd early
-denied_early a b n t l m dimensions routes changes (Frozen v) early h = absurd early
-denied_early a b n t l m dimensions routes changes (Pinned v p) early h = absurd early
-denied_early a b n t l m dimensions routes changes (Bound v d) early h = absurd early
+    → Works a b (asks_least_at dimensions routes changes (stage_of denial)) (asks_at m (stage_of denial)) (least_at n t l (stage_of denial)) (most_at n t l (stage_of denial))
+denied_early a b n t l m dimensions routes changes denial early h = by_stage (stage_of denial) early h
+  where
+    by_stage : (at : Stage) → IsEarly at → Works a b 0 0 (least_at n 0 0 at) n
+        → Works a b (asks_least_at dimensions routes changes at) (asks_at m at) (least_at n t l at) (most_at n t l at)
+    by_stage at_vehicles early h = h
+    by_stage at_facts early h = h
+    by_stage at_customers early h = absurd early
+    by_stage at_fronts early h = absurd early
+    by_stage at_pins early h = absurd early
+    by_stage (at_bounds v d) early h = absurd early
 
 -- what judging pins and fronts counted, where it let the new routes pass, and where it stopped them
 pub pinned_whole : {C : Type 0} (a b : Meter) (l : ℕ) (r : Result C Stop) {x : C} → r ≡ Ok x → Works a b 0 0 (probes_least 0 0 l r) l → WorksJust a b 0 l
@@ -227,17 +218,29 @@ pinned_whole {C} a b l r {x} e h =
     none_before : (n : ℕ) → 0 + 0 + n ≡ n
     none_before n = omega arith
 
-pub pinned_stop : (a b : Meter) (l m dimensions : ℕ) (routes : List (List ℕ)) (changes : Changes) (pins : PinState) (free : ℕ → Bool) (old : List (List ℕ)) (new : Changes) (touched : List Touch) (stop : Stop)
-    → IsPinStop pins free old new touched stop → Works a b 0 0 (stop_least 0 0 l stop) l
+-- what stops new routes by a pin or a front stops them late
+pub late_if_pinned : (stop : Stop) → IsPinned stop → IsLate stop
+late_if_pinned NoMemory pinned = tt
+late_if_pinned (Denied denial) pinned = by_stage (stage_of denial) pinned
+  where
+    by_stage : (at : Stage) → IsPinnedAt at → IsLateAt at
+    by_stage at_vehicles pinned = absurd pinned
+    by_stage at_facts pinned = absurd pinned
+    by_stage at_customers pinned = absurd pinned
+    by_stage at_fronts pinned = tt
+    by_stage at_pins pinned = tt
+    by_stage (at_bounds v d) pinned = absurd pinned
+
+pub pinned_stop : (a b : Meter) (l m dimensions : ℕ) (routes : List (List ℕ)) (changes : Changes) (stop : Stop) → IsPinned stop → Works a b 0 0 (stop_least 0 0 l stop) l
     → Works a b (stop_asks_least dimensions routes changes stop) (stop_asks m stop) (stop_least 0 0 l stop) (stop_most 0 0 l stop)
-pinned_stop a b l m dimensions routes changes pins free old new touched NoMemory held h = within a b 0 0 0 l 0 m 0 _ h (omega arith) (omega arith) (omega arith) (omega arith)
-pinned_stop a b l m dimensions routes changes pins free old new touched (Denied NoSession) held h = absurd held
-pinned_stop a b l m dimensions routes changes pins free old new touched (Denied BadVehicle) held h = absurd held
-pinned_stop a b l m dimensions routes changes pins free old new touched (Denied (AccessVehicle v)) held h = absurd held
-pinned_stop a b l m dimensions routes changes pins free old new touched (Denied Ahead) held h = absurd held
-pinned_stop a b l m dimensions routes changes pins free old new touched (Denied (Stale v)) held h = absurd held
-pinned_stop a b l m dimensions routes changes pins free old new touched (Denied BadPlace) held h = absurd held
-pinned_stop a b l m dimensions routes changes pins free old new touched (Denied (AccessCustomer v p)) held h = absurd held
-pinned_stop a b l m dimensions routes changes pins free old new touched (Denied (Bound v d)) held h = absurd held
-pinned_stop a b l m dimensions routes changes pins free old new touched (Denied (Frozen v)) held h = within a b 0 0 _ l _ _ _ _ h (omega arith) (omega arith) (omega arith) (omega arith)
-pinned_stop a b l m dimensions routes changes pins free old new touched (Denied (Pinned v p)) held h = within a b 0 0 _ l _ _ _ _ h (omega arith) (omega arith) (omega arith) (omega arith)
+pinned_stop a b l m dimensions routes changes NoMemory pinned h = within a b 0 0 0 l 0 m 0 _ h (omega arith) (omega arith) (omega arith) (omega arith)
+pinned_stop a b l m dimensions routes changes (Denied denial) pinned h = by_stage (stage_of denial) pinned h
+  where
+    by_stage : (at : Stage) → IsPinnedAt at → Works a b 0 0 (least_at 0 0 l at) l
+        → Works a b (asks_least_at dimensions routes changes at) (asks_at m at) (least_at 0 0 l at) (most_at 0 0 l at)
+    by_stage at_vehicles pinned h = absurd pinned
+    by_stage at_facts pinned h = absurd pinned
+    by_stage at_customers pinned h = absurd pinned
+    by_stage at_fronts pinned h = within a b 0 0 _ l _ _ _ _ h (omega arith) (omega arith) (omega arith) (omega arith)
+    by_stage at_pins pinned h = within a b 0 0 _ l _ _ _ _ h (omega arith) (omega arith) (omega arith) (omega arith)
+    by_stage (at_bounds v d) pinned h = absurd pinned

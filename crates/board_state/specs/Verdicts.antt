@@ -9,7 +9,7 @@ use Rattle.pin_core.specs.Pins.{PinState, DoPinsHold, DoFrontsFit, AreFreezesKep
 use Rattle.pin_core.specs.Allowed.{AreAllTouched, IsFirstThawed}
 use Rattle.move_core.specs.declared.moves.Move.{Move}
 use Rattle.board_rules.specs.declared.reply.Denial.{Denial}
-use Rattle.board_rules.specs.declared.reply.Denial.TheVariants.{AccessCustomer, Frozen, Pinned, Bound}
+use Rattle.board_rules.specs.declared.reply.Denial.TheVariants.{Frozen, Pinned}
 use Rattle.board_rules.specs.Override.{IsFirstHeldBack}
 use Rattle.board_rules.specs.Rules.{Basis, IsVerdictBy}
 use Rattle.board_state.specs.declared.stop.Stop.{Stop}
@@ -17,7 +17,7 @@ use Rattle.board_state.specs.declared.stop.Stop.TheVariants.{Denied, NoMemory}
 use Rattle.board_state.specs.Held.{HeldState}
 use Rattle.callback_store.specs.declared.meter.Meter.{Meter}
 use Rattle.move_core.specs.Moves.{changes_by}
-use Rattle.board_state.specs.Work.{Works, leaving_by, denial_least, denial_most, denial_asks, denial_asks_least}
+use Rattle.board_state.specs.Work.{Works, Stage, at_vehicles, at_facts, at_fronts, at_pins, at_bounds, stage_of, leaving_by, least_at, most_at, asks_at, asks_least_at}
 
 -- a proposal is stopped by the denial that is right for it
 abbrev pub IsStop : Setting → Basis → ℕ → Move → Stop → Type 0
@@ -45,37 +45,51 @@ pub record ArePlaceable (held : HeldState) (new : Changes) (touches : List Touch
   pub touched : AreAllTouched held.plan.routes (with_routes new held.plan.routes) touches
 
 -- a denial by one of the rules that need no new route and no touched customer
+abbrev pub IsEarly : Stage → Type 0
+IsEarly at_vehicles = ⊤
+IsEarly at_facts = ⊤
+IsEarly _ = ⊥
+
 abbrev pub ComesEarly : Denial → Type 0
-ComesEarly (AccessCustomer v p) = ⊥
-ComesEarly (Frozen v) = ⊥
-ComesEarly (Pinned v p) = ⊥
-ComesEarly (Bound v d) = ⊥
-ComesEarly _ = ⊤
+ComesEarly denial = IsEarly (stage_of denial)
 
 -- new routes are stopped by one of the last rules, or since memory ran out
+abbrev pub IsLateAt : Stage → Type 0
+IsLateAt at_fronts = ⊤
+IsLateAt at_pins = ⊤
+IsLateAt (at_bounds v d) = ⊤
+IsLateAt _ = ⊥
+
 abbrev pub IsLate : Stop → Type 0
-IsLate (Denied (Frozen v)) = ⊤
-IsLate (Denied (Pinned v p)) = ⊤
-IsLate (Denied (Bound v d)) = ⊤
+IsLate (Denied denial) = IsLateAt (stage_of denial)
 IsLate NoMemory = ⊤
-IsLate _ = ⊥
+
+-- by one of those on pins and fronts, or since memory ran out
+abbrev pub IsPinnedAt : Stage → Type 0
+IsPinnedAt at_fronts = ⊤
+IsPinnedAt at_pins = ⊤
+IsPinnedAt _ = ⊥
+
+abbrev pub IsPinned : Stop → Type 0
+IsPinned (Denied denial) = IsPinnedAt (stage_of denial)
+IsPinned NoMemory = ⊤
 
 -- what a judgement counts at least and at most by its result, where n vehicles are named and t customers touched of which l would leave, and
 -- a whole judgement of the bounds makes m asks
 abbrev pub stop_asks : ℕ → Stop → ℕ
-stop_asks m (Denied denial) = denial_asks m denial
+stop_asks m (Denied denial) = asks_at m (stage_of denial)
 stop_asks m NoMemory = m
 
 abbrev pub stop_least : ℕ → ℕ → ℕ → Stop → ℕ
-stop_least n t l (Denied denial) = denial_least n t l denial
+stop_least n t l (Denied denial) = least_at n t l (stage_of denial)
 stop_least n t l NoMemory = 0
 
 abbrev pub stop_most : ℕ → ℕ → ℕ → Stop → ℕ
-stop_most n t l (Denied denial) = denial_most n t l denial
+stop_most n t l (Denied denial) = most_at n t l (stage_of denial)
 stop_most n t l NoMemory = n + t + l
 
 abbrev pub stop_asks_least : ℕ → List (List ℕ) → Changes → Stop → ℕ
-stop_asks_least dimensions routes changes (Denied denial) = denial_asks_least dimensions routes changes denial
+stop_asks_least dimensions routes changes (Denied denial) = asks_least_at dimensions routes changes (stage_of denial)
 stop_asks_least dimensions routes changes NoMemory = 0
 
 abbrev pub asks_least : {C : Type 0} → ℕ → List (List ℕ) → Changes → Result C Stop → ℕ
@@ -97,7 +111,7 @@ probes_most n t l (Err stop) = stop_most n t l stop
 -- the same where only the first rules were tried, with or without a denial
 abbrev pub early_least : ℕ → Option Denial → ℕ
 early_least n None = n
-early_least n (Some denial) = denial_least n 0 0 denial
+early_least n (Some denial) = least_at n 0 0 (stage_of denial)
 
 -- the work of judging a move on what is held, by its result, where n named vehicles and t touched customers were still to be probed
 abbrev pub IsWorkOfMove : {C : Type 0} → Setting → HeldState → Move → ℕ → ℕ → Result C Stop → Meter → Meter → Type 0

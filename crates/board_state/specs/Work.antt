@@ -14,7 +14,7 @@ use Rattle.move_core.specs.Touched.{touched_by}
 use Rattle.board_rules.specs.declared.call.Call.{Call}
 use Rattle.board_rules.specs.declared.call.Call.TheVariants.{Propose}
 use Rattle.board_rules.specs.declared.reply.Denial.{Denial}
-use Rattle.board_rules.specs.declared.reply.Denial.TheVariants.{Ahead, Stale, BadPlace, AccessCustomer, Frozen, Pinned, Bound}
+use Rattle.board_rules.specs.declared.reply.Denial.TheVariants.{NoSession, BadVehicle, AccessVehicle, Ahead, Stale, BadPlace, AccessCustomer, Frozen, Pinned, Bound}
 use Rattle.board_rules.specs.declared.reply.Reply.{Reply}
 use Rattle.board_rules.specs.declared.reply.Reply.TheVariants.{Committed, Denied}
 use Rattle.board_rules.specs.Rules.{routes_after}
@@ -70,55 +70,79 @@ call_probes pins routes (Propose session base mv) =
     length (named_by mv) + length (touched_by routes mv) + leaving_by pins routes mv
 call_probes pins routes _ = 1
 
--- How many probes a denied proposal makes, at least and at most, where it names n vehicles and touches t customers of which l would leave:
--- the rules before the one that fails make all their probes, that one makes at least one, and a later rule none; but where frozen stops would
--- change, those on pins may be made too.
-abbrev pub denial_least : ℕ → ℕ → ℕ → Denial → ℕ
-denial_least n t l Ahead = n
-denial_least n t l (Stale v) = n
-denial_least n t l BadPlace = n
-denial_least n t l (AccessCustomer v p) = n + 1
-denial_least n t l (Frozen v) = n + t
-denial_least n t l (Pinned v p) = n + t + l
-denial_least n t l (Bound v d) = n + t + l
-denial_least n t l _ = 1
+-- How far a proposal was judged that is denied: the rules before the one that fails make all their probes and asks, that one makes some of
+-- its own, and a later rule none; but where frozen stops would change, the probes for pins may be made too.
+pub data Stage : Type 0 where
+  -- among the named vehicles
+  at_vehicles : Stage
+  -- behind them, by a rule that probes nothing
+  at_facts : Stage
+  -- among the touched customers
+  at_customers : Stage
+  -- at the frozen fronts
+  at_fronts : Stage
+  -- behind the pins
+  at_pins : Stage
+  -- at the dimension of a vehicle that is out of bounds
+  at_bounds : ℕ → ℕ → Stage
 
-abbrev pub denial_most : ℕ → ℕ → ℕ → Denial → ℕ
-denial_most n t l (AccessCustomer v p) = n + t
-denial_most n t l (Frozen v) = n + t + l
-denial_most n t l (Pinned v p) = n + t + l
-denial_most n t l (Bound v d) = n + t + l
-denial_most n t l _ = n
+abbrev pub stage_of : Denial → Stage
+stage_of NoSession = at_vehicles
+stage_of BadVehicle = at_vehicles
+stage_of (AccessVehicle v) = at_vehicles
+stage_of Ahead = at_facts
+stage_of (Stale v) = at_facts
+stage_of BadPlace = at_facts
+stage_of (AccessCustomer v p) = at_customers
+stage_of (Frozen v) = at_fronts
+stage_of (Pinned v p) = at_pins
+stage_of (Bound v d) = at_bounds v d
 
--- of the asks of a judgement, those that are made where the proposal is denied: none by a rule before the bounds
-abbrev pub denial_asks : ℕ → Denial → ℕ
-denial_asks n (Bound v d) = n
-denial_asks n _ = 0
+-- how many probes are made up to a stage, at least and at most, where n vehicles are named and t customers touched of which l would leave
+abbrev pub least_at : ℕ → ℕ → ℕ → Stage → ℕ
+least_at n t l at_vehicles = 1
+least_at n t l at_facts = n
+least_at n t l at_customers = n + 1
+least_at n t l at_fronts = n + t
+least_at n t l at_pins = n + t + l
+least_at n t l (at_bounds v d) = n + t + l
 
--- and how many are made at least, in this many dimensions: all that come before the vehicle's dimension that is out of bounds
-abbrev pub denial_asks_least : ℕ → List (List ℕ) → Changes → Denial → ℕ
-denial_asks_least dimensions routes changes (Bound v d) = asks_before dimensions routes changes v d
-denial_asks_least dimensions routes changes _ = 0
+abbrev pub most_at : ℕ → ℕ → ℕ → Stage → ℕ
+most_at n t l at_vehicles = n
+most_at n t l at_facts = n
+most_at n t l at_customers = n + t
+most_at n t l at_fronts = n + t + l
+most_at n t l at_pins = n + t + l
+most_at n t l (at_bounds v d) = n + t + l
+
+-- and how many asks: at most so many as a whole judgement makes, at least all that come before the dimension that is out of bounds
+abbrev pub asks_at : ℕ → Stage → ℕ
+asks_at m (at_bounds v d) = m
+asks_at m _ = 0
+
+abbrev pub asks_least_at : ℕ → List (List ℕ) → Changes → Stage → ℕ
+asks_least_at dimensions routes changes (at_bounds v d) = asks_before dimensions routes changes v d
+asks_least_at dimensions routes changes _ = 0
 
 -- the least and the greatest number of asks for a reply
 abbrev pub reply_asks_least : ℕ → List (List ℕ) → Changes → Reply → ℕ
 reply_asks_least dimensions routes changes (Committed version) = judge_asks dimensions routes changes
-reply_asks_least dimensions routes changes (Denied denial) = denial_asks_least dimensions routes changes denial
+reply_asks_least dimensions routes changes (Denied denial) = asks_least_at dimensions routes changes (stage_of denial)
 reply_asks_least dimensions routes changes _ = 0
 
 abbrev pub reply_asks : ℕ → Reply → ℕ
 reply_asks n (Committed version) = n
-reply_asks n (Denied denial) = denial_asks n denial
+reply_asks n (Denied denial) = asks_at n (stage_of denial)
 reply_asks n _ = 0
 
 -- the least and the greatest number of probes for a reply to a proposal
 abbrev pub reply_probes_least : ℕ → ℕ → ℕ → Reply → ℕ
 reply_probes_least n t l (Committed version) = n + t + l
-reply_probes_least n t l (Denied denial) = denial_least n t l denial
+reply_probes_least n t l (Denied denial) = least_at n t l (stage_of denial)
 reply_probes_least n t l _ = 0
 
 abbrev pub reply_probes : ℕ → ℕ → ℕ → Reply → ℕ
-reply_probes n t l (Denied denial) = denial_most n t l denial
+reply_probes n t l (Denied denial) = most_at n t l (stage_of denial)
 reply_probes n t l _ = n + t + l
 
 -- The work of a call that was answered: a proposal makes all its asks and probes where it is committed, and as many as its denial allows

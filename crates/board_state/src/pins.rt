@@ -9,7 +9,7 @@ ghost use Rattle.permission_core.specs.declared.objects.Object.TheVariants as ob
 ghost use Rattle.board_rules.specs.Override.{DoPinsAllow, AreAnswers};
 ghost use Rattle.board_state.specs.Deltas.{AreFreed, DoMarkedLeave};
 ghost use Rattle.board_state.specs.Held.{may_free, routes_drafted};
-ghost use Rattle.board_state.specs.Verdicts.{ArePlaceable, IsPinStop, IsLate, IsWorkOfPins};
+ghost use Rattle.board_state.specs.Verdicts.{ArePlaceable, IsPinStop, IsPinned, IsWorkOfPins};
 ghost use Rattle.board_state.specs.Work.{WorksJust, WorksAtMost, is_leaving, leaving_with};
 
 use crate::state::State;
@@ -39,7 +39,7 @@ impl State {
         ensures stop { IfErr result
             (IsPinStop self.now.pins (may_free self.now session) self.now.plan.routes
             (drafts_of self.now.plan.routes drafts.now) touched.now) }
-        ensures late { IfErr result IsLate }
+        ensures pinned { IfErr result IsPinned }
         ensures work { IsWorkOfPins (leaving_with self.now drafts.now touched.now) result meter.old meter.new }
     {
         let Ok(free) = self.overrides(alloc, session, drafts, touched, meter) else {

@@ -14,7 +14,7 @@ ghost use Rattle.board_rules.specs.Override.{DoPinsAllow};
 ghost use Rattle.board_rules.specs.Rules.{is_one_of};
 ghost use Rattle.board_state.specs.Deltas.{AreFreed};
 ghost use Rattle.board_state.specs.Held.{may_free, routes_drafted};
-ghost use Rattle.board_state.specs.Verdicts.{ArePlaceable, IsPinStop, IsLate, IsWorkOfPins};
+ghost use Rattle.board_state.specs.Verdicts.{ArePlaceable, IsPinStop, IsPinned, IsWorkOfPins};
 ghost use Rattle.board_state.specs.Work.{Works, WorksJust, leaving_with};
 
 use crate::state::State;
@@ -170,7 +170,7 @@ impl State {
         ensures stop { IfErr result
             (IsPinStop self.now.pins (may_free self.now session) self.now.plan.routes
             (drafts_of self.now.plan.routes drafts.now) touched.now) }
-        ensures late { IfErr result IsLate }
+        ensures pinned { IfErr result IsPinned }
         ensures work { IsWorkOfPins (leaving_with self.now drafts.now touched.now) result meter.old meter.new }
     {
         pins_after_commits();

@@ -21,7 +21,7 @@ use Rattle.board_state.specs.Verdicts.{IsStop, IsPinStop, ArePlaceable, probes_l
 use Rattle.board_state.specs.Work.{Works, leaving}
 use Rattle.board_state.proofs.NewPlans.{all_under}
 use Rattle.board_state.proofs.Proposals.{both_are, pin_stop, passes_all, out_of_bounds}
-use Rattle.board_state.proofs.WorkLaws.{both_within, asks_alone, pinned_whole, pinned_stop}
+use Rattle.board_state.proofs.WorkLaws.{both_within, asks_alone, late_if_pinned, pinned_whole, pinned_stop}
 use Rattle.board_state.proofs.state.State.judge_routes.Goals as goal
 
 pub drafted-requires-clause-holding : goal.drafted-requires-clause-holding
@@ -185,7 +185,7 @@ returns-in-Err-clause-work g c =
     (leaving held.pins (routes_after held.plan.routes a.proposal.now.mv.now) ts)) listed pins in
     let stopped = subst (λ (n : ℕ). Works a.meter.now c.judge_pins.new.meter 0 0 n (leaving held.pins (routes_after held.plan.routes a.proposal.now.mv.now) (touched_by held.plan.routes a.proposal.now.mv.now)))
     (ap (λ r. probes_least 0 0 (leaving held.pins (routes_after held.plan.routes a.proposal.now.mv.now) (touched_by held.plan.routes a.proposal.now.mv.now)) r) c.in-Err.is) touched in
-    rw (sym c.self.view_is) (pinned_stop _ _ _ _ _ _ _ held.pins (may_override (held_basis held a.proposal.now.session)) held.plan.routes (drafts_of held.plan.routes c.as_slice.result.now) c.deref-2.result.now c.in-Err.stop c.in-Err.ensures.stop stopped)
+    rw (sym c.self.view_is) (pinned_stop _ _ _ _ _ _ _ c.in-Err.stop c.in-Err.ensures.pinned stopped)
 
 pub returns-in-Err-NoMemory-clause-work : goal.returns-in-Err-NoMemory-clause-work
 returns-in-Err-NoMemory-clause-work g c =
@@ -203,3 +203,6 @@ returns-in-Err-NoMemory-clause-work g c =
     (leaving held.pins (routes_after held.plan.routes a.proposal.now.mv.now) ts)) listed pins in
     let bounds = subst (λ (cs : Changes). AsksAtMost c.judge_pins.new.meter c.judge_in.new.meter (judge_asks (length s.dimensions) held.plan.routes cs)) judged c.judge_in.ensures.asks in
     rw (sym c.self.view_is) (both_within _ _ _ _ _ _ _ _ _ _ _ _ _ _ _ (pinned_whole _ _ _ _ c.in-Ok-judge_pins.is touched) (asks_alone _ _ _ _ bounds) (omega arith) (omega arith) (omega arith) (omega arith))
+
+pub returns-in-Err-clause-late : goal.returns-in-Err-clause-late
+returns-in-Err-clause-late g c = late_if_pinned c.in-Err.stop c.in-Err.ensures.pinned
