@@ -3,7 +3,7 @@ use Rattle.std.proofs.Common.{◌≡◌, ◌≤◌, ℕ, zero, suc, Bool, true, 
 use Rattle.std.specs.Prelude.{nat_eq, is_some}
 use Rattle.std.proofs.lemmas.Bool.{false≢true, eqb-true}
 use Rattle.policy_core.specs.declared.session.Session.{Session as ASession}
-use Rattle.policy_core.specs.State.{PolicyState, is_session}
+use Rattle.policy_core.specs.State.{PolicyState}
 use Rattle.policy_core.specs.Opening.{opening, root_name}
 use Rattle.rbac_core.specs.declared.command.Command.{Command}
 use Rattle.rbac_core.specs.Step.{step}

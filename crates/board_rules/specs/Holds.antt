@@ -1,5 +1,5 @@
 -- Calls on pins and frozen fronts, and the replies that they may have.
-use Rattle.std.specs.Prelude.{ℕ, Bool, true, false}
+use Rattle.std.specs.Prelude.{Bool, true, false}
 use Rattle.board_rules.specs.declared.call.Call.{Call}
 use Rattle.board_rules.specs.declared.call.Call.TheVariants as calls
 use Rattle.board_rules.specs.declared.reply.Refusal.{Refusal}

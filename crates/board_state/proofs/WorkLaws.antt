@@ -1,5 +1,5 @@
 -- Work that follows other work.
-use Rattle.std.proofs.Common.{◌≡◌, ℕ, ◌+◌, ◌≤◌, ◌∙◌, Bool, List, refl, ap, subst, arith, Result, Ok, Err, Option, Some, None}
+use Rattle.std.proofs.Common.{◌≡◌, ℕ, ◌+◌, ◌≤◌, ◌∙◌, List, refl, ap, subst, arith, Result, Ok, Err, Option, Some, None}
 use Rattle.std.specs.Prelude.{IfErr, IfNone}
 use Rattle.callback_store.specs.declared.meter.Meter.{Meter}
 use Rattle.callback_store.specs.Meter.{Asks, after_probe}

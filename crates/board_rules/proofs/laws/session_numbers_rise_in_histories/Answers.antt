@@ -1,5 +1,4 @@
 use Rattle.policy_core.specs.Opening.{opening}
-use Rattle.board_rules.specs.History.{History}
 use Rattle.board_rules.specs.State.{opening_state}
 use Rattle.board_rules.specs.Good.{state_of}
 use Rattle.board_rules.proofs.Numbers.{opening_used, from_prefix, from_opening}

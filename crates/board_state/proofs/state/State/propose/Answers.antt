@@ -1,9 +1,8 @@
-use Rattle.std.proofs.Common.{◌+◌, ◌∙◌, Some, None, ap, length, arith}
+use Rattle.std.proofs.Common.{◌+◌, ◌∙◌, Some, None, ap, arith}
 use Rattle.dimension_core.specs.Setup.{setting}
-use Rattle.move_core.specs.Moves.{named_by}
 use Rattle.board_rules.specs.Rules.{basis_of}
 use Rattle.board_state.specs.Held.{held_basis}
-use Rattle.board_state.proofs.WorkLaws.{wider, after_named, denied_early, most_asks, most_probes}
+use Rattle.board_state.proofs.WorkLaws.{wider, denied_early}
 use Rattle.board_state.proofs.state.State.propose.Goals as goal
 
 pub returns-in-Ok-clause-reply : goal.returns-in-Ok-clause-reply
