@@ -23,7 +23,7 @@ use Rattle.board_rules.specs.Policies.{policy_reply}
 use Rattle.board_rules.specs.Pinning.{pin_refusal, unpin_refusal, freeze_refusal, thaw_refusal}
 use Rattle.board_rules.specs.State.{BoardState}
 use Rattle.board_rules.specs.Rules.{Basis, IsVerdictBy, PassesEffect, PassesCustomers, PassesFronts, PassesPins, PassesSession, PassesFleet, PassesVehicles, PassesVersion, PassesBase, basis_of, are_in_fleet, first_barred_vehicle, first_stale, first_barred_customer, may_override, routes_after}
-use Rattle.board_rules.specs.RuleLaws.{effect_by_fronts, effect_by_pins}
+use Rattle.board_rules.specs.RuleLaws.{effect_by_customers, effect_by_fronts, effect_by_pins}
 use Rattle.board_rules.specs.Step.{IsReply, refused_by}
 use Rattle.board_rules.specs.Good.{IsGood}
 use Rattle.board_rules.specs.Given.{Laws}
@@ -132,7 +132,7 @@ module _ (law : Laws) (spans : SpansGoOn) (s : Setting) (b : Basis) (base : ℕ)
   at_fronts : PassesCustomers s b base mv → Found
   unfolding Found
   at_fronts h =
-      let e = h.0.1 in
+      let e = (effect_by_customers s b base mv h).1 in
       let changes : Changes = changes_by b.routes mv in
       elim (all_or_first (IsFrontKept b.pins b.routes (routes_after b.routes mv))
       (λ v. same_or_not (take (front_of b.pins v) (route_at (routes_after b.routes mv) v)) (take (front_of b.pins v) (route_at b.routes v))) (named_by mv)) [

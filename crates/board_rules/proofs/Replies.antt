@@ -19,7 +19,7 @@ use Rattle.board_rules.specs.declared.reply.Reply.TheVariants.{Done, Session, Co
 use Rattle.board_rules.specs.Override.{DoPinsAllow, IsAllowed}
 use Rattle.board_rules.specs.State.{BoardState}
 use Rattle.board_rules.specs.Rules.{Basis, IsVerdictBy, PassesSession, PassesFleet, PassesVehicles, PassesVersion, PassesBase, PassesEffect, PassesCustomers, PassesFronts, PassesPins, PassesAll, basis_of, are_in_fleet, first_barred_vehicle, first_stale, first_barred_customer, may_override, routes_after}
-use Rattle.board_rules.specs.RuleLaws.{effect_by_fronts, effect_by_pins}
+use Rattle.board_rules.specs.RuleLaws.{effect_by_customers, effect_by_fronts, effect_by_pins}
 use Rattle.board_rules.specs.Step.{IsReply, IsAnswer}
 use Rattle.board_rules.specs.Good.{IsGood}
 use Rattle.board_rules.specs.Given.{Laws}
@@ -148,7 +148,7 @@ module _ (law : Laws) (alone : OneOut) (s : Setting) (b : Basis) (base : ℕ) (m
   broken (Stale v) h holds = let e = sym holds ∙ h.1 in absurd cc
   broken BadPlace h holds = let e = sym h.1 ∙ holds in absurd cc
   broken (AccessCustomer v p) h holds = let e = sym holds ∙ h.1.1 in absurd cc
-  broken (Frozen v) h holds = h.1.1.fails (fronts_by_named h.0.0 holds h.1.0 v h.1.1.found)
+  broken (Frozen v) h holds = h.1.1.fails (fronts_by_named (effect_by_customers s b base mv h.0) holds h.1.0 v h.1.1.found)
   broken (Pinned v p) h holds = h.1.1.1.fails (pins_by_touched (effect_by_fronts s b base mv h.0) holds h.1.1.0 h.1.0 h.1.1.1.found)
   broken (Bound v d) h holds =
       out_feasible s (changes_by b.routes mv) b.routes v d sized (subst (λ (n : ℕ). AreApart n (changes_by b.routes mv)) sized (apart (effect_by_pins s b base mv h.0))) h.1 holds
