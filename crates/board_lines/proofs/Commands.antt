@@ -10,6 +10,7 @@ use Rattle.text_words.specs.Words.{is_number, words}
 use Rattle.separation_core.specs.Names.{is_name}
 use Rattle.permission_core.specs.declared.objects.Operation.{Operation}
 use Rattle.permission_core.specs.declared.objects.Operation.TheVariants as operations
+use Rattle.permission_core.specs.declared.objects.TheConstants.Operation.{ALL}
 use Rattle.permission_core.specs.declared.objects.Object.{Object}
 use Rattle.permission_core.specs.declared.objects.Object.TheVariants as objects
 use Rattle.permission_core.specs.declared.objects.ObjectRange.{ObjectRange}
@@ -21,9 +22,9 @@ use Rattle.board_lines.specs.declared.command.LineFault.{LineFault}
 use Rattle.board_lines.specs.declared.command.LineFault.TheVariants as faults
 use Rattle.board_lines.specs.declared.word.Word.{Word}
 use Rattle.board_lines.specs.Table.{Kinds, nothing, object, range, names, number, name, operation, row_of, word_of, table}
-use Rattle.board_lines.specs.Arguments.{Arguments, no_more, the_object, the_range, the_names, a_number, a_name, an_operation, ◌>>=◌, number_arg, name_arg, operation_arg, one_arg, pair_arg, object_arg, range_arg, is_counted, counted, each_read, number_then, arguments_of}
+use Rattle.board_lines.specs.Arguments.{Arguments, no_more, the_object, the_range, the_names, a_number, a_name, an_operation, ◌>>=◌, number_arg, name_arg, operation_word, operation_among, operation_arg, one_arg, pair_arg, object_arg, range_arg, is_counted, counted, each_read, number_then, arguments_of}
 use Rattle.board_lines.specs.Reading.{command_of, after_word, named_by, after_session, is_comment, words_read}
-use Rattle.board_lines.specs.Saying.{Said, say, operation_word}
+use Rattle.board_lines.specs.Saying.{Said, say}
 use Rattle.board_lines.specs.Grammar.{IsNumeral, IsOne, IsPair, IsObjectText, IsRangeText, AreArguments, IsLine, IsCommandText, LinesAreCommands}
 use Rattle.board_lines.proofs.Booleans.{and_first, and_second}
 use Rattle.board_lines.proofs.Spelled.{digits_no_comment}
@@ -69,45 +70,17 @@ name_ok w n h =
 name_is : (w n : List ℕ) → w ≡ n → is_name n ≡ true → name_arg w ≡ Ok n
 name_is w n e h = rw (e, h) refl
 
-op_is : (w text : List ℕ) (made o : Operation) → text ≡ operation_word made → bytes_eq w text ≡ true → good made ≡ Ok o → w ≡ operation_word o
-op_is w text made o t e h = same_bytes w text e ∙ t ∙ ap operation_word (ok_same made o h)
+operation_ok : (os : List Operation) (w : List ℕ) (o : Operation) → operation_among os w ≡ Ok o → w ≡ operation_word o
+operation_ok [] w o h = absurd (cc)
+operation_ok (x ∷ os) w o h = elim (if_ok (bytes_eq w (operation_word x)) (Ok x) (operation_among os w) o h) [
+  | inl p ↦ same_bytes w (operation_word x) p.0 ∙ ap operation_word (ok_same x o p.1)
+  | inr q ↦ operation_ok os w o q.1
+]
 
-operation_ok : (w : List ℕ) (o : Operation) → operation_arg w ≡ Ok o → w ≡ operation_word o
-operation_ok w o h =
-    elim (if_ok (bytes_eq w (codes "view")) _ _ o h) [
-      | inl p ↦ op_is w (codes "view") operations.View o refl p.0 p.1
-      | inr q ↦
-          elim (if_ok (bytes_eq w (codes "move")) _ _ o q.1) [
-            | inl p ↦ op_is w (codes "move") operations.Move o refl p.0 p.1
-            | inr q ↦
-                elim (if_ok (bytes_eq w (codes "pin")) _ _ o q.1) [
-                  | inl p ↦ op_is w (codes "pin") operations.Pin o refl p.0 p.1
-                  | inr q ↦
-                      elim (if_ok (bytes_eq w (codes "freeze")) _ _ o q.1) [
-                        | inl p ↦ op_is w (codes "freeze") operations.Freeze o refl p.0 p.1
-                        | inr q ↦
-                            elim (if_ok (bytes_eq w (codes "admin")) _ _ o q.1) [
-                              | inl p ↦ op_is w (codes "admin") operations.Admin o refl p.0 p.1
-                              | inr q ↦
-                                  elim (if_ok (bytes_eq w (codes "audit")) _ _ o q.1) [
-                                    | inl p ↦ op_is w (codes "audit") operations.Audit o refl p.0 p.1
-                                    | inr q ↦
-                                        let p = only_if_ok (bytes_eq w (codes "override")) (Ok operations.Override) faults.Op o q.1 in op_is w (codes "override") operations.Override o refl p.0 p.1
-                                  ]
-                            ]
-                      ]
-                ]
-          ]
-    ]
-
+-- Naming one operation makes the next line a case for each of the others.
 operation_read : (o : Operation) → operation_arg (operation_word o) ≡ Ok o
 operation_read operations.View = refl
-operation_read operations.Move = refl
-operation_read operations.Pin = refl
-operation_read operations.Freeze = refl
-operation_read operations.Admin = refl
-operation_read operations.Audit = refl
-operation_read operations.Override = refl
+operation_read _ = refl
 
 -- ---- the last words
 
@@ -215,7 +188,7 @@ each_ok (operation more) (w ∷ ws) a c h =
     let o = bind_ok (operation_arg w) _ a h in
     let m = bind_ok (each_read more ws) _ a o.2 in
     let rest = each_ok more ws m.0 c m.1 in
-    is_read (operation more) (w ∷ ws) (an_operation o.0 m.0) a m.2 (operation_ok w o.0 o.1, rest.are) (ap operation rest.kinds)
+    is_read (operation more) (w ∷ ws) (an_operation o.0 m.0) a m.2 (operation_ok ALL w o.0 o.1, rest.are) (ap operation rest.kinds)
 
 each_is : (a : Arguments) (ws : List (List ℕ)) → AreArguments a ws → (counted (kinds_of a) ws ≡ true) × (each_read (kinds_of a) ws ≡ Ok a)
 unfolding number_then

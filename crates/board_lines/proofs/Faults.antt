@@ -1,20 +1,21 @@
 -- A line's fault is that of the first check that fails.
 use Rattle.std.proofs.Common.{◌≡◌, ℕ, Bool, true, false, cond, List, [], ◌∷◌, length, map, codes, Option, None, Some, Result, Ok, Err, refl, sym, ap, ◌∙◌, arith}
 use Rattle.std.specs.Prelude.{◌==◌, ◌||◌, ◌&&◌, bytes_eq}
-use Rattle.std.specs.List.{list_all}
+use Rattle.std.specs.List.{list_all, list_any}
 use Rattle.std.specs.Str.Parse.{digits_value}
 use Rattle.std.proofs.lemmas.Bool.Decides.{nat_tests}
 use Rattle.text_words.specs.Words.{is_number, words}
 use Rattle.text_words.specs.Checks.{Check, check, first_fault}
 use Rattle.text_words.specs.CheckLaws.{first_is, is_first}
 use Rattle.separation_core.specs.Names.{is_name}
-use Rattle.permission_core.specs.declared.objects.Operation.TheVariants as operations
+use Rattle.permission_core.specs.declared.objects.Operation.{Operation}
+use Rattle.permission_core.specs.declared.objects.TheConstants.Operation.{ALL}
 use Rattle.board_lines.specs.declared.command.LineFault.{LineFault}
 use Rattle.board_lines.specs.declared.command.LineFault.TheVariants as faults
 use Rattle.board_lines.specs.declared.command.Command.TheVariants.{Skip}
 use Rattle.board_lines.specs.declared.word.Word.{Word}
 use Rattle.board_lines.specs.Table.{Kinds, nothing, object, range, names, number, name, operation, row_of, word_of}
-use Rattle.board_lines.specs.Arguments.{a_number, a_name, an_operation, ◌>>=◌, number_arg, name_arg, operation_arg, one_arg, pair_arg, number_then, counted, is_counted, each_read, arguments_of}
+use Rattle.board_lines.specs.Arguments.{a_number, a_name, an_operation, ◌>>=◌, number_arg, name_arg, operation_word, operation_among, operation_arg, one_arg, pair_arg, number_then, counted, is_counted, each_read, arguments_of}
 use Rattle.board_lines.specs.Reading.{command_of, named_by, after_session, is_comment, words_read}
 use Rattle.board_lines.specs.Checks.{is_operation, number_check, name_check, object_checks, argument_checks, named_checks, word_checks, line_checks, FaultsAreFirst}
 
@@ -69,16 +70,9 @@ or_fails : {A : Type 0} (b c : Bool) (x : A) (r : Result A LineFault) (e : LineF
 or_fails true c x r e h = refl
 or_fails false c x r e h = h
 
-operation_fails : (w : List ℕ) → verdict (operation_arg w) ≡ cond (is_operation w) None (Some faults.Op)
-operation_fails w =
-    let is = λ (t : List ℕ). bytes_eq w t in
-    or_fails (is (codes "view")) _ operations.View _ faults.Op
-    (or_fails (is (codes "move")) _ operations.Move _ faults.Op
-    (or_fails (is (codes "pin")) _ operations.Pin _ faults.Op
-    (or_fails (is (codes "freeze")) _ operations.Freeze _ faults.Op
-    (or_fails (is (codes "admin")) _ operations.Admin _ faults.Op
-    (or_fails (is (codes "audit")) _ operations.Audit _ faults.Op
-    (if_fails (is (codes "override")) operations.Override faults.Op))))))
+operation_fails : (os : List Operation) (w : List ℕ) → verdict (operation_among os w) ≡ cond (list_any (λ o. bytes_eq w (operation_word o)) os) None (Some faults.Op)
+operation_fails [] w = refl
+operation_fails (o ∷ os) w = or_fails (bytes_eq w (operation_word o)) _ o _ faults.Op (operation_fails os w)
 
 -- a word that fails, or what follows it
 word_fails : {A B C : Type 0} (r : Result A LineFault) (m : Result B LineFault) (g : A → B → C) (b : Bool) (e : LineFault) (cs : List (Check LineFault)) → verdict r ≡ cond b None (Some e) → verdict m ≡ first_fault cs → verdict (r >>= λ x. (m >>= λ y. Ok (g x y))) ≡ first_fault (check e b ∷ cs)
@@ -149,7 +143,7 @@ each_read_fails (number more) (w ∷ ws) c = word_fails (number_arg w) (each_rea
 each_read_fails (name more) [] c = absurd (cc)
 each_read_fails (name more) (w ∷ ws) c = word_fails (name_arg w) (each_read more ws) a_name (is_name w) faults.Name (argument_checks more ws) (name_fails w) (each_read_fails more ws c)
 each_read_fails (operation more) [] c = absurd (cc)
-each_read_fails (operation more) (w ∷ ws) c = word_fails (operation_arg w) (each_read more ws) an_operation (is_operation w) faults.Op (argument_checks more ws) (operation_fails w) (each_read_fails more ws c)
+each_read_fails (operation more) (w ∷ ws) c = word_fails (operation_arg w) (each_read more ws) an_operation (is_operation w) faults.Op (argument_checks more ws) (operation_fails ALL w) (each_read_fails more ws c)
 
 arguments_fail : (k : Kinds) (ws : List (List ℕ)) → verdict (arguments_of k ws) ≡ first_fault (check faults.Count (counted k ws) ∷ argument_checks k ws)
 unfolding arguments_of

@@ -12,8 +12,8 @@ use Rattle.permission_core.specs.declared.objects.ObjectRange.{ObjectRange}
 use Rattle.permission_core.specs.declared.objects.ObjectRange.TheVariants as ranges
 use Rattle.board_lines.specs.declared.command.Command.TheVariants.{Submit}
 use Rattle.board_lines.specs.Table.{row_of}
-use Rattle.board_lines.specs.Arguments.{Arguments, no_more, the_object, the_range, the_names, a_number, a_name, an_operation}
-use Rattle.board_lines.specs.Saying.{Said, operation_word, argument_words, call_said, line_text, IsObject, IsRange, ArePlain, TextIsRead}
+use Rattle.board_lines.specs.Arguments.{Arguments, no_more, the_object, the_range, the_names, a_number, a_name, an_operation, operation_word}
+use Rattle.board_lines.specs.Saying.{Said, argument_words, call_said, line_text, IsObject, IsRange, ArePlain, TextIsRead}
 use Rattle.board_lines.specs.Grammar.{AreArguments, IsLine}
 use Rattle.board_lines.proofs.Booleans.{and_first, and_second}
 use Rattle.board_lines.proofs.Spelled.{IsWord, words_behind, spelled, name_word}
@@ -27,13 +27,8 @@ record IsPlain (a : Arguments) : Type 0 where
   are : AreArguments a (argument_words a)
 
 operation_is_word : (o : Operation) → IsWord (operation_word o)
-operation_is_word operations.View = name_word (codes "view") refl
-operation_is_word operations.Move = name_word (codes "move") refl
-operation_is_word operations.Pin = name_word (codes "pin") refl
-operation_is_word operations.Freeze = name_word (codes "freeze") refl
-operation_is_word operations.Admin = name_word (codes "admin") refl
-operation_is_word operations.Audit = name_word (codes "audit") refl
-operation_is_word operations.Override = name_word (codes "override") refl
+operation_is_word operations.View = name_word (operation_word operations.View) refl
+operation_is_word o = name_word (operation_word o) refl
 
 board_word : IsWord (codes "board")
 board_word = name_word (codes "board") refl

@@ -6,6 +6,7 @@ use Rattle.text_words.specs.Words.{is_number}
 use Rattle.separation_core.specs.Names.{is_name}
 use Rattle.permission_core.specs.declared.objects.Operation.{Operation}
 use Rattle.permission_core.specs.declared.objects.Operation.TheVariants as operations
+use Rattle.permission_core.specs.declared.objects.TheConstants.Operation.{ALL}
 use Rattle.permission_core.specs.declared.objects.Object.{Object}
 use Rattle.permission_core.specs.declared.objects.Object.TheVariants as objects
 use Rattle.permission_core.specs.declared.objects.ObjectRange.{ObjectRange}
@@ -37,16 +38,22 @@ number_arg w = if is_number w then Ok (digits_value 10 w) else Err faults.Number
 abbrev pub name_arg : List ℕ → Result (List ℕ) LineFault
 name_arg w = if is_name w then Ok w else Err faults.Name
 
+abbrev pub operation_word : Operation → List ℕ
+operation_word operations.View = codes "view"
+operation_word operations.Move = codes "move"
+operation_word operations.Pin = codes "pin"
+operation_word operations.Freeze = codes "freeze"
+operation_word operations.Admin = codes "admin"
+operation_word operations.Audit = codes "audit"
+operation_word operations.Override = codes "override"
+
+-- the one of these operations whose word it is
+abbrev pub operation_among : List Operation → List ℕ → Result Operation LineFault
+operation_among [] w = Err faults.Op
+operation_among (o ∷ os) w = if bytes_eq w (operation_word o) then Ok o else operation_among os w
+
 abbrev pub operation_arg : List ℕ → Result Operation LineFault
-operation_arg w =
-    if bytes_eq w (codes "view") then Ok operations.View
-    else (if bytes_eq w (codes "move") then Ok operations.Move
-    else (if bytes_eq w (codes "pin") then Ok operations.Pin
-    else (if bytes_eq w (codes "freeze") then Ok operations.Freeze
-    else (if bytes_eq w (codes "admin") then Ok operations.Admin
-    else (if bytes_eq w (codes "audit") then Ok operations.Audit
-    else (if bytes_eq w (codes "override") then Ok operations.Override
-    else Err faults.Op))))))
+operation_arg w = operation_among ALL w
 
 -- ---- the last words
 

@@ -1,21 +1,21 @@
 -- What is checked of a line, in order, and its fault: that of the first check that fails.
 use Rattle.std.specs.Prelude.{◌≡◌, ◌↔◌, ℕ, List, [], ◌∷◌, Bool, true, false, ◌||◌, codes, map, bytes_eq, Option, None, Some, Err, if◌then◌else◌}
+use Rattle.std.specs.List.{list_any}
 use Rattle.text_words.specs.Words.{is_number, words}
 use Rattle.text_words.specs.Checks.{Check, check, IsFirstFailed}
 use Rattle.separation_core.specs.Names.{is_name}
+use Rattle.permission_core.specs.declared.objects.TheConstants.Operation.{ALL}
 use Rattle.board_lines.specs.declared.command.LineFault.{LineFault}
 use Rattle.board_lines.specs.declared.command.LineFault.TheVariants as faults
 use Rattle.board_lines.specs.declared.word.Word.{Word}
 use Rattle.board_lines.specs.Table.{Kinds, nothing, object, range, names, number, name, operation, row_of, word_of}
-use Rattle.board_lines.specs.Arguments.{counted}
+use Rattle.board_lines.specs.Arguments.{counted, operation_word}
 use Rattle.board_lines.specs.Reading.{is_comment, read_of}
 
 -- ---- arguments
 
 abbrev pub is_operation : List ℕ → Bool
-is_operation w =
-    bytes_eq w (codes "view") || (bytes_eq w (codes "move") || (bytes_eq w (codes "pin") || (bytes_eq w (codes "freeze")
-    || (bytes_eq w (codes "admin") || (bytes_eq w (codes "audit") || bytes_eq w (codes "override"))))))
+is_operation w = list_any (λ o. bytes_eq w (operation_word o)) ALL
 
 abbrev pub is_kind : List ℕ → Bool
 is_kind w = bytes_eq w (codes "board") || (bytes_eq w (codes "vehicle") || bytes_eq w (codes "customer"))

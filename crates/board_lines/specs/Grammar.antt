@@ -14,9 +14,9 @@ use Rattle.board_lines.specs.declared.command.Command.TheVariants.{Skip, Submit,
 use Rattle.board_lines.specs.declared.word.Word.TheVariants.{Ask}
 use Rattle.board_lines.specs.declared.word.AskWord.TheVariants as asks
 use Rattle.board_lines.specs.Table.{row_of}
-use Rattle.board_lines.specs.Arguments.{Arguments, no_more, the_object, the_range, the_names, a_number, a_name, an_operation}
+use Rattle.board_lines.specs.Arguments.{Arguments, no_more, the_object, the_range, the_names, a_number, a_name, an_operation, operation_word}
 use Rattle.board_lines.specs.Reading.{is_comment, read_of}
-use Rattle.board_lines.specs.Saying.{Said, say, call_said, operation_word}
+use Rattle.board_lines.specs.Saying.{Said, say, call_said}
 
 -- the digits of a number, with or without leading zeros
 pub record IsNumeral (w : List ℕ) (n : ℕ) : Type 0 where

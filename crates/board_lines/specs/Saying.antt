@@ -5,8 +5,6 @@ use Rattle.std.specs.Fmt.{decimal}
 use Rattle.separation_core.specs.Names.{is_name}
 use Rattle.move_core.specs.declared.moves.Move.{Move}
 use Rattle.move_core.specs.declared.moves.Move.TheVariants as plan
-use Rattle.permission_core.specs.declared.objects.Operation.{Operation}
-use Rattle.permission_core.specs.declared.objects.Operation.TheVariants as operations
 use Rattle.permission_core.specs.declared.objects.Object.{Object}
 use Rattle.permission_core.specs.declared.objects.Object.TheVariants as objects
 use Rattle.permission_core.specs.declared.objects.ObjectRange.{ObjectRange}
@@ -24,7 +22,7 @@ use Rattle.board_lines.specs.declared.word.ManageWord.TheVariants as manages
 use Rattle.board_lines.specs.declared.word.SetWord.TheVariants as sets
 use Rattle.board_lines.specs.declared.word.SessionWord.TheVariants as sessions
 use Rattle.board_lines.specs.Table.{row_of}
-use Rattle.board_lines.specs.Arguments.{Arguments, no_more, the_object, the_range, the_names, a_number, a_name, an_operation}
+use Rattle.board_lines.specs.Arguments.{Arguments, no_more, the_object, the_range, the_names, a_number, a_name, an_operation, operation_word}
 use Rattle.board_lines.specs.Reading.{read_of}
 
 -- the content of a line
@@ -76,15 +74,6 @@ call_said (calls.Thaw s v l) = say s (Hold holds.Thaw) (a_number v (a_number l n
 call_said (calls.Policy s command) = policy_said s command
 
 -- ---- the words, numbers without leading zeros
-
-abbrev pub operation_word : Operation → List ℕ
-operation_word operations.View = codes "view"
-operation_word operations.Move = codes "move"
-operation_word operations.Pin = codes "pin"
-operation_word operations.Freeze = codes "freeze"
-operation_word operations.Admin = codes "admin"
-operation_word operations.Audit = codes "audit"
-operation_word operations.Override = codes "override"
 
 abbrev pub object_words : Object → List (List ℕ)
 object_words objects.Board = codes "board" ∷ []

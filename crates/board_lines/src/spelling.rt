@@ -7,7 +7,8 @@ ghost use Rattle.board_rules.specs.declared.call.Call.TheVariants.{Propose};
 ghost use Rattle.board_lines.specs.declared.word.Word.TheVariants.{Separate};
 ghost use Rattle.board_lines.specs.Table.{row_of};
 ghost use Rattle.board_lines.specs.Replies.{AppendsPrefix, spaced};
-ghost use Rattle.board_lines.specs.Saying.{operation_word, range_words, behind, move_said, policy_said, after_number, event_text};
+ghost use Rattle.board_lines.specs.Arguments.{operation_word};
+ghost use Rattle.board_lines.specs.Saying.{range_words, behind, move_said, policy_said, after_number, event_text};
 
 use crate::digits::{push_ascii, push_each, push_number, push_text};
 use crate::word::SetWord;

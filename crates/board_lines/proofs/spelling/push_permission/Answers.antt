@@ -1,5 +1,6 @@
 use Rattle.std.proofs.Common.{rules, refl, ◌++◌, ◌∷◌}
-use Rattle.board_lines.specs.Saying.{behind, operation_word, range_words}
+use Rattle.board_lines.specs.Arguments.{operation_word}
+use Rattle.board_lines.specs.Saying.{behind, range_words}
 use Rattle.board_lines.proofs.Starting.{on_err, cut_more, cut_then, err_then}
 use Rattle.board_lines.proofs.spelling.push_permission.Goals as goal
 
