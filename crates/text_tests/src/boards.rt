@@ -125,23 +125,31 @@ const DIFFERENCES: &str = "\
 
 /// What the board says of itself after those.
 fn compare_board(rt: &impl Abort, board: &Board) {
-    assert_eq!(rt; board.setup().customers(), 5);
-    assert_eq!(rt; board.setup().vehicles(), 2);
-    assert_eq!(rt; board.desks(), 2);
-    assert_eq!(rt; board.turns(1), 25);
-    assert_eq!(rt; board.turns(2), 0);
-    assert_eq!(rt; board.events(), 25);
-    assert_eq!(rt; board.version(), 11);
-    assert_eq!(rt; board.route(1).customers(), [5].as_slice());
-    assert_eq!(rt; board.route(2).customers(), [1, 4, 2].as_slice());
-    assert_eq!(rt; board.plan().version(), 11);
-    assert_eq!(rt; board.plan().route(2).customers(), [1, 4, 2].as_slice());
-    assert_eq!(rt; board.place_of(3), None);
-    assert_eq!(rt; board.place_of(4), Some((2, 2)));
-    assert_eq!(rt; board.pinned(4), None);
-    assert_eq!(rt; board.pinned(5), Some(1));
-    assert_eq!(rt; board.frozen(1), 0);
-    assert_eq!(rt; board.frozen(2), 2);
+    let sizes = (
+        board.setup().customers(),
+        board.setup().vehicles(),
+        board.desks(),
+    );
+    assert_eq!(rt; sizes, (5, 2, 2));
+    let counts = (board.turns(1), board.turns(2), board.events());
+    assert_eq!(rt; counts, (25, 0, 25));
+    assert_eq!(rt; (board.version(), board.plan().version()), (11, 11));
+    assert_eq!(rt;
+        (board.place_of(3), board.place_of(4)),
+        (None, Some((2, 2)))
+    );
+    let held = (board.pinned(4), board.pinned(5));
+    assert_eq!(rt;
+        (held, board.frozen(1), board.frozen(2)),
+        ((None, Some(1)), 0, 2)
+    );
+    compare_route(rt, board.route(1).customers(), &[5]);
+    compare_route(rt, board.route(2).customers(), &[1, 4, 2]);
+    compare_route(rt, board.plan().route(2).customers(), &[1, 4, 2]);
+}
+
+fn compare_route(rt: &impl Abort, found: &[u32], wanted: &[u32]) {
+    assert_eq!(rt; found, wanted);
 }
 
 /// What the board answers after those and one more grant: the session of `root` may freeze a vehicle and view nothing, and audits all
