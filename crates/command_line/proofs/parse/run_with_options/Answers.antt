@@ -8,4 +8,4 @@ returns-clause-ok c =
     ∙ ap₂ with_rule (c.in_ok-arg-3.ensures.shape (search rules)
     ∙ ap₂ with_rule (c.in_ok-arg-2.ensures.shape (search rules)
     ∙ ap₂ with_rule (c.in_ok-arg.ensures.shape (search rules)
-    ∙ ap₂ with_rule c.in_ok-run_command.ensures.ok c.option-workers.ensures.rule) c.option-rounds.ensures.rule) c.option-seed.ensures.rule) c.option-live.ensures.rule
+    ∙ ap₂ with_rule c.in_ok-run_command.ensures.ok c.option.ensures.rule) c.option-2.ensures.rule) c.option-3.ensures.rule) c.option-4.ensures.rule

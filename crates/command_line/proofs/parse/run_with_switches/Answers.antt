@@ -6,4 +6,4 @@ pub returns-clause-ok : goal.returns-clause-ok
 returns-clause-ok c =
     c.in_ok-arg-2.ensures.shape (search rules)
     ∙ ap₂ with_rule (c.in_ok-arg.ensures.shape (search rules)
-    ∙ ap₂ with_rule c.in_ok-run_with_options.ensures.ok c.switch-progress.ensures.rule) c.switch-explain.ensures.rule
+    ∙ ap₂ with_rule c.in_ok-run_with_options.ensures.ok c.switch.ensures.rule) c.switch-2.ensures.rule
