@@ -41,7 +41,9 @@ const USERS_AND_ROLES: &str = "\
 1 uninherit b z => refused no-role\n\
 1 uninherit b a => refused not-there\n\
 1 delete-user v => done\n\
-1 delete-user v => refused no-user";
+1 delete-user v => refused no-user\n\
+1 uninherit a b => done\n\
+1 deactivate 2 b => refused not-there";
 
 const PERMISSIONS: &str = "\
 1 grant z view vehicle 0 1 => refused no-role\n\
@@ -80,6 +82,9 @@ const SSD_SETS: &str = "\
 1 delete-role a => refused in-set\n\
 1 ssd-delete a => refused no-set\n\
 1 ssd-delete z => done\n\
+1 ssd-create z 3 a b c => done\n\
+1 ssd-number z 2 => refused ssd z\n\
+1 ssd-delete z => done\n\
 1 delete-role a => done";
 
 const DSD_SETS: &str = "\
@@ -102,7 +107,9 @@ const DSD_SETS: &str = "\
 1 dsd-drop z a => refused number\n\
 1 delete-role a => refused in-set\n\
 1 dsd-delete a => refused no-set\n\
-1 dsd-delete z => done";
+1 dsd-delete z => done\n\
+1 dsd-create z 3 a b c => done\n\
+1 dsd-number z 2 => refused dsd z";
 
 #[test]
 fn refusals_of_commands(rt: HostRuntime) {
