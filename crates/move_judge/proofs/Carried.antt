@@ -1,4 +1,4 @@
-use Rattle.std.proofs.Common.{◌≡◌, ◌∙◌, ℕ, ◌+◌, ◌-◌, ◌<◌, ◌≤◌, inl, refl, sym, ap, subst, arith, List, [], ◌∷◌, ◌++◌, length, take, drop, reverse, slice_index, slice_index_or, append_assoc, take_all, Option, Some, None, Bool, true, false, ◌==◌, ◌↔◌, All, IsTrue}
+use Rattle.std.proofs.Common.{◌≡◌, ◌∙◌, ℕ, ◌+◌, ◌-◌, ◌<◌, ◌≤◌, inl, refl, sym, ap, subst, arith, List, [], ◌∷◌, ◌++◌, length, take, drop, reverse, slice_index, slice_index_or, append_assoc, take_all, Option, Some, None, MatchOption, Bool, true, false, ◌==◌, ◌↔◌, All, IsTrue}
 use Rattle.std.proofs.lemmas.Bool.{eqb-true}
 use Rattle.std.proofs.lemmas.List.{take_more, take-append-drop, get_or_append_left, get_or-append-add, get_or-reverse, length-append, length-reverse}
 use Rattle.callback_store.specs.Tables.{Table, entry, table_at}
@@ -7,7 +7,8 @@ use Rattle.dimension_core.specs.Cumuls.{Bounds, IsInBounds, IsStep, IsWithin, Is
 use Rattle.dimension_core.specs.Spans.{no_range}
 use Rattle.dimension_core.specs.Setting.{Setting}
 use Rattle.dimension_core.specs.Feasible.{FitsAll}
-use Rattle.move_judge.specs.Parts.{way_of}
+use Rattle.move_judge.specs.declared.parts.Parts.{Parts}
+use Rattle.move_judge.specs.Parts.{way_of, begun_of, route_of}
 use Rattle.move_judge.specs.Given.{Laws}
 
 -- what comes after the numbers of an interval, by the answer of a callback and what the dimension bounds, looked up before
@@ -41,6 +42,23 @@ pub arrived : (t : Table) (d : Bounds) (v : ℕ) (js route : List ℕ) (next : �
     → IsSpan o (Reaches t d v (js ++ next ∷ [])) → IsSpan o (Reaches t d v (route ++ next ∷ []))
 arrived t d v js route next o e s = subst (λ (xs : List ℕ). IsSpan o (Reaches t d v (xs ++ next ∷ []))) e s
 
+-- a new route is what comes before its last part, and that part
+pub in_parts : (p : Parts) → begun_of p ++ p.back.now ≡ route_of p
+in_parts p =
+    append_assoc p.front.now (way_of p.turned p.first.now ++ (p.second.now ++ p.third.now)) p.back.now
+    ∙ ap (λ (xs : List ℕ). p.front.now ++ xs) (append_assoc (way_of p.turned p.first.now) (p.second.now ++ p.third.now) p.back.now
+    ∙ ap (λ (xs : List ℕ). way_of p.turned p.first.now ++ xs) (append_assoc p.second.now p.third.now p.back.now))
+
+pub all_in_parts : (P : ℕ → Type 0) (p : Parts) → All P (route_of p) → All P (begun_of p ++ p.back.now)
+all_in_parts P p all = subst (λ (xs : List ℕ). All P xs) (sym (in_parts p)) all
+
+-- the cumuls at the last of some parts, and that customer, by another order of the parts
+pub middle_found : (t : Table) (d : Bounds) (v : ℕ) (js route : List ℕ) (o : Option (Range × ℕ)) → js ≡ route
+    → MatchOption o (IsSpan None (Reaches t d v js)) (λ r. IsSpan (Some r.0) (Reaches t d v js) × (r.1 ≡ last_of 0 js))
+    → MatchOption o (IsSpan None (Reaches t d v route)) (λ r. IsSpan (Some r.0) (Reaches t d v route) × (r.1 ≡ last_of 0 route))
+middle_found t d v js route o e m =
+    subst (λ (xs : List ℕ). MatchOption o (IsSpan None (Reaches t d v xs)) (λ r. IsSpan (Some r.0) (Reaches t d v xs) × (r.1 ≡ last_of 0 xs))) e m
+
 module _ (law : Laws) where
   pub last_push : (n : ℕ) (ms : List ℕ) (m : ℕ) → last_of n (ms ++ m ∷ []) ≡ m
   last_push n [] m = refl
@@ -67,6 +85,11 @@ module _ (law : Laws) where
       let e : (done ++ take k nodes) ++ drop k nodes ≡ done ++ nodes =
       append_assoc done (take k nodes) (drop k nodes) ∙ ap (λ (ys : List ℕ). done ++ ys) (take-append-drop k nodes) in
       subst (λ (js : List ℕ). IsSpan None (Reaches t d v js)) e (law.spans.none t d v (done ++ take k nodes) (drop k nodes) s)
+
+  -- there are no cumuls after all parts where there are none after the first
+  pub middle_none : (t : Table) (d : Bounds) (v : ℕ) (js ks route : List ℕ) → js ++ ks ≡ route → IsSpan None (Reaches t d v js)
+      → IsSpan None (Reaches t d v route)
+  middle_none t d v js ks route e s = subst (λ (xs : List ℕ). IsSpan None (Reaches t d v xs)) e (law.spans.none t d v js ks s)
 
   -- there are no cumuls at the next stop where there are none after the first parts
   pub stop_none : (t : Table) (d : Bounds) (v : ℕ) (js ks route : List ℕ) (next : ℕ) → js ++ ks ≡ route → IsSpan None (Reaches t d v js)

@@ -10,6 +10,10 @@ way_of turned xs = if turned then reverse xs else xs
 abbrev pub route_of : Parts → List ℕ
 route_of p = p.front.now ++ (way_of p.turned p.first.now ++ (p.second.now ++ (p.third.now ++ p.back.now)))
 
+-- those between its first part and its last one
+abbrev pub middle_of : Parts → List ℕ
+middle_of p = way_of p.turned p.first.now ++ (p.second.now ++ p.third.now)
+
 -- those before its last part
 abbrev pub begun_of : Parts → List ℕ
-begun_of p = p.front.now ++ (way_of p.turned p.first.now ++ (p.second.now ++ p.third.now))
+begun_of p = p.front.now ++ middle_of p

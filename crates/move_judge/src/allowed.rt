@@ -309,7 +309,8 @@ fn shift_fits(view: &View, setup: &Setup, pair: Pair, place: u32, length: u32, a
     requires apart { pair.v ≢ pair.w }
     ensures { IsTrue result ↔ AllFit (setting setup.now) (changes_by view.now.routes (Shift pair.entry.v place length pair.entry.w at)) }
 {
-    let (v_kept, w_kept) = (pair.v_kept, pair.w_kept);
+    let v_kept = pair.v_kept;
+    let w_kept = pair.w_kept;
     let route = view.customers(pair.v);
     let front = front_of(route, place);
     let rest = back_of(route, place as usize - 1 + length as usize);
@@ -353,7 +354,8 @@ fn swap_fits(view: &View, setup: &Setup, pair: Pair, place: u32, at: u32) -> boo
     requires apart { pair.v ≢ pair.w }
     ensures { IsTrue result ↔ AllFit (setting setup.now) (changes_by view.now.routes (Swap pair.entry.v place pair.entry.w at)) }
 {
-    let (v_kept, w_kept) = (pair.v_kept, pair.w_kept);
+    let v_kept = pair.v_kept;
+    let w_kept = pair.w_kept;
     let route = view.customers(pair.v);
     let front = front_of(route, place);
     let rest = back_of(route, place as usize);
@@ -398,7 +400,8 @@ fn cross_fits(view: &View, setup: &Setup, pair: Pair, keep: u32, keep_other: u32
     ensures { IsTrue result ↔ AllFit (setting setup.now) (changes_by view.now.routes (Cross pair.entry.v keep pair.entry.w keep_other)) }
 {
     let _customers = setup.customers();
-    let (v_kept, w_kept) = (pair.v_kept, pair.w_kept);
+    let v_kept = pair.v_kept;
+    let w_kept = pair.w_kept;
     let (front, tail) = view.customers(pair.v).split_at(keep as usize);
     let (before, end) = view.customers(pair.w).split_at(keep_other as usize);
     if !parts_fit(

@@ -8,7 +8,7 @@ ghost use Rattle.move_judge.specs.Kept.{GoesOn, HasAhead, HasBehind};
 ghost use Rattle.move_judge.specs.Given.{Laws};
 ghost use Rattle.move_judge.specs.Lane.{IsLane, Knows, Gets};
 ghost use Rattle.move_judge.specs.Scope.{scope};
-ghost use Rattle.move_judge.specs.Parts.{begun_of, route_of, way_of};
+ghost use Rattle.move_judge.specs.Parts.{begun_of, middle_of, route_of, way_of};
 
 use crate::parts::Parts;
 use callback_store::{Callback, Registry, Slot};
@@ -51,7 +51,9 @@ fn carry_back<C: Callback>(
     ensures small { IfSome result (λ r. r.0.hi ≤ LARGEST_CUMUL) }
     ensures known { IfSome result (λ r. r.1 < length lane.now.dimension.now.ranges) }
 {
-    let (ranges, slack_max, cap) = (lane.ranges, lane.slack_max, lane.cap);
+    let ranges = lane.ranges;
+    let slack_max = lane.slack_max;
+    let cap = lane.cap;
     let mut range = range;
     let mut from = from;
     for k in 0..nodes.len() {
@@ -88,7 +90,9 @@ fn carry_on<C: Callback>(
     ensures small { IfSome result (λ r. r.0.hi ≤ LARGEST_CUMUL) }
     ensures known { IfSome result (λ r. r.1 < length lane.now.dimension.now.ranges) }
 {
-    let (ranges, slack_max, cap) = (lane.ranges, lane.slack_max, lane.cap);
+    let ranges = lane.ranges;
+    let slack_max = lane.slack_max;
+    let cap = lane.cap;
     let mut range = range;
     let mut from = from;
     for node in nodes {
@@ -169,9 +173,40 @@ fn step_to<C: Callback>(
     ensures { (route : List ℕ) → IsSpan (Some range) (Gets (C.table callback.now) lane.now route) → from ≡ last_of 0 route
         → IsSpan result (Gets (C.table callback.now) lane.now (route ++ next ∷ [])) }
 {
-    let (ranges, slack_max, cap) = (lane.ranges, lane.slack_max, lane.cap);
+    let ranges = lane.ranges;
+    let slack_max = lane.slack_max;
+    let cap = lane.cap;
     let way = callback.answer_way(from, next);
     range_after(range, way, ranges[next as usize], slack_max, cap)
+}
+
+/// The cumuls at the last customer of a new route before its last part, and that customer, by those at the last one of its first part: none
+/// where there are none.
+#[inline(always)]
+fn carry_middle<C: Callback>(
+    callback: &C,
+    lane: &Lane,
+    range: Range,
+    from: u32,
+    parts: &Parts,
+) -> Option<(Range, u32)>
+    requires laws { Laws }
+    requires lane { IsLane lane.now }
+    requires sized { Knows (C.table callback.now) lane.now }
+    requires here { IsSpan (Some range) (Gets (C.table callback.now) lane.now parts.now.front.now) }
+    requires last { from ≡ last_of 0 parts.now.front.now }
+    requires small { range.hi ≤ LARGEST_CUMUL }
+    requires from { from < length lane.now.dimension.now.ranges }
+    requires known { All (λ node. node < length lane.now.dimension.now.ranges) (middle_of parts.now) }
+    ensures span { MatchOption result (IsSpan None (Gets (C.table callback.now) lane.now (begun_of parts.now)))
+        (λ r. IsSpan (Some r.0) (Gets (C.table callback.now) lane.now (begun_of parts.now)) × (r.1 ≡ last_of 0 (begun_of parts.now))) }
+    ensures filled { IfSome result (λ r. r.0.lo ≤ r.0.hi) }
+    ensures small { IfSome result (λ r. r.0.hi ≤ LARGEST_CUMUL) }
+    ensures known { IfSome result (λ r. r.1 < length lane.now.dimension.now.ranges) }
+{
+    let (range, from) = carry_way(callback, lane, range, from, parts.turned, parts.first)?;
+    let (range, from) = carry_on(callback, lane, range, from, parts.second)?;
+    carry_on(callback, lane, range, from, parts.third)
 }
 
 /// The cumuls at the next stop after the parts of a new route but its last one, by those after its first part: none where there are none.
@@ -194,10 +229,7 @@ fn arrival<C: Callback>(
     let _nodes = lane.dimension.nodes();
     lane.dimension.spans_are_small();
     let from = last_stop(parts.front);
-    let (turned, first) = (parts.turned, parts.first);
-    let (range, from) = carry_way(callback, lane, here, from, turned, first)?;
-    let (range, from) = carry_on(callback, lane, range, from, parts.second)?;
-    let (range, from) = carry_on(callback, lane, range, from, parts.third)?;
+    let (range, from) = carry_middle(callback, lane, here, from, parts)?;
     step_to(callback, lane, range, from, next)
 }
 
@@ -335,11 +367,8 @@ fn homecoming<C: Callback>(callback: &C, lane: &Lane, here: Range, parts: &Parts
     ensures { IsSpan result (Gets (C.table callback.now) lane.now (route_of parts.now ++ 0 ∷ [])) }
 {
     let _nodes = lane.dimension.nodes();
-    let (turned, first) = (parts.turned, parts.first);
     let (range, from) = carry_on(callback, lane, here, 0, parts.front)?;
-    let (range, from) = carry_way(callback, lane, range, from, turned, first)?;
-    let (range, from) = carry_on(callback, lane, range, from, parts.second)?;
-    let (range, from) = carry_on(callback, lane, range, from, parts.third)?;
+    let (range, from) = carry_middle(callback, lane, range, from, parts)?;
     let (range, from) = carry_on(callback, lane, range, from, parts.back)?;
     step_to(callback, lane, range, from, 0)
 }

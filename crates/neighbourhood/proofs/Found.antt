@@ -1,6 +1,10 @@
 -- A place that was found in a row: it lies before the end, and its number fits.
 use Rattle.std.proofs.Common.{Fits, w32, w64, ◌≡◌, ◌≢◌, ◌^◌, ℕ, ◌+◌, ◌-◌, ◌<◌, ◌≤◌, arith}
 use Rattle.move_core.specs.declared.moves.Move.{Move}
+use Rattle.way_costs.specs.declared.gains.CutRow.{CutRow}
+use Rattle.way_costs.specs.declared.gains.SwapRow.{SwapRow}
+use Rattle.way_costs.specs.declared.gains.ReverseRow.{ReverseRow}
+use Rattle.way_costs.specs.Rows.{IsCutRow, IsSwapRow, IsReverseRow}
 use Rattle.neighbourhood.specs.Searched.{Searched, Saves, new_cost, old_cost}
 
 pub found_in : (k end n : ℕ) → k ≤ end → k ≢ end → end ≤ n → k < n
@@ -11,6 +15,27 @@ found_before k end n h other fits = omega arith
 
 pub found_after : (k end n : ℕ) → k ≤ end → k ≢ end → end < n → k + 1 < n
 found_after k end n h other fits = omega arith
+
+-- so a row has the ways there
+pub cut_found : (row : CutRow) (k end : ℕ) → k ≤ end → k ≢ end → IsCutRow row end → IsCutRow row (k + 1)
+cut_found row k end h other is =
+    let e = is.edges in let t = is.to in let o = is.on in
+    record { edges = omega arith; to = omega arith; on = omega arith }
+
+pub cut_shifted : (row : CutRow) (a k end o : ℕ) → a < end → k ≤ end + o - 1 → k + 1 - o ≢ end → IsCutRow row (end + o - 1) → IsCutRow row (k + 1)
+cut_shifted row a k end o test h other is =
+    let e = is.edges in let t = is.to in let n = is.on in
+    record { edges = omega arith; to = omega arith; on = omega arith }
+
+pub swap_found : (row : SwapRow) (k end : ℕ) → k ≤ end → k ≢ end → IsSwapRow row end → IsSwapRow row (k + 1)
+swap_found row k end h other is =
+    let e = is.edges in let b = is.before in let a = is.here in let x = is.next in let y = is.back in
+    record { edges = omega arith; before = omega arith; here = omega arith; next = omega arith; back = omega arith }
+
+pub reverse_found : (row : ReverseRow) (k end : ℕ) → k ≤ end → k ≢ end → IsReverseRow row end → IsReverseRow row (k + 1)
+reverse_found row k end h other is =
+    let e = is.edges in let s = is.sums in let t = is.back_sums in let b = is.before in let a = is.here in
+    record { edges = omega arith; sums = omega arith; back_sums = omega arith; before = omega arith; here = omega arith; small = is.small }
 
 pub found_casts : (k end n : ℕ) → k ≤ end → end < n → n ≤ 1002 → Fits w32 k
 found_casts k end n h fits short = omega arith

@@ -31,6 +31,18 @@ lost_low x a h k = omega arith
 pub lost_two_low : (x a b : ℕ) → x < 2 ^ 34 → a < 2 ^ 32 → b < 2 ^ 32 → x + a + b < 2 ^ 60
 lost_two_low x a b h k l = omega arith
 
+pub gained_fits : (x a : ℕ) → x < 2 ^ 34 → a < 2 ^ 33 → Fits w64 (x + a)
+gained_fits x a h k = omega arith
+
+pub gained_low : (x a : ℕ) → x < 2 ^ 34 → a < 2 ^ 33 → x + a < 2 ^ 60
+gained_low x a h k = omega arith
+
+pub wide_fits : (x a : ℕ) → x < 2 ^ 50 → a < 2 ^ 43 → Fits w64 (x + a)
+wide_fits x a h k = omega arith
+
+pub wide_low : (x a : ℕ) → x < 2 ^ 50 → a < 2 ^ 43 → x + a < 2 ^ 60
+wide_low x a h k = omega arith
+
 -- a stop that has one behind it, and the ways before and behind it
 pub edge_before : (p n m : ℕ) → p + 1 < n → m + 1 ≡ n → p - 1 < m
 edge_before p n m h e = omega arith
@@ -85,24 +97,6 @@ way_sum_low a s h k = omega arith
 
 pub sum_low : (s : ℕ) → s ≤ 2 ^ 42 → s < 2 ^ 50
 sum_low s k = omega arith
-
-pub wide_sum_fits : (x s : ℕ) → x < 2 ^ 50 → s ≤ 2 ^ 42 → Fits w64 (x + s)
-wide_sum_fits x s h k = omega arith
-
-pub wide_sum_way_fits : (x s a : ℕ) → x < 2 ^ 50 → s ≤ 2 ^ 42 → a < 2 ^ 32 → Fits w64 (x + s + a)
-wide_sum_way_fits x s a h k l = omega arith
-
-pub wide_sum_way_low : (x s a : ℕ) → x < 2 ^ 50 → s ≤ 2 ^ 42 → a < 2 ^ 32 → x + s + a < 2 ^ 60
-wide_sum_way_low x s a h k l = omega arith
-
-pub wide_way_fits : (x a : ℕ) → x < 2 ^ 50 → a < 2 ^ 32 → Fits w64 (x + a)
-wide_way_fits x a h k = omega arith
-
-pub wide_way_sum_fits : (x a s : ℕ) → x < 2 ^ 50 → a < 2 ^ 32 → s ≤ 2 ^ 42 → Fits w64 (x + a + s)
-wide_way_sum_fits x a s h k l = omega arith
-
-pub wide_way_sum_way_fits : (x a s b : ℕ) → x < 2 ^ 50 → a < 2 ^ 32 → s ≤ 2 ^ 42 → b < 2 ^ 32 → Fits w64 (x + a + s + b)
-wide_way_sum_way_fits x a s b h k l m = omega arith
 
 -- places further on
 pub row_has : (m n k : ℕ) → m ≡ n → k < n → k < m

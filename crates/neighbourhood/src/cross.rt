@@ -53,8 +53,8 @@ fn cross_row(search: &Search, crosses: &Crosses, first: u32, end: u32, best: Bes
         if there == end {
             return best;
         }
-        let all_lost = lost + way_at(ways.edges, found);
-        let all_gained = way_at(ways.to, found) + way_at(ways.on, found + 1);
+        let all_lost = lost + ways.lost(found);
+        let all_gained = ways.gained(found);
         let mv = Move::Cross {
             vehicle: search.v,
             keep: crosses.keep,

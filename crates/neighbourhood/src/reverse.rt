@@ -58,11 +58,8 @@ fn reverse_row(search: &Search, reverses: &Reverses, end: u32, best: Best) -> Be
         if there == end {
             return best;
         }
-        let all_lost = lost + ways.sums[found] + way_at(ways.edges, found);
-        let all_gained = gained
-            + way_at(ways.before, found)
-            + ways.back_sums[found]
-            + way_at(ways.here, found + 1);
+        let all_lost = lost + ways.lost(found);
+        let all_gained = gained + ways.gained(found);
         let mv = Move::Reverse {
             vehicle: search.v,
             first,

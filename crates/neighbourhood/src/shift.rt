@@ -74,8 +74,8 @@ fn shift_row(search: &Search, shifts: Shifts, offset: u32, first: u32, end: u32,
         if next == end {
             return best;
         }
-        let all_lost = lost + way_at(ways.edges, found);
-        let all_gained = gained + way_at(ways.to, found) + way_at(ways.on, found + 1);
+        let all_lost = lost + ways.lost(found);
+        let all_gained = gained + ways.gained(found);
         let mv = Move::Shift {
             vehicle: search.v,
             place: shifts.place,

@@ -54,11 +54,8 @@ fn swap_row(search: &Search, swaps: Swaps, first: u32, end: u32, best: Best) -> 
         if there == end {
             return best;
         }
-        let all_lost = lost + way_at(ways.edges, found - 1) + way_at(ways.edges, found);
-        let all_gained = way_at(ways.before, found)
-            + way_at(ways.next, found)
-            + way_at(ways.back, found - 1)
-            + way_at(ways.here, found + 1);
+        let all_lost = lost + ways.lost(found);
+        let all_gained = ways.gained(found);
         let mv = Move::Swap {
             vehicle: search.v,
             place: swaps.place,

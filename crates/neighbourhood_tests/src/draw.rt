@@ -6,6 +6,10 @@ use vehicle_draw::draw;
 #[test]
 fn draws_two_words(rt: HostRuntime) {
     let mut rng = Lcg64Xsh32::new(42, 54);
-    let drawn = (draw(&mut rng, 250), draw(&mut rng, 1));
-    assert_eq!(&rt; (drawn, rng.next_u32()), (((34, 98), (1, 1)), 0xbfa4784b));
+    let (v, w) = draw(&mut rng, 250);
+    let (one, other) = draw(&mut rng, 1);
+    assert_eq!(&rt;
+        [v, w, one, other, rng.next_u32()],
+        [34, 98, 1, 1, 0xbfa4784b]
+    );
 }

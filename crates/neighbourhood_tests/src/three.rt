@@ -69,20 +69,29 @@ fn view_of_three(rt: &impl Abort, alloc: Global, plan: &Plan) -> View
     }
 }
 
-/// Asks for the best move until there is none, each skipped once it was the answer: these are wanted, each with a gain of 60.
-fn ask_in_turn(rt: &impl Abort, alloc: Global, setup: &Setup, view: &View, tied: &[Move])
+/// Asks for the best move until there is none, each skipped once it was the answer: how many answers are the wanted ones, each with a gain of
+/// 60, and then none.
+fn answers_in_turn(
+    rt: &impl Abort,
+    alloc: Global,
+    setup: &Setup,
+    view: &View,
+    wanted: &[Move],
+) -> usize
     requires view { IsViewOf (setting setup.now) view.now }
     requires vehicles { (setting setup.now).vehicles ≡ 1 }
 {
-    for k in 0..tied.len() + 1 {
-        let found = best_move(alloc, view, setup, 1, 1, &tied[..k]).expect(rt, "memory");
-        let wanted = if k < tied.len() {
-            Some((tied[k], 60))
-        } else {
-            None
-        };
-        assert_eq!(rt; found, wanted);
+    for k in 0..wanted.len() {
+        let found = best_move(alloc, view, setup, 1, 1, &wanted[..k]).expect(rt, "memory");
+        if found != Some((wanted[k], 60)) {
+            return k;
+        }
     }
+    let last = best_move(alloc, view, setup, 1, 1, wanted).expect(rt, "memory");
+    if last.is_some() {
+        return wanted.len();
+    }
+    wanted.len() + 1
 }
 
 /// Asks for the best moves of the customers in an order, which has a cost.
@@ -101,7 +110,10 @@ fn ask_in_order(
     let view = view_of_three(rt, alloc, &plan);
     assert!(rt; is_view(setup, &plan, &view));
     assert_eq!(rt; plan.cost(setup, &mut Meter::new()), cost);
-    ask_in_turn(rt, alloc, setup, &view, tied);
+    assert_eq!(rt;
+        answers_in_turn(rt, alloc, setup, &view, tied),
+        tied.len() + 1
+    );
 }
 
 /// Moves inside vehicle 1.

@@ -4,7 +4,7 @@ use Rattle.std.proofs.lemmas.Bool.{cases_lt}
 use Rattle.way_costs.specs.declared.gains.CutRow.{CutRow}
 use Rattle.way_costs.specs.declared.gains.SwapRow.{SwapRow}
 use Rattle.way_costs.specs.declared.gains.ReverseRow.{ReverseRow}
-use Rattle.way_costs.specs.Rows.{IsCutRow, IsSwapRow, lost_by_cut, gained_by_cut, lost_by_swap, gained_by_swap, lost_by_reverse, gained_by_reverse}
+use Rattle.way_costs.specs.Rows.{IsCutRow, IsSwapRow, IsReverseRow, lost_by_cut, gained_by_cut, lost_by_swap, gained_by_swap, lost_by_reverse, gained_by_reverse}
 use borrow.Author.Count.{below_more}
 
 pub never : (k from : ℕ) → k < from → from ≤ k → ⊥
@@ -35,66 +35,38 @@ pub passed : (m k end : ℕ) → m < end → end ≤ k → m < k
 passed m k end h l = omega arith
 
 -- sums fit
-pub wanted_one : (w a : ℕ) → w < 2 ^ 61 → a < 2 ^ 32 → Fits w64 (w + a)
-wanted_one w a h i = omega arith
+pub lost_cut : (x a : ℕ) → x < 2 ^ 50 → a < 2 ^ 32 → Fits w64 (x + a)
+lost_cut x a h i = omega arith
 
-pub wanted_two : (w a b : ℕ) → w < 2 ^ 61 → a < 2 ^ 32 → b < 2 ^ 32 → Fits w64 (w + a + b)
-wanted_two w a b h i j = omega arith
+pub wanted_cut : (w a : ℕ) → w < 2 ^ 61 → a < 2 ^ 33 → Fits w64 (w + a)
+wanted_cut w a h i = omega arith
 
-pub wanted_three : (w a b d : ℕ) → w < 2 ^ 61 → a < 2 ^ 32 → b < 2 ^ 32 → d < 2 ^ 32 → Fits w64 (w + a + b + d)
-wanted_three w a b d h i j k = omega arith
+pub lost_swap : (x a : ℕ) → x < 2 ^ 50 → a < 2 ^ 33 → Fits w64 (x + a)
+lost_swap x a h i = omega arith
 
-pub wanted_four : (w a b d e : ℕ) → w < 2 ^ 61 → a < 2 ^ 32 → b < 2 ^ 32 → d < 2 ^ 32 → e < 2 ^ 32 → Fits w64 (w + a + b + d + e)
-wanted_four w a b d e h i j k l = omega arith
+pub wanted_swap : (w a : ℕ) → w < 2 ^ 61 → a < 2 ^ 34 → Fits w64 (w + a)
+wanted_swap w a h i = omega arith
 
-pub wanted_sum : (w a s : ℕ) → w < 2 ^ 61 → a < 2 ^ 32 → s ≤ 2 ^ 42 → Fits w64 (w + a + s)
-wanted_sum w a s h i j = omega arith
+pub lost_reverse : (x a : ℕ) → x < 2 ^ 51 → a < 2 ^ 43 → Fits w64 (x + a)
+lost_reverse x a h i = omega arith
 
-pub wanted_sum_one : (w a s b : ℕ) → w < 2 ^ 61 → a < 2 ^ 32 → s ≤ 2 ^ 42 → b < 2 ^ 32 → Fits w64 (w + a + s + b)
-wanted_sum_one w a s b h i j k = omega arith
+pub wanted_reverse : (w a : ℕ) → w < 2 ^ 61 → a < 2 ^ 43 → Fits w64 (w + a)
+wanted_reverse w a h i = omega arith
 
-pub lost_one : (x a : ℕ) → x < 2 ^ 50 → a < 2 ^ 32 → Fits w64 (x + a)
-lost_one x a h i = omega arith
+-- what a candidate loses and gains beside what is wanted
+pub wins : (lost wanted x y a b : ℕ) → x ≡ a → y ≡ b → wanted + y < lost + x → wanted + b < lost + a
+wins lost wanted x y a b e f h = omega arith
 
-pub lost_two : (x a b : ℕ) → x < 2 ^ 50 → a < 2 ^ 32 → b < 2 ^ 32 → Fits w64 (x + a + b)
-lost_two x a b h i j = omega arith
-
-pub lost_sum : (x s : ℕ) → x < 2 ^ 51 → s ≤ 2 ^ 42 → Fits w64 (x + s)
-lost_sum x s h i = omega arith
-
-pub lost_sum_one : (x s a : ℕ) → x < 2 ^ 51 → s ≤ 2 ^ 42 → a < 2 ^ 32 → Fits w64 (x + s + a)
-lost_sum_one x s a h i j = omega arith
-
--- cuts
-pub cut_wins : (lost wanted x y z a b d : ℕ) → x ≡ a → y ≡ b → z ≡ d → wanted + x + y < lost + z → wanted + (a + b) < lost + d
-cut_wins lost wanted x y z a b d e f g h = omega arith
-
-pub cut_loses : (lost wanted x y z a b d : ℕ) → x ≡ a → y ≡ b → z ≡ d → lost + z ≤ wanted + x + y → lost + d ≤ wanted + (a + b)
-cut_loses lost wanted x y z a b d e f g h = omega arith
+pub loses : (lost wanted x y a b : ℕ) → x ≡ a → y ≡ b → lost + x ≤ wanted + y → lost + a ≤ wanted + b
+loses lost wanted x y a b e f h = omega arith
 
 pub cuts_on : (row : CutRow) (lost wanted from k : ℕ) → ((m : ℕ) → m < k → from ≤ m → lost + lost_by_cut row m ≤ wanted + gained_by_cut row m)
     → lost + lost_by_cut row k ≤ wanted + gained_by_cut row k → (m : ℕ) → m < k + 1 → from ≤ m → lost + lost_by_cut row m ≤ wanted + gained_by_cut row m
 cuts_on row lost wanted from k below here = below_more (λ (m : ℕ). from ≤ m → lost + lost_by_cut row m ≤ wanted + gained_by_cut row m) k below (λ l. here)
 
--- swaps
-pub swap_wins : (lost wanted x y u v w z a b d e f g : ℕ) → x ≡ a → y ≡ b → u ≡ d → v ≡ e → w ≡ f → z ≡ g
-    → wanted + u + v + w + z < lost + x + y → wanted + (d + e + f + g) < lost + (a + b)
-swap_wins lost wanted x y u v w z a b d e f g p q r s t o h = omega arith
-
-pub swap_loses : (lost wanted x y u v w z a b d e f g : ℕ) → x ≡ a → y ≡ b → u ≡ d → v ≡ e → w ≡ f → z ≡ g
-    → lost + x + y ≤ wanted + u + v + w + z → lost + (a + b) ≤ wanted + (d + e + f + g)
-swap_loses lost wanted x y u v w z a b d e f g p q r s t o h = omega arith
-
 pub swaps_on : (row : SwapRow) (lost wanted from k : ℕ) → ((m : ℕ) → m < k → from ≤ m → lost + lost_by_swap row m ≤ wanted + gained_by_swap row m)
     → lost + lost_by_swap row k ≤ wanted + gained_by_swap row k → (m : ℕ) → m < k + 1 → from ≤ m → lost + lost_by_swap row m ≤ wanted + gained_by_swap row m
 swaps_on row lost wanted from k below here = below_more (λ (m : ℕ). from ≤ m → lost + lost_by_swap row m ≤ wanted + gained_by_swap row m) k below (λ l. here)
-
--- reverses
-pub reverse_wins : (lost wanted s x u r z a d g : ℕ) → x ≡ a → u ≡ d → z ≡ g → wanted + u + r + z < lost + s + x → wanted + (d + r + g) < lost + (s + a)
-reverse_wins lost wanted s x u r z a d g e f p h = omega arith
-
-pub reverse_loses : (lost wanted s x u r z a d g : ℕ) → x ≡ a → u ≡ d → z ≡ g → lost + s + x ≤ wanted + u + r + z → lost + (s + a) ≤ wanted + (d + r + g)
-reverse_loses lost wanted s x u r z a d g e f p h = omega arith
 
 pub reverses_on : (row : ReverseRow) (lost wanted from k : ℕ) → ((m : ℕ) → m < k → from ≤ m → lost + lost_by_reverse row m ≤ wanted + gained_by_reverse row m)
     → lost + lost_by_reverse row k ≤ wanted + gained_by_reverse row k → (m : ℕ) → m < k + 1 → from ≤ m → lost + lost_by_reverse row m ≤ wanted + gained_by_reverse row m
@@ -139,3 +111,14 @@ pub swap_shorter : (row : SwapRow) (n m : ℕ) → n ≤ m → IsSwapRow row m �
 swap_shorter row n m h is =
     let e = is.edges in let b = is.before in let a = is.here in let x = is.next in let y = is.back in
     record { edges = omega arith; before = omega arith; here = omega arith; next = omega arith; back = omega arith }
+
+pub cut_at : (row : CutRow) (k end : ℕ) → k < end → IsCutRow row end → IsCutRow row (k + 1)
+cut_at row k end h is = cut_shorter row (k + 1) end (omega arith) is
+
+pub swap_at : (row : SwapRow) (k end : ℕ) → k < end → IsSwapRow row end → IsSwapRow row (k + 1)
+swap_at row k end h is = swap_shorter row (k + 1) end (omega arith) is
+
+pub reverse_at : (row : ReverseRow) (k end : ℕ) → k < end → IsReverseRow row end → IsReverseRow row (k + 1)
+reverse_at row k end h is =
+    let e = is.edges in let s = is.sums in let t = is.back_sums in let b = is.before in let a = is.here in
+    record { edges = omega arith; sums = omega arith; back_sums = omega arith; before = omega arith; here = omega arith; small = is.small }

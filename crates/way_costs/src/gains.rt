@@ -61,6 +61,77 @@ pub struct ReverseRow<'a> {
     pub here: &'a [u32],
 }
 
+impl<'a> CutRow<'a> {
+    /// What the way costs that a cut at a stop loses.
+    #[inline(always)]
+    pub fn lost(&self, k: usize) -> u64
+        requires { IsCutRow self.now (k + 1) }
+        ensures value { result ≡ lost_by_cut self.now k }
+        ensures small { result < 2 ^ 32 }
+    {
+        way_at(self.edges, k)
+    }
+
+    /// What the ways cost that it gains.
+    #[inline(always)]
+    pub fn gained(&self, k: usize) -> u64
+        requires { IsCutRow self.now (k + 1) }
+        ensures value { result ≡ gained_by_cut self.now k }
+        ensures small { result < 2 ^ 33 }
+    {
+        way_at(self.to, k) + way_at(self.on, k + 1)
+    }
+}
+
+impl<'a> SwapRow<'a> {
+    /// What the ways cost that a swap with a stop loses there.
+    #[inline(always)]
+    pub fn lost(&self, k: usize) -> u64
+        requires low { 1 ≤ k }
+        requires row { IsSwapRow self.now (k + 1) }
+        ensures value { result ≡ lost_by_swap self.now k }
+        ensures small { result < 2 ^ 33 }
+    {
+        way_at(self.edges, k - 1) + way_at(self.edges, k)
+    }
+
+    /// What the ways cost that it gains.
+    #[inline(always)]
+    pub fn gained(&self, k: usize) -> u64
+        requires low { 1 ≤ k }
+        requires row { IsSwapRow self.now (k + 1) }
+        ensures value { result ≡ gained_by_swap self.now k }
+        ensures small { result < 2 ^ 34 }
+    {
+        way_at(self.before, k)
+            + way_at(self.next, k)
+            + way_at(self.back, k - 1)
+            + way_at(self.here, k + 1)
+    }
+}
+
+impl<'a> ReverseRow<'a> {
+    /// What the ways cost that a reverse up to a stop loses.
+    #[inline(always)]
+    pub fn lost(&self, k: usize) -> u64
+        requires { IsReverseRow self.now (k + 1) }
+        ensures value { result ≡ lost_by_reverse self.now k }
+        ensures small { result < 2 ^ 43 }
+    {
+        self.sums[k] + way_at(self.edges, k)
+    }
+
+    /// What the ways cost that it gains.
+    #[inline(always)]
+    pub fn gained(&self, k: usize) -> u64
+        requires { IsReverseRow self.now (k + 1) }
+        ensures value { result ≡ gained_by_reverse self.now k }
+        ensures small { result < 2 ^ 43 }
+    {
+        way_at(self.before, k) + self.back_sums[k] + way_at(self.here, k + 1)
+    }
+}
+
 /// The first index from one on and before another at which `lost` and the way lost there cost more than `wanted` and the ways gained there;
 /// the other index where there is none.
 #[inline(always)]
@@ -74,10 +145,9 @@ pub fn first_gain(lost: u64, wanted: u64, row: &CutRow, from: usize, end: usize)
     ensures none { (k : ℕ) → k < result → from ≤ k → lost + lost_by_cut row.now k ≤ wanted + gained_by_cut row.now k }
     ensures found { result < end → wanted + gained_by_cut row.now result < lost + lost_by_cut row.now result }
 {
-    let (edges, to, on) = (row.edges, row.to, row.on);
     for k in from..end {
-        let all_gained = wanted + way_at(to, k) + way_at(on, k + 1);
-        let all_lost = lost + way_at(edges, k);
+        let all_gained = wanted + row.gained(k);
+        let all_lost = lost + row.lost(k);
         if all_gained < all_lost {
             return k;
         }
@@ -98,14 +168,9 @@ pub fn first_swap_gain(lost: u64, wanted: u64, row: &SwapRow, from: usize, end: 
     ensures none { (k : ℕ) → k < result → from ≤ k → lost + lost_by_swap row.now k ≤ wanted + gained_by_swap row.now k }
     ensures found { result < end → wanted + gained_by_swap row.now result < lost + lost_by_swap row.now result }
 {
-    let (edges, before, here, next, back) = (row.edges, row.before, row.here, row.next, row.back);
     for k in from..end {
-        let all_lost = lost + way_at(edges, k - 1) + way_at(edges, k);
-        let all_gained = wanted
-            + way_at(before, k)
-            + way_at(next, k)
-            + way_at(back, k - 1)
-            + way_at(here, k + 1);
+        let all_gained = wanted + row.gained(k);
+        let all_lost = lost + row.lost(k);
         if all_gained < all_lost {
             return k;
         }
@@ -131,11 +196,9 @@ pub fn first_reverse_gain(
     ensures none { (k : ℕ) → k < result → from ≤ k → lost + lost_by_reverse row.now k ≤ wanted + gained_by_reverse row.now k }
     ensures found { result < end → wanted + gained_by_reverse row.now result < lost + lost_by_reverse row.now result }
 {
-    let (edges, sums, back_sums) = (row.edges, row.sums, row.back_sums);
-    let (before, here) = (row.before, row.here);
     for k in from..end {
-        let all_lost = lost + sums[k] + way_at(edges, k);
-        let all_gained = wanted + way_at(before, k) + back_sums[k] + way_at(here, k + 1);
+        let all_gained = wanted + row.gained(k);
+        let all_lost = lost + row.lost(k);
         if all_gained < all_lost {
             return k;
         }
@@ -151,7 +214,9 @@ fn may_gain_over(more: u32, row: &CutRow, from: usize, end: usize) -> bool
     requires row { IsCutRow row.now end }
     ensures { result ≡ false → (k : ℕ) → k < end → from ≤ k → lost_by_cut row.now k ≤ more + gained_by_cut row.now k }
 {
-    let (edges, to, on) = (row.edges, row.to, row.on);
+    let edges = row.edges;
+    let to = row.to;
+    let on = row.on;
     let mut gains = false;
     for k in from..end {
         let left = edges[k].saturating_sub(more).saturating_sub(to[k]);
@@ -169,7 +234,9 @@ fn may_gain_under(less: u32, row: &CutRow, from: usize, end: usize) -> bool
     requires row { IsCutRow row.now end }
     ensures { result ≡ false → (k : ℕ) → k < end → from ≤ k → less + lost_by_cut row.now k ≤ gained_by_cut row.now k }
 {
-    let (edges, to, on) = (row.edges, row.to, row.on);
+    let edges = row.edges;
+    let to = row.to;
+    let on = row.on;
     let mut gains = false;
     for k in from..end {
         let all_gained = to[k].saturating_add(on[k + 1]);
@@ -258,7 +325,11 @@ fn may_swap_gain_over(more: u32, row: &SwapRow, from: usize, end: usize) -> bool
     requires half { row.now.most ≤ 2147483647 }
     ensures { result ≡ false → (k : ℕ) → k < end → from ≤ k → lost_by_swap row.now k ≤ more + gained_by_swap row.now k }
 {
-    let (edges, before, here, next, back) = (row.edges, row.before, row.here, row.next, row.back);
+    let edges = row.edges;
+    let before = row.before;
+    let here = row.here;
+    let next = row.next;
+    let back = row.back;
     let mut gains = false;
     for k in from..end {
         let both = edges[k - 1] + edges[k];
@@ -300,15 +371,10 @@ fn may_swap_gain_wide(lost: u64, wanted: u64, row: &SwapRow, from: usize, end: u
     requires row { IsSwapRow row.now end }
     ensures { result ≡ false → (k : ℕ) → k < end → from ≤ k → lost + lost_by_swap row.now k ≤ wanted + gained_by_swap row.now k }
 {
-    let (edges, before, here, next, back) = (row.edges, row.before, row.here, row.next, row.back);
     let mut gains = false;
     for k in from..end {
-        let all_lost = lost + way_at(edges, k - 1) + way_at(edges, k);
-        let all_gained = wanted
-            + way_at(before, k)
-            + way_at(next, k)
-            + way_at(back, k - 1)
-            + way_at(here, k + 1);
+        let all_gained = wanted + row.gained(k);
+        let all_lost = lost + row.lost(k);
         if all_gained < all_lost {
             gains = true;
         }
@@ -352,12 +418,10 @@ pub fn may_reverse_gain(lost: u64, wanted: u64, row: &ReverseRow, from: usize, e
     if end - from < FEW {
         return true;
     }
-    let (edges, sums, back_sums) = (row.edges, row.sums, row.back_sums);
-    let (before, here) = (row.before, row.here);
     let mut gains = false;
     for k in from..end {
-        let all_lost = lost + sums[k] + way_at(edges, k);
-        let all_gained = wanted + way_at(before, k) + back_sums[k] + way_at(here, k + 1);
+        let all_gained = wanted + row.gained(k);
+        let all_lost = lost + row.lost(k);
         if all_gained < all_lost {
             gains = true;
         }

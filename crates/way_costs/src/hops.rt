@@ -74,7 +74,8 @@ pub(crate) fn fill_stops_of_both(
 {
     routes_are_known();
     let _customers = setup.customers();
-    let (first, second) = (view.customers(v), view.customers(w));
+    let first = view.customers(v);
+    let second = view.customers(w);
     begin_stops(first, first.len() + second.len() + 3, all)?;
     all.extend_from_slice(second)?;
     all.push(0)?;

@@ -8,7 +8,7 @@ ghost use Rattle.way_costs.specs.Sides.{AreSides, AreWaysBetween, AreFloored, Is
 ghost use Rattle.way_costs.specs.Ways.{AreStops, AreEdges, AreHopsFrom};
 
 use crate::hops::fill_stops_of_both;
-use crate::table::{Manner, add_edges, fill_edges, fill_sums, fill_turned, fill_ways, most_of};
+use crate::table::{add_edges, fill_edges, fill_sums, fill_turned, fill_ways, most_of};
 use dimension_core::Setup;
 use limits::MOST_STOPS;
 use pin_core::View;
@@ -140,16 +140,8 @@ impl Ways {
             (table_at (setting setup.now).tables (setting setup.now).cost) from.now to.now self.new) }
         ensures floors { IfOk result (λ _. AreFloored from.now to.now self.new) }
     {
-        let out = Manner {
-            floored: true,
-            turned: false,
-        };
-        let into = Manner {
-            floored: true,
-            turned: true,
-        };
-        fill_ways(setup, out, from, to, &mut self.out)?;
-        fill_ways(setup, into, from, to, &mut self.into)
+        fill_ways(setup, false, from, to, &mut self.out)?;
+        fill_ways(setup, true, from, to, &mut self.into)
     }
 
     /// Gathers the ways between some stops that a move inside their vehicle goes, each asked once, in place of what was gathered.
@@ -160,11 +152,7 @@ impl Ways {
         ensures { IfOk result (λ _. AreWaysBetween
             (table_at (setting setup.now).tables (setting setup.now).cost) stops.now stops.now self.new) }
     {
-        let out = Manner {
-            floored: false,
-            turned: false,
-        };
-        fill_ways(setup, out, stops, stops, &mut self.out)?;
+        fill_ways(setup, false, stops, stops, &mut self.out)?;
         fill_turned(stops, &self.out, &mut self.into)
     }
 }

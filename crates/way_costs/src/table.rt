@@ -64,24 +64,17 @@ fn ask_together(setup: &Setup, turned: bool, stop: u32, to: &[u32], row: &mut [u
 /// The greatest number, which is what the least of no numbers is.
 const NONE: u32 = 4_294_967_295;
 
-/// Up to so many ways are asked one by one: with the least of them, asking for them together takes longer.
+/// Up to so many ways are asked one by one, and the least of them is told: asking for them together takes longer.
 const FEW: usize = 9;
 
-/// How the ways of a table are had: as they are driven or driven back, and whether a floor is wanted of each row.
-#[derive(Clone, Copy)]
-pub(crate) struct Manner {
-    pub(crate) floored: bool,
-    pub(crate) turned: bool,
-}
-
-/// Where the ways of a table are had from: the cost callback, or all its answers where it was given as these, read as the ways are driven
-/// or driven back.
+/// Where the ways of a table are had from, as they are driven or driven back: the cost callback, or all its answers where it was given as
+/// these, read across or not.
 #[derive(Drop)]
 struct Asking<'a, C> {
     callback: &'a C,
     known: Option<&'a [u32]>,
     across: bool,
-    manner: Manner,
+    turned: bool,
 }
 
 // The callback is asked right in the two loops: each function in between would cost one more test after every answer.
@@ -200,20 +193,20 @@ fn fill_row<C: Callback>(
     requires answers { C.table asking.now.callback.now ≡ table_at (setting setup.now).tables (setting setup.now).cost }
     requires nodes { (C.table asking.now.callback.now).size ≡ (setting setup.now).customers + 1 }
     requires known { IfSome asking.now.known (λ a. AreAnswers (setting setup.now) a.now) }
-    requires across { AreAlike (setting setup.now) asking.now.across asking.now.manner.turned }
+    requires across { AreAlike (setting setup.now) asking.now.across asking.now.turned }
     requires stop { stop ≤ (setting setup.now).customers }
     requires to { All (λ c. c ≤ (setting setup.now).customers) to.now }
     requires room { length row.old ≡ length to.now }
     ensures sized { length row.new ≡ length to.now }
     ensures ways { (k : ℕ) → k < length to.now → slice_index row.new k
-        ≡ hop_by asking.now.manner.turned (table_at (setting setup.now).tables (setting setup.now).cost) stop (slice_index to.now k) }
+        ≡ hop_by asking.now.turned (table_at (setting setup.now).tables (setting setup.now).cost) stop (slice_index to.now k) }
     ensures least { All (λ x. result ≤ x) row.new }
 {
-    let Manner { floored, turned } = asking.manner;
+    let turned = asking.turned;
     if let Some(answers) = asking.known {
         return read_row(setup, answers, asking.across, stop, to, row);
     }
-    if !floored || to.len() > FEW {
+    if to.len() > FEW {
         ask_together(setup, turned, stop, to, row);
         return 0;
     }
@@ -241,13 +234,13 @@ fn fill_at<C: Callback>(
     requires answers { C.table asking.now.callback.now ≡ table_at (setting setup.now).tables (setting setup.now).cost }
     requires nodes { (C.table asking.now.callback.now).size ≡ (setting setup.now).customers + 1 }
     requires known { IfSome asking.now.known (λ a. AreAnswers (setting setup.now) a.now) }
-    requires across { AreAlike (setting setup.now) asking.now.across asking.now.manner.turned }
+    requires across { AreAlike (setting setup.now) asking.now.across asking.now.turned }
     requires stop { stop ≤ (setting setup.now).customers }
     requires to { All (λ c. c ≤ (setting setup.now).customers) to.now }
     requires room { at + length to.now ≤ length cells.old }
     ensures sized { length cells.new ≡ length cells.old }
     ensures ways { (k : ℕ) → k < length to.now → slice_index cells.new (at + k)
-        ≡ hop_by asking.now.manner.turned (table_at (setting setup.now).tables (setting setup.now).cost) stop (slice_index to.now k) }
+        ≡ hop_by asking.now.turned (table_at (setting setup.now).tables (setting setup.now).cost) stop (slice_index to.now k) }
     ensures kept { (k : ℕ) → k < at → slice_index cells.new k ≡ slice_index cells.old k }
     ensures least { (k : ℕ) → k < length to.now → result ≤ slice_index cells.new (at + k) }
 {
@@ -307,20 +300,20 @@ fn fill_rows<C: Callback>(
     requires answers { C.table asking.now.callback.now ≡ table_at (setting setup.now).tables (setting setup.now).cost }
     requires nodes { (C.table asking.now.callback.now).size ≡ (setting setup.now).customers + 1 }
     requires known { IfSome asking.now.known (λ a. AreAnswers (setting setup.now) a.now) }
-    requires across { AreAlike (setting setup.now) asking.now.across asking.now.manner.turned }
+    requires across { AreAlike (setting setup.now) asking.now.across asking.now.turned }
     requires from { All (λ c. c ≤ (setting setup.now).customers) from.now }
     requires to { All (λ c. c ≤ (setting setup.now).customers) to.now }
     requires some { (1 ≤ length from.now) × (1 ≤ length to.now) }
     requires short { (length from.now ≤ MOST_STOPS) × (length to.now ≤ MOST_STOPS) }
     requires room { length cells.old ≡ length from.now * length to.now }
-    ensures hops { AreHopsFrom asking.now.manner.turned (table_at (setting setup.now).tables (setting setup.now).cost) from.now to.now
-        (if asking.now.manner.turned then 1 else 0) (if asking.now.manner.turned then 0 else 1) cells.new }
-    ensures floors { AreFloors from.now to.now (if asking.now.manner.turned then 1 else 0) (if asking.now.manner.turned then 0 else 1)
+    ensures hops { AreHopsFrom asking.now.turned (table_at (setting setup.now).tables (setting setup.now).cost) from.now to.now
+        (if asking.now.turned then 1 else 0) (if asking.now.turned then 0 else 1) cells.new }
+    ensures floors { AreFloors from.now to.now (if asking.now.turned then 1 else 0) (if asking.now.turned then 0 else 1)
         cells.new }
 {
     let width = to.len();
-    let first = first_row(asking.manner.turned);
-    let column = first_column(asking.manner.turned);
+    let first = first_row(asking.turned);
+    let column = first_column(asking.turned);
     let spare = spare_column(column, width);
     let asked = all_but_one(to, column);
     for i in first..first + from.len() - 1 {
@@ -333,7 +326,7 @@ fn fill_rows<C: Callback>(
 fn fill_by<C: Callback>(
     setup: &Setup,
     callback: &C,
-    manner: Manner,
+    turned: bool,
     from: &[u32],
     to: &[u32],
     cells: &mut [u32],
@@ -345,15 +338,15 @@ fn fill_by<C: Callback>(
     requires some { (1 ≤ length from.now) × (1 ≤ length to.now) }
     requires short { (length from.now ≤ MOST_STOPS) × (length to.now ≤ MOST_STOPS) }
     requires room { length cells.old ≡ length from.now * length to.now }
-    ensures hops { AreHopsFrom manner.turned (table_at (setting setup.now).tables (setting setup.now).cost) from.now to.now
-        (if manner.turned then 1 else 0) (if manner.turned then 0 else 1) cells.new }
-    ensures floors { AreFloors from.now to.now (if manner.turned then 1 else 0) (if manner.turned then 0 else 1) cells.new }
+    ensures hops { AreHopsFrom turned (table_at (setting setup.now).tables (setting setup.now).cost) from.now to.now
+        (if turned then 1 else 0) (if turned then 0 else 1) cells.new }
+    ensures floors { AreFloors from.now to.now (if turned then 1 else 0) (if turned then 0 else 1) cells.new }
 {
     let asking = Asking {
         callback,
         known: None,
-        across: manner.turned,
-        manner,
+        across: turned,
+        turned,
     };
     fill_rows(setup, &asking, from, to, cells)
 }
@@ -362,7 +355,7 @@ fn fill_by<C: Callback>(
 fn fill_known(
     setup: &Setup,
     callback: &Matrix,
-    manner: Manner,
+    turned: bool,
     from: &[u32],
     to: &[u32],
     cells: &mut [u32],
@@ -374,39 +367,39 @@ fn fill_known(
     requires some { (1 ≤ length from.now) × (1 ≤ length to.now) }
     requires short { (length from.now ≤ MOST_STOPS) × (length to.now ≤ MOST_STOPS) }
     requires room { length cells.old ≡ length from.now * length to.now }
-    ensures hops { AreHopsFrom manner.turned (table_at (setting setup.now).tables (setting setup.now).cost) from.now to.now
-        (if manner.turned then 1 else 0) (if manner.turned then 0 else 1) cells.new }
-    ensures floors { AreFloors from.now to.now (if manner.turned then 1 else 0) (if manner.turned then 0 else 1) cells.new }
+    ensures hops { AreHopsFrom turned (table_at (setting setup.now).tables (setting setup.now).cost) from.now to.now
+        (if turned then 1 else 0) (if turned then 0 else 1) cells.new }
+    ensures floors { AreFloors from.now to.now (if turned then 1 else 0) (if turned then 0 else 1) cells.new }
 {
     let known = known_ways(setup);
-    let across = is_read_across(setup, manner.turned);
+    let across = is_read_across(setup, turned);
     let asking = Asking {
         callback,
         known,
         across,
-        manner,
+        turned,
     };
     fill_rows(setup, &asking, from, to, cells)
 }
 
 /// The same, by whichever kind of callback there is.
 #[inline(always)]
-fn fill_cells(setup: &Setup, manner: Manner, from: &[u32], to: &[u32], cells: &mut [u32])
+fn fill_cells(setup: &Setup, turned: bool, from: &[u32], to: &[u32], cells: &mut [u32])
     requires from { All (λ c. c ≤ (setting setup.now).customers) from.now }
     requires to { All (λ c. c ≤ (setting setup.now).customers) to.now }
     requires some { (1 ≤ length from.now) × (1 ≤ length to.now) }
     requires short { (length from.now ≤ MOST_STOPS) × (length to.now ≤ MOST_STOPS) }
     requires room { length cells.old ≡ length from.now * length to.now }
-    ensures hops { AreHopsFrom manner.turned (table_at (setting setup.now).tables (setting setup.now).cost) from.now to.now
-        (if manner.turned then 1 else 0) (if manner.turned then 0 else 1) cells.new }
-    ensures floors { AreFloors from.now to.now (if manner.turned then 1 else 0) (if manner.turned then 0 else 1) cells.new }
+    ensures hops { AreHopsFrom turned (table_at (setting setup.now).tables (setting setup.now).cost) from.now to.now
+        (if turned then 1 else 0) (if turned then 0 else 1) cells.new }
+    ensures floors { AreFloors from.now to.now (if turned then 1 else 0) (if turned then 0 else 1) cells.new }
 {
     match setup.registry().callback(setup.cost()) {
-        Slot::Pair(callback) => fill_by(setup, callback, manner, from, to, cells),
-        Slot::Node(callback) => fill_by(setup, callback, manner, from, to, cells),
-        Slot::Listed(callback) => fill_known(setup, callback, manner, from, to, cells),
-        Slot::Values(callback) => fill_by(setup, callback, manner, from, to, cells),
-        Slot::Stayed(callback) => fill_by(setup, callback, manner, from, to, cells),
+        Slot::Pair(callback) => fill_by(setup, callback, turned, from, to, cells),
+        Slot::Node(callback) => fill_by(setup, callback, turned, from, to, cells),
+        Slot::Listed(callback) => fill_known(setup, callback, turned, from, to, cells),
+        Slot::Values(callback) => fill_by(setup, callback, turned, from, to, cells),
+        Slot::Stayed(callback) => fill_by(setup, callback, turned, from, to, cells),
     }
 }
 
@@ -415,7 +408,7 @@ fn fill_cells(setup: &Setup, manner: Manner, from: &[u32], to: &[u32], cells: &m
 /// for that, it has a number that none of its ways is below.
 pub(crate) fn fill_ways(
     setup: &Setup,
-    manner: Manner,
+    turned: bool,
     from: &[u32],
     to: &[u32],
     cells: &mut Vec<u32>,
@@ -424,13 +417,13 @@ pub(crate) fn fill_ways(
     requires to { All (λ c. c ≤ (setting setup.now).customers) to.now }
     requires some { (1 ≤ length from.now) × (1 ≤ length to.now) }
     requires short { (length from.now ≤ MOST_STOPS) × (length to.now ≤ MOST_STOPS) }
-    ensures hops { IfOk result (λ _. AreHopsFrom manner.turned (table_at (setting setup.now).tables (setting setup.now).cost) from.now
-        to.now (if manner.turned then 1 else 0) (if manner.turned then 0 else 1) cells.new.items) }
-    ensures floors { IfOk result (λ _. AreFloors from.now to.now (if manner.turned then 1 else 0) (if manner.turned then 0 else 1)
+    ensures hops { IfOk result (λ _. AreHopsFrom turned (table_at (setting setup.now).tables (setting setup.now).cost) from.now
+        to.now (if turned then 1 else 0) (if turned then 0 else 1) cells.new.items) }
+    ensures floors { IfOk result (λ _. AreFloors from.now to.now (if turned then 1 else 0) (if turned then 0 else 1)
         cells.new.items) }
 {
     cells.resize(from.len() * to.len(), UNFILLED)?;
-    fill_cells(setup, manner, from, to, cells.as_mut_slice());
+    fill_cells(setup, turned, from, to, cells.as_mut_slice());
     Ok(())
 }
 

@@ -3,9 +3,9 @@ use Rattle.move_core.specs.declared.moves.Move.TheVariants.{Cross}
 use Rattle.way_costs.specs.Rows.{lost_by_cut, gained_by_cut}
 use Rattle.neighbourhood.specs.Search.{gain_of, IsBestSoFar}
 use Rattle.neighbourhood.specs.Searched.{searched}
-use Rattle.neighbourhood.proofs.Found.{before, before_end, both_ways, fixed_small, found_adds, found_after, found_below, found_casts, found_in, found_next, found_under, no_more_lost, on_next, same}
+use Rattle.neighbourhood.proofs.Found.{before, before_end, both_ways, fixed_small, found_below, found_casts, found_next, found_under, no_more_lost, on_next, same, cut_found}
 use Rattle.neighbourhood.proofs.Rows.{cross_next, crosses_past}
-use Rattle.neighbourhood.proofs.Small.{goes_on, lost_fits, lost_low, two_fit}
+use Rattle.neighbourhood.proofs.Small.{goes_on, lost_fits, lost_low}
 use Rattle.neighbourhood.proofs.cross.cross_row.Goals as goal
 
 pub returns-then-there-end : goal.returns-then-there-end
@@ -68,9 +68,8 @@ or_better-best-requires-clause-possible g c = c.requires.possible c.first_gain-f
 pub or_better-best-requires-clause-saving : goal.or_better-best-requires-clause-saving
 or_better-best-requires-clause-saving g c =
     let saving = c.requires.saving c.first_gain-found.result (found_under c.first_gain-found.result c.args.end c.first_gain-found.ensures.high c.if-there-end.false) in
-    let f0 = c.way_at.ensures.value in
-    let f1 = c.way_at-in-row.ensures.value in
-    let f2 = c.way_at-in-row-2.ensures.value in
+    let f = c.lost.ensures.value in
+    let f2 = c.gained-all_gained.ensures.value in
     omega arith
 
 pub may_gain-requires-clause-lost : goal.may_gain-requires-clause-lost
@@ -94,29 +93,20 @@ first_gain-found-requires-clause-order g c = c.row.invariant.high
 pub overflow_cast-there : goal.overflow_cast-there
 overflow_cast-there g c = found_casts c.first_gain-found.result c.args.end _ c.first_gain-found.ensures.high c.requires.ways.on c.requires.short
 
-pub way_at-requires : goal.way_at-requires
-way_at-requires g c = found_in c.first_gain-found.result c.args.end _ c.first_gain-found.ensures.high c.if-there-end.false c.requires.ways.edges
-
-pub way_at-requires-in-row : goal.way_at-requires-in-row
-way_at-requires-in-row g c = found_in c.first_gain-found.result c.args.end _ c.first_gain-found.ensures.high c.if-there-end.false c.requires.ways.to
-
-pub way_at-requires-in-row-2 : goal.way_at-requires-in-row-2
-way_at-requires-in-row-2 g c = found_after c.first_gain-found.result c.args.end _ c.first_gain-found.ensures.high c.if-there-end.false c.requires.ways.on
-
-pub overflow_add-found : goal.overflow_add-found
-overflow_add-found g c = found_adds c.first_gain-found.result c.args.end _ c.first_gain-found.ensures.high c.requires.ways.on c.requires.short
-
 pub overflow_add-keep_other : goal.overflow_add-keep_other
 overflow_add-keep_other g c = found_next c.first_gain-found.result c.args.end _ c.first_gain-found.ensures.high c.requires.ways.on c.requires.short
 
-pub overflow_add-all_lost : goal.overflow_add-all_lost
-overflow_add-all_lost g c = lost_fits _ _ c.requires.fixed c.way_at.ensures.small
-
-pub overflow_add-all_gained : goal.overflow_add-all_gained
-overflow_add-all_gained g c = two_fit _ _ c.way_at-in-row.ensures.small c.way_at-in-row-2.ensures.small
-
-pub or_better-best-requires-clause-small : goal.or_better-best-requires-clause-small
-or_better-best-requires-clause-small g c = lost_low _ _ c.requires.fixed c.way_at.ensures.small
-
 pub row-smaller : goal.row-smaller
 row-smaller g c = goes_on c.row.keep_other c.first_gain-found.result c.args.end c.first_gain-found.ensures.low c.first_gain-found.ensures.high c.if-there-end.false
+
+pub lost-requires : goal.lost-requires
+lost-requires g c = cut_found c.args.crosses.now.ways c.first_gain-found.result c.args.end c.first_gain-found.ensures.high c.if-there-end.false c.requires.ways
+
+pub gained-all_gained-requires : goal.gained-all_gained-requires
+gained-all_gained-requires g c = cut_found c.args.crosses.now.ways c.first_gain-found.result c.args.end c.first_gain-found.ensures.high c.if-there-end.false c.requires.ways
+
+pub overflow_add-all_lost : goal.overflow_add-all_lost
+overflow_add-all_lost g c = lost_fits _ _ c.requires.fixed c.lost.ensures.small
+
+pub or_better-best-requires-clause-small : goal.or_better-best-requires-clause-small
+or_better-best-requires-clause-small g c = lost_low _ _ c.requires.fixed c.lost.ensures.small

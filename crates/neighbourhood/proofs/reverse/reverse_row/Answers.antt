@@ -3,9 +3,9 @@ use Rattle.move_core.specs.declared.moves.Move.TheVariants.{Reverse}
 use Rattle.way_costs.specs.Rows.{lost_by_reverse, gained_by_reverse}
 use Rattle.neighbourhood.specs.Search.{gain_of, IsBestSoFar}
 use Rattle.neighbourhood.specs.Searched.{searched}
-use Rattle.neighbourhood.proofs.Found.{above, above_next, before, before_end, both_ways, fixed_wide, found_adds, found_after, found_below, found_casts, found_in, found_next, found_under, no_more, same}
+use Rattle.neighbourhood.proofs.Found.{above, above_next, before, before_end, both_ways, fixed_wide, found_below, found_casts, found_next, found_under, no_more, same, reverse_found}
 use Rattle.neighbourhood.proofs.Rows.{reverse_next, reverses_past}
-use Rattle.neighbourhood.proofs.Small.{first_casts, first_fits, first_order, goes_on, wide_sum_fits, wide_sum_way_fits, wide_sum_way_low, wide_way_fits, wide_way_sum_fits, wide_way_sum_way_fits}
+use Rattle.neighbourhood.proofs.Small.{first_casts, first_fits, first_order, goes_on, wide_fits, wide_low}
 use Rattle.neighbourhood.proofs.reverse.reverse_row.Goals as goal
 
 pub returns-then-there-end : goal.returns-then-there-end
@@ -71,9 +71,8 @@ or_better-best-requires-clause-possible g c =
 pub or_better-best-requires-clause-saving : goal.or_better-best-requires-clause-saving
 or_better-best-requires-clause-saving g c =
     let saving = c.requires.saving c.first_reverse_gain-found.result (above c.args.reverses.now.first c.row.last c.first_reverse_gain-found.result c.row.invariant.low c.first_reverse_gain-found.ensures.low) (found_under c.first_reverse_gain-found.result c.args.end c.first_reverse_gain-found.ensures.high c.if-there-end.false) in
-    let f0 = c.way_at.ensures.value in
-    let f1 = c.way_at-in-row.ensures.value in
-    let f2 = c.way_at-in-row-2.ensures.value in
+    let f = c.lost.ensures.value in
+    let f2 = c.gained.ensures.value in
     omega arith
 
 pub may_reverse_gain-requires-clause-lost : goal.may_reverse_gain-requires-clause-lost
@@ -94,24 +93,6 @@ first_reverse_gain-found-requires-clause-order g c = c.row.invariant.high
 pub overflow_cast-there : goal.overflow_cast-there
 overflow_cast-there g c = found_casts c.first_reverse_gain-found.result c.args.end _ c.first_reverse_gain-found.ensures.high c.requires.ways.here c.requires.short
 
-pub bounds-ways-found : goal.bounds-ways-found
-bounds-ways-found g c = found_in c.first_reverse_gain-found.result c.args.end _ c.first_reverse_gain-found.ensures.high c.if-there-end.false c.requires.ways.sums
-
-pub way_at-requires : goal.way_at-requires
-way_at-requires g c = found_in c.first_reverse_gain-found.result c.args.end _ c.first_reverse_gain-found.ensures.high c.if-there-end.false c.requires.ways.edges
-
-pub way_at-requires-in-row : goal.way_at-requires-in-row
-way_at-requires-in-row g c = found_in c.first_reverse_gain-found.result c.args.end _ c.first_reverse_gain-found.ensures.high c.if-there-end.false c.requires.ways.before
-
-pub bounds-ways-found-in-row : goal.bounds-ways-found-in-row
-bounds-ways-found-in-row g c = found_in c.first_reverse_gain-found.result c.args.end _ c.first_reverse_gain-found.ensures.high c.if-there-end.false c.requires.ways.back_sums
-
-pub way_at-requires-in-row-2 : goal.way_at-requires-in-row-2
-way_at-requires-in-row-2 g c = found_after c.first_reverse_gain-found.result c.args.end _ c.first_reverse_gain-found.ensures.high c.if-there-end.false c.requires.ways.here
-
-pub overflow_add-found : goal.overflow_add-found
-overflow_add-found g c = found_adds c.first_reverse_gain-found.result c.args.end _ c.first_reverse_gain-found.ensures.high c.requires.ways.here c.requires.short
-
 pub overflow_add-first : goal.overflow_add-first
 overflow_add-first g c = first_casts c.args.reverses.now.first c.args.end _ c.requires.order c.requires.ways.here c.requires.short
 
@@ -130,26 +111,23 @@ overflow_add-last g c = first_casts c.args.reverses.now.first c.args.end _ c.req
 pub wanted-least-requires-in-row : goal.wanted-least-requires-in-row
 wanted-least-requires-in-row g c = c.requires.fixed.1
 
-pub overflow_add-all_lost : goal.overflow_add-all_lost
-overflow_add-all_lost g c = wide_sum_fits _ _ c.requires.fixed.0 (c.requires.ways.small.0 c.first_reverse_gain-found.result 0 (found_in c.first_reverse_gain-found.result c.args.end _ c.first_reverse_gain-found.ensures.high c.if-there-end.false c.requires.ways.sums))
-
-pub overflow_add-all_lost-in-row : goal.overflow_add-all_lost-in-row
-overflow_add-all_lost-in-row g c = wide_sum_way_fits _ _ _ c.requires.fixed.0 (c.requires.ways.small.0 c.first_reverse_gain-found.result 0 (found_in c.first_reverse_gain-found.result c.args.end _ c.first_reverse_gain-found.ensures.high c.if-there-end.false c.requires.ways.sums)) c.way_at.ensures.small
-
-pub overflow_add-all_gained : goal.overflow_add-all_gained
-overflow_add-all_gained g c = wide_way_fits _ _ c.requires.fixed.1 c.way_at-in-row.ensures.small
-
-pub overflow_add-all_gained-in-row : goal.overflow_add-all_gained-in-row
-overflow_add-all_gained-in-row g c = wide_way_sum_fits _ _ _ c.requires.fixed.1 c.way_at-in-row.ensures.small (c.requires.ways.small.1 c.first_reverse_gain-found.result 0 (found_in c.first_reverse_gain-found.result c.args.end _ c.first_reverse_gain-found.ensures.high c.if-there-end.false c.requires.ways.back_sums))
-
-pub overflow_add-all_gained-in-row-2 : goal.overflow_add-all_gained-in-row-2
-overflow_add-all_gained-in-row-2 g c = wide_way_sum_way_fits _ _ _ _ c.requires.fixed.1 c.way_at-in-row.ensures.small (c.requires.ways.small.1 c.first_reverse_gain-found.result 0 (found_in c.first_reverse_gain-found.result c.args.end _ c.first_reverse_gain-found.ensures.high c.if-there-end.false c.requires.ways.back_sums)) c.way_at-in-row-2.ensures.small
-
-pub or_better-best-requires-clause-small : goal.or_better-best-requires-clause-small
-or_better-best-requires-clause-small g c = wide_sum_way_low _ _ _ c.requires.fixed.0 (c.requires.ways.small.0 c.first_reverse_gain-found.result 0 (found_in c.first_reverse_gain-found.result c.args.end _ c.first_reverse_gain-found.ensures.high c.if-there-end.false c.requires.ways.sums)) c.way_at.ensures.small
-
 pub overflow_add-last-in-row : goal.overflow_add-last-in-row
 overflow_add-last-in-row g c = found_next c.first_reverse_gain-found.result c.args.end _ c.first_reverse_gain-found.ensures.high c.requires.ways.here c.requires.short
 
 pub row-smaller : goal.row-smaller
 row-smaller g c = goes_on c.row.last c.first_reverse_gain-found.result c.args.end c.first_reverse_gain-found.ensures.low c.first_reverse_gain-found.ensures.high c.if-there-end.false
+
+pub lost-requires : goal.lost-requires
+lost-requires g c = reverse_found c.args.reverses.now.ways c.first_reverse_gain-found.result c.args.end c.first_reverse_gain-found.ensures.high c.if-there-end.false c.requires.ways
+
+pub gained-requires : goal.gained-requires
+gained-requires g c = reverse_found c.args.reverses.now.ways c.first_reverse_gain-found.result c.args.end c.first_reverse_gain-found.ensures.high c.if-there-end.false c.requires.ways
+
+pub overflow_add-all_lost : goal.overflow_add-all_lost
+overflow_add-all_lost g c = wide_fits _ _ c.requires.fixed.0 c.lost.ensures.small
+
+pub overflow_add-all_gained : goal.overflow_add-all_gained
+overflow_add-all_gained g c = wide_fits _ _ c.requires.fixed.1 c.gained.ensures.small
+
+pub or_better-best-requires-clause-small : goal.or_better-best-requires-clause-small
+or_better-best-requires-clause-small g c = wide_low _ _ c.requires.fixed.0 c.lost.ensures.small

@@ -4,8 +4,8 @@ use Rattle.way_costs.specs.Rows.{lost_by_cut, gained_by_cut}
 use Rattle.neighbourhood.specs.Search.{gain_of, IsBestSoFar}
 use Rattle.neighbourhood.specs.Searched.{searched}
 use Rattle.neighbourhood.proofs.Shifts.{shift_next, shifts_past}
-use Rattle.neighbourhood.proofs.Found.{begun, both_ways, fixed_small, found_adds, found_low, found_next, no_more, on, on_next, passed, same}
-use Rattle.neighbourhood.proofs.Small.{after_low, lost_fits, lost_low, lost_two_fit, shift_after, shift_back, shift_before, shift_casts, shift_end_casts, shift_end_fits, shift_fits, shift_found, shift_goes_on, shift_in, shift_low, shift_next_casts, shift_on, shift_order, shift_same, shift_under}
+use Rattle.neighbourhood.proofs.Found.{begun, both_ways, fixed_small, found_adds, found_low, found_next, no_more, on, on_next, passed, same, cut_shifted}
+use Rattle.neighbourhood.proofs.Small.{after_low, lost_fits, lost_low, shift_back, shift_before, shift_casts, shift_end_casts, shift_end_fits, shift_fits, shift_found, shift_goes_on, shift_low, shift_next_casts, shift_on, shift_order, shift_same, shift_under, gained_fits}
 use Rattle.neighbourhood.proofs.shift.shift_row.Goals as goal
 
 pub returns-then-not-may_gain : goal.returns-then-not-may_gain
@@ -36,9 +36,8 @@ or_better-best-requires-clause-saving g c =
     let e = shift_same c.first_gain-found.result c.args.offset (shift_back c.row.at c.args.offset c.first_gain-found.result c.first_gain-found.ensures.low) in
     let lost = ap (λ (n : ℕ). lost_by_cut c.args.shifts.ways n) e in
     let gained = ap (λ (n : ℕ). gained_by_cut c.args.shifts.ways n) e in
-    let f = c.way_at.ensures.value in
-    let f2 = c.way_at-in-row.ensures.value in
-    let f3 = c.way_at-in-row-2.ensures.value in
+    let f = c.lost.ensures.value in
+    let f2 = c.gained.ensures.value in
     omega arith
 
 pub row-preserved : goal.row-preserved
@@ -148,32 +147,23 @@ overflow_cast-next g c = found_next c.first_gain-found.result _ _ c.first_gain-f
 pub overflow_sub-next : goal.overflow_sub-next
 overflow_sub-next g c = shift_back c.row.at c.args.offset c.first_gain-found.result c.first_gain-found.ensures.low
 
-pub way_at-requires : goal.way_at-requires
-way_at-requires g c = shift_in c.row.at c.first_gain-found.result c.args.end c.args.offset _ c.row-test.true c.first_gain-found.ensures.high c.if-next-end.false c.requires.ways.edges
-
-pub overflow_add-all_lost : goal.overflow_add-all_lost
-overflow_add-all_lost g c = lost_fits _ _ c.requires.fixed.0 c.way_at.ensures.small
-
-pub way_at-requires-in-row : goal.way_at-requires-in-row
-way_at-requires-in-row g c = shift_in c.row.at c.first_gain-found.result c.args.end c.args.offset _ c.row-test.true c.first_gain-found.ensures.high c.if-next-end.false c.requires.ways.to
-
-pub overflow_add-all_gained : goal.overflow_add-all_gained
-overflow_add-all_gained g c = lost_fits _ _ c.requires.fixed.1 c.way_at-in-row.ensures.small
-
-pub overflow_add-found : goal.overflow_add-found
-overflow_add-found g c = found_adds c.first_gain-found.result _ _ c.first_gain-found.ensures.high c.requires.ways.on c.requires.short
-
-pub way_at-requires-in-row-2 : goal.way_at-requires-in-row-2
-way_at-requires-in-row-2 g c = shift_after c.row.at c.first_gain-found.result c.args.end c.args.offset _ c.row-test.true c.first_gain-found.ensures.high c.if-next-end.false c.requires.ways.on
-
-pub overflow_add-all_gained-in-row : goal.overflow_add-all_gained-in-row
-overflow_add-all_gained-in-row g c = lost_two_fit _ _ _ c.requires.fixed.1 c.way_at-in-row.ensures.small c.way_at-in-row-2.ensures.small
-
-pub or_better-best-requires-clause-small : goal.or_better-best-requires-clause-small
-or_better-best-requires-clause-small g c = lost_low _ _ c.requires.fixed.0 c.way_at.ensures.small
-
 pub overflow_add-at : goal.overflow_add-at
 overflow_add-at g c = shift_next_casts c.first_gain-found.result c.args.offset c.args.end _ c.first_gain-found.ensures.high c.requires.ways.on c.requires.short
 
 pub row-smaller : goal.row-smaller
 row-smaller g c = shift_goes_on c.row.at c.first_gain-found.result c.args.end c.args.offset c.row-test.true c.first_gain-found.ensures.low
+
+pub lost-requires : goal.lost-requires
+lost-requires g c = cut_shifted c.args.shifts.ways c.row.at c.first_gain-found.result c.args.end c.args.offset c.row-test.true c.first_gain-found.ensures.high c.if-next-end.false c.requires.ways
+
+pub gained-requires : goal.gained-requires
+gained-requires g c = cut_shifted c.args.shifts.ways c.row.at c.first_gain-found.result c.args.end c.args.offset c.row-test.true c.first_gain-found.ensures.high c.if-next-end.false c.requires.ways
+
+pub overflow_add-all_lost : goal.overflow_add-all_lost
+overflow_add-all_lost g c = lost_fits _ _ c.requires.fixed.0 c.lost.ensures.small
+
+pub overflow_add-all_gained : goal.overflow_add-all_gained
+overflow_add-all_gained g c = gained_fits _ _ c.requires.fixed.1 c.gained.ensures.small
+
+pub or_better-best-requires-clause-small : goal.or_better-best-requires-clause-small
+or_better-best-requires-clause-small g c = lost_low _ _ c.requires.fixed.0 c.lost.ensures.small

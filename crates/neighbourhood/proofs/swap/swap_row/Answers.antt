@@ -3,9 +3,9 @@ use Rattle.move_core.specs.declared.moves.Move.TheVariants.{Swap}
 use Rattle.way_costs.specs.Rows.{lost_by_swap, gained_by_swap}
 use Rattle.neighbourhood.specs.Search.{gain_of, IsBestSoFar}
 use Rattle.neighbourhood.specs.Searched.{searched}
-use Rattle.neighbourhood.proofs.Found.{before, before_end, begun, behind, both_ways, fixed_small, found_adds, found_after, found_before, found_below, found_casts, found_in, found_next, found_under, no_more_lost, on, on_next, same}
+use Rattle.neighbourhood.proofs.Found.{before, before_end, begun, behind, both_ways, fixed_small, found_below, found_casts, found_next, found_under, no_more_lost, on, on_next, same, swap_found}
 use Rattle.neighbourhood.proofs.Rows.{swap_next, swaps_past}
-use Rattle.neighbourhood.proofs.Small.{two_fit, three_fit, four_fit, lost_fits, lost_two_fit, lost_two_low, goes_on}
+use Rattle.neighbourhood.proofs.Small.{goes_on, gained_fits, gained_low}
 use Rattle.neighbourhood.proofs.swap.swap_row.Goals as goal
 
 pub returns-then-there-end : goal.returns-then-there-end
@@ -70,12 +70,8 @@ may_swap_gain-requires-clause-most g c = c.requires.most
 pub or_better-best-requires-clause-saving : goal.or_better-best-requires-clause-saving
 or_better-best-requires-clause-saving g c =
     let saving = c.requires.saving c.first_swap_gain-found.result (on c.args.first c.row.at c.first_swap_gain-found.result c.row.invariant.low c.first_swap_gain-found.ensures.low) (found_under c.first_swap_gain-found.result c.args.end c.first_swap_gain-found.ensures.high c.if-there-end.false) in
-    let f0 = c.way_at.ensures.value in
-    let f1 = c.way_at-in-row.ensures.value in
-    let f2 = c.way_at-in-row-2.ensures.value in
-    let f3 = c.way_at-in-row-3.ensures.value in
-    let f4 = c.way_at-in-row-4.ensures.value in
-    let f5 = c.way_at-in-row-5.ensures.value in
+    let f = c.lost.ensures.value in
+    let f2 = c.gained-all_gained.ensures.value in
     omega arith
 
 pub may_swap_gain-requires-clause-lost : goal.may_swap_gain-requires-clause-lost
@@ -105,53 +101,26 @@ first_swap_gain-found-requires-clause-order g c = c.row.invariant.high
 pub overflow_cast-there : goal.overflow_cast-there
 overflow_cast-there g c = found_casts c.first_swap_gain-found.result c.args.end _ c.first_swap_gain-found.ensures.high c.requires.ways.here c.requires.short
 
-pub overflow_sub-found : goal.overflow_sub-found
-overflow_sub-found g c = begun c.row.at c.first_swap_gain-found.result (begun c.args.first c.row.at c.requires.low c.row.invariant.low) c.first_swap_gain-found.ensures.low
-
-pub overflow_sub-found-in-row : goal.overflow_sub-found-in-row
-overflow_sub-found-in-row g c = begun c.row.at c.first_swap_gain-found.result (begun c.args.first c.row.at c.requires.low c.row.invariant.low) c.first_swap_gain-found.ensures.low
-
-pub way_at-requires : goal.way_at-requires
-way_at-requires g c = found_before c.first_swap_gain-found.result c.args.end _ c.first_swap_gain-found.ensures.high c.if-there-end.false c.requires.ways.edges
-
-pub way_at-requires-in-row : goal.way_at-requires-in-row
-way_at-requires-in-row g c = found_in c.first_swap_gain-found.result c.args.end _ c.first_swap_gain-found.ensures.high c.if-there-end.false c.requires.ways.edges
-
-pub way_at-requires-in-row-2 : goal.way_at-requires-in-row-2
-way_at-requires-in-row-2 g c = found_in c.first_swap_gain-found.result c.args.end _ c.first_swap_gain-found.ensures.high c.if-there-end.false c.requires.ways.before
-
-pub way_at-requires-in-row-3 : goal.way_at-requires-in-row-3
-way_at-requires-in-row-3 g c = found_in c.first_swap_gain-found.result c.args.end _ c.first_swap_gain-found.ensures.high c.if-there-end.false c.requires.ways.next
-
-pub way_at-requires-in-row-4 : goal.way_at-requires-in-row-4
-way_at-requires-in-row-4 g c = found_before c.first_swap_gain-found.result c.args.end _ c.first_swap_gain-found.ensures.high c.if-there-end.false c.requires.ways.back
-
-pub way_at-requires-in-row-5 : goal.way_at-requires-in-row-5
-way_at-requires-in-row-5 g c = found_after c.first_swap_gain-found.result c.args.end _ c.first_swap_gain-found.ensures.high c.if-there-end.false c.requires.ways.here
-
-pub overflow_add-found : goal.overflow_add-found
-overflow_add-found g c = found_adds c.first_swap_gain-found.result c.args.end _ c.first_swap_gain-found.ensures.high c.requires.ways.here c.requires.short
-
 pub overflow_add-at : goal.overflow_add-at
 overflow_add-at g c = found_next c.first_swap_gain-found.result c.args.end _ c.first_swap_gain-found.ensures.high c.requires.ways.here c.requires.short
 
-pub overflow_add-all_lost : goal.overflow_add-all_lost
-overflow_add-all_lost g c = lost_fits _ _ c.requires.fixed c.way_at.ensures.small
-
-pub overflow_add-all_lost-in-row : goal.overflow_add-all_lost-in-row
-overflow_add-all_lost-in-row g c = lost_two_fit _ _ _ c.requires.fixed c.way_at.ensures.small c.way_at-in-row.ensures.small
-
-pub overflow_add-all_gained : goal.overflow_add-all_gained
-overflow_add-all_gained g c = two_fit _ _ c.way_at-in-row-2.ensures.small c.way_at-in-row-3.ensures.small
-
-pub overflow_add-all_gained-in-row : goal.overflow_add-all_gained-in-row
-overflow_add-all_gained-in-row g c = three_fit _ _ _ c.way_at-in-row-2.ensures.small c.way_at-in-row-3.ensures.small c.way_at-in-row-4.ensures.small
-
-pub overflow_add-all_gained-in-row-2 : goal.overflow_add-all_gained-in-row-2
-overflow_add-all_gained-in-row-2 g c = four_fit _ _ _ _ c.way_at-in-row-2.ensures.small c.way_at-in-row-3.ensures.small c.way_at-in-row-4.ensures.small c.way_at-in-row-5.ensures.small
-
-pub or_better-best-requires-clause-small : goal.or_better-best-requires-clause-small
-or_better-best-requires-clause-small g c = lost_two_low _ _ _ c.requires.fixed c.way_at.ensures.small c.way_at-in-row.ensures.small
-
 pub row-smaller : goal.row-smaller
 row-smaller g c = goes_on _ _ _ c.first_swap_gain-found.ensures.low c.first_swap_gain-found.ensures.high c.if-there-end.false
+
+pub lost-requires-clause-low : goal.lost-requires-clause-low
+lost-requires-clause-low g c = begun c.row.at c.first_swap_gain-found.result (begun c.args.first c.row.at c.requires.low c.row.invariant.low) c.first_swap_gain-found.ensures.low
+
+pub lost-requires-clause-row : goal.lost-requires-clause-row
+lost-requires-clause-row g c = swap_found c.args.swaps.ways c.first_swap_gain-found.result c.args.end c.first_swap_gain-found.ensures.high c.if-there-end.false c.requires.ways
+
+pub gained-all_gained-requires-clause-low : goal.gained-all_gained-requires-clause-low
+gained-all_gained-requires-clause-low g c = begun c.row.at c.first_swap_gain-found.result (begun c.args.first c.row.at c.requires.low c.row.invariant.low) c.first_swap_gain-found.ensures.low
+
+pub gained-all_gained-requires-clause-row : goal.gained-all_gained-requires-clause-row
+gained-all_gained-requires-clause-row g c = swap_found c.args.swaps.ways c.first_swap_gain-found.result c.args.end c.first_swap_gain-found.ensures.high c.if-there-end.false c.requires.ways
+
+pub overflow_add-all_lost : goal.overflow_add-all_lost
+overflow_add-all_lost g c = gained_fits _ _ c.requires.fixed c.lost.ensures.small
+
+pub or_better-best-requires-clause-small : goal.or_better-best-requires-clause-small
+or_better-best-requires-clause-small g c = gained_low _ _ c.requires.fixed c.lost.ensures.small

@@ -1,26 +1,17 @@
-use Rattle.way_costs.proofs.Wins.{cut_loses, cut_wins, cuts_on, inside, lost_one, never, next_fits, passed, wanted_one, wanted_two, whole, within, within_next}
+use Rattle.way_costs.proofs.Wins.{cut_at, cuts_on, inside, loses, lost_cut, never, passed, wanted_cut, whole, wins}
 use Rattle.way_costs.proofs.gains.first_gain.Goals as goal
 
-pub way_at-requires : goal.way_at-requires
-way_at-requires c = within c.loop-k.k c.args.end _ c.loop-k-test.true c.requires.row.to
+pub gained-requires : goal.gained-requires
+gained-requires c = cut_at c.args.row.now c.loop-k.k c.args.end c.loop-k-test.true c.requires.row
+
+pub lost-requires : goal.lost-requires
+lost-requires c = cut_at c.args.row.now c.loop-k.k c.args.end c.loop-k-test.true c.requires.row
 
 pub overflow_add-all_gained : goal.overflow_add-all_gained
-overflow_add-all_gained c = wanted_one _ _ c.requires.wanted c.way_at.ensures.small
-
-pub overflow_add-k : goal.overflow_add-k
-overflow_add-k c = next_fits c.loop-k.k c.args.end c.loop-k-test.true c.ranges.end
-
-pub way_at-requires-in-loop-k : goal.way_at-requires-in-loop-k
-way_at-requires-in-loop-k c = within_next c.loop-k.k c.args.end _ c.loop-k-test.true c.requires.row.on
-
-pub overflow_add-all_gained-in-loop-k : goal.overflow_add-all_gained-in-loop-k
-overflow_add-all_gained-in-loop-k c = wanted_two _ _ _ c.requires.wanted c.way_at.ensures.small c.way_at-in-loop-k.ensures.small
-
-pub way_at-requires-in-loop-k-2 : goal.way_at-requires-in-loop-k-2
-way_at-requires-in-loop-k-2 c = within c.loop-k.k c.args.end _ c.loop-k-test.true c.requires.row.edges
+overflow_add-all_gained c = wanted_cut _ _ c.requires.wanted c.gained.ensures.small
 
 pub overflow_add-all_lost : goal.overflow_add-all_lost
-overflow_add-all_lost c = lost_one _ _ c.requires.lost c.way_at-in-loop-k-2.ensures.small
+overflow_add-all_lost c = lost_cut _ _ c.requires.lost c.lost.ensures.small
 
 pub loop-k-init : goal.loop-k-init
 loop-k-init c = λ k h l. absurd (never k c.args.from h l)
@@ -35,10 +26,10 @@ pub returns-then-all_gained-all_lost-clause-none : goal.returns-then-all_gained-
 returns-then-all_gained-all_lost-clause-none c = c.loop-k.invariant
 
 pub returns-then-all_gained-all_lost-clause-found : goal.returns-then-all_gained-all_lost-clause-found
-returns-then-all_gained-all_lost-clause-found c = λ h. cut_wins c.args.lost c.args.wanted _ _ _ _ _ _ c.way_at.ensures.value c.way_at-in-loop-k.ensures.value c.way_at-in-loop-k-2.ensures.value c.if-all_gained-all_lost.true
+returns-then-all_gained-all_lost-clause-found c = λ h. wins c.args.lost c.args.wanted _ _ _ _ c.lost.ensures.value c.gained.ensures.value c.if-all_gained-all_lost.true
 
 pub loop-k-preserved : goal.loop-k-preserved
-loop-k-preserved c = cuts_on c.args.row.now c.args.lost c.args.wanted c.args.from c.loop-k.k c.loop-k.invariant (cut_loses c.args.lost c.args.wanted _ _ _ _ _ _ c.way_at.ensures.value c.way_at-in-loop-k.ensures.value c.way_at-in-loop-k-2.ensures.value c.if-all_gained-all_lost.false)
+loop-k-preserved c = cuts_on c.args.row.now c.args.lost c.args.wanted c.args.from c.loop-k.k c.loop-k.invariant (loses c.args.lost c.args.wanted _ _ _ _ c.lost.ensures.value c.gained.ensures.value c.if-all_gained-all_lost.false)
 
 pub returns-clause-low : goal.returns-clause-low
 returns-clause-low c = c.requires.order

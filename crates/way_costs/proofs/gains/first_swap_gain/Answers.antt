@@ -1,50 +1,23 @@
-use Rattle.way_costs.proofs.Wins.{begun_low, inside, lost_one, lost_two, never, next_fits, passed, swap_loses, swap_wins, swaps_on, wanted_four, wanted_one, wanted_three, wanted_two, whole, within, within_before, within_next}
+use Rattle.way_costs.proofs.Wins.{begun_low, inside, loses, lost_swap, never, passed, swap_at, swaps_on, wanted_swap, whole, wins}
 use Rattle.way_costs.proofs.gains.first_swap_gain.Goals as goal
 
-pub overflow_sub-k : goal.overflow_sub-k
-overflow_sub-k c = begun_low c.args.from c.loop-k.k c.requires.begin c.loop-k.auto.k
+pub gained-requires-clause-low : goal.gained-requires-clause-low
+gained-requires-clause-low c = begun_low c.args.from c.loop-k.k c.requires.begin c.loop-k.auto.k
 
-pub way_at-requires : goal.way_at-requires
-way_at-requires c = within_before c.loop-k.k c.args.end _ c.loop-k-test.true c.requires.row.edges
+pub gained-requires-clause-row : goal.gained-requires-clause-row
+gained-requires-clause-row c = swap_at c.args.row.now c.loop-k.k c.args.end c.loop-k-test.true c.requires.row
 
-pub overflow_add-all_lost : goal.overflow_add-all_lost
-overflow_add-all_lost c = lost_one _ _ c.requires.lost c.way_at.ensures.small
+pub lost-requires-clause-low : goal.lost-requires-clause-low
+lost-requires-clause-low c = begun_low c.args.from c.loop-k.k c.requires.begin c.loop-k.auto.k
 
-pub way_at-requires-in-loop-k : goal.way_at-requires-in-loop-k
-way_at-requires-in-loop-k c = within c.loop-k.k c.args.end _ c.loop-k-test.true c.requires.row.edges
-
-pub overflow_add-all_lost-in-loop-k : goal.overflow_add-all_lost-in-loop-k
-overflow_add-all_lost-in-loop-k c = lost_two _ _ _ c.requires.lost c.way_at.ensures.small c.way_at-in-loop-k.ensures.small
-
-pub way_at-requires-in-loop-k-2 : goal.way_at-requires-in-loop-k-2
-way_at-requires-in-loop-k-2 c = within c.loop-k.k c.args.end _ c.loop-k-test.true c.requires.row.before
+pub lost-requires-clause-row : goal.lost-requires-clause-row
+lost-requires-clause-row c = swap_at c.args.row.now c.loop-k.k c.args.end c.loop-k-test.true c.requires.row
 
 pub overflow_add-all_gained : goal.overflow_add-all_gained
-overflow_add-all_gained c = wanted_one _ _ c.requires.wanted c.way_at-in-loop-k-2.ensures.small
+overflow_add-all_gained c = wanted_swap _ _ c.requires.wanted c.gained.ensures.small
 
-pub way_at-requires-in-loop-k-3 : goal.way_at-requires-in-loop-k-3
-way_at-requires-in-loop-k-3 c = within c.loop-k.k c.args.end _ c.loop-k-test.true c.requires.row.next
-
-pub overflow_add-all_gained-in-loop-k : goal.overflow_add-all_gained-in-loop-k
-overflow_add-all_gained-in-loop-k c = wanted_two _ _ _ c.requires.wanted c.way_at-in-loop-k-2.ensures.small c.way_at-in-loop-k-3.ensures.small
-
-pub overflow_sub-k-in-loop-k : goal.overflow_sub-k-in-loop-k
-overflow_sub-k-in-loop-k c = begun_low c.args.from c.loop-k.k c.requires.begin c.loop-k.auto.k
-
-pub way_at-requires-in-loop-k-4 : goal.way_at-requires-in-loop-k-4
-way_at-requires-in-loop-k-4 c = within_before c.loop-k.k c.args.end _ c.loop-k-test.true c.requires.row.back
-
-pub overflow_add-all_gained-in-loop-k-2 : goal.overflow_add-all_gained-in-loop-k-2
-overflow_add-all_gained-in-loop-k-2 c = wanted_three _ _ _ _ c.requires.wanted c.way_at-in-loop-k-2.ensures.small c.way_at-in-loop-k-3.ensures.small c.way_at-in-loop-k-4.ensures.small
-
-pub overflow_add-k : goal.overflow_add-k
-overflow_add-k c = next_fits c.loop-k.k c.args.end c.loop-k-test.true c.ranges.end
-
-pub way_at-requires-in-loop-k-5 : goal.way_at-requires-in-loop-k-5
-way_at-requires-in-loop-k-5 c = within_next c.loop-k.k c.args.end _ c.loop-k-test.true c.requires.row.here
-
-pub overflow_add-all_gained-in-loop-k-3 : goal.overflow_add-all_gained-in-loop-k-3
-overflow_add-all_gained-in-loop-k-3 c = wanted_four _ _ _ _ _ c.requires.wanted c.way_at-in-loop-k-2.ensures.small c.way_at-in-loop-k-3.ensures.small c.way_at-in-loop-k-4.ensures.small c.way_at-in-loop-k-5.ensures.small
+pub overflow_add-all_lost : goal.overflow_add-all_lost
+overflow_add-all_lost c = lost_swap _ _ c.requires.lost c.lost.ensures.small
 
 pub loop-k-init : goal.loop-k-init
 loop-k-init c = λ k h l. absurd (never k c.args.from h l)
@@ -59,10 +32,10 @@ pub returns-then-all_gained-all_lost-clause-none : goal.returns-then-all_gained-
 returns-then-all_gained-all_lost-clause-none c = c.loop-k.invariant
 
 pub returns-then-all_gained-all_lost-clause-found : goal.returns-then-all_gained-all_lost-clause-found
-returns-then-all_gained-all_lost-clause-found c = λ h. swap_wins c.args.lost c.args.wanted _ _ _ _ _ _ _ _ _ _ _ _ c.way_at.ensures.value c.way_at-in-loop-k.ensures.value c.way_at-in-loop-k-2.ensures.value c.way_at-in-loop-k-3.ensures.value c.way_at-in-loop-k-4.ensures.value c.way_at-in-loop-k-5.ensures.value c.if-all_gained-all_lost.true
+returns-then-all_gained-all_lost-clause-found c = λ h. wins c.args.lost c.args.wanted _ _ _ _ c.lost.ensures.value c.gained.ensures.value c.if-all_gained-all_lost.true
 
 pub loop-k-preserved : goal.loop-k-preserved
-loop-k-preserved c = swaps_on c.args.row.now c.args.lost c.args.wanted c.args.from c.loop-k.k c.loop-k.invariant (swap_loses c.args.lost c.args.wanted _ _ _ _ _ _ _ _ _ _ _ _ c.way_at.ensures.value c.way_at-in-loop-k.ensures.value c.way_at-in-loop-k-2.ensures.value c.way_at-in-loop-k-3.ensures.value c.way_at-in-loop-k-4.ensures.value c.way_at-in-loop-k-5.ensures.value c.if-all_gained-all_lost.false)
+loop-k-preserved c = swaps_on c.args.row.now c.args.lost c.args.wanted c.args.from c.loop-k.k c.loop-k.invariant (loses c.args.lost c.args.wanted _ _ _ _ c.lost.ensures.value c.gained.ensures.value c.if-all_gained-all_lost.false)
 
 pub returns-clause-low : goal.returns-clause-low
 returns-clause-low c = c.requires.order

@@ -7,20 +7,20 @@ use Rattle.way_costs.proofs.table.fill_row.Goals as goal
 pub returns-in-Some-clause-ways : goal.returns-in-Some-clause-ways
 returns-in-Some-clause-ways g c = λ k h. c.read_row.ensures.ways k h ∙ c.requires.across c.args.stop (slice_index c.args.to.now k) c.requires.stop (c.requires.to k 0 h)
 
-pub returns-then-not-floored-clause-sized : goal.returns-then-not-floored-clause-sized
-returns-then-not-floored-clause-sized g c = c.ask_together.ensures.sized
+pub returns-then-to-gt-FEW-clause-sized : goal.returns-then-to-gt-FEW-clause-sized
+returns-then-to-gt-FEW-clause-sized g c = c.ask_together.ensures.sized
 
-pub returns-then-not-floored-clause-ways : goal.returns-then-not-floored-clause-ways
-returns-then-not-floored-clause-ways g c = c.ask_together.ensures.ways
+pub returns-then-to-gt-FEW-clause-ways : goal.returns-then-to-gt-FEW-clause-ways
+returns-then-to-gt-FEW-clause-ways g c = c.ask_together.ensures.ways
 
-pub returns-then-not-floored-clause-least : goal.returns-then-not-floored-clause-least
-returns-then-not-floored-clause-least g c = λ k d h. omega arith
+pub returns-then-to-gt-FEW-clause-least : goal.returns-then-to-gt-FEW-clause-least
+returns-then-to-gt-FEW-clause-least g c = λ k d h. omega arith
 
 pub returns-then-turned-clause-sized : goal.returns-then-turned-clause-sized
 returns-then-turned-clause-sized g c = c.ask_back.ensures.sized
 
 pub returns-then-turned-clause-ways : goal.returns-then-turned-clause-ways
-returns-then-turned-clause-ways g c = let s = setting c.args.setup.now in ways_by c.args.asking.now.manner.turned true (table_at s.tables s.cost) c.args.stop c.args.to.now _ c.if-turned.true (ways_of true _ (table_at s.tables s.cost) c.args.stop c.args.stop c.args.to.now _ c.requires.answers refl c.ask_back.ensures.ways)
+returns-then-turned-clause-ways g c = let s = setting c.args.setup.now in ways_by c.args.asking.now.turned true (table_at s.tables s.cost) c.args.stop c.args.to.now _ c.if-turned.true (ways_of true _ (table_at s.tables s.cost) c.args.stop c.args.stop c.args.to.now _ c.requires.answers refl c.ask_back.ensures.ways)
 
 pub returns-then-turned-clause-least : goal.returns-then-turned-clause-least
 returns-then-turned-clause-least g c = c.ask_back.ensures.least
@@ -29,7 +29,7 @@ pub returns-else-turned-clause-sized : goal.returns-else-turned-clause-sized
 returns-else-turned-clause-sized g c = c.ask_out.ensures.sized
 
 pub returns-else-turned-clause-ways : goal.returns-else-turned-clause-ways
-returns-else-turned-clause-ways g c = let s = setting c.args.setup.now in ways_by c.args.asking.now.manner.turned false (table_at s.tables s.cost) c.args.stop c.args.to.now _ c.if-turned.false (ways_of false _ (table_at s.tables s.cost) c.args.stop c.args.stop c.args.to.now _ c.requires.answers refl c.ask_out.ensures.ways)
+returns-else-turned-clause-ways g c = let s = setting c.args.setup.now in ways_by c.args.asking.now.turned false (table_at s.tables s.cost) c.args.stop c.args.to.now _ c.if-turned.false (ways_of false _ (table_at s.tables s.cost) c.args.stop c.args.stop c.args.to.now _ c.requires.answers refl c.ask_out.ensures.ways)
 
 pub returns-else-turned-clause-least : goal.returns-else-turned-clause-least
 returns-else-turned-clause-least g c = c.ask_out.ensures.least
@@ -91,7 +91,7 @@ returns-then-stop-eq0-clause-sized g c = c.ask_from_depot.ensures.sized
 pub returns-then-stop-eq0-clause-ways : goal.returns-then-stop-eq0-clause-ways
 returns-then-stop-eq0-clause-ways g c =
     let s = setting c.args.setup.now in
-    ways_of c.args.asking.now.manner.turned _ (table_at s.tables s.cost) 0 c.args.stop c.args.to.now _ c.requires.answers c.if-stop-eq0.true c.ask_from_depot.ensures.ways
+    ways_of c.args.asking.now.turned _ (table_at s.tables s.cost) 0 c.args.stop c.args.to.now _ c.requires.answers c.if-stop-eq0.true c.ask_from_depot.ensures.ways
 
 pub returns-then-stop-eq0-clause-least : goal.returns-then-stop-eq0-clause-least
 returns-then-stop-eq0-clause-least g c = λ k d h. omega arith

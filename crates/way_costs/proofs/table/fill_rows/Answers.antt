@@ -25,12 +25,12 @@ fill_at-least-requires-clause-to g c = part_known (setting c.args.setup.now).cus
 pub returns-clause-hops : goal.returns-clause-hops
 returns-clause-hops g c =
     let s = setting c.args.setup.now in
-    rows_hops c.args.asking.now.manner.turned (table_at s.tables s.cost) c.args.from.now c.args.to.now c.loop-i.cells (if c.args.asking.now.manner.turned then 1 else 0) (if c.args.asking.now.manner.turned then 0 else 1) c.first_row-first.result c.first_column-column.result c.loop-i.i
+    rows_hops c.args.asking.now.turned (table_at s.tables s.cost) c.args.from.now c.args.to.now c.loop-i.cells (if c.args.asking.now.turned then 1 else 0) (if c.args.asking.now.turned then 0 else 1) c.first_row-first.result c.first_column-column.result c.loop-i.i
     c.first_row-first.ensures.value c.first_column-column.ensures.value c.loop-i-test.false c.loop-i.invariant.filled
 
 pub returns-clause-floors : goal.returns-clause-floors
 returns-clause-floors g c =
-    rows_floors c.args.from.now c.args.to.now c.loop-i.cells (if c.args.asking.now.manner.turned then 1 else 0) (if c.args.asking.now.manner.turned then 0 else 1) c.first_row-first.result c.first_column-column.result c.spare_column-spare.result c.loop-i.i
+    rows_floors c.args.from.now c.args.to.now c.loop-i.cells (if c.args.asking.now.turned then 1 else 0) (if c.args.asking.now.turned then 0 else 1) c.first_row-first.result c.first_column-column.result c.spare_column-spare.result c.loop-i.i
     c.first_row-first.ensures.value c.first_column-column.ensures.value c.spare_column-spare.ensures.value c.loop-i-test.false c.loop-i.invariant.floored
 
 pub spare_column-spare-requires-clause-column : goal.spare_column-spare-requires-clause-column
@@ -77,7 +77,7 @@ pub loop-i-preserved : goal.loop-i-preserved
 loop-i-preserved g c =
     let t = table_at (setting c.args.setup.now).tables (setting c.args.setup.now).cost in
     let rows =
-    rows_more c.args.asking.now.manner.turned t c.args.from.now c.args.to.now c.all_but_one-asked.result.now c.loop-i.cells c.loop-i.cells c.fill_at-least.new.cells c.fill_at-least.new.cells
+    rows_more c.args.asking.now.turned t c.args.from.now c.args.to.now c.all_but_one-asked.result.now c.loop-i.cells c.loop-i.cells c.fill_at-least.new.cells c.fill_at-least.new.cells
     c.first_row-first.result c.first_column-column.result c.loop-i.i c.spare_column-spare.result c.fill_at-least.result
     c.first_row-first.ensures.small c.first_column-column.ensures.small c.loop-i-test.true c.requires.some.0 c.requires.some.1 c.spare_column-spare.ensures.small c.spare_column-spare.ensures.apart
     c.all_but_one-asked.ensures refl c.loop-i.invariant.filled c.loop-i.invariant.floored c.fill_at-least.ensures.sized c.fill_at-least.ensures.ways c.fill_at-least.ensures.kept c.fill_at-least.ensures.least

@@ -6,6 +6,6 @@ use Rattle.way_costs.proofs.table.fill_rows.Given as goal
 -- the rows so far
 abbrev pub invariant-loop-i : goal.invariant-loop-i
 invariant-loop-i g l = record {
-  filled : AreFilledFrom l.asking.manner.turned (table_at (setting l.setup).tables (setting l.setup).cost) l.from l.to l.first l.column l.i l.cells;
+  filled : AreFilledFrom l.asking.turned (table_at (setting l.setup).tables (setting l.setup).cost) l.from l.to l.first l.column l.i l.cells;
   floored : AreFlooredTo l.to l.first l.column l.spare l.i l.cells;
 }

@@ -15,14 +15,12 @@ fill_cells-requires-clause-room g c = c.as_mut_slice.ensures.len ∙ c.in_ok-res
 pub returns-clause-hops : goal.returns-clause-hops
 returns-clause-hops g c =
     let s = setting c.args.setup.now in
-    let m = c.args.manner in
-    subst (λ (xs : List ℕ). AreHopsFrom m.turned (table_at s.tables s.cost) c.args.from.now c.args.to.now (if m.turned then 1 else 0) (if m.turned then 0 else 1) xs)
+    subst (λ (xs : List ℕ). AreHopsFrom c.args.turned (table_at s.tables s.cost) c.args.from.now c.args.to.now (if c.args.turned then 1 else 0) (if c.args.turned then 0 else 1) xs)
     (written_back c.resize.new.self.len c.fill_cells.new.cells _ (c.fill_cells.ensures.hops.counted ∙ sym c.in_ok-resize.ensures.len)) c.fill_cells.ensures.hops
 
 pub returns-clause-floors : goal.returns-clause-floors
 returns-clause-floors g c =
-    let m = c.args.manner in
-    subst (λ (xs : List ℕ). AreFloors c.args.from.now c.args.to.now (if m.turned then 1 else 0) (if m.turned then 0 else 1) xs)
+    subst (λ (xs : List ℕ). AreFloors c.args.from.now c.args.to.now (if c.args.turned then 1 else 0) (if c.args.turned then 0 else 1) xs)
     (written_back c.resize.new.self.len c.fill_cells.new.cells _ (c.fill_cells.ensures.hops.counted ∙ sym c.in_ok-resize.ensures.len)) c.fill_cells.ensures.floors
 
 pub returns-in_err-resize-clause-hops : goal.returns-in_err-resize-clause-hops
