@@ -1,4 +1,4 @@
-use Rattle.std.proofs.Common.{arith, [], append_assoc, ◌++◌, ◌∙◌, ◌<◌, ap, List, ℕ, refl, length}
+use Rattle.std.proofs.Common.{arith, [], ◌++◌, ◌∙◌, ◌<◌, refl, length}
 use Rattle.move_judge.specs.Parts.{way_of, middle_of, begun_of}
 use Rattle.move_judge.proofs.Carried.{arrived, append_nil, in_parts, all_in_parts, stop_none, all_left, all_right}
 use Rattle.move_judge.proofs.fits.homecoming.Goals as goal
