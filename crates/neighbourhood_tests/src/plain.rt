@@ -9,7 +9,7 @@ use limits::MOST_CUSTOMERS;
 use move_core::Move;
 use pin_core::View;
 use plan_core::{Plan, Route, route_cost};
-use std::alloc::{AllocError, Global};
+use std::process::Abort;
 use std::sync::Arc;
 
 /// Whether a route has customers up to a number alone, and not too many.
@@ -54,9 +54,10 @@ fn is_front_kept(view: &View, vehicle: u32, old: &[u32], new: &[u32]) -> bool {
 
 /// Whether each customer that is pinned to a vehicle is on its route.
 fn are_pins_held(view: &View, vehicle: u32, route: &[u32]) -> bool {
-    for (index, pin) in view.pinned.iter().enumerate() {
-        let away = !route.iter().any(|c| *c as usize == index + 1);
-        if *pin == Some(vehicle) && away {
+    let mut customer = 0u32;
+    for pin in &view.pinned {
+        customer = customer.wrapping_add(1);
+        if *pin == Some(vehicle) && !route.contains(&customer) {
             return false;
         }
     }
@@ -95,48 +96,50 @@ fn cost_after(
     plan: &Plan,
     view: &View,
     changes: &[(u32, Arc<Route>)],
-    meter: &mut Meter,
 ) -> Option<u64> {
+    let mut meter = Meter::new();
     let mut sum = 0u64;
     for before in 0..plan.vehicles() {
         let vehicle = before + 1;
         let old = plan.route(vehicle).customers();
-        let cost = match new_route(changes, vehicle) {
-            None => cost_of_new(setup, view, vehicle, old, old, meter)?,
-            Some(route) => cost_of_new(setup, view, vehicle, old, route.customers(), meter)?,
+        let new = match new_route(changes, vehicle) {
+            None => old,
+            Some(route) => route.customers(),
         };
+        let cost = cost_of_new(setup, view, vehicle, old, new, &mut meter)?;
         sum = sum.saturating_add(cost);
     }
     Some(sum)
 }
 
-/// Two vehicles, or one twice, and what is looked for near them.
-#[derive(Clone, Copy)]
-pub(crate) struct Near<'a> {
-    pub(crate) setup: &'a Setup,
-    pub(crate) plan: &'a Plan,
-    pub(crate) view: &'a View,
-    pub(crate) v: u32,
-    pub(crate) w: u32,
-    pub(crate) skip: &'a [Move],
-}
-
 /// What the whole plan costs after a move, where it has an effect, is not to be skipped and is allowed.
-fn cost_by(
-    alloc: Global,
-    near: Near,
+fn cost_by<R: Abort + AllocGlobal>(
+    rt: &R,
+    setup: &Setup,
+    plan: &Plan,
+    view: &View,
+    skip: &[Move],
     mv: Move,
-    meter: &mut Meter,
-) -> Result<Option<u64>, AllocError> {
-    if near.skip.contains(&mv) || !mv.is_possible(near.plan) {
-        return Ok(None);
+) -> Option<u64> {
+    if skip.contains(&mv) || !mv.is_possible(plan) {
+        return None;
     }
-    let changes = mv.routes(alloc, near.plan)?;
-    Ok(cost_after(near.setup, near.plan, near.view, &changes, meter))
+    let changes = mv.routes(rt.alloc(), plan).expect(rt, "memory");
+    cost_after(setup, plan, view, &changes)
 }
 
-/// The move of a kind near two vehicles, or near one, with three numbers of its own. Only a shift has the second one, 1 to 3.
-fn move_near(kind: u32, v: u32, w: u32, first: u32, length: u32, second: u32) -> Option<Move> {
+/// The moves of a kind near two vehicles, or near one, but those to be skipped.
+#[derive(Clone, Copy)]
+struct Kind<'a> {
+    kind: u32,
+    v: u32,
+    w: u32,
+    skip: &'a [Move],
+}
+
+/// The move of a kind with three numbers of its own. Only a shift has the second one, 1 to 3.
+fn move_of(kind: Kind, first: u32, length: u32, second: u32) -> Option<Move> {
+    let Kind { kind, v, w, .. } = kind;
     match kind {
         1 if 1 <= length && length <= 3 => Some(Move::Shift {
             vehicle: v,
@@ -167,22 +170,21 @@ fn move_near(kind: u32, v: u32, w: u32, first: u32, length: u32, second: u32) ->
 }
 
 /// The better of the best so far and the moves of a kind, in the order of ties; with each what the plan costs after it.
-fn best_of_kind(
-    alloc: Global,
-    near: Near,
-    kind: u32,
+fn best_of_kind<R: Abort + AllocGlobal>(
+    rt: &R,
+    setup: &Setup,
+    plan: &Plan,
+    view: &View,
+    kind: Kind,
     best: (Option<Move>, u64),
-    meter: &mut Meter,
-) -> Result<(Option<Move>, u64), AllocError> {
+) -> (Option<Move>, u64) {
     let (mut found, mut least) = best;
-    let Near { plan, v, w, .. } = near;
     let end = plan.customers() + 3;
     for first in 0..end {
         for length in 0..5u32 {
             for second in 0..end {
-                if let Some(mv) = move_near(kind, v, w, first, length, second) {
-                    let cost = cost_by(alloc, near, mv, meter)?;
-                    let cost = cost.unwrap_or(least);
+                if let Some(mv) = move_of(kind, first, length, second) {
+                    let cost = cost_by(rt, setup, plan, view, kind.skip, mv).unwrap_or(least);
                     if cost < least {
                         found = Some(mv);
                         least = cost;
@@ -191,17 +193,25 @@ fn best_of_kind(
             }
         }
     }
-    Ok((found, least))
+    (found, least)
 }
 
 /// The best move near two vehicles, or near one, of a plan, and what it saves.
-pub(crate) fn plain_best(alloc: Global, near: Near) -> Result<Option<(Move, u64)>, AllocError> {
-    let mut meter = Meter::new();
-    let before = cost_after(near.setup, near.plan, near.view, &[], &mut meter).unwrap_or(0);
+pub(crate) fn plain_best<R: Abort + AllocGlobal>(
+    rt: &R,
+    setup: &Setup,
+    plan: &Plan,
+    view: &View,
+    near: (u32, u32),
+    skip: &[Move],
+) -> Option<(Move, u64)> {
+    let (v, w) = near;
+    let before = cost_after(setup, plan, view, &[]).unwrap_or(0);
     let mut best = (None, before);
     for kind in 1..5u32 {
-        best = best_of_kind(alloc, near, kind, best, &mut meter)?;
+        let kind = Kind { kind, v, w, skip };
+        best = best_of_kind(rt, setup, plan, view, kind, best);
     }
     let (found, least) = best;
-    Ok(found.map(|mv| (mv, before.saturating_sub(least))))
+    found.map(|mv| (mv, before.saturating_sub(least)))
 }

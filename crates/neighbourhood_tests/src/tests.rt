@@ -3,11 +3,12 @@ ghost use Rattle.limits.specs.declared.TheConstants.{LARGEST_ANSWER};
 ghost use Rattle.dimension_core.specs.Setup.{setting};
 ghost use Rattle.neighbourhood.specs.View.{IsViewOf};
 
-use crate::plain::{Near, plain_best};
+use crate::plain::plain_best;
 use crate::views::{below, is_view, some_dimensions, some_plan, some_view};
 use callback_store::{Matrix, Meter, Registry, Transit, TransitId, Unary};
 use dimension_core::Setup;
 use limits::MOST_CUSTOMERS;
+use move_core::Move;
 use neighbourhood::{Searcher, best_move};
 use pin_core::View;
 use plan_core::Plan;
@@ -24,13 +25,47 @@ struct Sample {
     listed: bool,
 }
 
-/// A searcher that is kept, how many answers were compared with its own, how many of them name a move, and how many differ.
+/// A searcher that is kept, the moves to be skipped, how many answers were compared with its own, how many of them name a move, and how
+/// many differ.
 #[derive(Drop)]
 struct Tally {
     searcher: Searcher,
+    skip: Vec<Move>,
     answers: u32,
     moves: u32,
     differ: u32,
+}
+
+/// Compares the next answers near two vehicles, and has the move skipped that they name: whether there is one.
+fn compare_answer<R: Abort + AllocGlobal>(
+    rt: &R,
+    setup: &Setup,
+    plan: &Plan,
+    view: &View,
+    near: (u32, u32),
+    tally: &mut Tally,
+) -> bool
+    requires view { IsViewOf (setting setup.now) view.now }
+    requires v { (1 ≤ near.0) × (near.0 ≤ (setting setup.now).vehicles) }
+    requires w { (1 ≤ near.1) × (near.1 ≤ (setting setup.now).vehicles) }
+{
+    let (v, w) = near;
+    let found = best_move(rt.alloc(), view, setup, v, w, &tally.skip).expect(rt, "memory");
+    let again = tally.searcher.best_move(view, setup, v, w, &tally.skip);
+    let again = again.expect(rt, "memory");
+    let wanted = plain_best(rt, setup, plan, view, near, &tally.skip);
+    tally.answers = tally.answers.wrapping_add(1);
+    if found != wanted || again != wanted {
+        tally.differ = tally.differ.wrapping_add(1);
+    }
+    match found {
+        None => false,
+        Some((mv, _)) => {
+            tally.moves = tally.moves.wrapping_add(1);
+            tally.skip.push(mv).expect(rt, "memory");
+            true
+        }
+    }
 }
 
 /// Compares the first answers near two vehicles, each move skipped once it was the answer.
@@ -46,32 +81,10 @@ fn compare_near<R: Abort + AllocGlobal>(
     requires v { (1 ≤ near.0) × (near.0 ≤ (setting setup.now).vehicles) }
     requires w { (1 ≤ near.1) × (near.1 ≤ (setting setup.now).vehicles) }
 {
-    let alloc = rt.alloc();
-    let (v, w) = near;
-    let mut skip = Vec::new(alloc);
+    tally.skip.clear();
     for _ in 0..4 {
-        let found = best_move(alloc, view, setup, v, w, &skip).expect(rt, "memory");
-        let again = tally.searcher.best_move(view, setup, v, w, &skip);
-        let again = again.expect(rt, "memory");
-        let plain = Near {
-            setup,
-            plan,
-            view,
-            v,
-            w,
-            skip: &skip,
-        };
-        let wanted = plain_best(alloc, plain).expect(rt, "memory");
-        tally.answers = tally.answers.wrapping_add(1);
-        if found != wanted || again != wanted {
-            tally.differ = tally.differ.wrapping_add(1);
-        }
-        match found {
-            None => return,
-            Some((mv, _)) => {
-                tally.moves = tally.moves.wrapping_add(1);
-                skip.push(mv).expect(rt, "memory");
-            }
+        if !compare_answer(rt, setup, plan, view, near, tally) {
+            return;
         }
     }
 }
@@ -196,6 +209,7 @@ fn compare_setups<R: Abort + AllocGlobal>(
     let mut rng = Lcg64Xsh32::new(seed, 11);
     let mut tally = Tally {
         searcher: Searcher::new(alloc),
+        skip: Vec::new(alloc),
         answers: 0,
         moves: 0,
         differ: 0,

@@ -94,26 +94,23 @@ fn answers_in_turn(
     wanted.len() + 1
 }
 
-/// Asks for the best moves of the customers in an order, which has a cost.
-fn ask_in_order(
+/// Whether the customers in an order cost so much, and their best moves are the wanted ones and then none.
+fn are_found(
     rt: &impl Abort,
     alloc: Global,
     setup: &Setup,
     order: &[u32],
     cost: u64,
-    tied: &[Move],
-)
+    wanted: &[Move],
+) -> bool
     requires customers { (setting setup.now).customers ≡ 3 }
     requires vehicles { (setting setup.now).vehicles ≡ 1 }
 {
     let plan = plan_of_three(rt, alloc, setup, order);
     let view = view_of_three(rt, alloc, &plan);
-    assert!(rt; is_view(setup, &plan, &view));
-    assert_eq!(rt; plan.cost(setup, &mut Meter::new()), cost);
-    assert_eq!(rt;
-        answers_in_turn(rt, alloc, setup, &view, tied),
-        tied.len() + 1
-    );
+    is_view(setup, &plan, &view)
+        && plan.cost(setup, &mut Meter::new()) == cost
+        && answers_in_turn(rt, alloc, setup, &view, wanted) == wanted.len() + 1
 }
 
 /// Moves inside vehicle 1.
@@ -163,8 +160,8 @@ fn ask_in_both_orders(rt: &impl Abort, alloc: Global, setup: &Setup)
         reverse(1, 2),
         reverse(2, 3),
     ];
-    ask_in_order(rt, alloc, setup, &[2, 1, 3], 240, &tied);
-    ask_in_order(rt, alloc, setup, &[1, 2, 3], 180, &[]);
+    assert!(rt; are_found(rt, alloc, setup, &[2, 1, 3], 240, &tied));
+    assert!(rt; are_found(rt, alloc, setup, &[1, 2, 3], 180, &[]));
 }
 
 #[test]
