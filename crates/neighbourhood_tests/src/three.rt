@@ -1,11 +1,12 @@
-//! One vehicle and three customers, on one line with the depot: 30, 60 and 90 from it. Of the route 2, 1, 3 each move saves 60 or nothing.
+//! One vehicle and three customers, on one line with the depot: 30, 60 and 90 from it, with no bounds. Of the route 2, 1, 3 each move saves
+//! 60 or nothing.
 ghost use Rattle.std.specs.Prelude.{◌≡◌, ◌+◌, ◌-◌, ◌*◌, ◌≤◌, length};
 ghost use Rattle.dimension_core.specs.Setup.{setting};
 ghost use Rattle.neighbourhood.specs.View.{IsViewOf};
 
 use crate::views::{is_view, put, shared_routes};
-use callback_store::{Meter, Registry, Transit, TransitId, Unary};
-use dimension_core::{Dimension, Range, Setup};
+use callback_store::{Meter, Registry, Transit};
+use dimension_core::Setup;
 use move_core::Move;
 use neighbourhood::best_move;
 use pin_core::View;
@@ -13,33 +14,6 @@ use plan_core::Plan;
 use std::alloc::Global;
 use std::process::Abort;
 use std::test::Fail;
-
-/// A dimension of one vehicle, whose cumuls are at most its capacity at each of four nodes.
-fn dimension<R: Abort + AllocGlobal>(
-    rt: &R,
-    registry: &Registry,
-    id: TransitId,
-    slack: u64,
-    cap: u64,
-    fixed: bool,
-) -> Dimension {
-    let alloc = rt.alloc();
-    let caps = vec![in alloc; cap; 1].expect(rt, "memory");
-    let ranges = vec![in alloc; Range { lo: 0, hi: cap }; 4].expect(rt, "memory");
-    Dimension::new(registry, id, slack, caps, fixed, ranges).expect(rt, "bounds")
-}
-
-/// The loads, of which ten fit, and the times: a day of 10,000, through which the vehicle may wait.
-fn loads_and_times<R: Abort + AllocGlobal>(
-    rt: &R,
-    registry: &Registry,
-    load: TransitId,
-    time: TransitId,
-) -> Vec<Dimension> {
-    let loads = dimension(rt, registry, load, 0, 10, true);
-    let times = dimension(rt, registry, time, 10_000, 10_000, false);
-    vec![in rt.alloc(); loads, times].expect(rt, "memory")
-}
 
 /// A plan that serves the customers in an order.
 fn plan_of_three(rt: &impl Abort, alloc: Global, setup: &Setup, order: &[u32]) -> Plan
@@ -172,19 +146,11 @@ fn the_best_moves_of_three_customers(rt: HostRuntime) -> Result<(), Fail> {
             ensures { result ≡ 30 * i - 30 * j + (30 * j - 30 * i) }
         { u64::from(i.abs_diff(j)) * 30 },
     )?;
-    let demand = Box::new(
-        rt.alloc(),
-        move |i: u32| -> u64
-            ensures { result ≡ i - (i - 1) }
-        { u64::from(i.min(1)) },
-    )?;
     let drives = Transit::new(4, drive);
-    let wants = Unary::new(4, demand);
     let mut registry = Registry::new(rt.alloc());
-    let time = registry.register(drives).expect(&rt, "room");
-    let load = registry.register_unary(wants).expect(&rt, "room");
-    let dimensions = loads_and_times(&rt, &registry, load, time);
-    let setup = Setup::new(3, 1, registry, dimensions, time, 9).expect(&rt, "setup");
+    let cost = registry.register(drives).expect(&rt, "room");
+    let bounds = Vec::new(rt.alloc());
+    let setup = Setup::new(3, 1, registry, bounds, cost, 9).expect(&rt, "setup");
     ask_in_both_orders(&rt, rt.alloc(), &setup);
     Ok(())
 }

@@ -1,8 +1,8 @@
 use Rattle.std.proofs.Common.{◌+◌, ◌-◌, ◌*◌, refl, rules, arith}
 use borrow.Pointer.Called.{post_made}
 use Rattle.callback_store.specs.Boxed.{post_of_closure}
-use Rattle.callback_store.specs.Closures.{pairs_of_function, table_of_function}
-use Rattle.neighbourhood_tests.proofs.three.the_best_moves_of_three_customers.OwnLists.{own-1, at-1-1, own-2, at-2-1}
+use Rattle.callback_store.specs.Closures.{pairs_of_function}
+use Rattle.neighbourhood_tests.proofs.three.the_best_moves_of_three_customers.OwnLists.{own-1, at-1-1}
 use Rattle.neighbourhood_tests.proofs.three.the_best_moves_of_three_customers.Goals as goal
 
 pub new-drives-requires-clause-table : goal.new-drives-requires-clause-table
@@ -13,14 +13,4 @@ new-drives-requires-clause-table g c =
           (λ i j h k. ∣ post_of_closure own-1 at-1-1 m (i, (j, tt)) _ (search rules) ∣₁)
           (λ i j r h k p. let q = post_made own-1 (own-1.entry at-1-1) at-1-1 refl _ _ _ m (i, (j, tt)) r p in search rules)
           (λ i j h k. omega arith),
-    )
-
-pub new-wants-requires-clause-table : goal.new-wants-requires-clause-table
-new-wants-requires-clause-table g c =
-    let m = c.into_dyn_box-2.ensures.1 in (
-      _,
-      table_of_function _ _ (λ i. i - (i - 1))
-          (λ i h. ∣ post_of_closure own-2 at-2-1 m (i, tt) _ (search rules) ∣₁)
-          (λ i r h p. let q = post_made own-2 (own-2.entry at-2-1) at-2-1 refl _ _ _ m (i, tt) r p in search rules)
-          (λ i h. omega arith),
     )
