@@ -5,8 +5,6 @@ ghost use Rattle.callback_store.specs.Tables.{Table, entry};
 
 use crate::matrix::Matrix;
 use crate::stay_matrix::StayMatrix;
-use crate::transit::Transit;
-use crate::unary::Unary;
 use crate::vector::Vector;
 use limits::LARGEST_ANSWER;
 
@@ -22,28 +20,6 @@ pub trait Callback {
         requires to { j < (table self.now).size }
         ensures answer { result ≡ entry (table self.now) i j }
         ensures small { result ≤ LARGEST_ANSWER };
-}
-
-impl Callback for Transit {
-    ghost use Rattle.callback_store.specs.Tables.{pair_table};
-
-    ghost table = { λ transit. pair_table transit };
-
-    #[inline(always)]
-    fn answer_way(&self, i: u32, j: u32) -> u64 {
-        self.answer(i, j)
-    }
-}
-
-impl Callback for Unary {
-    ghost use Rattle.callback_store.specs.Tables.{node_table};
-
-    ghost table = { λ unary. node_table unary };
-
-    #[inline(always)]
-    fn answer_way(&self, i: u32, _j: u32) -> u64 {
-        self.answer(i)
-    }
 }
 
 impl Callback for Matrix {

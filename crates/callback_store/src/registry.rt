@@ -1,5 +1,5 @@
-ghost use Rattle.std.specs.Prelude.{◌≡◌, ℕ, ◌+◌, ◌*◌, ◌<◌, ◌≤◌, ◌↔◌, true, false, List, [], ◌∷◌, ◌++◌, length, slice_index, map, IfOk, OnErr, IsErrOf, nat_lt, All, IfSome, IsTrue};
-ghost use Rattle.callback_store.specs.Meter.{after_ask, after_asks, AsksJust};
+ghost use Rattle.std.specs.Prelude.{◌≡◌, ℕ, ◌+◌, ◌*◌, ◌<◌, ◌≤◌, ◌↔◌, true, false, [], ◌∷◌, ◌++◌, length, slice_index, map, IfOk, OnErr, IsErrOf, nat_lt, IfSome, IsTrue};
+ghost use Rattle.callback_store.specs.Meter.{after_ask, AsksJust};
 ghost use Rattle.callback_store.specs.Tables.{AreTables, slot_table, pair_table, node_table, matrix_table, vector_table, stay_table, table_at, nodes_of, is_fitting, entry, IsSymmetric};
 
 use crate::matrix::Matrix;
@@ -10,14 +10,14 @@ use crate::transit::Transit;
 use crate::unary::Unary;
 use crate::vector::Vector;
 use limits::{LARGEST_ANSWER, MOST_CALLBACKS, MOST_NODES};
-use std::alloc::{AllocError, Global};
+use std::alloc::Global;
 use std::marker::Model;
 use thiserror::Error;
 
 /// The name of a callback in its registry.
 ///
 /// It is a number, counted from 0 in the order of registering, and has a meaning only in the registry that gave it.
-#[derive(Clone, Debug, PartialEq, Eq)]
+#[derive(Clone)]
 pub struct TransitId {
     index: u32,
 }
@@ -115,6 +115,28 @@ impl Registry {
         2 <= size && size <= MOST_NODES && (self.slots.is_empty() || self.nodes() == size)
     }
 
+    /// Takes a callback of any kind, and answers its name. The others keep their names and tables.
+    fn add(&mut self, slot: Slot) -> Result<TransitId, RegisterFault>
+        ensures id { IfOk result (λ id. id ≡ length (tables self.old)) }
+        ensures ok { IfOk result (λ id. tables self.new ≡ tables self.old ++ slot_table slot ∷ []) }
+        ensures size { IsErrOf result RegisterFault.Size ↔ (is_fitting (tables self.old) (slot_table slot).size ≡ false) }
+        ensures many { IsErrOf result RegisterFault.Many
+            ↔ ((is_fitting (tables self.old) (slot_table slot).size ≡ true) × (MOST_CALLBACKS ≤ length (tables self.old))) }
+        ensures err { OnErr result (tables self.new ≡ tables self.old) }
+    {
+        if !self.is_fitting(slot.size()) {
+            return Err(RegisterFault::Size);
+        }
+        let index = self.count();
+        if index >= MOST_CALLBACKS {
+            return Err(RegisterFault::Many);
+        }
+        match self.slots.push(slot) {
+            Ok(()) => Ok(TransitId { index }),
+            Err(_) => Err(RegisterFault::NoMemory),
+        }
+    }
+
     /// Takes a two-node callback, and answers its name. The others keep their names and tables.
     ///
     /// On a refusal nothing changes, and the callback is dropped.
@@ -126,17 +148,7 @@ impl Registry {
             ↔ ((is_fitting (tables self.old) (pair_table transit).size ≡ true) × (MOST_CALLBACKS ≤ length (tables self.old))) }
         ensures err { OnErr result (tables self.new ≡ tables self.old) }
     {
-        if !self.is_fitting(transit.size()) {
-            return Err(RegisterFault::Size);
-        }
-        let index = self.count();
-        if index >= MOST_CALLBACKS {
-            return Err(RegisterFault::Many);
-        }
-        match self.slots.push(Slot::Pair(transit)) {
-            Ok(()) => Ok(TransitId { index }),
-            Err(_) => Err(RegisterFault::NoMemory),
-        }
+        self.add(Slot::Pair(transit))
     }
 
     /// Takes a one-node callback, and answers its name. The others keep their names and tables.
@@ -150,17 +162,7 @@ impl Registry {
             ↔ ((is_fitting (tables self.old) (node_table unary).size ≡ true) × (MOST_CALLBACKS ≤ length (tables self.old))) }
         ensures err { OnErr result (tables self.new ≡ tables self.old) }
     {
-        if !self.is_fitting(unary.size()) {
-            return Err(RegisterFault::Size);
-        }
-        let index = self.count();
-        if index >= MOST_CALLBACKS {
-            return Err(RegisterFault::Many);
-        }
-        match self.slots.push(Slot::Node(unary)) {
-            Ok(()) => Ok(TransitId { index }),
-            Err(_) => Err(RegisterFault::NoMemory),
-        }
+        self.add(Slot::Node(unary))
     }
 
     /// Takes a two-node callback that is given as its answers, and answers its name. The others keep their names and tables.
@@ -174,17 +176,7 @@ impl Registry {
             ↔ ((is_fitting (tables self.old) (matrix_table matrix).size ≡ true) × (MOST_CALLBACKS ≤ length (tables self.old))) }
         ensures err { OnErr result (tables self.new ≡ tables self.old) }
     {
-        if !self.is_fitting(matrix.size()) {
-            return Err(RegisterFault::Size);
-        }
-        let index = self.count();
-        if index >= MOST_CALLBACKS {
-            return Err(RegisterFault::Many);
-        }
-        match self.slots.push(Slot::Listed(matrix)) {
-            Ok(()) => Ok(TransitId { index }),
-            Err(_) => Err(RegisterFault::NoMemory),
-        }
+        self.add(Slot::Listed(matrix))
     }
 
     /// Takes a one-node callback that is given as its answers, and answers its name. The others keep their names and tables.
@@ -198,17 +190,7 @@ impl Registry {
             ↔ ((is_fitting (tables self.old) (vector_table vector).size ≡ true) × (MOST_CALLBACKS ≤ length (tables self.old))) }
         ensures err { OnErr result (tables self.new ≡ tables self.old) }
     {
-        if !self.is_fitting(vector.size()) {
-            return Err(RegisterFault::Size);
-        }
-        let index = self.count();
-        if index >= MOST_CALLBACKS {
-            return Err(RegisterFault::Many);
-        }
-        match self.slots.push(Slot::Values(vector)) {
-            Ok(()) => Ok(TransitId { index }),
-            Err(_) => Err(RegisterFault::NoMemory),
-        }
+        self.add(Slot::Values(vector))
     }
 
     /// Takes a two-node callback that is given as stays and ways, and answers its name. The others keep their names and tables.
@@ -222,17 +204,7 @@ impl Registry {
             ↔ ((is_fitting (tables self.old) (stay_table matrix).size ≡ true) × (MOST_CALLBACKS ≤ length (tables self.old))) }
         ensures err { OnErr result (tables self.new ≡ tables self.old) }
     {
-        if !self.is_fitting(matrix.size()) {
-            return Err(RegisterFault::Size);
-        }
-        let index = self.count();
-        if index >= MOST_CALLBACKS {
-            return Err(RegisterFault::Many);
-        }
-        match self.slots.push(Slot::Stayed(matrix)) {
-            Ok(()) => Ok(TransitId { index }),
-            Err(_) => Err(RegisterFault::NoMemory),
-        }
+        self.add(Slot::Stayed(matrix))
     }
 
     /// All answers of a two-node callback, row by row, where it was given as these.
@@ -282,44 +254,5 @@ impl Registry {
             Slot::Values(vector) => vector.ask(meter, i),
             Slot::Stayed(matrix) => matrix.ask(meter, i, j),
         }
-    }
-
-    /// The answers of a callback on the ways from node `i` to each of some nodes, in their order, one for each place of `answers`, which
-    /// has as many places as there are nodes. The callback must be registered here and know all nodes. It counts one ask for each.
-    pub fn ask_row(&self, id: TransitId, meter: &mut Meter, i: u32, to: &[u32], answers: &mut [u32])
-        requires registered { id < length (tables self.now) }
-        requires from { i < nodes_of (tables self.now) }
-        requires to { All (λ j. j < nodes_of (tables self.now)) to.now }
-        requires room { length answers.old ≡ length to.now }
-        ensures answers { answers.new ≡ map (λ j. entry (table_at (tables self.now) id) i j) to.now }
-        ensures small { All (λ x. x ≤ LARGEST_ANSWER) answers.new }
-        ensures counted { meter.new ≡ after_asks meter.old (length to.now) }
-        ensures just { AsksJust meter.old meter.new (length to.now) }
-    {
-        let slot = &self.slots[id.index as usize];
-        slot.ask_row(meter, i, to, answers)
-    }
-
-    /// The answers of a callback on the ways to node `j` from each of some nodes, in their order, one for each place of `answers`, which
-    /// has as many places as there are nodes. The callback must be registered here and know all nodes. It counts one ask for each.
-    pub fn ask_column(
-        &self,
-        id: TransitId,
-        meter: &mut Meter,
-        j: u32,
-        from: &[u32],
-        answers: &mut [u32],
-    )
-        requires registered { id < length (tables self.now) }
-        requires to { j < nodes_of (tables self.now) }
-        requires from { All (λ i. i < nodes_of (tables self.now)) from.now }
-        requires room { length answers.old ≡ length from.now }
-        ensures answers { answers.new ≡ map (λ i. entry (table_at (tables self.now) id) i j) from.now }
-        ensures small { All (λ x. x ≤ LARGEST_ANSWER) answers.new }
-        ensures counted { meter.new ≡ after_asks meter.old (length from.now) }
-        ensures just { AsksJust meter.old meter.new (length from.now) }
-    {
-        let slot = &self.slots[id.index as usize];
-        slot.ask_column(meter, j, from, answers)
     }
 }

@@ -1,5 +1,5 @@
-ghost use Rattle.std.specs.Prelude.{◌≡◌, ℕ, ◌+◌, ◌<◌, ◌≤◌, length, slice_index, map, All};
-ghost use Rattle.callback_store.specs.Meter.{after_ask, after_asks, AsksJust};
+ghost use Rattle.std.specs.Prelude.{◌≡◌, ◌+◌, ◌<◌, ◌≤◌};
+ghost use Rattle.callback_store.specs.Meter.{after_ask, AsksJust};
 ghost use Rattle.callback_store.specs.Stays.{AreStays};
 
 use crate::matrix::Matrix;
@@ -58,37 +58,5 @@ impl StayMatrix {
     {
         meter.ask();
         u64::from(self.answer(i, j))
-    }
-
-    /// The answers for the ways from node `i` to each of some nodes, in their order. It counts one ask for each.
-    pub(crate) fn ask_row(&self, meter: &mut Meter, i: u32, to: &[u32], answers: &mut [u32])
-        requires from { i < (stay_table self.now).size }
-        requires to { All (λ j. j < (stay_table self.now).size) to.now }
-        requires room { length answers.old ≡ length to.now }
-        ensures answers { answers.new ≡ map (λ j. entry (stay_table self.now) i j) to.now }
-        ensures small { All (λ x. x ≤ LARGEST_ANSWER) answers.new }
-        ensures counted { meter.new ≡ after_asks meter.old (length to.now) }
-        ensures just { AsksJust meter.old meter.new (length to.now) }
-    {
-        meter.ask_many(to.len() as u64);
-        for k in 0..to.len() {
-            answers[k] = self.answer(i, to[k]);
-        }
-    }
-
-    /// The answers for the ways to node `j` from each of some nodes, in their order. It counts one ask for each.
-    pub(crate) fn ask_column(&self, meter: &mut Meter, j: u32, from: &[u32], answers: &mut [u32])
-        requires to { j < (stay_table self.now).size }
-        requires from { All (λ i. i < (stay_table self.now).size) from.now }
-        requires room { length answers.old ≡ length from.now }
-        ensures answers { answers.new ≡ map (λ i. entry (stay_table self.now) i j) from.now }
-        ensures small { All (λ x. x ≤ LARGEST_ANSWER) answers.new }
-        ensures counted { meter.new ≡ after_asks meter.old (length from.now) }
-        ensures just { AsksJust meter.old meter.new (length from.now) }
-    {
-        meter.ask_many(from.len() as u64);
-        for k in 0..from.len() {
-            answers[k] = self.answer(from[k], j);
-        }
     }
 }

@@ -1,7 +1,8 @@
-ghost use Rattle.std.specs.Prelude.{◌≡◌, ℕ, ◌<◌, ◌≤◌, List, length, map, All};
+ghost use Rattle.std.specs.Prelude.{◌≡◌, ℕ, ◌<◌, ◌≤◌, List};
 ghost use Rattle.callback_store.specs.Callback.{PairsOf, PairsOf-prop, IsPairsOf};
-ghost use Rattle.callback_store.specs.Meter.{after_ask, after_asks, AsksJust};
+ghost use Rattle.callback_store.specs.Meter.{after_ask, AsksJust};
 
+use crate::callback::Callback;
 use crate::meter::Meter;
 use limits::LARGEST_ANSWER;
 
@@ -43,17 +44,6 @@ impl Transit {
         self.size
     }
 
-    /// The answer for the way from node `i` to node `j`.
-    #[inline(always)]
-    pub(crate) fn answer(&self, i: u32, j: u32) -> u64
-        requires from { i < (pair_table self.now).size }
-        requires to { j < (pair_table self.now).size }
-        ensures answer { result ≡ entry (pair_table self.now) i j }
-        ensures small { result ≤ LARGEST_ANSWER }
-    {
-        (self.call)(i, j)
-    }
-
     /// The answer for the way from node `i` to node `j`, both below `size()`. It counts one ask.
     pub fn ask(&self, meter: &mut Meter, i: u32, j: u32) -> u64
         requires from { i < (pair_table self.now).size }
@@ -64,40 +54,18 @@ impl Transit {
         ensures one { AsksJust meter.old meter.new 1 }
     {
         meter.ask();
-        self.answer(i, j)
+        self.answer_way(i, j)
     }
+}
 
-    /// The answers for the ways from node `i` to each of some nodes, in their order. It counts one ask for each.
-    #[inline(never)]
-    pub(crate) fn ask_row(&self, meter: &mut Meter, i: u32, to: &[u32], answers: &mut [u32])
-        requires from { i < (pair_table self.now).size }
-        requires to { All (λ j. j < (pair_table self.now).size) to.now }
-        requires room { length answers.old ≡ length to.now }
-        ensures answers { answers.new ≡ map (λ j. entry (pair_table self.now) i j) to.now }
-        ensures small { All (λ x. x ≤ LARGEST_ANSWER) answers.new }
-        ensures counted { meter.new ≡ after_asks meter.old (length to.now) }
-        ensures just { AsksJust meter.old meter.new (length to.now) }
-    {
-        meter.ask_many(to.len() as u64);
-        for k in 0..to.len() {
-            answers[k] = (self.call)(i, to[k]) as u32;
-        }
-    }
+impl Callback for Transit {
+    ghost use Rattle.callback_store.specs.Tables.{pair_table};
 
-    /// The answers for the ways to node `j` from each of some nodes, in their order. It counts one ask for each.
-    #[inline(never)]
-    pub(crate) fn ask_column(&self, meter: &mut Meter, j: u32, from: &[u32], answers: &mut [u32])
-        requires to { j < (pair_table self.now).size }
-        requires from { All (λ i. i < (pair_table self.now).size) from.now }
-        requires room { length answers.old ≡ length from.now }
-        ensures answers { answers.new ≡ map (λ i. entry (pair_table self.now) i j) from.now }
-        ensures small { All (λ x. x ≤ LARGEST_ANSWER) answers.new }
-        ensures counted { meter.new ≡ after_asks meter.old (length from.now) }
-        ensures just { AsksJust meter.old meter.new (length from.now) }
-    {
-        meter.ask_many(from.len() as u64);
-        for k in 0..from.len() {
-            answers[k] = (self.call)(from[k], j) as u32;
-        }
+    ghost table = { λ transit. pair_table transit };
+
+    // The closure is called right here: each function between here and it would cost one more test after it.
+    #[inline(always)]
+    fn answer_way(&self, i: u32, j: u32) -> u64 {
+        (self.call)(i, j)
     }
 }

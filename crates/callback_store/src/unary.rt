@@ -1,7 +1,8 @@
-ghost use Rattle.std.specs.Prelude.{◌≡◌, ℕ, ◌<◌, ◌≤◌, List, length, map, slice_index, All};
+ghost use Rattle.std.specs.Prelude.{◌≡◌, ℕ, ◌<◌, ◌≤◌, List, slice_index};
 ghost use Rattle.callback_store.specs.Callback.{TableOf, TableOf-prop, IsTableOf};
-ghost use Rattle.callback_store.specs.Meter.{after_ask, after_asks, AsksJust};
+ghost use Rattle.callback_store.specs.Meter.{after_ask, AsksJust};
 
+use crate::callback::Callback;
 use crate::meter::Meter;
 use limits::LARGEST_ANSWER;
 
@@ -43,16 +44,6 @@ impl Unary {
         self.size
     }
 
-    /// The answer for node `i`.
-    #[inline(always)]
-    pub(crate) fn answer(&self, i: u32) -> u64
-        requires { i < (node_table self.now).size }
-        ensures answer { result ≡ slice_index (node_table self.now).entries i }
-        ensures small { result ≤ LARGEST_ANSWER }
-    {
-        (self.call)(i)
-    }
-
     /// The answer for node `i`, which is below `size()`. It counts one ask.
     pub fn ask(&self, meter: &mut Meter, i: u32) -> u64
         requires { i < (node_table self.now).size }
@@ -62,38 +53,17 @@ impl Unary {
         ensures one { AsksJust meter.old meter.new 1 }
     {
         meter.ask();
-        self.answer(i)
+        (self.call)(i)
     }
+}
 
-    /// The answers for each of some nodes, in their order. It counts one ask for each.
-    #[inline(never)]
-    pub(crate) fn ask_all(&self, meter: &mut Meter, nodes: &[u32], answers: &mut [u32])
-        requires nodes { All (λ i. i < (node_table self.now).size) nodes.now }
-        requires room { length answers.old ≡ length nodes.now }
-        ensures answers { answers.new ≡ map (λ i. slice_index (node_table self.now).entries i) nodes.now }
-        ensures small { All (λ x. x ≤ LARGEST_ANSWER) answers.new }
-        ensures counted { meter.new ≡ after_asks meter.old (length nodes.now) }
-        ensures just { AsksJust meter.old meter.new (length nodes.now) }
-    {
-        meter.ask_many(nodes.len() as u64);
-        for k in 0..nodes.len() {
-            answers[k] = (self.call)(nodes[k]) as u32;
-        }
-    }
+impl Callback for Unary {
+    ghost use Rattle.callback_store.specs.Tables.{node_table};
 
-    /// The answers for one node, one for each place of `answers`. It counts one ask for each.
-    #[inline(never)]
-    pub(crate) fn ask_again(&self, meter: &mut Meter, i: u32, answers: &mut [u32])
-        requires { i < (node_table self.now).size }
-        ensures answers { answers.new ≡ map (λ a. slice_index (node_table self.now).entries i) answers.old }
-        ensures small { All (λ x. x ≤ LARGEST_ANSWER) answers.new }
-        ensures counted { meter.new ≡ after_asks meter.old (length answers.old) }
-        ensures just { AsksJust meter.old meter.new (length answers.old) }
-    {
-        meter.ask_many(answers.len() as u64);
-        for k in 0..answers.len() {
-            let answer = (self.call)(i);
-            answers[k] = answer as u32;
-        }
+    ghost table = { λ unary. node_table unary };
+
+    #[inline(always)]
+    fn answer_way(&self, i: u32, _j: u32) -> u64 {
+        (self.call)(i)
     }
 }

@@ -1,6 +1,6 @@
-ghost use Rattle.std.specs.Prelude.{◌≡◌, ℕ, ◌<◌, ◌≤◌, false, length, slice_index, map, All};
+ghost use Rattle.std.specs.Prelude.{◌≡◌, ◌<◌, ◌≤◌, false, length, slice_index, All};
 ghost use Rattle.limits.specs.declared.TheConstants.{LARGEST_ANSWER};
-ghost use Rattle.callback_store.specs.Meter.{after_ask, after_asks, AsksJust};
+ghost use Rattle.callback_store.specs.Meter.{after_ask, AsksJust};
 
 use crate::meter::Meter;
 
@@ -54,35 +54,5 @@ impl Vector {
     {
         meter.ask();
         u64::from(self.answer(i))
-    }
-
-    /// The answers for each of some nodes, in their order. It counts one ask for each.
-    pub(crate) fn ask_all(&self, meter: &mut Meter, nodes: &[u32], answers: &mut [u32])
-        requires nodes { All (λ i. i < (vector_table self.now).size) nodes.now }
-        requires room { length answers.old ≡ length nodes.now }
-        ensures answers { answers.new ≡ map (λ i. slice_index (vector_table self.now).entries i) nodes.now }
-        ensures small { All (λ x. x ≤ LARGEST_ANSWER) answers.new }
-        ensures counted { meter.new ≡ after_asks meter.old (length nodes.now) }
-        ensures just { AsksJust meter.old meter.new (length nodes.now) }
-    {
-        meter.ask_many(nodes.len() as u64);
-        for k in 0..nodes.len() {
-            answers[k] = self.answer(nodes[k]);
-        }
-    }
-
-    /// The answers for one node, one for each place of `answers`. It counts one ask for each.
-    pub(crate) fn ask_again(&self, meter: &mut Meter, i: u32, answers: &mut [u32])
-        requires { i < (vector_table self.now).size }
-        ensures answers { answers.new ≡ map (λ a. slice_index (vector_table self.now).entries i) answers.old }
-        ensures small { All (λ x. x ≤ LARGEST_ANSWER) answers.new }
-        ensures counted { meter.new ≡ after_asks meter.old (length answers.old) }
-        ensures just { AsksJust meter.old meter.new (length answers.old) }
-    {
-        meter.ask_many(answers.len() as u64);
-        let answer = self.answer(i);
-        for k in 0..answers.len() {
-            answers[k] = answer;
-        }
     }
 }

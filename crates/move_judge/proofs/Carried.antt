@@ -1,12 +1,10 @@
-use Rattle.std.proofs.Common.{◌≡◌, ◌∙◌, ℕ, ◌+◌, ◌-◌, ◌<◌, ◌≤◌, inl, refl, sym, ap, subst, arith, List, [], ◌∷◌, ◌++◌, length, take, drop, reverse, slice_index, slice_index_or, append_assoc, take_all, Option, Some, None, MatchOption, Bool, true, false, ◌==◌, ◌↔◌, All, IsTrue}
+use Rattle.std.proofs.Common.{◌≡◌, ◌∙◌, ℕ, ◌+◌, ◌-◌, ◌<◌, ◌≤◌, refl, sym, ap, subst, arith, List, [], ◌∷◌, ◌++◌, length, take, drop, reverse, slice_index, slice_index_or, append_assoc, take_all, Option, Some, None, MatchOption, Bool, true, false, ◌==◌, ◌↔◌, All, IsTrue}
 use Rattle.std.proofs.lemmas.Bool.{eqb-true}
 use Rattle.std.proofs.lemmas.List.{take_more, take-append-drop, get_or_append_left, get_or-append-add, get_or-reverse, length-append, length-reverse}
 use Rattle.callback_store.specs.Tables.{Table, entry, table_at}
 use Rattle.dimension_core.specs.declared.range.Range.{Range}
 use Rattle.dimension_core.specs.Cumuls.{Bounds, IsInBounds, IsStep, IsWithin, IsSpan, Reaches, cap_of, last_of, range_of, table_of}
 use Rattle.dimension_core.specs.Spans.{no_range}
-use Rattle.dimension_core.specs.Setting.{Setting}
-use Rattle.dimension_core.specs.Feasible.{FitsAll}
 use Rattle.move_judge.specs.declared.parts.Parts.{Parts}
 use Rattle.move_judge.specs.Parts.{way_of, begun_of, route_of}
 use Rattle.move_judge.specs.Given.{Laws}
@@ -30,9 +28,6 @@ in_ranges i xs ys e h = subst (λ (zs : List Range). i < length zs) (sym e) h
 -- the table of a callback, which was looked up by the name that the dimension has for it
 pub looked_up : (t : Table) (ts : List Table) (d : Bounds) (id : ℕ) → t ≡ table_at ts id → id ≡ d.id → t ≡ table_of ts d
 looked_up t ts d id e same = e ∙ ap (λ (n : ℕ). table_at ts n) same
-
-pub as_looked_up : (t u : Table) (P : Table → Type 0) → t ≡ u → P u → P t
-as_looked_up t u P e p = subst P (sym e) p
 
 pub home_as : (t u : Table) (d : Bounds) (v : ℕ) (route : List ℕ) (b : Bool) → t ≡ u → IsTrue b ↔ IsInBounds t d v route → IsTrue b ↔ IsInBounds u d v route
 home_as t u d v route b e h = subst (λ (x : Table). IsTrue b ↔ IsInBounds x d v route) e h
@@ -91,14 +86,6 @@ module _ (law : Laws) where
       → IsSpan None (Reaches t d v route)
   middle_none t d v js ks route e s = subst (λ (xs : List ℕ). IsSpan None (Reaches t d v xs)) e (law.spans.none t d v js ks s)
 
-  -- there are no cumuls at the next stop where there are none after the first parts
-  pub stop_none : (t : Table) (d : Bounds) (v : ℕ) (js ks route : List ℕ) (next : ℕ) → js ++ ks ≡ route → IsSpan None (Reaches t d v js)
-      → IsSpan None (Reaches t d v (route ++ next ∷ []))
-  stop_none t d v js ks route next e s =
-      let p = law.spans.none t d v js (ks ++ next ∷ []) s in
-      let q : js ++ (ks ++ next ∷ []) ≡ route ++ next ∷ [] = sym (append_assoc js ks (next ∷ [])) ∙ ap (λ (ys : List ℕ). ys ++ next ∷ []) e in
-      subst (λ (xs : List ℕ). IsSpan None (Reaches t d v xs)) q p
-
   -- the cumuls at the next stop, by those after the last part
   pub stop_found : (t : Table) (d : Bounds) (v : ℕ) (js route : List ℕ) (from next : ℕ) (r : Range) (o : Option Range) → js ≡ route
       → IsSpan (Some r) (Reaches t d v js) → from ≡ last_of 0 js
@@ -115,10 +102,6 @@ module _ (law : Laws) where
   pub some_from : (r : List ℕ) (b : Bool) → b ≡ (length r == 0) → b ≡ false → 0 < length r
   some_from [] b e f = let both : false ≡ true = sym f ∙ e in absurd cc
   some_from (x ∷ r) b e f = omega arith
-
-  -- an empty route is in bounds
-  pub nothing_fits : (s : Setting) (v : ℕ) (route : List ℕ) → route ≡ [] → FitsAll s v route
-  nothing_fits s v route e k h = ∣ inl e ∣₁
 
   pub append_nil : (xs : List ℕ) → xs ++ [] ≡ xs
   append_nil [] = refl

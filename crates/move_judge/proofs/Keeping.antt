@@ -1,7 +1,7 @@
 -- Spans kept along a route, from both ends.
 use Rattle.std.proofs.Common.{◌≡◌, ◌∙◌, ℕ, ◌+◌, ◌-◌, ◌*◌, ◌<◌, Fits, w32, w64, ◌≤◌, suc, inl, inr, refl, sym, ap, subst, arith, List, [], ◌∷◌, ◌++◌, length, take, drop, slice_index, slice_index_or, Option, None, All, Result, Ok, Err, IfOk, mul-le-mul}
 use Rattle.std.proofs.lemmas.Bool.{cases_lt}
-use Rattle.std.proofs.lemmas.List.{get_or_push, get_or_append_left, length-append, length-take-le, length-drop, take_more, drop_more, get_or_default}
+use Rattle.std.proofs.lemmas.List.{get_or_push, get_or_append_left, length-append, length-take-le, length-drop, take_all, take_more, drop_more, get_or_default}
 use Rattle.std.proofs.lemmas.Nat.{same_from_place, mul-add-lt}
 use Rattle.callback_store.specs.Tables.{Table}
 use Rattle.dimension_core.specs.declared.range.Range.{Range}
@@ -42,32 +42,6 @@ cells_at P w n m cells e h = subst (λ (k : ℕ). AreCells P w k cells) e h
 pub cells_row : (P : ℕ → ℕ → Option Range → Type 0) (w k i : ℕ) (cells : List (Option Range)) → i + 1 ≡ w → AreCells P w (k * w + (i + 1)) cells → AreCells P w ((k + 1) * w) cells
 cells_row P w k i cells e all = cells_at P w (k * w + (i + 1)) ((k + 1) * w) cells (omega arith) all
 
--- a dimension of a setting, by its place
-pub here_ahead : (s : Setting) (v : ℕ) (front : List ℕ) (k : ℕ) (ts : List Table) (ds : List Bounds) (d : Bounds) (o : Option Range)
-    → ts ≡ s.tables → ds ≡ s.dimensions → k < length ds → d ≡ slice_index_or ds k d → IsSpan o (Reaches (table_of ts d) d v front) → IsAhead s v front k o
-here_ahead s v front k ts ds d o et ed h e span =
-    let same : d ≡ dimension_at s k = e ∙ get_or_default ds k d no_bounds h ∙ ap (λ (xs : List Bounds). slice_index_or xs k no_bounds) ed in
-    subst (λ (x : Bounds). IsSpan o (Reaches (table_of s.tables x) x v front)) same (subst (λ (xs : List Table). IsSpan o (Reaches (table_of xs d) d v front)) et span)
-
-pub here_behind : (s : Setting) (v : ℕ) (back : List ℕ) (k : ℕ) (ts : List Table) (ds : List Bounds) (d : Bounds) (o : Option Range)
-    → ts ≡ s.tables → ds ≡ s.dimensions → k < length ds → d ≡ slice_index_or ds k d → IsSpan o (GoesOn (table_of ts d) d v (back ++ 0 ∷ [])) → IsBehind s v back k o
-here_behind s v back k ts ds d o et ed h e span =
-    let same : d ≡ dimension_at s k = e ∙ get_or_default ds k d no_bounds h ∙ ap (λ (xs : List Bounds). slice_index_or xs k no_bounds) ed in
-    subst (λ (x : Bounds). IsSpan o (GoesOn (table_of s.tables x) x v (back ++ 0 ∷ []))) same (subst (λ (xs : List Table). IsSpan o (GoesOn (table_of xs d) d v (back ++ 0 ∷ []))) et span)
-
--- and back
-pub ahead_here : (s : Setting) (v : ℕ) (front : List ℕ) (k : ℕ) (ts : List Table) (ds : List Bounds) (d : Bounds) (o : Option Range)
-    → ts ≡ s.tables → ds ≡ s.dimensions → k < length ds → d ≡ slice_index_or ds k d → IsAhead s v front k o → IsSpan o (Reaches (table_of ts d) d v front)
-ahead_here s v front k ts ds d o et ed h e span =
-    let same : d ≡ dimension_at s k = e ∙ get_or_default ds k d no_bounds h ∙ ap (λ (xs : List Bounds). slice_index_or xs k no_bounds) ed in
-    subst (λ (xs : List Table). IsSpan o (Reaches (table_of xs d) d v front)) (sym et) (subst (λ (x : Bounds). IsSpan o (Reaches (table_of s.tables x) x v front)) (sym same) span)
-
-pub behind_here : (s : Setting) (v : ℕ) (back : List ℕ) (k : ℕ) (ts : List Table) (ds : List Bounds) (d : Bounds) (o : Option Range)
-    → ts ≡ s.tables → ds ≡ s.dimensions → k < length ds → d ≡ slice_index_or ds k d → IsBehind s v back k o → IsSpan o (GoesOn (table_of ts d) d v (back ++ 0 ∷ []))
-behind_here s v back k ts ds d o et ed h e span =
-    let same : d ≡ dimension_at s k = e ∙ get_or_default ds k d no_bounds h ∙ ap (λ (xs : List Bounds). slice_index_or xs k no_bounds) ed in
-    subst (λ (xs : List Table). IsSpan o (GoesOn (table_of xs d) d v (back ++ 0 ∷ []))) (sym et) (subst (λ (x : Bounds). IsSpan o (GoesOn (table_of s.tables x) x v (back ++ 0 ∷ []))) (sym same) span)
-
 -- the way to the depot from the last customers of a route, its next stop, and the cumuls there
 pub record IsTail (t : Table) (d : Bounds) (v : ℕ) (back : List ℕ) (next : ℕ) (o : Option Range) : Type 0 where
   pub rest : List ℕ
@@ -101,6 +75,10 @@ drop_end r = none (drop (length r - 0) r) (let e = length-drop (length r - 0) r 
 pub tail_none : (t : Table) (d : Bounds) (v : ℕ) (r : List ℕ) (o : Option Range) → IsSpan o (IsOnward t d v 0 []) → IsTail t d v (drop (length r - 0) r) 0 o
 tail_none t d v r o span = record { rest = []; is = ap (λ (js : List ℕ). js ++ 0 ∷ []) (drop_end r); span = span }
 
+-- all that follows some customers
+pub rest_whole : (r : List ℕ) (i : ℕ) → take (length r - i) (drop i r) ≡ drop i r
+rest_whole r i = take_all (length r - i) (drop i r) (let e = length-drop i r in omega arith)
+
 -- what is kept of a route serves each front and each back of it
 pub kept_front : (s : Setting) (v : ℕ) (r : List ℕ) (spans : SpanTable) (front : List ℕ) (i : ℕ) → AreAhead s v r spans → i ≤ length r → front ≡ take i r → HasAhead s v front spans
 kept_front s v r spans front i all h e =
@@ -130,6 +108,17 @@ kept_back s v r spans back i all h e =
   where
     place_within : (k place w n : ℕ) → k < n → place < w → k * w + place < n * w
     place_within k place w n a b = let m = mul-add-lt k w place n a b in omega arith
+
+-- the same of what a borrow of it shows, of a front and of all that follows
+pub own_front : (s : Setting) (v : ℕ) (r : List ℕ) (kept opened : KeptSpans) (i : ℕ) → opened ≡ kept → (0 < kept.ahead.width → AreAhead s v r kept.ahead) → i ≤ length r
+    → 0 < opened.ahead.width → HasAhead s v (take i r) opened.ahead
+own_front s v r kept opened i e all h wide =
+    kept_front s v r opened.ahead (take i r) i (subst (λ (k : KeptSpans). 0 < k.ahead.width → AreAhead s v r k.ahead) (sym e) all wide) h refl
+
+pub own_back : (s : Setting) (v : ℕ) (r : List ℕ) (kept opened : KeptSpans) (i : ℕ) → opened ≡ kept → (0 < kept.behind.width → AreBehind s v r kept.behind) → i ≤ length r
+    → 0 < opened.behind.width → HasBehind s v (take (length r - i) (drop i r)) opened.behind
+own_back s v r kept opened i e all h wide =
+    kept_back s v r opened.behind (take (length r - i) (drop i r)) i (subst (λ (k : KeptSpans). 0 < k.behind.width → AreBehind s v r k.behind) (sym e) all wide) h (rest_whole r i)
 
 -- the last of some customers
 pub last_at : (n : ℕ) (xs : List ℕ) → 0 < length xs → slice_index xs (length xs - 1) ≡ last_of n xs
@@ -168,9 +157,6 @@ below_end k m xs ys e h less = let same = ap length e in omega arith
 
 pub none_below : (n : ℕ) → 0 ≤ n
 none_below n = omega arith
-
-pub place_fits : (k m n : ℕ) → k ≤ m → m ≤ n → n ≤ 1000 → Fits w32 (k + 1)
-place_fits k m n h l few = omega arith
 
 pub stretch_fits : (k m n : ℕ) → k ≤ m + 1 → m ≤ n → n ≤ 1000 → Fits w32 k
 stretch_fits k m n h l few = omega arith

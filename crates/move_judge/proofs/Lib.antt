@@ -5,6 +5,7 @@ pub mod Meeting
 pub mod Allowing
 pub mod Stretches
 pub mod Places
+pub mod Replaced
 pub mod Between
 pub mod Inside
 pub mod Still

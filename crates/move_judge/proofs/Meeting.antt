@@ -1,7 +1,8 @@
 -- Where the cumuls from the front and those from the back meet.
-use Rattle.std.proofs.Common.{◌≡◌, ◌∙◌, ℕ, ◌<◌, ◌≤◌, ◌⊎◌, ◌↔◌, max, min, inl, inr, sym, ap, subst, arith, List, [], ◌∷◌, ◌++◌, append_assoc, length, Some, None, slice_index_or}
+use Rattle.std.proofs.Common.{◌≡◌, ◌∙◌, ℕ, ◌<◌, ◌≤◌, ◌⊎◌, ◌↔◌, max, min, inl, inr, sym, ap, subst, arith, List, [], ◌∷◌, ◌++◌, append_assoc, length, Option, Some, None, slice_index_or, IsTrue, false}
 use Rattle.std.proofs.Math.Logic.{∥∥₁_elim, ∥∥₁_map}
 use Rattle.std.proofs.Props.{props}
+use Rattle.std.proofs.lemmas.Bool.{false≢true}
 use Rattle.std.proofs.lemmas.List.{get_or_default}
 use Rattle.callback_store.specs.Tables.{Table}
 use Rattle.dimension_core.specs.declared.range.Range.{Range}
@@ -11,10 +12,6 @@ use Rattle.dimension_core.specs.Setting.{Setting, dimension_at, no_bounds}
 use Rattle.dimension_core.specs.Feasible.{FitsIn}
 use Rattle.move_judge.specs.Kept.{GoesOn}
 use Rattle.move_judge.specs.Given.{Laws}
-
-pub five_parts : (a b c d e : List ℕ) → (a ++ (b ++ (c ++ d))) ++ e ≡ a ++ (b ++ (c ++ (d ++ e)))
-five_parts a b c d e =
-    append_assoc a (b ++ (c ++ d)) e ∙ ap (λ (xs : List ℕ). a ++ xs) (append_assoc b (c ++ d) e ∙ ap (λ (xs : List ℕ). b ++ xs) (append_assoc c d e))
 
 -- a way over some nodes and then others goes on from a cumul at the first of these
 through : (t : Table) (d : Bounds) (v i x : ℕ) (ms : List ℕ) (z : ℕ) (rest ys : List ℕ) → GoOn t d v i x (ms ++ (z ∷ rest)) ys → (y : ℕ) × IsOnward t d v z rest y
@@ -49,6 +46,13 @@ module _ (law : Laws) where
       let is = (law.spans.bounds t d v (front ++ others) None some whole).1 inside in
       cc
 
+  -- then it is not
+  pub no_way : (t : Table) (d : Bounds) (v : ℕ) (js ks route : List ℕ) → js ++ ks ≡ route → 0 < length route → IsSpan None (Reaches t d v js) → IsTrue false ↔ IsInBounds t d v route
+  no_way t d v js ks route e some span = (
+    λ never. absurd (false≢true never),
+    λ inside. absurd (no_ahead t d v js ks (subst (λ (xs : List ℕ). 0 < length xs) (sym e) some) span (subst (λ (xs : List ℕ). IsInBounds t d v xs) (sym e) inside)),
+  )
+
   -- nor before the back
   pub no_behind : (t : Table) (d : Bounds) (v : ℕ) (js back route : List ℕ) → js ++ back ≡ route → 0 < length route → IsSpan None (GoesOn t d v (back ++ 0 ∷ [])) → IsInBounds t d v route → ⊥
   no_behind t d v js back route e some span inside =
@@ -79,6 +83,10 @@ module _ (law : Laws) where
       let met = subst (λ (xs : List ℕ). (max f.lo b.lo ≤ min f.hi b.hi) ↔ ∥ ((cumuls : List ℕ) × AreCumuls t d v xs cumuls) ∥₁) whole (law.meet.joint t d v js next rest f b front on) in
       let within = in_bounds t d v route some in
       (λ h. within.0 (met.0 h), λ inside. met.1 (within.1 inside))
+
+-- the cumuls that a lookup found
+pub span_as : (o p : Option Range) (P : ℕ → Type 0) → o ≡ p → IsSpan p P → IsSpan o P
+span_as o p P e s = subst (λ (x : Option Range). IsSpan x P) (sym e) s
 
 -- one dimension of a setting
 pub fits_by_meeting : (s : Setting) (k v : ℕ) (route : List ℕ) (ts : List Table) (ds : List Bounds) (d : Bounds) → ts ≡ s.tables → ds ≡ s.dimensions → k < length ds → d ≡ slice_index_or ds k d

@@ -1,29 +1,8 @@
 -- Places of a route against its length, and the parts of a new route against those of the old ones.
-use Rattle.std.proofs.Common.{◌≡◌, ◌≢◌, ◌∙◌, ℕ, ◌+◌, ◌-◌, ◌<◌, ◌≤◌, Fits, w32, w64, refl, ap, arith, List, ◌++◌, length, take, drop, reverse}
+use Rattle.std.proofs.Common.{◌≡◌, ◌≢◌, ◌∙◌, ℕ, ◌+◌, ◌-◌, ◌<◌, ◌≤◌, Fits, w32, w64, refl, ap, arith, List, ◌++◌, length, take, drop}
 
 pub at_most_as : (v n m : ℕ) → n ≡ m → v ≤ n → v ≤ m
 at_most_as v n m e h = omega arith
-
-pub below_next : (n : ℕ) → n ≤ n + 1
-below_next n = omega arith
-
-pub some_next : (n : ℕ) → 1 ≤ n + 1
-some_next n = omega arith
-
-pub next_most : (p q : ℕ) → p < q → p + 1 ≤ q
-next_most p q h = omega arith
-
-pub first_high : (p q n : ℕ) → p < q → q ≤ n → p ≤ n
-first_high p q n h l = omega arith
-
-pub first_before : (p q : ℕ) → p < q → p ≤ q + 1
-first_before p q h = omega arith
-
-pub some_sum : (p m : ℕ) → 1 ≤ p → 1 ≤ p + m
-some_sum p m h = omega arith
-
-pub sums_before : (p q m : ℕ) → p ≤ q → p + m ≤ q + m
-sums_before p q m h = omega arith
 
 pub at_before : (p q : ℕ) → p < q → p ≤ q
 at_before p q h = omega arith
@@ -61,8 +40,11 @@ index_fits p k small h = omega arith
 pub below_sum : (n m : ℕ) → n ≤ n + m
 below_sum n m = omega arith
 
-pub after_other : (p q : ℕ) → p ≤ q → q ≢ p → p < q
-after_other p q h o = omega arith
+pub before_from : (p q : ℕ) → q - 1 < p - 1 → q < p
+before_from p q h = omega arith
+
+pub after_from : (p q : ℕ) → 1 ≤ p → 1 ≤ q → p - 1 ≤ q - 1 → q ≢ p → p < q
+after_from p q lp lq h o = omega arith
 
 pub before_within : (p n : ℕ) → p ≤ n → p - 1 ≤ n
 before_within p n h = omega arith
@@ -70,26 +52,8 @@ before_within p n h = omega arith
 pub as_long : (p : ℕ) (xs ys : List ℕ) → xs ≡ ys → p ≤ length ys → p ≤ length xs
 as_long p xs ys e h = let long = ap length e in omega arith
 
-pub no_later : (p : ℕ) (xs ys : List ℕ) → xs ≡ ys → p ≤ length ys → p ≤ length xs + 1
-no_later p xs ys e h = let long = ap length e in omega arith
-
-pub next_within : (p : ℕ) (xs ys : List ℕ) → xs ≡ ys → p ≤ length ys → p + 1 ≤ length xs + 1
-next_within p xs ys e h = let long = ap length e in omega arith
-
 pub end_within : (p : ℕ) (xs ys : List ℕ) → xs ≡ ys → p ≤ length ys + 1 → p ≤ length xs + 1
 end_within p xs ys e h = let long = ap length e in omega arith
-
-pub before_end : (p : ℕ) (xs ys : List ℕ) → xs ≡ ys → p ≤ length ys + 1 → p - 1 ≤ length xs
-before_end p xs ys e h = let long = ap length e in omega arith
-
-pub begins_within : (p m : ℕ) (xs ys : List ℕ) → xs ≡ ys → p + m ≤ length ys + 1 → p ≤ length xs + 1
-begins_within p m xs ys e h = let long = ap length e in omega arith
-
-pub ends_within : (p m : ℕ) (xs ys : List ℕ) → xs ≡ ys → 1 ≤ p → p + m ≤ length ys + 1 → p - 1 + m ≤ length xs
-ends_within p m xs ys e low h = let long = ap length e in omega arith
-
-pub rest_fits : (p m n c : ℕ) → p + m ≤ n + 1 → n ≤ c → c ≤ 1000 → Fits w64 (p - 1 + m)
-rest_fits p m n c h less few = omega arith
 
 -- parts of a route that is the old one
 pub front_of_old : (n : ℕ) (xs r s : List ℕ) → xs ≡ take n r → r ≡ s → xs ≡ take n s
@@ -102,23 +66,8 @@ pub part_of_old : (i j n m : ℕ) (xs r s : List ℕ) → xs ≡ take n (drop i 
 part_of_old i j n m xs r s e en ei f =
     e ∙ ap (λ (k : ℕ). take k (drop i r)) en ∙ ap (λ (k : ℕ). take m (drop k r)) ei ∙ ap (λ (ys : List ℕ). take m (drop j ys)) f
 
-pub one_of_old : (p : ℕ) (xs r s : List ℕ) → xs ≡ take (p + 1 - p) (drop (p - 1) r) → r ≡ s → xs ≡ take 1 (drop (p - 1) s)
-one_of_old p xs r s e f = part_of_old (p - 1) (p - 1) (p + 1 - p) 1 xs r s e (omega arith) refl f
-
 pub stretch_of_old : (p m : ℕ) (xs r s : List ℕ) → xs ≡ take (p + m - p) (drop (p - 1) r) → r ≡ s → xs ≡ take m (drop (p - 1) s)
 stretch_of_old p m xs r s e f = part_of_old (p - 1) (p - 1) (p + m - p) m xs r s e (omega arith) refl f
-
-pub next_of_old : (p q : ℕ) (xs r s : List ℕ) → xs ≡ take (q - (p + 1)) (drop (p + 1 - 1) r) → r ≡ s → xs ≡ take (q - (p + 1)) (drop p s)
-next_of_old p q xs r s e f = part_of_old (p + 1 - 1) p (q - (p + 1)) (q - (p + 1)) xs r s e refl (omega arith) f
-
-pub behind_of_old : (p q m : ℕ) (xs r s : List ℕ) → 1 ≤ p → xs ≡ take (q + m - (p + m)) (drop (p + m - 1) r) → r ≡ s → xs ≡ take (q - p) (drop (p - 1 + m) s)
-behind_of_old p q m xs r s low e f = part_of_old (p + m - 1) (p - 1 + m) (q + m - (p + m)) (q - p) xs r s e (omega arith) (omega arith) f
-
-pub turned_of_old : (i j : ℕ) (xs r s : List ℕ) → i < j → xs ≡ take (j + 1 - i) (drop (i - 1) r) → r ≡ s → reverse xs ≡ reverse (take (j - i + 1) (drop (i - 1) s))
-turned_of_old i j xs r s h e f = ap reverse (part_of_old (i - 1) (i - 1) (j + 1 - i) (j - i + 1) xs r s e (omega arith) refl f)
-
-pub rest_of_old : (p : ℕ) (xs r s : List ℕ) → 1 ≤ p → xs ≡ drop p r → r ≡ s → xs ≡ drop (p - 1 + 1) s
-rest_of_old p xs r s low e f = let same : p ≡ p - 1 + 1 = omega arith in e ∙ ap (drop p) f ∙ ap (λ (k : ℕ). drop k s) same
 
 -- a route by two parts, and by more
 pub two_parts : (a b c d : List ℕ) → a ≡ b → c ≡ d → a ++ c ≡ b ++ d

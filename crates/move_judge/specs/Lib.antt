@@ -3,8 +3,10 @@ pub mod Near
 pub mod Allowed
 pub mod Scope
 pub mod Parts
+pub mod Replaced
 pub mod Lane
 pub mod Kept
+pub mod Ends
 pub mod Between
 pub mod Given
 pub mod Laws

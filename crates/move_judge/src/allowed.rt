@@ -13,11 +13,12 @@ ghost use Rattle.move_judge.specs.Scope.{scope};
 ghost use Rattle.move_judge.specs.View.{IsViewOf};
 ghost use Rattle.move_judge.specs.Near.{IsNear};
 ghost use Rattle.move_judge.specs.Allowed.{IsAllowed, AreLoose};
-ghost use Rattle.move_judge.specs.Kept.{AreKept, HasAhead, HasBehind};
+ghost use Rattle.move_judge.specs.Kept.{AreKept, AreAhead, AreBehind};
+ghost use Rattle.move_judge.specs.Replaced.{replaced};
 ghost use Rattle.move_judge.specs.Given.{Laws};
 
 use crate::fits::fits;
-use crate::kept::{Kept, Spans};
+use crate::kept::Kept;
 use crate::laws::laws_below;
 use crate::parts::Parts;
 use dimension_core::Setup;
@@ -32,15 +33,6 @@ fn part(route: &[u32], from: u32, to: u32) -> &[u32]
     ensures { result.now ≡ take (to - from) (drop (from - 1) route.now) }
 {
     &route[from as usize - 1..to as usize - 1]
-}
-
-/// The customers of a route before a place.
-fn front_of(route: &[u32], to: u32) -> &[u32]
-    requires low { 1 ≤ to }
-    requires high { to ≤ length route.now + 1 }
-    ensures { result.now ≡ take (to - 1) route.now }
-{
-    &route[..to as usize - 1]
 }
 
 /// The customers of a route after so many.
@@ -172,33 +164,42 @@ struct Moved {
     length: u32,
 }
 
-/// What is kept of the cumuls at the ends of a new route.
+/// What is driven in place of a stretch of a route: the stretch, by the customers before it and those up to its end, and up to three parts,
+/// of which `first` is driven back where `turned` is true.
 #[derive(Clone, Copy)]
-struct Ends<'a> {
-    ahead: &'a Spans,
-    behind: &'a Spans,
+struct Replacement<'a> {
+    begin: usize,
+    end: usize,
+    turned: bool,
+    first: &'a [u32],
+    second: &'a [u32],
+    third: &'a [u32],
 }
 
-/// Whether a new route of three parts is in bounds.
+/// Whether a vehicle's route with a stretch replaced is in bounds.
 #[inline(always)]
-fn parts_fit(setup: &Setup, v: u32, ends: Ends, front: &[u32], first: &[u32], back: &[u32]) -> bool
+fn replaced_fits(setup: &Setup, v: u32, route: &[u32], by: Replacement, kept: &Kept) -> bool
     requires laws { Laws }
-    requires known { All (λ c. c ≤ (setting setup.now).customers) (front.now ++ (first.now ++ back.now)) }
+    requires known { All (λ c. c ≤ (setting setup.now).customers) (replaced route.now by) }
     requires low { 1 ≤ v }
     requires high { v ≤ (setting setup.now).vehicles }
-    requires ahead { 0 < ends.ahead.now.width → HasAhead (setting setup.now) v front.now ends.ahead.now }
-    requires behind { 0 < ends.behind.now.width → HasBehind (setting setup.now) v back.now ends.behind.now }
-    ensures { IsTrue result ↔ FitsAll (setting setup.now) v (front.now ++ (first.now ++ back.now)) }
+    requires begin { by.begin ≤ length route.now }
+    requires end { by.end ≤ length route.now }
+    requires ahead { 0 < kept.now.ahead.width → AreAhead (setting setup.now) v route.now kept.now.ahead }
+    requires behind { 0 < kept.now.behind.width → AreBehind (setting setup.now) v route.now kept.now.behind }
+    ensures { IsTrue result ↔ FitsAll (setting setup.now) v (replaced route.now by.entry) }
 {
+    let front = &route[..by.begin];
+    let back = &route[by.end..];
     let parts = Parts {
-        ahead: ends.ahead,
+        ahead: &kept.ahead,
         front,
-        turned: false,
-        first,
-        second: &[],
-        third: &[],
+        turned: by.turned,
+        first: by.first,
+        second: by.second,
+        third: by.third,
         back,
-        behind: ends.behind,
+        behind: &kept.behind,
     };
     fits(setup, v, &parts)
 }
@@ -211,39 +212,32 @@ fn shift_inside_fits(view: &View, setup: &Setup, v: u32, moved: Moved, at: u32, 
     requires possible { is_possible (setting setup.now).customers view.now.routes (Shift v moved.place moved.length v at) ≡ true }
     ensures { IsTrue result ↔ AllFit (setting setup.now) (changes_by view.now.routes (Shift v moved.place moved.length v at)) }
 {
-    let Moved { place, length } = moved;
+    let none: &[u32] = &[];
     let route = view.customers(v);
-    let stretch = part(route, place, place + length);
-    if at < place {
-        let front = front_of(route, at);
-        let between = part(route, at, place);
-        let back = back_of(route, place as usize - 1 + length as usize);
-        let parts = Parts {
-            ahead: &kept.ahead,
-            front,
+    let begin = moved.place as usize - 1;
+    let onto = at as usize - 1;
+    let length = moved.length as usize;
+    let stretch = &route[begin..begin + length];
+    let by = if onto < begin {
+        Replacement {
+            begin: onto,
+            end: begin + length,
             turned: false,
             first: stretch,
-            second: between,
-            third: &[],
-            back,
-            behind: &kept.behind,
-        };
-        return fits(setup, v, &parts);
-    }
-    let front = front_of(route, place);
-    let between = part(route, place + length, at + length);
-    let back = back_of(route, at as usize - 1 + length as usize);
-    let parts = Parts {
-        ahead: &kept.ahead,
-        front,
-        turned: false,
-        first: between,
-        second: stretch,
-        third: &[],
-        back,
-        behind: &kept.behind,
+            second: &route[onto..begin],
+            third: none,
+        }
+    } else {
+        Replacement {
+            begin,
+            end: onto + length,
+            turned: false,
+            first: &route[begin + length..onto + length],
+            second: stretch,
+            third: none,
+        }
     };
-    fits(setup, v, &parts)
+    replaced_fits(setup, v, route, by, kept)
 }
 
 /// Whether the new route of a swap inside a vehicle, named from its first place, is in bounds.
@@ -256,22 +250,17 @@ fn swap_inside_fits(view: &View, setup: &Setup, v: u32, place: u32, at: u32, kep
     ensures { IsTrue result ↔ AllFit (setting setup.now) (changes_by view.now.routes (Swap v place v at)) }
 {
     let route = view.customers(v);
-    let front = front_of(route, place);
-    let here = part(route, place, place + 1);
-    let between = part(route, place + 1, at);
-    let there = part(route, at, at + 1);
-    let back = back_of(route, at as usize);
-    let parts = Parts {
-        ahead: &kept.ahead,
-        front,
+    let place = place as usize;
+    let at = at as usize;
+    let by = Replacement {
+        begin: place - 1,
+        end: at,
         turned: false,
-        first: there,
-        second: between,
-        third: here,
-        back,
-        behind: &kept.behind,
+        first: &route[at - 1..at],
+        second: &route[place..at - 1],
+        third: &route[place - 1..place],
     };
-    fits(setup, v, &parts)
+    replaced_fits(setup, v, route, by, kept)
 }
 
 /// Whether the new route of a reverse is in bounds.
@@ -282,21 +271,19 @@ fn reverse_fits(view: &View, setup: &Setup, v: u32, first: u32, last: u32, kept:
     requires possible { is_possible (setting setup.now).customers view.now.routes (Reverse v first last) ≡ true }
     ensures { IsTrue result ↔ AllFit (setting setup.now) (changes_by view.now.routes (Reverse v first last)) }
 {
+    let none: &[u32] = &[];
     let route = view.customers(v);
-    let front = front_of(route, first);
-    let stretch = part(route, first, last + 1);
-    let back = back_of(route, last as usize);
-    let parts = Parts {
-        ahead: &kept.ahead,
-        front,
+    let begin = first as usize - 1;
+    let end = last as usize;
+    let by = Replacement {
+        begin,
+        end,
         turned: true,
-        first: stretch,
-        second: &[],
-        third: &[],
-        back,
-        behind: &kept.behind,
+        first: &route[begin..end],
+        second: none,
+        third: none,
     };
-    fits(setup, v, &parts)
+    replaced_fits(setup, v, route, by, kept)
 }
 
 /// Whether the new routes of a shift between two vehicles are in bounds.
@@ -309,39 +296,32 @@ fn shift_fits(view: &View, setup: &Setup, pair: Pair, place: u32, length: u32, a
     requires apart { pair.v ≢ pair.w }
     ensures { IsTrue result ↔ AllFit (setting setup.now) (changes_by view.now.routes (Shift pair.entry.v place length pair.entry.w at)) }
 {
-    let v_kept = pair.v_kept;
-    let w_kept = pair.w_kept;
+    let none: &[u32] = &[];
     let route = view.customers(pair.v);
-    let front = front_of(route, place);
-    let rest = back_of(route, place as usize - 1 + length as usize);
-    if !parts_fit(
-        setup,
-        pair.v,
-        Ends {
-            ahead: &v_kept.ahead,
-            behind: &v_kept.behind,
-        },
-        front,
-        &[],
-        rest,
-    ) {
+    let begin = place as usize - 1;
+    let end = begin + length as usize;
+    let taken = Replacement {
+        begin,
+        end,
+        turned: false,
+        first: none,
+        second: none,
+        third: none,
+    };
+    if !replaced_fits(setup, pair.v, route, taken, pair.v_kept) {
         return false;
     }
-    let stretch = part(route, place, place + length);
     let other = view.customers(pair.w);
-    let before = front_of(other, at);
-    let after = back_of(other, at as usize - 1);
-    parts_fit(
-        setup,
-        pair.w,
-        Ends {
-            ahead: &w_kept.ahead,
-            behind: &w_kept.behind,
-        },
-        before,
-        stretch,
-        after,
-    )
+    let onto = at as usize - 1;
+    let given = Replacement {
+        begin: onto,
+        end: onto,
+        turned: false,
+        first: &route[begin..end],
+        second: none,
+        third: none,
+    };
+    replaced_fits(setup, pair.w, other, given, pair.w_kept)
 }
 
 /// Whether the new routes of a swap between two vehicles are in bounds.
@@ -354,44 +334,35 @@ fn swap_fits(view: &View, setup: &Setup, pair: Pair, place: u32, at: u32) -> boo
     requires apart { pair.v ≢ pair.w }
     ensures { IsTrue result ↔ AllFit (setting setup.now) (changes_by view.now.routes (Swap pair.entry.v place pair.entry.w at)) }
 {
-    let v_kept = pair.v_kept;
-    let w_kept = pair.w_kept;
+    let none: &[u32] = &[];
     let route = view.customers(pair.v);
-    let front = front_of(route, place);
-    let rest = back_of(route, place as usize);
     let other = view.customers(pair.w);
-    let there = part(other, at, at + 1);
-    if !parts_fit(
-        setup,
-        pair.v,
-        Ends {
-            ahead: &v_kept.ahead,
-            behind: &v_kept.behind,
-        },
-        front,
-        there,
-        rest,
-    ) {
+    let place = place as usize;
+    let at = at as usize;
+    let there = Replacement {
+        begin: place - 1,
+        end: place,
+        turned: false,
+        first: &other[at - 1..at],
+        second: none,
+        third: none,
+    };
+    if !replaced_fits(setup, pair.v, route, there, pair.v_kept) {
         return false;
     }
-    let here = part(route, place, place + 1);
-    let before = front_of(other, at);
-    let after = back_of(other, at as usize);
-    parts_fit(
-        setup,
-        pair.w,
-        Ends {
-            ahead: &w_kept.ahead,
-            behind: &w_kept.behind,
-        },
-        before,
-        here,
-        after,
-    )
+    let here = Replacement {
+        begin: at - 1,
+        end: at,
+        turned: false,
+        first: &route[place - 1..place],
+        second: none,
+        third: none,
+    };
+    replaced_fits(setup, pair.w, other, here, pair.w_kept)
 }
 
 /// Whether the new routes of a cross are in bounds.
-fn cross_fits(view: &View, setup: &Setup, pair: Pair, keep: u32, keep_other: u32) -> bool
+fn cross_fits<'a>(view: &'a View, setup: &Setup, pair: Pair<'a>, keep: u32, keep_other: u32) -> bool
     requires laws { Laws }
     requires v_kept { AreKept (setting setup.now) view.now.routes pair.v pair.w pair.v_kept.now }
     requires w_kept { AreKept (setting setup.now) view.now.routes pair.w pair.v pair.w_kept.now }
@@ -399,35 +370,35 @@ fn cross_fits(view: &View, setup: &Setup, pair: Pair, keep: u32, keep_other: u32
     requires possible { is_possible (setting setup.now).customers view.now.routes (Cross pair.v keep pair.w keep_other) ≡ true }
     ensures { IsTrue result ↔ AllFit (setting setup.now) (changes_by view.now.routes (Cross pair.entry.v keep pair.entry.w keep_other)) }
 {
-    let _customers = setup.customers();
+    let none: &[u32] = &[];
     let v_kept = pair.v_kept;
     let w_kept = pair.w_kept;
     let (front, tail) = view.customers(pair.v).split_at(keep as usize);
     let (before, end) = view.customers(pair.w).split_at(keep_other as usize);
-    if !parts_fit(
-        setup,
-        pair.v,
-        Ends {
-            ahead: &v_kept.ahead,
-            behind: &v_kept.over,
-        },
+    let v_parts = Parts {
+        ahead: &v_kept.ahead,
         front,
-        &[],
-        end,
-    ) {
+        turned: false,
+        first: none,
+        second: none,
+        third: none,
+        back: end,
+        behind: &v_kept.over,
+    };
+    if !fits(setup, pair.v, &v_parts) {
         return false;
     }
-    parts_fit(
-        setup,
-        pair.w,
-        Ends {
-            ahead: &w_kept.ahead,
-            behind: &w_kept.over,
-        },
-        before,
-        &[],
-        tail,
-    )
+    let w_parts = Parts {
+        ahead: &w_kept.ahead,
+        front: before,
+        turned: false,
+        first: none,
+        second: none,
+        third: none,
+        back: tail,
+        behind: &w_kept.over,
+    };
+    fits(setup, pair.w, &w_parts)
 }
 
 /// Whether a shift between two vehicles keeps the frozen fronts and the pins.

@@ -1,10 +1,11 @@
 //! Whether a new route is in bounds by its parts, with no list made of it.
 ghost use Rattle.std.specs.Prelude.{max, min, ◌≡◌, ◌==◌, ℕ, ◌+◌, ◌≤◌, ◌<◌, ◌↔◌, List, [], ◌∷◌, ◌++◌, length, reverse, Option, Some, None, IsTrue, All, MatchOption, IfSome};
 ghost use Rattle.callback_store.specs.Registry.{tables};
-ghost use Rattle.dimension_core.specs.Cumuls.{IsServed, IsInBounds, IsSpan, Reaches, table_of, last_of};
+ghost use Rattle.dimension_core.specs.Cumuls.{IsServed, IsInBounds, IsSpan, table_of, last_of};
 ghost use Rattle.dimension_core.specs.Feasible.{FitsAll};
 ghost use Rattle.dimension_core.specs.Setup.{setting};
-ghost use Rattle.move_judge.specs.Kept.{GoesOn, HasAhead, HasBehind};
+ghost use Rattle.move_judge.specs.Ends.{HasEnds};
+ghost use Rattle.move_judge.specs.Kept.{HasAhead, HasBehind};
 ghost use Rattle.move_judge.specs.Given.{Laws};
 ghost use Rattle.move_judge.specs.Lane.{IsLane, Knows, Gets};
 ghost use Rattle.move_judge.specs.Scope.{scope};
@@ -204,33 +205,14 @@ fn carry_middle<C: Callback>(
     ensures small { IfSome result (λ r. r.0.hi ≤ LARGEST_CUMUL) }
     ensures known { IfSome result (λ r. r.1 < length lane.now.dimension.now.ranges) }
 {
-    let (range, from) = carry_way(callback, lane, range, from, parts.turned, parts.first)?;
-    let (range, from) = carry_on(callback, lane, range, from, parts.second)?;
+    let Some((range, from)) = carry_way(callback, lane, range, from, parts.turned, parts.first)
+    else {
+        return None;
+    };
+    let Some((range, from)) = carry_on(callback, lane, range, from, parts.second) else {
+        return None;
+    };
     carry_on(callback, lane, range, from, parts.third)
-}
-
-/// The cumuls at the next stop after the parts of a new route but its last one, by those after its first part: none where there are none.
-#[inline(always)]
-fn arrival<C: Callback>(
-    callback: &C,
-    lane: &Lane,
-    here: Range,
-    parts: &Parts,
-    next: u32,
-) -> Option<Range>
-    requires laws { Laws }
-    requires lane { IsLane lane.now }
-    requires sized { Knows (C.table callback.now) lane.now }
-    requires here { IsSpan (Some here) (Gets (C.table callback.now) lane.now parts.now.front.now) }
-    requires known { All (λ node. node < length lane.now.dimension.now.ranges) (begun_of parts.now) }
-    requires next { next < length lane.now.dimension.now.ranges }
-    ensures { IsSpan result (Gets (C.table callback.now) lane.now (begun_of parts.now ++ next ∷ [])) }
-{
-    let _nodes = lane.dimension.nodes();
-    lane.dimension.spans_are_small();
-    let from = last_stop(parts.front);
-    let (range, from) = carry_middle(callback, lane, here, from, parts)?;
-    step_to(callback, lane, range, from, next)
 }
 
 /// Whether two ranges have a number in common.
@@ -238,102 +220,6 @@ fn overlap(here: Range, there: Range) -> bool
     ensures { IsTrue result ↔ (max here.lo there.lo ≤ min here.hi there.hi) }
 {
     here.lo.max(there.lo) <= here.hi.min(there.hi)
-}
-
-/// Whether a new route is in bounds in a dimension, by the cumuls after its first part and those before its last one, with the callback of
-/// the dimension at hand.
-fn joins_by<C: Callback>(
-    callback: &C,
-    dimension: &Dimension,
-    vehicle: u32,
-    here: Range,
-    parts: &Parts,
-    there: Range,
-) -> bool
-    requires laws { Laws }
-    requires sized { (C.table callback.now).size ≡ length dimension.now.ranges }
-    requires here { IsSpan (Some here) (Reaches (C.table callback.now) dimension.now vehicle parts.now.front.now) }
-    requires there { IsSpan (Some there) (GoesOn (C.table callback.now) dimension.now vehicle (parts.now.back.now ++ 0 ∷ [])) }
-    requires some { 0 < length (route_of parts.now) }
-    requires known { All (λ node. node < length dimension.now.ranges) (route_of parts.now) }
-    requires low { 1 ≤ vehicle }
-    requires high { vehicle ≤ length dimension.now.caps }
-    ensures { IsTrue result ↔ IsInBounds (C.table callback.now) dimension.now vehicle (route_of parts.now) }
-{
-    let _nodes = dimension.nodes();
-    let ranges = dimension.ranges();
-    let slack_max = dimension.slack_max();
-    let cap = dimension.cap(vehicle);
-    let lane = Lane {
-        dimension,
-        vehicle,
-        ranges,
-        slack_max,
-        cap,
-    };
-    let next = next_stop(parts.back);
-    match arrival(callback, &lane, here, parts, next) {
-        None => false,
-        Some(arrived) => overlap(arrived, there),
-    }
-}
-
-/// The same. What kind of callback the dimension has is looked at once.
-fn joins(
-    dimension: &Dimension,
-    registry: &Registry,
-    vehicle: u32,
-    here: Range,
-    parts: &Parts,
-    there: Range,
-) -> bool
-    requires laws { Laws }
-    requires served { IsServed (tables registry.now) dimension.now }
-    requires here { IsSpan (Some here) (Reaches (table_of (tables registry.now) dimension.now) dimension.now vehicle parts.now.front.now) }
-    requires there { IsSpan (Some there) (GoesOn (table_of (tables registry.now) dimension.now) dimension.now vehicle
-        (parts.now.back.now ++ 0 ∷ [])) }
-    requires some { 0 < length (route_of parts.now) }
-    requires known { All (λ node. node < length dimension.now.ranges) (route_of parts.now) }
-    requires low { 1 ≤ vehicle }
-    requires high { vehicle ≤ length dimension.now.caps }
-    ensures { IsTrue result ↔ IsInBounds (table_of (tables registry.now) dimension.now) dimension.now vehicle (route_of parts.now) }
-{
-    match registry.callback(dimension.id()) {
-        Slot::Pair(callback) => joins_by(callback, dimension, vehicle, here, parts, there),
-        Slot::Node(callback) => joins_by(callback, dimension, vehicle, here, parts, there),
-        Slot::Listed(callback) => joins_by(callback, dimension, vehicle, here, parts, there),
-        Slot::Values(callback) => joins_by(callback, dimension, vehicle, here, parts, there),
-        Slot::Stayed(callback) => joins_by(callback, dimension, vehicle, here, parts, there),
-    }
-}
-
-/// Whether a new route is in bounds in a dimension, where there may be no cumuls after its first part or before its last one.
-fn meets(
-    dimension: &Dimension,
-    registry: &Registry,
-    vehicle: u32,
-    ahead: Option<Range>,
-    parts: &Parts,
-    behind: Option<Range>,
-) -> bool
-    requires laws { Laws }
-    requires served { IsServed (tables registry.now) dimension.now }
-    requires ahead { IsSpan ahead (Reaches (table_of (tables registry.now) dimension.now) dimension.now vehicle parts.now.front.now) }
-    requires behind { IsSpan behind (GoesOn (table_of (tables registry.now) dimension.now) dimension.now vehicle
-        (parts.now.back.now ++ 0 ∷ [])) }
-    requires some { 0 < length (route_of parts.now) }
-    requires known { All (λ node. node < length dimension.now.ranges) (route_of parts.now) }
-    requires low { 1 ≤ vehicle }
-    requires high { vehicle ≤ length dimension.now.caps }
-    ensures { IsTrue result ↔ IsInBounds (table_of (tables registry.now) dimension.now) dimension.now vehicle (route_of parts.now) }
-{
-    match ahead {
-        None => false,
-        Some(here) => match behind {
-            None => false,
-            Some(there) => joins(dimension, registry, vehicle, here, parts, there),
-        },
-    }
 }
 
 /// Whether a new route has no customer.
@@ -355,63 +241,112 @@ fn is_nothing(parts: &Parts) -> bool
     parts.back.is_empty()
 }
 
-/// The cumuls with which a vehicle returns from a new route, by those with which it leaves.
+/// Whether a new route is in bounds in a dimension, by the cumuls that are kept after its first part and before its last one for the
+/// dimension at a place.
 #[inline(always)]
-fn homecoming<C: Callback>(callback: &C, lane: &Lane, here: Range, parts: &Parts) -> Option<Range>
+fn meets<C: Callback>(callback: &C, lane: &Lane, parts: &Parts, k: usize) -> bool
     requires laws { Laws }
     requires lane { IsLane lane.now }
     requires sized { Knows (C.table callback.now) lane.now }
-    requires here { IsSpan (Some here) (Gets (C.table callback.now) lane.now []) }
-    requires small { here.hi ≤ LARGEST_CUMUL }
+    requires ends { HasEnds (C.table callback.now) lane.now.dimension.now lane.now.vehicle parts.now k }
+    requires some { 0 < length (route_of parts.now) }
     requires known { All (λ node. node < length lane.now.dimension.now.ranges) (route_of parts.now) }
-    ensures { IsSpan result (Gets (C.table callback.now) lane.now (route_of parts.now ++ 0 ∷ [])) }
+    ensures { IsTrue result ↔ IsInBounds (C.table callback.now) lane.now.dimension.now lane.now.vehicle (route_of parts.now) }
 {
     let _nodes = lane.dimension.nodes();
-    let (range, from) = carry_on(callback, lane, here, 0, parts.front)?;
-    let (range, from) = carry_middle(callback, lane, range, from, parts)?;
-    let (range, from) = carry_on(callback, lane, range, from, parts.back)?;
-    step_to(callback, lane, range, from, 0)
+    lane.dimension.spans_are_small();
+    let Some(here) = parts.ahead.at(k, parts.front.len()) else {
+        return false;
+    };
+    let Some(there) = parts.behind.at(k, parts.back.len()) else {
+        return false;
+    };
+    let from = last_stop(parts.front);
+    let Some((range, from)) = carry_middle(callback, lane, here, from, parts) else {
+        return false;
+    };
+    let next = next_stop(parts.back);
+    let Some(arrived) = step_to(callback, lane, range, from, next) else {
+        return false;
+    };
+    overlap(arrived, there)
 }
 
-/// Whether a new route is in bounds in a dimension, by its whole way, with the callback of the dimension at hand.
-fn comes_home_by<C: Callback>(
+/// Whether a new route is in bounds in a dimension, by its whole way.
+#[inline(always)]
+fn comes_home<C: Callback>(callback: &C, lane: &Lane, parts: &Parts) -> bool
+    requires laws { Laws }
+    requires lane { IsLane lane.now }
+    requires sized { Knows (C.table callback.now) lane.now }
+    requires some { 0 < length (route_of parts.now) }
+    requires known { All (λ node. node < length lane.now.dimension.now.ranges) (route_of parts.now) }
+    ensures { IsTrue result ↔ IsInBounds (C.table callback.now) lane.now.dimension.now lane.now.vehicle (route_of parts.now) }
+{
+    let Some(here) = lane.dimension.start(lane.vehicle) else {
+        return false;
+    };
+    let Some((range, from)) = carry_on(callback, lane, here, 0, parts.front) else {
+        return false;
+    };
+    let Some((range, from)) = carry_middle(callback, lane, range, from, parts) else {
+        return false;
+    };
+    let Some((range, from)) = carry_on(callback, lane, range, from, parts.back) else {
+        return false;
+    };
+    let home = step_to(callback, lane, range, from, 0);
+    home.is_some()
+}
+
+/// Whether a new route is in bounds in a dimension, with the callback of the dimension at hand: by the cumuls that are kept for the
+/// dimension at a place, or, where `kept` is false, by its whole way.
+fn fits_by<C: Callback>(
     callback: &C,
     dimension: &Dimension,
     vehicle: u32,
     parts: &Parts,
+    k: usize,
+    kept: bool,
 ) -> bool
     requires laws { Laws }
     requires sized { (C.table callback.now).size ≡ length dimension.now.ranges }
+    requires ends { IsTrue kept → HasEnds (C.table callback.now) dimension.now vehicle parts.now k }
     requires some { 0 < length (route_of parts.now) }
     requires known { All (λ node. node < length dimension.now.ranges) (route_of parts.now) }
     requires low { 1 ≤ vehicle }
     requires high { vehicle ≤ length dimension.now.caps }
     ensures { IsTrue result ↔ IsInBounds (C.table callback.now) dimension.now vehicle (route_of parts.now) }
 {
-    match dimension.start(vehicle) {
-        None => false,
-        Some(here) => {
-            let ranges = dimension.ranges();
-            let slack_max = dimension.slack_max();
-            let cap = dimension.cap(vehicle);
-            let lane = Lane {
-                dimension,
-                vehicle,
-                ranges,
-                slack_max,
-                cap,
-            };
-            let home = homecoming(callback, &lane, here, parts);
-            home.is_some()
-        }
+    let ranges = dimension.ranges();
+    let slack_max = dimension.slack_max();
+    let cap = dimension.cap(vehicle);
+    let lane = Lane {
+        dimension,
+        vehicle,
+        ranges,
+        slack_max,
+        cap,
+    };
+    if kept {
+        meets(callback, &lane, parts, k)
+    } else {
+        comes_home(callback, &lane, parts)
     }
 }
 
 /// The same. What kind of callback the dimension has is looked at once.
 #[inline(always)]
-fn comes_home(dimension: &Dimension, registry: &Registry, vehicle: u32, parts: &Parts) -> bool
+fn fits_in(
+    dimension: &Dimension,
+    registry: &Registry,
+    vehicle: u32,
+    parts: &Parts,
+    k: usize,
+    kept: bool,
+) -> bool
     requires laws { Laws }
     requires served { IsServed (tables registry.now) dimension.now }
+    requires ends { IsTrue kept → HasEnds (table_of (tables registry.now) dimension.now) dimension.now vehicle parts.now k }
     requires some { 0 < length (route_of parts.now) }
     requires known { All (λ node. node < length dimension.now.ranges) (route_of parts.now) }
     requires low { 1 ≤ vehicle }
@@ -419,60 +354,36 @@ fn comes_home(dimension: &Dimension, registry: &Registry, vehicle: u32, parts: &
     ensures { IsTrue result ↔ IsInBounds (table_of (tables registry.now) dimension.now) dimension.now vehicle (route_of parts.now) }
 {
     match registry.callback(dimension.id()) {
-        Slot::Pair(callback) => comes_home_by(callback, dimension, vehicle, parts),
-        Slot::Node(callback) => comes_home_by(callback, dimension, vehicle, parts),
-        Slot::Listed(callback) => comes_home_by(callback, dimension, vehicle, parts),
-        Slot::Values(callback) => comes_home_by(callback, dimension, vehicle, parts),
-        Slot::Stayed(callback) => comes_home_by(callback, dimension, vehicle, parts),
+        Slot::Pair(callback) => fits_by(callback, dimension, vehicle, parts, k, kept),
+        Slot::Node(callback) => fits_by(callback, dimension, vehicle, parts, k, kept),
+        Slot::Listed(callback) => fits_by(callback, dimension, vehicle, parts, k, kept),
+        Slot::Values(callback) => fits_by(callback, dimension, vehicle, parts, k, kept),
+        Slot::Stayed(callback) => fits_by(callback, dimension, vehicle, parts, k, kept),
     }
 }
 
-/// Whether a new route is in bounds in each dimension, by its whole way.
-fn all_come_home(setup: &Setup, vehicle: u32, parts: &Parts) -> bool
+/// Whether a new route with a customer is in bounds in each dimension: by the cumuls after its first part and those before its last one
+/// where they are kept, and else by its whole way.
+fn all_fit(setup: &Setup, vehicle: u32, parts: &Parts) -> bool
     requires laws { Laws }
     requires known { All (λ c. c ≤ (setting setup.now).customers) (route_of parts.now) }
     requires low { 1 ≤ vehicle }
     requires high { vehicle ≤ (setting setup.now).vehicles }
     requires some { 0 < length (route_of parts.now) }
+    requires ahead { 0 < parts.now.ahead.now.width → HasAhead (setting setup.now) vehicle parts.now.front.now parts.now.ahead.now }
+    requires behind { 0 < parts.now.behind.now.width → HasBehind (setting setup.now) vehicle parts.now.back.now parts.now.behind.now }
     ensures { IsTrue result ↔ FitsAll (setting setup.now) vehicle (route_of parts.now) }
 {
-    for dimension in setup.dimensions() {
-        if !comes_home(dimension, setup.registry(), vehicle, parts) {
-            return false;
-        }
-    }
-    true
-}
-
-/// Whether a new route is in bounds in each dimension, by the cumuls after its first part and those before its last one.
-fn all_meet(setup: &Setup, vehicle: u32, parts: &Parts) -> bool
-    requires laws { Laws }
-    requires known { All (λ c. c ≤ (setting setup.now).customers) (route_of parts.now) }
-    requires low { 1 ≤ vehicle }
-    requires high { vehicle ≤ (setting setup.now).vehicles }
-    requires some { 0 < length (route_of parts.now) }
-    requires ahead { HasAhead (setting setup.now) vehicle parts.now.front.now parts.now.ahead.now }
-    requires behind { HasBehind (setting setup.now) vehicle parts.now.back.now parts.now.behind.now }
-    ensures { IsTrue result ↔ FitsAll (setting setup.now) vehicle (route_of parts.now) }
-{
+    let kept = parts.ahead.are_kept() && parts.behind.are_kept();
     for (k, dimension) in setup.dimensions().iter().enumerate() {
-        let fits = meets(
-            dimension,
-            setup.registry(),
-            vehicle,
-            parts.ahead.at(k, parts.front.len()),
-            parts,
-            parts.behind.at(k, parts.back.len()),
-        );
-        if !fits {
+        if !fits_in(dimension, setup.registry(), vehicle, parts, k, kept) {
             return false;
         }
     }
     true
 }
 
-/// Whether a new route is in bounds in each dimension: by the cumuls after its first part and those before its last one where they are
-/// kept, and else by its whole way.
+/// Whether a new route is in bounds in each dimension.
 #[inline(always)]
 pub(crate) fn fits(setup: &Setup, vehicle: u32, parts: &Parts) -> bool
     requires laws { Laws }
@@ -486,11 +397,5 @@ pub(crate) fn fits(setup: &Setup, vehicle: u32, parts: &Parts) -> bool
     if is_nothing(parts) {
         return true;
     }
-    if !parts.ahead.are_kept() {
-        return all_come_home(setup, vehicle, parts);
-    }
-    if !parts.behind.are_kept() {
-        return all_come_home(setup, vehicle, parts);
-    }
-    all_meet(setup, vehicle, parts)
+    all_fit(setup, vehicle, parts)
 }

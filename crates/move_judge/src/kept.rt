@@ -151,69 +151,6 @@ fn span_before(
     }
 }
 
-/// Puts the spans after each number of the first customers of a route, as the vehicle drives it, in place of what `cells` held.
-fn fill_ahead(
-    setup: &Setup,
-    vehicle: u32,
-    route: &[u32],
-    cells: &mut Vec<Option<Range>>,
-) -> Result<(), AllocError>
-    requires laws { Laws }
-    requires known { All (λ c. c ≤ (setting setup.now).customers) route.now }
-    requires short { length route.now ≤ MOST_CUSTOMERS }
-    requires low { 1 ≤ vehicle }
-    requires high { vehicle ≤ (setting setup.now).vehicles }
-    ensures { IfOk result (λ _. AreAhead (setting setup.now) vehicle route.now
-        (record { width = length route.now + 1; cells = cells.new.items })) }
-{
-    let width = route.len() + 1;
-    cells.clear();
-    cells.reserve(setup.dimensions().len() * width)?;
-    for dimension in setup.dimensions() {
-        let mut span = dimension.start(vehicle);
-        let mut from = 0;
-        cells.push(span)?;
-        for customer in route {
-            span = span_after(dimension, setup.registry(), span, from, *customer, vehicle);
-            from = *customer;
-            cells.push(span)?;
-        }
-    }
-    Ok(())
-}
-
-/// Puts the spans before each number of the last customers of a route, as the vehicle drives it, in place of what `cells` held.
-fn fill_behind(
-    setup: &Setup,
-    vehicle: u32,
-    route: &[u32],
-    cells: &mut Vec<Option<Range>>,
-) -> Result<(), AllocError>
-    requires laws { Laws }
-    requires known { All (λ c. c ≤ (setting setup.now).customers) route.now }
-    requires short { length route.now ≤ MOST_CUSTOMERS }
-    requires low { 1 ≤ vehicle }
-    requires high { vehicle ≤ (setting setup.now).vehicles }
-    ensures { IfOk result (λ _. AreBehind (setting setup.now) vehicle route.now
-        (record { width = length route.now + 1; cells = cells.new.items })) }
-{
-    let width = route.len() + 1;
-    cells.clear();
-    cells.reserve(setup.dimensions().len() * width)?;
-    for dimension in setup.dimensions() {
-        let mut span = span_home(dimension, vehicle);
-        let mut next = 0;
-        cells.push(span)?;
-        for k in 0..route.len() {
-            let node = route[route.len() - 1 - k];
-            span = span_before(dimension, setup.registry(), span, node, next, vehicle);
-            next = node;
-            cells.push(span)?;
-        }
-    }
-    Ok(())
-}
-
 impl Spans {
     /// Keeps the spans after each number of the first customers of a route, as the vehicle drives it.
     fn keep_ahead(&mut self, setup: &Setup, vehicle: u32, route: &[u32]) -> Result<(), AllocError>
@@ -224,8 +161,21 @@ impl Spans {
         requires high { vehicle ≤ (setting setup.now).vehicles }
         ensures { IfOk result (λ _. AreAhead (setting setup.now) vehicle route.now self.new) }
     {
-        fill_ahead(setup, vehicle, route, &mut self.cells)?;
-        self.width = route.len() + 1;
+        let width = route.len() + 1;
+        let cells = &mut self.cells;
+        cells.clear();
+        cells.reserve(setup.dimensions().len() * width)?;
+        for dimension in setup.dimensions() {
+            let mut span = dimension.start(vehicle);
+            let mut from = 0;
+            cells.push(span)?;
+            for customer in route {
+                span = span_after(dimension, setup.registry(), span, from, *customer, vehicle);
+                from = *customer;
+                cells.push(span)?;
+            }
+        }
+        self.width = width;
         Ok(())
     }
 
@@ -238,8 +188,22 @@ impl Spans {
         requires high { vehicle ≤ (setting setup.now).vehicles }
         ensures { IfOk result (λ _. AreBehind (setting setup.now) vehicle route.now self.new) }
     {
-        fill_behind(setup, vehicle, route, &mut self.cells)?;
-        self.width = route.len() + 1;
+        let width = route.len() + 1;
+        let cells = &mut self.cells;
+        cells.clear();
+        cells.reserve(setup.dimensions().len() * width)?;
+        for dimension in setup.dimensions() {
+            let mut span = span_home(dimension, vehicle);
+            let mut next = 0;
+            cells.push(span)?;
+            for k in 0..route.len() {
+                let node = route[route.len() - 1 - k];
+                span = span_before(dimension, setup.registry(), span, node, next, vehicle);
+                next = node;
+                cells.push(span)?;
+            }
+        }
+        self.width = width;
         Ok(())
     }
 }

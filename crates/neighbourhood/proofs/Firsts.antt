@@ -106,24 +106,24 @@ best_taken P cost before x gain bound best low next p e more g = record {
 
 -- some moves with numbers one after the other, none of which has P and gains more
 pub best_past : (P : Move → Type 0) (cost : Move → ℕ) (before : ℕ) (M : ℕ → Move) (B : ℕ → List ℕ) (best : Option (Move × ℕ))
-    → ((m : Move) → P m → cost m < before) → ((k : ℕ) → numbers_of (M k) ≡ B k) → ((k : ℕ) → IsNext P (M k) (B (k + 1)))
-    → (n a : ℕ) → ((k : ℕ) → a ≤ k → k < a + n → P (M k) → before - cost (M k) ≤ gain_of best)
+    → ((m : Move) → P m → cost m < before) → ((k : ℕ) → numbers_of (M k) ≡ B k)
+    → (n a : ℕ) → ((k : ℕ) → a ≤ k → IsNext P (M k) (B (k + 1))) → ((k : ℕ) → a ≤ k → k < a + n → P (M k) → before - cost (M k) ≤ gain_of best)
     → IsBestBelow P cost before (B a) best → IsBestBelow P cost before (B (a + n)) best
-best_past P cost before M B best low numbers next zero a worse g =
+best_past P cost before M B best low numbers zero a next worse g =
     let e : a ≡ a + 0 = omega arith in
     subst (λ (k : ℕ). IsBestBelow P cost before (B k) best) e g
-best_past P cost before M B best low numbers next (suc n) a worse g =
+best_past P cost before M B best low numbers (suc n) a next worse g =
     let e : a + 1 + n ≡ a + suc n = omega arith in
     let here = subst (λ (ns : List ℕ). IsBestBelow P cost before ns best) (sym (numbers a)) g in
-    let one = best_kept P cost before (M a) (B (a + 1)) best low (next a) (worse a (omega arith) (omega arith)) here in
+    let one = best_kept P cost before (M a) (B (a + 1)) best low (next a (omega arith)) (worse a (omega arith) (omega arith)) here in
     subst (λ (k : ℕ). IsBestBelow P cost before (B k) best) e
-    (best_past P cost before M B best low numbers next n (a + 1) (λ k h l. worse k (omega arith) (omega arith)) one)
+    (best_past P cost before M B best low numbers n (a + 1) (λ k h. next k (omega arith)) (λ k h l. worse k (omega arith) (omega arith)) one)
 
 pub best_up_to : (P : Move → Type 0) (cost : Move → ℕ) (before : ℕ) (M : ℕ → Move) (B : ℕ → List ℕ) (best : Option (Move × ℕ))
-    → ((m : Move) → P m → cost m < before) → ((k : ℕ) → numbers_of (M k) ≡ B k) → ((k : ℕ) → IsNext P (M k) (B (k + 1)))
-    → (a b : ℕ) → a ≤ b → ((k : ℕ) → a ≤ k → k < b → P (M k) → before - cost (M k) ≤ gain_of best)
+    → ((m : Move) → P m → cost m < before) → ((k : ℕ) → numbers_of (M k) ≡ B k)
+    → (a b : ℕ) → a ≤ b → ((k : ℕ) → a ≤ k → IsNext P (M k) (B (k + 1))) → ((k : ℕ) → a ≤ k → k < b → P (M k) → before - cost (M k) ≤ gain_of best)
     → IsBestBelow P cost before (B a) best → IsBestBelow P cost before (B b) best
-best_up_to P cost before M B best low numbers next a b order worse g =
+best_up_to P cost before M B best low numbers a b order next worse g =
     let e : a + (b - a) ≡ b = omega arith in
     subst (λ (k : ℕ). IsBestBelow P cost before (B k) best) e
-    (best_past P cost before M B best low numbers next (b - a) a (λ k h l. worse k h (omega arith)) g)
+    (best_past P cost before M B best low numbers (b - a) a next (λ k h l. worse k h (omega arith)) g)

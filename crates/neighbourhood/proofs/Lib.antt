@@ -7,7 +7,8 @@ pub mod Shifts
 pub mod Orders
 pub mod Possible
 pub mod Tabled
-pub mod Rows
+pub mod PairRows
+pub mod Candidates
 pub mod Saved
 pub mod Still
 pub mod Gathers

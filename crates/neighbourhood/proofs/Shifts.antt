@@ -56,25 +56,19 @@ row_done v lv lw p n w end p' n' a' within beyond are (inr (e, inl h)) = split (
     split (inr (inr f)) = absurd (omega arith)
 row_done v lv lw p n w end p' n' a' within beyond are (inr (e, inr (f, h))) = absurd h
 
-row_skipped : (v lv lw p n w p' n' a' : ℕ) → lv + 1 < p + n → AreShift v w lv lw p' n' a' → IsLower (p' ∷ n' ∷ w ∷ a' ∷ []) (p ∷ (n + 1) ∷ []) → IsLower (p' ∷ n' ∷ w ∷ a' ∷ []) (p ∷ n ∷ [])
-row_skipped v lv lw p n w p' n' a' out are (inl h) = inl h
-row_skipped v lv lw p n w p' n' a' out are (inr (e, inl h)) =
-    let k = are.fits in inr (e, inl (omega arith))
-row_skipped v lv lw p n w p' n' a' out are (inr (e, inr (f, h))) = absurd h
-
 to_place : (v lv lw p w p' n' a' : ℕ) → AreShift v w lv lw p' n' a' → IsLower (p' ∷ n' ∷ w ∷ a' ∷ []) (p ∷ 1 ∷ []) → IsLower (p' ∷ n' ∷ w ∷ a' ∷ []) (p ∷ [])
 to_place v lv lw p w p' n' a' are (inl h) = inl h
 to_place v lv lw p w p' n' a' are (inr (e, inl h)) = let k = are.some in absurd (omega arith)
 to_place v lv lw p w p' n' a' are (inr (e, inr (f, h))) = absurd h
 
-place_done : (v lv lw p w p' n' a' : ℕ) → AreShift v w lv lw p' n' a' → IsLower (p' ∷ n' ∷ w ∷ a' ∷ []) ((p + 1) ∷ []) → IsLower (p' ∷ n' ∷ w ∷ a' ∷ []) (p ∷ 4 ∷ [])
-place_done v lv lw p w p' n' a' are (inl h) = split (cases_order p' p)
+place_left : (p n w p' n' a' : ℕ) → (p' ≡ p → n' < n) → IsLower (p' ∷ n' ∷ w ∷ a' ∷ []) ((p + 1) ∷ []) → IsLower (p' ∷ n' ∷ w ∷ a' ∷ []) (p ∷ n ∷ [])
+place_left p n w p' n' a' few (inl h) = split (cases_order p' p)
   where
-    split : (p' ≡ p) ⊎ ((p' < p) ⊎ (p < p')) → IsLower (p' ∷ n' ∷ w ∷ a' ∷ []) (p ∷ 4 ∷ [])
-    split (inl e) = let k = are.few in inr (e, inl (omega arith))
+    split : (p' ≡ p) ⊎ ((p' < p) ⊎ (p < p')) → IsLower (p' ∷ n' ∷ w ∷ a' ∷ []) (p ∷ n ∷ [])
+    split (inl e) = inr (e, inl (few e))
     split (inr (inl f)) = inl f
     split (inr (inr f)) = absurd (omega arith)
-place_done v lv lw p w p' n' a' are (inr (e, h)) = absurd h
+place_left p n w p' n' a' few (inr (e, h)) = absurd h
 
 module _ (q : Searched) (is : IsSearch q) where
   -- a move that counts, with numbers below those of some shift
@@ -103,14 +97,20 @@ module _ (q : Searched) (is : IsSearch q) where
   back : (p n a : ℕ) (rest : List ℕ) (mv : Move) → mv ≡ Shift q.v p n q.w a → IsLower (p ∷ n ∷ q.w ∷ a ∷ []) rest → IsLower (numbers_of mv) (1 ∷ q.v ∷ rest)
   back p n a rest mv e h = subst (λ (m : Move). IsLower (numbers_of m) (1 ∷ q.v ∷ rest)) (sym e) (inr (refl, inr (refl, h)))
 
-  -- the bound goes on where no shift lies between
+  -- the numbers of a shift that counts
+  pub shift_are : (p n a : ℕ) → CountsIn q (Shift q.v p n q.w a) → AreShift q.v q.w (length (route_at q.view.routes q.v)) (length (route_at q.view.routes q.w)) p n a
+  shift_are p n a counts =
+      let f = (is.laws.possible.shift q.setting.customers q.view.routes q.v p n q.w a).0 counts.possible in
+      record { place = f.from.low; some = f.from.some; few = counts.near.2; fits = f.from.high; at = f.onto.low; inside = λ e. (f.onto.inside e).0; outside = f.onto.outside }
+
+  -- the bound goes on where no shift that counts lies between
   pub shift_on : (b c : List ℕ) (best : Option (Move × ℕ)) → IsLower b c
-      → ((p n a : ℕ) → AreShift q.v q.w (length (route_at q.view.routes q.v)) (length (route_at q.view.routes q.w)) p n a → IsLower (p ∷ n ∷ q.w ∷ a ∷ []) c → IsLower (p ∷ n ∷ q.w ∷ a ∷ []) b)
+      → ((p n a : ℕ) → CountsIn q (Shift q.v p n q.w a) → IsLower (p ∷ n ∷ q.w ∷ a ∷ []) c → IsLower (p ∷ n ∷ q.w ∷ a ∷ []) b)
       → IsBestSoFar q (1 ∷ q.v ∷ b) best
       → IsBestSoFar q (1 ∷ q.v ∷ c) best
   shift_on b c best up all g =
       best_on (CountsIn q) (new_cost q) (old_cost q) (1 ∷ q.v ∷ b) (1 ∷ q.v ∷ c) best (inr (refl, inr (refl, up)))
-      (λ m counts h. let k = shift_below m c counts h in back k.p k.n k.a b m k.is (all k.p k.n k.a k.are k.below)) g
+      (λ m counts h. let k = shift_below m c counts h in back k.p k.n k.a b m k.is (all k.p k.n k.a (subst (λ (x : Move). CountsIn q x) k.is counts) k.below)) g
 
   -- from one place in the other route to the next
   pub shift_next : (p n a : ℕ)
@@ -143,28 +143,27 @@ module _ (q : Searched) (is : IsSearch q) where
       → IsBestSoFar q (1 ∷ q.v ∷ p ∷ n ∷ q.w ∷ b ∷ []) best
   shifts_past p n a b best order worse g =
       best_up_to (CountsIn q) (new_cost q) (old_cost q) (λ k. Shift q.v p n q.w k) (λ k. 1 ∷ q.v ∷ p ∷ n ∷ q.w ∷ k ∷ []) best
-      (λ m c. c.lower) (λ k. refl) (λ k. shift_next p n k) a b order worse g
+      (λ m c. c.lower) (λ k. refl) a b order (λ k h. shift_next p n k) worse g
 
   -- the steps between the loops
   pub shifts_at : (p : ℕ) (best : Option (Move × ℕ)) → IsBestSoFar q (1 ∷ q.v ∷ p ∷ []) best → IsBestSoFar q (1 ∷ q.v ∷ p ∷ 1 ∷ []) best
-  shifts_at p best g = shift_on (p ∷ []) (p ∷ 1 ∷ []) best (inr (refl, tt)) (λ p' n a. to_place q.v _ _ p q.w p' n a) g
+  shifts_at p best g = shift_on (p ∷ []) (p ∷ 1 ∷ []) best (inr (refl, tt)) (λ p' n a counts. to_place q.v _ _ p q.w p' n a (shift_are p' n a counts)) g
 
   pub shifts_row : (p n : ℕ) (best : Option (Move × ℕ)) → IsBestSoFar q (1 ∷ q.v ∷ p ∷ n ∷ []) best → IsBestSoFar q (1 ∷ q.v ∷ p ∷ n ∷ q.w ∷ 1 ∷ []) best
-  shifts_row p n best g = shift_on (p ∷ n ∷ []) (p ∷ n ∷ q.w ∷ 1 ∷ []) best (inr (refl, inr (refl, tt))) (λ p' n' a. to_row q.v _ _ p n q.w p' n' a) g
+  shifts_row p n best g = shift_on (p ∷ n ∷ []) (p ∷ n ∷ q.w ∷ 1 ∷ []) best (inr (refl, inr (refl, tt))) (λ p' n' a counts. to_row q.v _ _ p n q.w p' n' a (shift_are p' n' a counts)) g
 
   pub shifts_row_done : (p n end : ℕ) (best : Option (Move × ℕ))
       → (q.v ≡ q.w → length (route_at q.view.routes q.w) + 1 < end + n) → (q.v ≢ q.w → length (route_at q.view.routes q.w) + 1 < end)
       → IsBestSoFar q (1 ∷ q.v ∷ p ∷ n ∷ q.w ∷ end ∷ []) best → IsBestSoFar q (1 ∷ q.v ∷ p ∷ (n + 1) ∷ []) best
   shifts_row_done p n end best within beyond g =
-      shift_on (p ∷ n ∷ q.w ∷ end ∷ []) (p ∷ (n + 1) ∷ []) best (inr (refl, inl (next n))) (λ p' n' a. row_done q.v _ _ p n q.w end p' n' a within beyond) g
+      shift_on (p ∷ n ∷ q.w ∷ end ∷ []) (p ∷ (n + 1) ∷ []) best (inr (refl, inl (next n))) (λ p' n' a counts. row_done q.v _ _ p n q.w end p' n' a within beyond (shift_are p' n' a counts)) g
 
-  pub shifts_row_skipped : (p n : ℕ) (best : Option (Move × ℕ)) → length (route_at q.view.routes q.v) + 1 < p + n
-      → IsBestSoFar q (1 ∷ q.v ∷ p ∷ n ∷ []) best → IsBestSoFar q (1 ∷ q.v ∷ p ∷ (n + 1) ∷ []) best
-  shifts_row_skipped p n best out g =
-      shift_on (p ∷ n ∷ []) (p ∷ (n + 1) ∷ []) best (inr (refl, inl (next n))) (λ p' n' a. row_skipped q.v _ _ p n q.w p' n' a out) g
-
-  pub shifts_place_done : (p : ℕ) (best : Option (Move × ℕ)) → IsBestSoFar q (1 ∷ q.v ∷ p ∷ 4 ∷ []) best → IsBestSoFar q (1 ∷ q.v ∷ (p + 1) ∷ []) best
-  shifts_place_done p best g = shift_on (p ∷ 4 ∷ []) ((p + 1) ∷ []) best (inl (next p)) (λ p' n a. place_done q.v _ _ p q.w p' n a) g
+  -- no shift from the place moves so many
+  pub shifts_left : (p n : ℕ) (best : Option (Move × ℕ)) → ((k a : ℕ) → CountsIn q (Shift q.v p k q.w a) → k < n)
+      → IsBestSoFar q (1 ∷ q.v ∷ p ∷ n ∷ []) best → IsBestSoFar q (1 ∷ q.v ∷ (p + 1) ∷ []) best
+  shifts_left p n best few g =
+      shift_on (p ∷ n ∷ []) ((p + 1) ∷ []) best (inl (next p))
+      (λ p' n' a counts. place_left p n q.w p' n' a (λ e. few n' a (subst (λ (x : ℕ). CountsIn q (Shift q.v x n' q.w a)) e counts))) g
 
   -- a stretch that is put where it stands moves nobody
   pub shift_still : (p n : ℕ) (best : Option (Move × ℕ)) → q.v ≡ q.w

@@ -5,4 +5,5 @@ pub use Rattle.move_judge.specs.Allowed
 pub mod Best
 pub mod Searched
 pub mod Search
+pub mod Rows
 pub mod Laws

@@ -1,71 +1,15 @@
 //! Crosses of two vehicles.
-ghost use Rattle.std.specs.Prelude.{◌≡◌, ◌≢◌, ℕ, ◌+◌, ◌-◌, ◌^◌, ◌<◌, ◌≤◌, [], ◌∷◌, length, All};
+ghost use Rattle.std.specs.Prelude.{◌≢◌, ℕ, ◌+◌, ◌-◌, ◌<◌, ◌≤◌, [], ◌∷◌, length};
 ghost use Rattle.move_core.specs.declared.moves.Move.TheVariants.{Cross};
 ghost use Rattle.neighbourhood.specs.Search.{IsBestSoFar};
-ghost use Rattle.neighbourhood.specs.Searched.{searched, CountsIn, IsGathered, IsPossible, IsSearch, Saves};
-ghost use Rattle.way_costs.specs.Rows.{IsCutRow, lost_by_cut, gained_by_cut};
+ghost use Rattle.neighbourhood.specs.Searched.{searched, CountsIn, IsGathered, IsSearch};
 
 use crate::best::Best;
+use crate::kinds::Kind;
+use crate::rows::{Candidates, best_of_row};
 use crate::searched::{Gathered, Search};
-use limits::MOST_STOPS;
-use move_core::Move;
 use move_judge::must_keep;
-use way_costs::{CutRow, first_gain, may_gain, row, way_at};
-
-/// The crosses that keep so many customers of the first vehicle: what each of them loses there, and the ways along the stops of the second,
-/// with the ways from those stops to the one after the last customer kept, and from that customer to them.
-#[derive(Clone, Copy)]
-struct Crosses<'a> {
-    keep: u32,
-    lost: u64,
-    ways: CutRow<'a>,
-}
-
-/// The better of the best so far and the crosses that keep `first` or more of the second vehicle but fewer than `end`.
-fn cross_row(search: &Search, crosses: &Crosses, first: u32, end: u32, best: Best) -> Best
-    requires search { IsSearch (searched search.now) }
-    requires apart { search.now.v ≢ search.now.w }
-    requires order { first ≤ end }
-    requires ways { IsCutRow crosses.now.ways end }
-    requires most { All (λ x. x ≤ crosses.now.ways.most) crosses.now.ways.edges.now }
-    requires short { length crosses.now.ways.on.now ≤ MOST_STOPS }
-    requires fixed { crosses.now.lost < 2 ^ 34 }
-    requires possible { (l : ℕ) → l < end → IsPossible (searched search.now) (Cross search.now.v crosses.now.keep search.now.w l) }
-    requires saving { (l : ℕ) → l < end → Saves (searched search.now) (Cross search.now.v crosses.now.keep search.now.w l)
-        (crosses.now.lost + lost_by_cut crosses.now.ways l) (gained_by_cut crosses.now.ways l) }
-    requires best { IsBestSoFar (searched search.now) (4 ∷ search.now.v ∷ crosses.now.keep ∷ search.now.w ∷ first ∷ []) best.found }
-    ensures { IsBestSoFar (searched search.now) (4 ∷ search.now.v ∷ crosses.now.keep ∷ search.now.w ∷ end ∷ []) result.found }
-{
-    let lost = crosses.lost;
-    let ways = crosses.ways;
-    let least = best.wanted(0);
-    let begin = first as usize;
-    let last = end as usize;
-    if !may_gain(lost, least, &ways, begin, last) {
-        return best;
-    }
-    let mut best = best;
-    let mut keep_other = first;
-    'row: while keep_other < end {
-        let from = keep_other as usize;
-        let found = first_gain(lost, best.wanted(0), &ways, from, last);
-        let there = found as u32;
-        if there == end {
-            return best;
-        }
-        let all_lost = lost + ways.lost(found);
-        let all_gained = ways.gained(found);
-        let mv = Move::Cross {
-            vehicle: search.v,
-            keep: crosses.keep,
-            other: search.w,
-            keep_other: there,
-        };
-        best = best.or_better(search, mv, all_lost, all_gained);
-        keep_other = there + 1;
-    }
-    best
-}
+use way_costs::{CutRow, row, way_at};
 
 /// The better of the best so far and the crosses that keep so many customers of the first vehicle. None counts that keeps fewer than `begin`
 /// of the second.
@@ -94,17 +38,19 @@ fn cross_over(search: &Search, gathered: &Gathered, keep: u32, begin: u32, best:
     }
     let last = index + 2 == gathered.from.len();
     let end = if last { width - 2 } else { width - 1 };
-    let crosses = Crosses {
-        keep,
-        lost,
-        ways: CutRow {
-            edges: gathered.to_edges,
-            most,
-            to: next,
-            on: here,
-        },
+    let ways = CutRow {
+        edges: gathered.to_edges,
+        most,
+        to: next,
+        on: here,
     };
-    cross_row(search, &crosses, begin, end as u32, best)
+    let crosses = Candidates {
+        kind: Kind::Crosses { keep },
+        lost,
+        gained: 0,
+        ways: &ways,
+    };
+    best_of_row(search, &crosses, begin, end as u32, best)
 }
 
 /// The better of the best so far and all crosses of two vehicles.

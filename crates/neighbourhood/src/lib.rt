@@ -3,8 +3,10 @@
 
 mod best;
 mod cross;
+mod kinds;
 mod laws;
 mod reverse;
+mod rows;
 mod search;
 mod searched;
 mod shift;

@@ -1,72 +1,15 @@
 //! Swaps of two customers.
-ghost use Rattle.std.specs.Prelude.{◌≡◌, ◌≢◌, ℕ, ◌+◌, ◌-◌, ◌^◌, ◌<◌, ◌≤◌, [], ◌∷◌, length, All};
-ghost use Rattle.move_core.specs.declared.moves.Move.TheVariants.{Swap};
+ghost use Rattle.std.specs.Prelude.{◌≡◌, ◌≢◌, ◌+◌, ◌-◌, ◌<◌, ◌≤◌, [], ◌∷◌, length};
 ghost use Rattle.neighbourhood.specs.Search.{IsBestSoFar};
-ghost use Rattle.neighbourhood.specs.Searched.{searched, IsGathered, IsPossible, IsSearch, Saves};
-ghost use Rattle.way_costs.specs.Rows.{IsSwapRow, lost_by_swap, gained_by_swap};
+ghost use Rattle.neighbourhood.specs.Searched.{searched, IsGathered, IsSearch};
 
 use crate::best::Best;
+use crate::kinds::Kind;
+use crate::rows::{Candidates, best_of_row};
 use crate::searched::{Gathered, Search};
-use limits::MOST_STOPS;
 use move_core::Move;
 use move_judge::{first_free, may_leave};
-use way_costs::{SwapRow, first_swap_gain, may_swap_gain, row, way_at};
-
-/// The swaps of the customer at a place: what each of them loses there, and the ways along the stops that it is swapped between, with the
-/// ways between those stops and the customer, the stop before it and the stop after it.
-#[derive(Clone, Copy)]
-struct Swaps<'a> {
-    place: u32,
-    lost: u64,
-    ways: SwapRow<'a>,
-}
-
-/// The better of the best so far and the swaps with the customers at the places from one to before another.
-#[inline(always)]
-fn swap_row(search: &Search, swaps: Swaps, first: u32, end: u32, best: Best) -> Best
-    requires search { IsSearch (searched search.now) }
-    requires low { 1 ≤ first }
-    requires order { first ≤ end }
-    requires near { search.now.v ≡ search.now.w → swaps.place < first }
-    requires ways { IsSwapRow swaps.ways end }
-    requires most { All (λ x. x ≤ swaps.ways.most) swaps.ways.edges.now }
-    requires short { length swaps.ways.here.now ≤ MOST_STOPS }
-    requires fixed { swaps.lost < 2 ^ 34 }
-    requires possible { (at : ℕ) → first ≤ at → at < end
-        → IsPossible (searched search.now) (Swap search.now.v swaps.place search.now.w at) }
-    requires saving { (at : ℕ) → first ≤ at → at < end → Saves (searched search.now) (Swap search.now.v swaps.place search.now.w at)
-        (swaps.lost + lost_by_swap swaps.ways at) (gained_by_swap swaps.ways at) }
-    requires best { IsBestSoFar (searched search.now) (2 ∷ search.now.v ∷ swaps.place ∷ search.now.w ∷ first ∷ []) best.found }
-    ensures { IsBestSoFar (searched search.now) (2 ∷ search.now.v ∷ swaps.entry.place ∷ search.now.w ∷ end ∷ []) result.found }
-{
-    let lost = swaps.lost;
-    let ways = swaps.ways;
-    let least = best.wanted(0);
-    if !may_swap_gain(lost, least, &ways, first as usize, end as usize) {
-        return best;
-    }
-    let mut best = best;
-    let mut at = first;
-    'row: while at < end {
-        let least = best.wanted(0);
-        let found = first_swap_gain(lost, least, &ways, at as usize, end as usize);
-        let there = found as u32;
-        if there == end {
-            return best;
-        }
-        let all_lost = lost + ways.lost(found);
-        let all_gained = ways.gained(found);
-        let mv = Move::Swap {
-            vehicle: search.v,
-            place: swaps.place,
-            other: search.w,
-            at: there,
-        };
-        best = best.or_better(search, mv, all_lost, all_gained);
-        at = there + 1;
-    }
-    best
-}
+use way_costs::{SwapRow, row, way_at};
 
 /// The better of the best so far and the swaps of the customer at a place with those of another vehicle.
 #[inline(always)]
@@ -103,19 +46,21 @@ fn swap_over(search: &Search, gathered: &Gathered, place: u32, best: Best) -> Be
     if lost + 2 * u64::from(most) <= floor {
         return best;
     }
-    let swaps = Swaps {
-        place,
-        lost,
-        ways: SwapRow {
-            edges: gathered.to_edges,
-            most,
-            before,
-            here,
-            next,
-            back,
-        },
+    let ways = SwapRow {
+        edges: gathered.to_edges,
+        most,
+        before,
+        here,
+        next,
+        back,
     };
-    swap_row(search, swaps, begin, end as u32, best)
+    let swaps = Candidates {
+        kind: Kind::Swaps { place },
+        lost,
+        gained: 0,
+        ways: &ways,
+    };
+    best_of_row(search, &swaps, begin, end as u32, best)
 }
 
 /// The better of the best so far and the swaps of the customer at a place with those behind it.
@@ -124,7 +69,7 @@ fn swap_within(search: &Search, gathered: &Gathered, place: u32, best: Best) -> 
     requires search { IsSearch (searched search.now) }
     requires gathered { IsGathered (searched search.now) gathered.now }
     requires inside { search.now.v ≡ search.now.w }
-    requires place { (1 ≤ place) × (place + 1 < length gathered.now.from.now) }
+    requires place { (1 ≤ place) × (place + 2 < length gathered.now.from.now) }
     requires best { IsBestSoFar (searched search.now) (2 ∷ search.now.v ∷ place ∷ search.now.w ∷ (place + 1) ∷ []) best.found }
     ensures { IsBestSoFar (searched search.now)
         (2 ∷ search.now.v ∷ place ∷ search.now.w ∷ (length gathered.now.from.now - 1) ∷ []) result.found }
@@ -132,9 +77,6 @@ fn swap_within(search: &Search, gathered: &Gathered, place: u32, best: Best) -> 
     let edges = gathered.to_edges;
     let width = gathered.from.len();
     let index = place as usize;
-    if index + 2 >= width {
-        return best;
-    }
     if place < first_free(search.view, search.setup, search.v) {
         return best;
     }
@@ -154,22 +96,21 @@ fn swap_within(search: &Search, gathered: &Gathered, place: u32, best: Best) -> 
         at: place + 1,
     };
     let near = best.or_better(search, mv, next_lost, gained);
-    if index + 3 >= width {
-        return near;
-    }
-    let swaps = Swaps {
-        place,
-        lost,
-        ways: SwapRow {
-            edges,
-            most: gathered.most,
-            before,
-            here,
-            next: row(into, width, index + 1),
-            back,
-        },
+    let ways = SwapRow {
+        edges,
+        most: gathered.most,
+        before,
+        here,
+        next: row(into, width, index + 1),
+        back,
     };
-    swap_row(search, swaps, place + 2, width as u32 - 1, near)
+    let swaps = Candidates {
+        kind: Kind::Swaps { place },
+        lost,
+        gained: 0,
+        ways: &ways,
+    };
+    best_of_row(search, &swaps, place + 2, width as u32 - 1, near)
 }
 
 /// The better of the best so far and all swaps of a customer of one vehicle with one of another.
@@ -198,7 +139,7 @@ pub(crate) fn best_swap_inside(search: &Search, gathered: &Gathered, best: Best)
     ensures { IsBestSoFar (searched search.now) (3 ∷ []) result.found }
 {
     let mut best = best;
-    for place in 1..gathered.from.len() as u32 - 1 {
+    for place in 1..gathered.from.len() as u32 - 2 {
         best = swap_within(search, gathered, place, best);
     }
     best

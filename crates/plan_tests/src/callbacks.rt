@@ -1,51 +1,41 @@
-ghost use Rattle.std.specs.Prelude.{◌≡◌, ◌<◌, ◌+◌, ◌-◌, ◌*◌, slice_index, length, All};
+ghost use Rattle.std.specs.Prelude.{◌≡◌, ◌<◌, ◌+◌, ◌-◌, ◌*◌, slice_index, length};
 ghost use Rattle.callback_store.specs.Registry.{tables};
 ghost use Rattle.callback_store.specs.Tables.{nodes_of};
 
 use crate::comparing::{compare, compare_meter};
 use callback_store::{
-    Matrix, Meter, RegisterFault, Registry, StayMatrix, Transit, TransitId, Unary, Vector,
+    Callback, Matrix, Meter, RegisterFault, Registry, Slot, StayMatrix, Transit, TransitId, Unary,
+    Vector,
 };
 use std::process::Abort;
 use std::sync::Arc;
 use std::sync::atomic::{AtomicU64, Ordering};
 
-/// Compares the answers of a callback from node 1 to each of some nodes.
-fn compare_row(
-    rt: &impl Abort,
-    registry: &Registry,
-    id: TransitId,
-    meter: &mut Meter,
-    nodes: &[u32],
-    wanted: &[u32],
-)
-    requires registered { id < length (tables registry.now) }
-    requires one { 1 < nodes_of (tables registry.now) }
-    requires nodes { All (λ i. i < nodes_of (tables registry.now)) nodes.now }
-    requires four { length nodes.now ≡ 4 }
+/// The answers of a callback over two nodes, by its kind: from each node to each.
+fn answers_of<C: Callback>(callback: &C) -> [u64; 4]
+    requires { (C.table callback.now).size ≡ 2 }
 {
-    let mut answers = [1u32; 4];
-    registry.ask_row(id, meter, 1, nodes, &mut answers);
-    assert_eq!(rt; answers.as_slice(), wanted);
+    [
+        callback.answer_way(0, 0),
+        callback.answer_way(0, 1),
+        callback.answer_way(1, 0),
+        callback.answer_way(1, 1),
+    ]
 }
 
-/// Compares the answers of a callback from each of some nodes to node 1.
-fn compare_column(
-    rt: &impl Abort,
-    registry: &Registry,
-    id: TransitId,
-    meter: &mut Meter,
-    nodes: &[u32],
-    wanted: &[u32],
-)
+/// Compares them, of whichever kind it is.
+fn compare_answers(rt: &impl Abort, registry: &Registry, id: TransitId, wanted: [u64; 4])
     requires registered { id < length (tables registry.now) }
-    requires one { 1 < nodes_of (tables registry.now) }
-    requires nodes { All (λ i. i < nodes_of (tables registry.now)) nodes.now }
-    requires four { length nodes.now ≡ 4 }
+    requires two { nodes_of (tables registry.now) ≡ 2 }
 {
-    let mut answers = [1u32; 4];
-    registry.ask_column(id, meter, 1, nodes, &mut answers);
-    assert_eq!(rt; answers.as_slice(), wanted);
+    let found = match registry.callback(id) {
+        Slot::Pair(callback) => answers_of(callback),
+        Slot::Node(callback) => answers_of(callback),
+        Slot::Listed(callback) => answers_of(callback),
+        Slot::Values(callback) => answers_of(callback),
+        Slot::Stayed(callback) => answers_of(callback),
+    };
+    assert_eq!(rt; found, wanted);
 }
 
 /// Compares all answers of a callback, as they are lent.
@@ -73,6 +63,8 @@ fn ask_both_kinds(rt: &impl Abort, registry: &Registry, load: TransitId, time: T
     compare(rt, registry.ask(time, &mut meter, 0, 1), 10, "out");
     compare(rt, registry.ask(time, &mut meter, 1, 0), 20, "back");
     compare(rt, meter.asks, 3, "asks");
+    compare_answers(rt, registry, load, [0, 0, 4, 4]);
+    compare_answers(rt, registry, time, [0, 10, 20, 0]);
 }
 
 #[test]
@@ -110,11 +102,8 @@ fn ask_a_matrix(rt: &impl Abort, registry: &Registry, costs: TransitId)
     let mut meter = Meter::new();
     compare(rt, registry.ask(costs, &mut meter, 0, 1), 10, "out");
     compare(rt, registry.ask(costs, &mut meter, 1, 0), 20, "back");
-    let nodes = &[1, 0, 0, 1];
-    compare_row(rt, registry, costs, &mut meter, nodes, &[0, 20, 20, 0]);
-    compare(rt, meter.asks, 6, "asks after a row");
-    compare_column(rt, registry, costs, &mut meter, nodes, &[0, 10, 10, 0]);
-    compare(rt, meter.asks, 10, "asks after a column");
+    compare(rt, meter.asks, 2, "asks");
+    compare_answers(rt, registry, costs, [0, 10, 20, 0]);
     compare_lent(rt, registry.answers(costs), &[0, 10, 20, 0]);
 }
 
@@ -138,15 +127,12 @@ fn ask_stays_and_values(rt: &impl Abort, registry: &Registry, time: TransitId, l
     requires nodes { nodes_of (tables registry.now) ≡ 2 }
 {
     let mut meter = Meter::new();
-    let nodes = &[1, 0, 0, 1];
     compare(rt, registry.ask(time, &mut meter, 0, 1), 13, "out");
     compare(rt, registry.ask(time, &mut meter, 1, 0), 25, "back");
-    compare_row(rt, registry, time, &mut meter, nodes, &[5, 25, 25, 5]);
-    compare_column(rt, registry, time, &mut meter, nodes, &[5, 13, 13, 5]);
     compare(rt, registry.ask(load, &mut meter, 1, 0), 4, "load");
-    compare_row(rt, registry, load, &mut meter, nodes, &[4, 4, 4, 4]);
-    compare_column(rt, registry, load, &mut meter, nodes, &[4, 0, 0, 4]);
-    compare(rt, meter.asks, 19, "asks");
+    compare(rt, meter.asks, 3, "asks");
+    compare_answers(rt, registry, time, [3, 13, 25, 5]);
+    compare_answers(rt, registry, load, [0, 0, 4, 4]);
 }
 
 /// Callbacks that are given as stays and ways, and as one answer for each node, are asked as any other.
@@ -166,15 +152,13 @@ fn answers_from_stays_and_values(rt: HostRuntime) {
     ask_stays_and_values(&rt, &registry, time, load);
 }
 
-/// Whether the callback for pairs is asked, whether a row is, and what is answered.
-const LISTS: &[(bool, bool, [u32; 4])] = &[
-    (true, true, [30, 10, 0, 30]),
-    (true, false, [10, 30, 0, 10]),
-    (false, true, [7, 7, 7, 7]),
-    (false, false, [14, 0, 7, 14]),
+/// Whether the callback for pairs is asked, and its answers from each of three nodes to each.
+const ANSWERS: [(bool, [u64; 9]); 2] = [
+    (true, [0, 30, 60, 10, 0, 30, 20, 10, 0]),
+    (false, [0, 0, 0, 7, 7, 7, 14, 14, 14]),
 ];
 
-fn ask_rows_and_columns(
+fn ask_and_count(
     rt: &impl Abort,
     registry: &Registry,
     pairs: TransitId,
@@ -186,24 +170,20 @@ fn ask_rows_and_columns(
     requires three { nodes_of (tables registry.now) ≡ 3 }
 {
     let mut meter = Meter::new();
-    for (is_paired, is_row, wanted) in LISTS {
+    for (is_paired, wanted) in &ANSWERS {
         let id = if *is_paired { pairs } else { nodes };
-        let asked = &[2, 0, 1, 2];
-        if *is_row {
-            compare_row(rt, registry, id, &mut meter, asked, wanted);
-        } else {
-            compare_column(rt, registry, id, &mut meter, asked, wanted);
+        for way in 0..9u32 {
+            let answer = registry.ask(id, &mut meter, way / 3, way % 3);
+            compare(rt, answer, wanted[way as usize], "answer");
+            compare(rt, meter.asks, calls.load(Ordering::SeqCst), "calls so far");
         }
-        compare(rt, meter.asks, calls.load(Ordering::SeqCst), "calls so far");
     }
-    registry.ask_row(pairs, &mut meter, 1, &[], &mut []);
-    compare(rt, meter.asks, 16, "asks after no node");
-    compare(rt, calls.load(Ordering::SeqCst), 16, "calls");
+    compare(rt, meter.asks, 18, "asks");
 }
 
-/// Rows and columns ask the closure once for each answer: the closures count their calls beside the meter.
+/// An ask calls the closure once: the closures count their calls beside the meter.
 #[test]
-fn answers_a_row_and_a_column(rt: HostRuntime) {
+fn an_ask_is_one_call(rt: HostRuntime) {
     let calls = Arc::new(rt.alloc(), AtomicU64::new(0)).expect(&rt, "memory");
     let of_pairs = Arc::try_clone(&calls).expect(&rt, "memory");
     let of_nodes = Arc::try_clone(&calls).expect(&rt, "memory");
@@ -232,7 +212,7 @@ fn answers_a_row_and_a_column(rt: HostRuntime) {
     let mut registry = Registry::new(rt.alloc());
     let pairs = registry.register(steps).expect(&rt, "room");
     let nodes = registry.register_unary(weights).expect(&rt, "room");
-    ask_rows_and_columns(&rt, &registry, pairs, nodes, &calls);
+    ask_and_count(&rt, &registry, pairs, nodes, &calls);
 }
 
 #[test]

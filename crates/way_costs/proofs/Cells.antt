@@ -1,6 +1,6 @@
-use Rattle.std.proofs.Common.{add-zero, append_assoc, All, Fits, w32, w64, ◌^◌, ◌≡◌, ◌≢◌, ℕ, ◌+◌, ◌-◌, ◌*◌, ◌<◌, ◌≤◌, ◌∙◌, ◌⊎◌, refl, sym, ap, subst, arith, inl, inr, List, [], ◌∷◌, ◌++◌, length, map, set, slice_index, slice_index_or, length-append, min, Bool, true, false, ◌==◌, if◌then◌else◌, take, drop, suc, Option, Some, None, IfSome, IsTrue, not}
+use Rattle.std.proofs.Common.{add-zero, append_assoc, All, Fits, w32, w64, ◌^◌, ◌≡◌, ◌≢◌, ℕ, ◌+◌, ◌-◌, ◌*◌, ◌<◌, ◌≤◌, ◌∙◌, ◌⊎◌, refl, sym, ap, subst, arith, inl, inr, List, [], ◌∷◌, ◌++◌, length, set, slice_index, slice_index_or, length-append, min, Bool, true, false, if◌then◌else◌, take, drop, suc, Option, Some, None, IfSome, IsTrue, not}
 use Rattle.std.proofs.lemmas.Bool.{cases_lt, ne_eqb}
-use Rattle.std.proofs.lemmas.List.{get_or_default, get_or_push, get_or_append_left, get_or-append-add, get_or-take, get_or-drop, get_or-set_same, get_or-set_other, get_or-map, length-map, length-set, length-take-le, length-drop, take_all, take_more}
+use Rattle.std.proofs.lemmas.List.{get_or_default, get_or_push, get_or_append_left, get_or-append-add, get_or-take, get_or-drop, get_or-set_same, get_or-set_other, length-set, length-take-le, length-drop, take_all, take_more}
 use Rattle.std.proofs.lemmas.List.Elements.{All-append, All-cons, All-drop, All-nil, All-take}
 use Rattle.std.proofs.Math.Seq.{take-append_seam, drop-append_seam}
 use Rattle.std.proofs.lemmas.Nat.{mul-le}
@@ -317,12 +317,6 @@ way_away false t i j h = hop_away t i j h
 pub way_from : (turned : Bool) (t : Table) (i j way : ℕ) → 1 ≤ i → way ≡ entry_by turned t i j → way ≡ hop_by turned t i j
 way_from turned t i j way low e = e ∙ sym (way_away turned t i j (λ none. absurd (omega arith)))
 
--- the first numbers of a row from the depot, 0 at each depot, and the others as they were
-pub record AreCleared (to old : List ℕ) (n : ℕ) (row : List ℕ) : Type 0 where
-  pub sized : length row ≡ length to
-  pub ways : (k : ℕ) → k < n → slice_index row k ≡ (if slice_index to k == 0 then 0 else slice_index old k)
-  pub rest : (k : ℕ) → n ≤ k → slice_index row k ≡ slice_index old k
-
 -- the way from the depot to a stop, which may be the depot
 pub stays : (turned : Bool) (t : Table) (j : ℕ) → j ≡ 0 → 0 ≡ hop_by turned t 0 j
 stays true t j e = rw e refl
@@ -358,28 +352,9 @@ id_known s ts id e h = subst (λ (xs : List Table). id < length xs) (sym e) h
 pub node_known : (s : Setting) (ts : List Table) (i : ℕ) → ts ≡ s.tables → IsSetting s → i ≤ s.customers → i < nodes_of ts
 node_known s ts i e is h = subst (λ (xs : List Table). i < nodes_of xs) (sym e) (below_nodes i s.customers (nodes_of s.tables) is.tables h)
 
-pub nodes_known : (s : Setting) (ts : List Table) (xs : List ℕ) → ts ≡ s.tables → IsSetting s → All (λ c. c ≤ s.customers) xs → All (λ i. i < nodes_of ts) xs
-nodes_known s ts xs e is all k d h = node_known s ts (slice_index_or xs k d) e is (all k d h)
-
 pub answer_of : (s : Setting) (ts : List Table) (id i j way : ℕ) → ts ≡ s.tables → id ≡ s.cost → way ≡ entry (table_at ts id) i j → way ≡ entry (table_at s.tables s.cost) i j
 answer_of s ts id i j way e f g =
     subst (λ (n : ℕ). way ≡ entry (table_at s.tables n) i j) f (subst (λ (xs : List Table). way ≡ entry (table_at xs id) i j) e g)
-
--- the answers, as it is asked for a row or for a column
-pub answers_long : (f : ℕ → ℕ) (to row : List ℕ) → row ≡ map f to → length row ≡ length to
-answers_long f to row e = ap length e ∙ length-map to f
-
-pub row_answers : (turned : Bool) (s : Setting) (ts : List Table) (id i : ℕ) (to row : List ℕ) → turned ≡ false → ts ≡ s.tables → id ≡ s.cost
-    → row ≡ map (λ j. entry (table_at ts id) i j) to → (k : ℕ) → k < length to → slice_index row k ≡ entry_by turned (table_at s.tables s.cost) i (slice_index to k)
-row_answers turned s ts id i to row out e f g k h =
-    let here = ap (λ (xs : List ℕ). slice_index xs k) g ∙ get_or-map (λ j. entry (table_at ts id) i j) to k 0 0 h in
-    rw out (answer_of s ts id i (slice_index to k) (slice_index row k) e f here)
-
-pub column_answers : (turned : Bool) (s : Setting) (ts : List Table) (id j : ℕ) (from row : List ℕ) → turned ≡ true → ts ≡ s.tables → id ≡ s.cost
-    → row ≡ map (λ i. entry (table_at ts id) i j) from → (k : ℕ) → k < length from → slice_index row k ≡ entry_by turned (table_at s.tables s.cost) j (slice_index from k)
-column_answers turned s ts id j from row out e f g k h =
-    let here = ap (λ (xs : List ℕ). slice_index xs k) g ∙ get_or-map (λ i. entry (table_at ts id) i j) from k 0 0 h in
-    rw out (answer_of s ts id (slice_index from k) j (slice_index row k) e f here)
 
 -- a way between two stops that follow one another, as it is driven or driven back
 pub steps_by : (turned : Bool) (t : Table) (S cells : List ℕ) (i : ℕ) → AreHopsFrom false t S S 0 1 cells → 1 ≤ i → i + 2 < length S

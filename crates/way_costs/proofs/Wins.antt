@@ -1,10 +1,9 @@
 -- Rows that are gone through: the places lie in them, the sums fit, and none of the numbers so far wins.
-use Rattle.std.proofs.Common.{Fits, w64, ◌≡◌, ◌^◌, ℕ, ◌+◌, ◌-◌, ◌%◌, ◌<◌, ◌≤◌, inl, inr, arith}
+use Rattle.std.proofs.Common.{Fits, w64, ◌≡◌, ◌^◌, ℕ, ◌+◌, ◌-◌, ◌%◌, ◌<◌, ◌≤◌, inl, inr, subst, arith}
 use Rattle.std.proofs.lemmas.Bool.{cases_lt}
 use Rattle.way_costs.specs.declared.gains.CutRow.{CutRow}
 use Rattle.way_costs.specs.declared.gains.SwapRow.{SwapRow}
-use Rattle.way_costs.specs.declared.gains.ReverseRow.{ReverseRow}
-use Rattle.way_costs.specs.Rows.{IsCutRow, IsSwapRow, IsReverseRow, lost_by_cut, gained_by_cut, lost_by_swap, gained_by_swap, lost_by_reverse, gained_by_reverse}
+use Rattle.way_costs.specs.Rows.{IsCutRow, IsSwapRow}
 use borrow.Author.Count.{below_more}
 
 pub never : (k from : ℕ) → k < from → from ≤ k → ⊥
@@ -35,23 +34,11 @@ pub passed : (m k end : ℕ) → m < end → end ≤ k → m < k
 passed m k end h l = omega arith
 
 -- sums fit
-pub lost_cut : (x a : ℕ) → x < 2 ^ 50 → a < 2 ^ 32 → Fits w64 (x + a)
-lost_cut x a h i = omega arith
+pub lost_fits : (x a : ℕ) → x < 2 ^ 51 → a < 2 ^ 43 → Fits w64 (x + a)
+lost_fits x a h i = omega arith
 
-pub wanted_cut : (w a : ℕ) → w < 2 ^ 61 → a < 2 ^ 33 → Fits w64 (w + a)
-wanted_cut w a h i = omega arith
-
-pub lost_swap : (x a : ℕ) → x < 2 ^ 50 → a < 2 ^ 33 → Fits w64 (x + a)
-lost_swap x a h i = omega arith
-
-pub wanted_swap : (w a : ℕ) → w < 2 ^ 61 → a < 2 ^ 34 → Fits w64 (w + a)
-wanted_swap w a h i = omega arith
-
-pub lost_reverse : (x a : ℕ) → x < 2 ^ 51 → a < 2 ^ 43 → Fits w64 (x + a)
-lost_reverse x a h i = omega arith
-
-pub wanted_reverse : (w a : ℕ) → w < 2 ^ 61 → a < 2 ^ 43 → Fits w64 (w + a)
-wanted_reverse w a h i = omega arith
+pub wanted_fits : (w a : ℕ) → w < 2 ^ 61 → a < 2 ^ 43 → Fits w64 (w + a)
+wanted_fits w a h i = omega arith
 
 -- what a candidate loses and gains beside what is wanted
 pub wins : (lost wanted x y a b : ℕ) → x ≡ a → y ≡ b → wanted + y < lost + x → wanted + b < lost + a
@@ -60,17 +47,9 @@ wins lost wanted x y a b e f h = omega arith
 pub loses : (lost wanted x y a b : ℕ) → x ≡ a → y ≡ b → lost + x ≤ wanted + y → lost + a ≤ wanted + b
 loses lost wanted x y a b e f h = omega arith
 
-pub cuts_on : (row : CutRow) (lost wanted from k : ℕ) → ((m : ℕ) → m < k → from ≤ m → lost + lost_by_cut row m ≤ wanted + gained_by_cut row m)
-    → lost + lost_by_cut row k ≤ wanted + gained_by_cut row k → (m : ℕ) → m < k + 1 → from ≤ m → lost + lost_by_cut row m ≤ wanted + gained_by_cut row m
-cuts_on row lost wanted from k below here = below_more (λ (m : ℕ). from ≤ m → lost + lost_by_cut row m ≤ wanted + gained_by_cut row m) k below (λ l. here)
-
-pub swaps_on : (row : SwapRow) (lost wanted from k : ℕ) → ((m : ℕ) → m < k → from ≤ m → lost + lost_by_swap row m ≤ wanted + gained_by_swap row m)
-    → lost + lost_by_swap row k ≤ wanted + gained_by_swap row k → (m : ℕ) → m < k + 1 → from ≤ m → lost + lost_by_swap row m ≤ wanted + gained_by_swap row m
-swaps_on row lost wanted from k below here = below_more (λ (m : ℕ). from ≤ m → lost + lost_by_swap row m ≤ wanted + gained_by_swap row m) k below (λ l. here)
-
-pub reverses_on : (row : ReverseRow) (lost wanted from k : ℕ) → ((m : ℕ) → m < k → from ≤ m → lost + lost_by_reverse row m ≤ wanted + gained_by_reverse row m)
-    → lost + lost_by_reverse row k ≤ wanted + gained_by_reverse row k → (m : ℕ) → m < k + 1 → from ≤ m → lost + lost_by_reverse row m ≤ wanted + gained_by_reverse row m
-reverses_on row lost wanted from k below here = below_more (λ (m : ℕ). from ≤ m → lost + lost_by_reverse row m ≤ wanted + gained_by_reverse row m) k below (λ l. here)
+pub none_on : (loses gains : ℕ → ℕ) (lost wanted from k : ℕ) → ((m : ℕ) → m < k → from ≤ m → lost + loses m ≤ wanted + gains m)
+    → lost + loses k ≤ wanted + gains k → (m : ℕ) → m < k + 1 → from ≤ m → lost + loses m ≤ wanted + gains m
+none_on loses gains lost wanted from k below here = below_more (λ (m : ℕ). from ≤ m → lost + loses m ≤ wanted + gains m) k below (λ l. here)
 
 -- a row in steps, of which the last may begin inside the one before
 pub step_low : (from end : ℕ) → from + 8 ≤ end → from ≤ end
@@ -105,20 +84,24 @@ steps_all P from whole end last some others k h l = elim (cases_lt k whole) [
 ]
 
 pub cut_shorter : (row : CutRow) (n m : ℕ) → n ≤ m → IsCutRow row m → IsCutRow row n
-cut_shorter row n m h is = let e = is.edges in let t = is.to in let o = is.on in record { edges = omega arith; to = omega arith; on = omega arith }
+cut_shorter row n m h is =
+    let e = is.edges in let t = is.to in let o = is.on in
+    record { edges = omega arith; to = omega arith; on = omega arith; most = is.most }
 
 pub swap_shorter : (row : SwapRow) (n m : ℕ) → n ≤ m → IsSwapRow row m → IsSwapRow row n
 swap_shorter row n m h is =
     let e = is.edges in let b = is.before in let a = is.here in let x = is.next in let y = is.back in
-    record { edges = omega arith; before = omega arith; here = omega arith; next = omega arith; back = omega arith }
+    record { edges = omega arith; before = omega arith; here = omega arith; next = omega arith; back = omega arith; most = is.most }
 
-pub cut_at : (row : CutRow) (k end : ℕ) → k < end → IsCutRow row end → IsCutRow row (k + 1)
-cut_at row k end h is = cut_shorter row (k + 1) end (omega arith) is
+-- a long row that has each candidate has them all
+pub last_of : (from end : ℕ) → from ≤ end → 10 ≤ end - from → (from ≤ end - 1) × (end - 1 < end) × (end - 1 + 1 ≡ end)
+last_of from end order h = (omega arith, omega arith, omega arith)
 
-pub swap_at : (row : SwapRow) (k end : ℕ) → k < end → IsSwapRow row end → IsSwapRow row (k + 1)
-swap_at row k end h is = swap_shorter row (k + 1) end (omega arith) is
+pub cut_whole : (row : CutRow) (from end : ℕ) → from ≤ end → 10 ≤ end - from → ((k : ℕ) → from ≤ k → k < end → IsCutRow row (k + 1)) → IsCutRow row end
+cut_whole row from end order h each = let l = last_of from end order h in subst (λ (n : ℕ). IsCutRow row n) l.2 (each (end - 1) l.0 l.1)
 
-pub reverse_at : (row : ReverseRow) (k end : ℕ) → k < end → IsReverseRow row end → IsReverseRow row (k + 1)
-reverse_at row k end h is =
-    let e = is.edges in let s = is.sums in let t = is.back_sums in let b = is.before in let a = is.here in
-    record { edges = omega arith; sums = omega arith; back_sums = omega arith; before = omega arith; here = omega arith; small = is.small }
+pub swap_whole : (row : SwapRow) (from end : ℕ) → from ≤ end → 10 ≤ end - from → ((k : ℕ) → from ≤ k → k < end → (1 ≤ k) × IsSwapRow row (k + 1)) → IsSwapRow row end
+swap_whole row from end order h each = let l = last_of from end order h in subst (λ (n : ℕ). IsSwapRow row n) l.2 (each (end - 1) l.0 l.1).1
+
+pub first_in : (from end : ℕ) → from ≤ end → 10 ≤ end - from → from < end
+first_in from end order h = omega arith

@@ -4,11 +4,12 @@ use Rattle.way_costs.specs.declared.gains.CutRow.{CutRow}
 use Rattle.way_costs.specs.declared.gains.SwapRow.{SwapRow}
 use Rattle.way_costs.specs.declared.gains.ReverseRow.{ReverseRow}
 
--- a row of cuts has the ways of each before an end
+-- a row of cuts has the ways of each before an end, and none of those lost costs more than its most
 pub record IsCutRow (row : CutRow) (end : ℕ) : Type 0 where
   pub edges : end ≤ length row.edges.now
   pub to : end ≤ length row.to.now
   pub on : end < length row.on.now
+  pub most : All (λ x. x ≤ row.most) row.edges.now
 
 -- a cut loses the way from its stop to the next, and gains one from its stop and one to the next
 abbrev pub lost_by_cut : CutRow → ℕ → ℕ
@@ -24,6 +25,7 @@ pub record IsSwapRow (row : SwapRow) (end : ℕ) : Type 0 where
   pub here : end < length row.here.now
   pub next : end ≤ length row.next.now
   pub back : end ≤ length row.back.now
+  pub most : All (λ x. x ≤ row.most) row.edges.now
 
 -- a swap loses the ways to its stop and from there, and gains those to the stop and the given one in each other's place, and from there
 abbrev pub lost_by_swap : SwapRow → ℕ → ℕ

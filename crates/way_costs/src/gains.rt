@@ -1,5 +1,5 @@
 //! Where a row of candidates first gains more than is wanted, by the costs of the ways that each loses and gains.
-ghost use Rattle.std.specs.Prelude.{false, ◌≡◌, ℕ, ◌+◌, ◌<◌, ◌≤◌, ◌^◌, slice_index, All};
+ghost use Rattle.std.specs.Prelude.{false, ◌≡◌, ℕ, ◌+◌, ◌<◌, ◌≤◌, ◌^◌};
 ghost use Rattle.way_costs.specs.Rows.{IsCutRow, lost_by_cut, gained_by_cut};
 ghost use Rattle.way_costs.specs.Rows.{IsSwapRow, lost_by_swap, gained_by_swap};
 ghost use Rattle.way_costs.specs.Rows.{IsReverseRow, lost_by_reverse, gained_by_reverse};
@@ -14,6 +14,39 @@ const STEP: usize = 8;
 
 /// The greatest cost of which twice as much fits in 32 bits.
 const HALF: u32 = 2_147_483_647;
+
+/// What the ways cost that the candidates of a row lose and gain, of which one stands at each of some stops.
+pub trait RowCosts {
+    // What the candidate at a stop loses and gains, and whether the row has one there.
+    ghost loses: { Self → ℕ → ℕ };
+
+    ghost gains: { Self → ℕ → ℕ };
+
+    ghost has: { Self → ℕ → Type 0 };
+
+    /// What the ways cost that the candidate at a stop loses.
+    fn lost(&self, k: usize) -> u64
+        requires { has self.now k }
+        ensures value { result ≡ loses self.now k }
+        ensures small { result < 2 ^ 43 };
+
+    /// What the ways cost that it gains.
+    fn gained(&self, k: usize) -> u64
+        requires { has self.now k }
+        ensures value { result ≡ gains self.now k }
+        ensures small { result < 2 ^ 43 };
+}
+
+/// A row of candidates. A function that has the kind of row as a type parameter looks at the kind once, and not at each candidate.
+pub trait Row: RowCosts {
+    /// Whether `first_gain` may find an index. Over a short row no pass is made to see it.
+    fn may_gain(&self, lost: u64, wanted: u64, from: usize, end: usize) -> bool
+        requires lost { lost < 2 ^ 51 }
+        requires wanted { wanted < 2 ^ 61 }
+        requires order { from ≤ end }
+        requires row { (k : ℕ) → from ≤ k → k < end → Self.has self.now k }
+        ensures { result ≡ false → (k : ℕ) → k < end → from ≤ k → lost + Self.loses self.now k ≤ wanted + Self.gains self.now k };
+}
 
 /// What the ways of a row of cuts cost: each cut, at a stop, replaces the way from there to the next stop by a way from the stop to something
 /// and a way from something to the next stop.
@@ -61,48 +94,56 @@ pub struct ReverseRow<'a> {
     pub here: &'a [u32],
 }
 
-impl<'a> CutRow<'a> {
-    /// What the way costs that a cut at a stop loses.
+impl<'a> RowCosts for CutRow<'a> {
+    ghost loses = { λ row k. lost_by_cut row k };
+
+    ghost gains = { λ row k. gained_by_cut row k };
+
+    ghost has = { λ row k. IsCutRow row (k + 1) };
+
     #[inline(always)]
-    pub fn lost(&self, k: usize) -> u64
-        requires { IsCutRow self.now (k + 1) }
-        ensures value { result ≡ lost_by_cut self.now k }
-        ensures small { result < 2 ^ 32 }
-    {
+    fn lost(&self, k: usize) -> u64 {
         way_at(self.edges, k)
     }
 
-    /// What the ways cost that it gains.
     #[inline(always)]
-    pub fn gained(&self, k: usize) -> u64
-        requires { IsCutRow self.now (k + 1) }
-        ensures value { result ≡ gained_by_cut self.now k }
-        ensures small { result < 2 ^ 33 }
-    {
+    fn gained(&self, k: usize) -> u64 {
         way_at(self.to, k) + way_at(self.on, k + 1)
     }
 }
 
-impl<'a> SwapRow<'a> {
-    /// What the ways cost that a swap with a stop loses there.
+impl<'a> Row for CutRow<'a> {
+    /// By the row's `most`, and else by one pass without branches.
     #[inline(always)]
-    pub fn lost(&self, k: usize) -> u64
-        requires low { 1 ≤ k }
-        requires row { IsSwapRow self.now (k + 1) }
-        ensures value { result ≡ lost_by_swap self.now k }
-        ensures small { result < 2 ^ 33 }
-    {
+    fn may_gain(&self, lost: u64, wanted: u64, from: usize, end: usize) -> bool {
+        if lost + u64::from(self.most) <= wanted {
+            return false;
+        }
+        if end - from < FEW {
+            return true;
+        }
+        if lost <= wanted {
+            let more = (wanted - lost).min(4_294_967_295) as u32;
+            return may_gain_steps_over(more, self, from, end);
+        }
+        may_gain_wide(self, lost, wanted, from, end)
+    }
+}
+
+impl<'a> RowCosts for SwapRow<'a> {
+    ghost loses = { λ row k. lost_by_swap row k };
+
+    ghost gains = { λ row k. gained_by_swap row k };
+
+    ghost has = { λ row k. (1 ≤ k) × IsSwapRow row (k + 1) };
+
+    #[inline(always)]
+    fn lost(&self, k: usize) -> u64 {
         way_at(self.edges, k - 1) + way_at(self.edges, k)
     }
 
-    /// What the ways cost that it gains.
     #[inline(always)]
-    pub fn gained(&self, k: usize) -> u64
-        requires low { 1 ≤ k }
-        requires row { IsSwapRow self.now (k + 1) }
-        ensures value { result ≡ gained_by_swap self.now k }
-        ensures small { result < 2 ^ 34 }
-    {
+    fn gained(&self, k: usize) -> u64 {
         way_at(self.before, k)
             + way_at(self.next, k)
             + way_at(self.back, k - 1)
@@ -110,91 +151,62 @@ impl<'a> SwapRow<'a> {
     }
 }
 
-impl<'a> ReverseRow<'a> {
-    /// What the ways cost that a reverse up to a stop loses.
+impl<'a> Row for SwapRow<'a> {
+    /// By twice the row's `most`, and else by one pass without branches.
     #[inline(always)]
-    pub fn lost(&self, k: usize) -> u64
-        requires { IsReverseRow self.now (k + 1) }
-        ensures value { result ≡ lost_by_reverse self.now k }
-        ensures small { result < 2 ^ 43 }
-    {
+    fn may_gain(&self, lost: u64, wanted: u64, from: usize, end: usize) -> bool {
+        if lost + 2 * u64::from(self.most) <= wanted {
+            return false;
+        }
+        if end - from < FEW {
+            return true;
+        }
+        if lost <= wanted && self.most <= HALF {
+            let more = (wanted - lost).min(4_294_967_295) as u32;
+            return may_swap_gain_steps(more, self, from, end);
+        }
+        may_gain_wide(self, lost, wanted, from, end)
+    }
+}
+
+impl<'a> RowCosts for ReverseRow<'a> {
+    ghost loses = { λ row k. lost_by_reverse row k };
+
+    ghost gains = { λ row k. gained_by_reverse row k };
+
+    ghost has = { λ row k. IsReverseRow row (k + 1) };
+
+    #[inline(always)]
+    fn lost(&self, k: usize) -> u64 {
         self.sums[k] + way_at(self.edges, k)
     }
 
-    /// What the ways cost that it gains.
     #[inline(always)]
-    pub fn gained(&self, k: usize) -> u64
-        requires { IsReverseRow self.now (k + 1) }
-        ensures value { result ≡ gained_by_reverse self.now k }
-        ensures small { result < 2 ^ 43 }
-    {
+    fn gained(&self, k: usize) -> u64 {
         way_at(self.before, k) + self.back_sums[k] + way_at(self.here, k + 1)
     }
 }
 
-/// The first index from one on and before another at which `lost` and the way lost there cost more than `wanted` and the ways gained there;
+impl<'a> Row for ReverseRow<'a> {
+    /// By one pass without branches.
+    #[inline(always)]
+    fn may_gain(&self, lost: u64, wanted: u64, from: usize, end: usize) -> bool {
+        end - from < FEW || may_gain_wide(self, lost, wanted, from, end)
+    }
+}
+
+/// The first index from one on and before another at which `lost` and the ways lost there cost more than `wanted` and the ways gained there;
 /// the other index where there is none.
 #[inline(always)]
-pub fn first_gain(lost: u64, wanted: u64, row: &CutRow, from: usize, end: usize) -> usize
-    requires lost { lost < 2 ^ 50 }
-    requires wanted { wanted < 2 ^ 61 }
-    requires order { from ≤ end }
-    requires row { IsCutRow row.now end }
-    ensures low { from ≤ result }
-    ensures high { result ≤ end }
-    ensures none { (k : ℕ) → k < result → from ≤ k → lost + lost_by_cut row.now k ≤ wanted + gained_by_cut row.now k }
-    ensures found { result < end → wanted + gained_by_cut row.now result < lost + lost_by_cut row.now result }
-{
-    for k in from..end {
-        let all_gained = wanted + row.gained(k);
-        let all_lost = lost + row.lost(k);
-        if all_gained < all_lost {
-            return k;
-        }
-    }
-    end
-}
-
-/// The same for swaps, each of which loses two ways of the row besides.
-#[inline(always)]
-pub fn first_swap_gain(lost: u64, wanted: u64, row: &SwapRow, from: usize, end: usize) -> usize
-    requires lost { lost < 2 ^ 50 }
-    requires wanted { wanted < 2 ^ 61 }
-    requires begin { 1 ≤ from }
-    requires order { from ≤ end }
-    requires row { IsSwapRow row.now end }
-    ensures low { from ≤ result }
-    ensures high { result ≤ end }
-    ensures none { (k : ℕ) → k < result → from ≤ k → lost + lost_by_swap row.now k ≤ wanted + gained_by_swap row.now k }
-    ensures found { result < end → wanted + gained_by_swap row.now result < lost + lost_by_swap row.now result }
-{
-    for k in from..end {
-        let all_gained = wanted + row.gained(k);
-        let all_lost = lost + row.lost(k);
-        if all_gained < all_lost {
-            return k;
-        }
-    }
-    end
-}
-
-/// The same for reverses, each of which loses and gains the ways up to its stop besides.
-#[inline(always)]
-pub fn first_reverse_gain(
-    lost: u64,
-    wanted: u64,
-    row: &ReverseRow,
-    from: usize,
-    end: usize,
-) -> usize
+pub fn first_gain<R: RowCosts>(row: &R, lost: u64, wanted: u64, from: usize, end: usize) -> usize
     requires lost { lost < 2 ^ 51 }
     requires wanted { wanted < 2 ^ 61 }
     requires order { from ≤ end }
-    requires row { IsReverseRow row.now end }
+    requires row { (k : ℕ) → from ≤ k → k < end → R.has row.now k }
     ensures low { from ≤ result }
     ensures high { result ≤ end }
-    ensures none { (k : ℕ) → k < result → from ≤ k → lost + lost_by_reverse row.now k ≤ wanted + gained_by_reverse row.now k }
-    ensures found { result < end → wanted + gained_by_reverse row.now result < lost + lost_by_reverse row.now result }
+    ensures none { (k : ℕ) → k < result → from ≤ k → lost + R.loses row.now k ≤ wanted + R.gains row.now k }
+    ensures found { result < end → wanted + R.gains row.now result < lost + R.loses row.now result }
 {
     for k in from..end {
         let all_gained = wanted + row.gained(k);
@@ -204,6 +216,26 @@ pub fn first_reverse_gain(
         }
     }
     end
+}
+
+/// Whether it may find one, in one pass without branches.
+#[inline(always)]
+fn may_gain_wide<R: RowCosts>(row: &R, lost: u64, wanted: u64, from: usize, end: usize) -> bool
+    requires lost { lost < 2 ^ 51 }
+    requires wanted { wanted < 2 ^ 61 }
+    requires order { from ≤ end }
+    requires row { (k : ℕ) → from ≤ k → k < end → R.has row.now k }
+    ensures { result ≡ false → (k : ℕ) → k < end → from ≤ k → lost + R.loses row.now k ≤ wanted + R.gains row.now k }
+{
+    let mut gains = false;
+    for k in from..end {
+        let all_gained = wanted + row.gained(k);
+        let all_lost = lost + row.lost(k);
+        if all_gained < all_lost {
+            gains = true;
+        }
+    }
+    gains
 }
 
 /// Whether a way lost may cost more than `more` and the ways gained, in one pass without branches. No sum is made, so that 32 bits are enough,
@@ -221,27 +253,6 @@ fn may_gain_over(more: u32, row: &CutRow, from: usize, end: usize) -> bool
     for k in from..end {
         let left = edges[k].saturating_sub(more).saturating_sub(to[k]);
         if on[k + 1] < left {
-            gains = true;
-        }
-    }
-    gains
-}
-
-/// The same where `less` and a way lost may cost more than the ways gained. A sum that does not fit is told too small.
-#[inline(always)]
-fn may_gain_under(less: u32, row: &CutRow, from: usize, end: usize) -> bool
-    requires order { from ≤ end }
-    requires row { IsCutRow row.now end }
-    ensures { result ≡ false → (k : ℕ) → k < end → from ≤ k → less + lost_by_cut row.now k ≤ gained_by_cut row.now k }
-{
-    let edges = row.edges;
-    let to = row.to;
-    let on = row.on;
-    let mut gains = false;
-    for k in from..end {
-        let all_gained = to[k].saturating_add(on[k + 1]);
-        let left = all_gained.saturating_sub(less);
-        if all_gained < less || left < edges[k] {
             gains = true;
         }
     }
@@ -273,55 +284,12 @@ fn may_gain_steps_over(more: u32, row: &CutRow, from: usize, end: usize) -> bool
     may_gain_over(more, row, end - STEP, end)
 }
 
-/// What `may_gain_under` says of a row, in steps.
-#[inline(always)]
-fn may_gain_steps_under(less: u32, row: &CutRow, from: usize, end: usize) -> bool
-    requires long { from + 8 ≤ end }
-    requires row { IsCutRow row.now end }
-    ensures { result ≡ false → (k : ℕ) → k < end → from ≤ k → less + lost_by_cut row.now k ≤ gained_by_cut row.now k }
-{
-    let whole = steps_end(from, end);
-    if may_gain_under(less, row, from, whole) {
-        return true;
-    }
-    may_gain_under(less, row, end - STEP, end)
-}
-
-/// Whether `first_gain` may find an index: by the row's `most`, and else by one pass without branches over a long row; over a short row no
-/// pass is made.
-#[inline(always)]
-pub fn may_gain(lost: u64, wanted: u64, row: &CutRow, from: usize, end: usize) -> bool
-    requires lost { lost < 2 ^ 50 }
-    requires wanted { wanted < 2 ^ 61 }
-    requires order { from ≤ end }
-    requires row { IsCutRow row.now end }
-    requires most { All (λ x. x ≤ row.now.most) row.now.edges.now }
-    ensures { result ≡ false → (k : ℕ) → k < end → from ≤ k → lost + lost_by_cut row.now k ≤ wanted + gained_by_cut row.now k }
-{
-    if lost + u64::from(row.most) <= wanted {
-        return false;
-    }
-    if end - from < FEW {
-        return true;
-    }
-    if lost <= wanted {
-        let more = (wanted - lost).min(4_294_967_295) as u32;
-        return may_gain_steps_over(more, row, from, end);
-    }
-    let less = lost - wanted;
-    if less > 4_294_967_295 {
-        return true;
-    }
-    may_gain_steps_under(less as u32, row, from, end)
-}
-
 /// Whether two ways lost may cost more than `more` and the ways gained, in one pass without branches. The two together fit in 32 bits.
 #[inline(always)]
 fn may_swap_gain_over(more: u32, row: &SwapRow, from: usize, end: usize) -> bool
     requires begin { 1 ≤ from }
     requires order { from ≤ end }
     requires row { IsSwapRow row.now end }
-    requires most { All (λ x. x ≤ row.now.most) row.now.edges.now }
     requires half { row.now.most ≤ 2147483647 }
     ensures { result ≡ false → (k : ℕ) → k < end → from ≤ k → lost_by_swap row.now k ≤ more + gained_by_swap row.now k }
 {
@@ -351,7 +319,6 @@ fn may_swap_gain_steps(more: u32, row: &SwapRow, from: usize, end: usize) -> boo
     requires begin { 1 ≤ from }
     requires long { from + 8 ≤ end }
     requires row { IsSwapRow row.now end }
-    requires most { All (λ x. x ≤ row.now.most) row.now.edges.now }
     requires half { row.now.most ≤ 2147483647 }
     ensures { result ≡ false → (k : ℕ) → k < end → from ≤ k → lost_by_swap row.now k ≤ more + gained_by_swap row.now k }
 {
@@ -360,71 +327,4 @@ fn may_swap_gain_steps(more: u32, row: &SwapRow, from: usize, end: usize) -> boo
         return true;
     }
     may_swap_gain_over(more, row, end - STEP, end)
-}
-
-/// Whether ways of a row of swaps may cost more together with `lost` than `wanted` and the ways gained, in sums of 64 bits.
-fn may_swap_gain_wide(lost: u64, wanted: u64, row: &SwapRow, from: usize, end: usize) -> bool
-    requires lost { lost < 2 ^ 50 }
-    requires wanted { wanted < 2 ^ 61 }
-    requires begin { 1 ≤ from }
-    requires order { from ≤ end }
-    requires row { IsSwapRow row.now end }
-    ensures { result ≡ false → (k : ℕ) → k < end → from ≤ k → lost + lost_by_swap row.now k ≤ wanted + gained_by_swap row.now k }
-{
-    let mut gains = false;
-    for k in from..end {
-        let all_gained = wanted + row.gained(k);
-        let all_lost = lost + row.lost(k);
-        if all_gained < all_lost {
-            gains = true;
-        }
-    }
-    gains
-}
-
-/// The same for `first_swap_gain`.
-#[inline(always)]
-pub fn may_swap_gain(lost: u64, wanted: u64, row: &SwapRow, from: usize, end: usize) -> bool
-    requires lost { lost < 2 ^ 50 }
-    requires wanted { wanted < 2 ^ 61 }
-    requires begin { 1 ≤ from }
-    requires order { from ≤ end }
-    requires row { IsSwapRow row.now end }
-    requires most { All (λ x. x ≤ row.now.most) row.now.edges.now }
-    ensures { result ≡ false → (k : ℕ) → k < end → from ≤ k → lost + lost_by_swap row.now k ≤ wanted + gained_by_swap row.now k }
-{
-    if lost + 2 * u64::from(row.most) <= wanted {
-        return false;
-    }
-    if end - from < FEW {
-        return true;
-    }
-    if lost <= wanted && row.most <= HALF {
-        let more = (wanted - lost).min(4_294_967_295) as u32;
-        return may_swap_gain_steps(more, row, from, end);
-    }
-    may_swap_gain_wide(lost, wanted, row, from, end)
-}
-
-/// The same for `first_reverse_gain`.
-#[inline(always)]
-pub fn may_reverse_gain(lost: u64, wanted: u64, row: &ReverseRow, from: usize, end: usize) -> bool
-    requires lost { lost < 2 ^ 51 }
-    requires wanted { wanted < 2 ^ 61 }
-    requires order { from ≤ end }
-    requires row { IsReverseRow row.now end }
-    ensures { result ≡ false → (k : ℕ) → k < end → from ≤ k → lost + lost_by_reverse row.now k ≤ wanted + gained_by_reverse row.now k }
-{
-    if end - from < FEW {
-        return true;
-    }
-    let mut gains = false;
-    for k in from..end {
-        let all_gained = wanted + row.gained(k);
-        let all_lost = lost + row.lost(k);
-        if all_gained < all_lost {
-            gains = true;
-        }
-    }
-    gains
 }

@@ -8,10 +8,7 @@ mod laws;
 mod sides;
 mod table;
 
-pub use gains::{
-    CutRow, ReverseRow, SwapRow, first_gain, first_reverse_gain, first_swap_gain, may_gain,
-    may_reverse_gain, may_swap_gain,
-};
+pub use gains::{CutRow, ReverseRow, Row, RowCosts, SwapRow, first_gain};
 pub use hops::{fill_stops, hop};
 pub use laws::moves_save;
 pub use sides::{Along, Sides, Ways, parts_of};

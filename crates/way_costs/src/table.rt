@@ -1,70 +1,20 @@
 //! What the ways between stops cost, asked once and kept.
 ghost use Rattle.std.specs.Prelude.{◌≡◌, ◌≢◌, ◌≤◌, ◌<◌, ◌+◌, ◌-◌, ◌*◌, ◌^◌, ◌∷◌, ◌==◌, if◌then◌else◌, ℕ, true, false, ◌++◌, List, length, slice_index, take, drop, All, IfOk, IfSome};
-ghost use Rattle.callback_store.specs.Tables.{Table, matrix_table, table_at};
+ghost use Rattle.callback_store.specs.Tables.{Table, table_at};
 ghost use Rattle.dimension_core.specs.Setup.{setting};
 ghost use Rattle.way_costs.specs.Known.{AreAlike, AreAnswers};
-ghost use Rattle.way_costs.specs.Ways.{entry_by, hop, hop_by, AreHopsFrom, AreFloors, AreEdges, ArePicked, AddsSums, AreBothSums, IsTurned};
+ghost use Rattle.way_costs.specs.Ways.{hop, hop_by, AreHopsFrom, AreFloors, AreEdges, ArePicked, AddsSums, AreBothSums, IsTurned};
 
 use crate::known::{is_read_across, known_by, known_ways};
-use callback_store::{Callback, Matrix, Meter, Slot};
+use callback_store::{Callback, Slot};
 use dimension_core::Setup;
 use limits::MOST_STOPS;
 use std::alloc::AllocError;
 
-/// The answers for the ways from a stop to each of some others, as they are driven or driven back.
-#[inline(always)]
-fn ask_ways(setup: &Setup, turned: bool, stop: u32, to: &[u32], row: &mut [u32])
-    requires stop { stop ≤ (setting setup.now).customers }
-    requires to { All (λ c. c ≤ (setting setup.now).customers) to.now }
-    requires room { length row.old ≡ length to.now }
-    ensures sized { length row.new ≡ length to.now }
-    ensures answers { (k : ℕ) → k < length to.now → slice_index row.new k
-        ≡ entry_by turned (table_at (setting setup.now).tables (setting setup.now).cost) stop (slice_index to.now k) }
-{
-    if turned {
-        setup
-            .registry()
-            .ask_column(setup.cost(), &mut Meter::new(), stop, to, row);
-    } else {
-        setup
-            .registry()
-            .ask_row(setup.cost(), &mut Meter::new(), stop, to, row);
-    }
-}
-
-/// Puts 0 at the depots of a row from the depot: a vehicle that stays there drives no way.
-fn clear_stays(to: &[u32], row: &mut [u32])
-    requires room { length row.old ≡ length to.now }
-    ensures sized { length row.new ≡ length to.now }
-    ensures ways { (k : ℕ) → k < length to.now → slice_index row.new k ≡ (if slice_index to.now k == 0 then 0 else slice_index row.old k) }
-{
-    for k in 0..to.len() {
-        if to[k] == 0 {
-            row[k] = 0;
-        }
-    }
-}
-
-/// What the ways from a stop to each of some others cost, as they are driven or driven back, asked together.
-#[inline(always)]
-fn ask_together(setup: &Setup, turned: bool, stop: u32, to: &[u32], row: &mut [u32])
-    requires stop { stop ≤ (setting setup.now).customers }
-    requires to { All (λ c. c ≤ (setting setup.now).customers) to.now }
-    requires room { length row.old ≡ length to.now }
-    ensures sized { length row.new ≡ length to.now }
-    ensures ways { (k : ℕ) → k < length to.now
-        → slice_index row.new k ≡ hop_by turned (table_at (setting setup.now).tables (setting setup.now).cost) stop (slice_index to.now k) }
-{
-    ask_ways(setup, turned, stop, to, row);
-    if stop == 0 {
-        clear_stays(to, row);
-    }
-}
-
 /// The greatest number, which is what the least of no numbers is.
 const NONE: u32 = 4_294_967_295;
 
-/// Up to so many ways are asked one by one, and the least of them is told: asking for them together takes longer.
+/// Up to so many ways are asked with a look for the least of them, which takes longer than it saves where there are more.
 const FEW: usize = 9;
 
 /// Where the ways of a table are had from, as they are driven or driven back: the cost callback, or all its answers where it was given as
@@ -77,7 +27,7 @@ struct Asking<'a, C> {
     turned: bool,
 }
 
-// The callback is asked right in the two loops: each function in between would cost one more test after every answer.
+// The callback is asked right in the loops: each function in between would cost one more test after every answer.
 
 /// What the ways from a customer to each of some stops cost, asked one by one, and a number that none of them is below.
 #[inline(always)]
@@ -119,6 +69,57 @@ fn ask_back<C: Callback>(callback: &C, stop: u32, to: &[u32], row: &mut [u32]) -
         least = least.min(way);
     }
     least
+}
+
+// Many ways are asked in functions of their own, whose loops then have all registers.
+
+/// What the ways from a customer to each of many stops cost, asked one by one.
+#[inline(never)]
+fn ask_many_out<C: Callback>(callback: &C, stop: u32, to: &[u32], row: &mut [u32])
+    requires customer { 1 ≤ stop }
+    requires stop { stop < (C.table callback.now).size }
+    requires to { All (λ c. c < (C.table callback.now).size) to.now }
+    requires room { length row.old ≡ length to.now }
+    ensures sized { length row.new ≡ length to.now }
+    ensures ways { (k : ℕ) → k < length to.now
+        → slice_index row.new k ≡ hop_by false (C.table callback.now) stop (slice_index to.now k) }
+{
+    for k in 0..to.len() {
+        row[k] = callback.answer_way(stop, to[k]) as u32;
+    }
+}
+
+/// What the ways to a customer from each of many stops cost, asked one by one.
+#[inline(never)]
+fn ask_many_back<C: Callback>(callback: &C, stop: u32, to: &[u32], row: &mut [u32])
+    requires customer { 1 ≤ stop }
+    requires stop { stop < (C.table callback.now).size }
+    requires to { All (λ c. c < (C.table callback.now).size) to.now }
+    requires room { length row.old ≡ length to.now }
+    ensures sized { length row.new ≡ length to.now }
+    ensures ways { (k : ℕ) → k < length to.now
+        → slice_index row.new k ≡ hop_by true (C.table callback.now) stop (slice_index to.now k) }
+{
+    for k in 0..to.len() {
+        row[k] = callback.answer_way(to[k], stop) as u32;
+    }
+}
+
+/// What the ways from a customer to each of many stops cost, as they are driven or driven back.
+#[inline(always)]
+fn ask_many<C: Callback>(callback: &C, turned: bool, stop: u32, to: &[u32], row: &mut [u32])
+    requires customer { 1 ≤ stop }
+    requires stop { stop < (C.table callback.now).size }
+    requires to { All (λ c. c < (C.table callback.now).size) to.now }
+    requires room { length row.old ≡ length to.now }
+    ensures sized { length row.new ≡ length to.now }
+    ensures ways { (k : ℕ) → k < length to.now → slice_index row.new k ≡ hop_by turned (C.table callback.now) stop (slice_index to.now k) }
+{
+    if turned {
+        ask_many_back(callback, stop, to, row);
+    } else {
+        ask_many_out(callback, stop, to, row);
+    }
 }
 
 /// What the way between the depot and a stop costs, as it is driven or driven back. A vehicle that stays there drives no way.
@@ -206,12 +207,12 @@ fn fill_row<C: Callback>(
     if let Some(answers) = asking.known {
         return read_row(setup, answers, asking.across, stop, to, row);
     }
-    if to.len() > FEW {
-        ask_together(setup, turned, stop, to, row);
-        return 0;
-    }
     if stop == 0 {
         ask_from_depot(asking.callback, turned, to, row);
+        return 0;
+    }
+    if to.len() > FEW {
+        ask_many(asking.callback, turned, stop, to, row);
         return 0;
     }
     if turned {
@@ -344,39 +345,8 @@ fn fill_by<C: Callback>(
 {
     let asking = Asking {
         callback,
-        known: None,
-        across: turned,
-        turned,
-    };
-    fill_rows(setup, &asking, from, to, cells)
-}
-
-/// The same, where the cost callback was given as its answers.
-fn fill_known(
-    setup: &Setup,
-    callback: &Matrix,
-    turned: bool,
-    from: &[u32],
-    to: &[u32],
-    cells: &mut [u32],
-)
-    requires answers { matrix_table callback.now ≡ table_at (setting setup.now).tables (setting setup.now).cost }
-    requires nodes { (matrix_table callback.now).size ≡ (setting setup.now).customers + 1 }
-    requires from { All (λ c. c ≤ (setting setup.now).customers) from.now }
-    requires to { All (λ c. c ≤ (setting setup.now).customers) to.now }
-    requires some { (1 ≤ length from.now) × (1 ≤ length to.now) }
-    requires short { (length from.now ≤ MOST_STOPS) × (length to.now ≤ MOST_STOPS) }
-    requires room { length cells.old ≡ length from.now * length to.now }
-    ensures hops { AreHopsFrom turned (table_at (setting setup.now).tables (setting setup.now).cost) from.now to.now
-        (if turned then 1 else 0) (if turned then 0 else 1) cells.new }
-    ensures floors { AreFloors from.now to.now (if turned then 1 else 0) (if turned then 0 else 1) cells.new }
-{
-    let known = known_ways(setup);
-    let across = is_read_across(setup, turned);
-    let asking = Asking {
-        callback,
-        known,
-        across,
+        known: known_ways(setup),
+        across: is_read_across(setup, turned),
         turned,
     };
     fill_rows(setup, &asking, from, to, cells)
@@ -397,7 +367,7 @@ fn fill_cells(setup: &Setup, turned: bool, from: &[u32], to: &[u32], cells: &mut
     match setup.registry().callback(setup.cost()) {
         Slot::Pair(callback) => fill_by(setup, callback, turned, from, to, cells),
         Slot::Node(callback) => fill_by(setup, callback, turned, from, to, cells),
-        Slot::Listed(callback) => fill_known(setup, callback, turned, from, to, cells),
+        Slot::Listed(callback) => fill_by(setup, callback, turned, from, to, cells),
         Slot::Values(callback) => fill_by(setup, callback, turned, from, to, cells),
         Slot::Stayed(callback) => fill_by(setup, callback, turned, from, to, cells),
     }

@@ -1,70 +1,63 @@
-use Rattle.std.proofs.Common.{◌∙◌}
-use Rattle.callback_store.specs.Registry.{tables}
-use Rattle.callback_store.specs.Tables.{pair_table, node_table, matrix_table, vector_table, stay_table}
-use Rattle.move_judge.proofs.Carried.{home_as, looked_up}
+use Rattle.std.proofs.Common.{[], ◌++◌, ◌∙◌, ◌<◌, refl, sym, length}
+use Rattle.move_judge.specs.Parts.{way_of, middle_of, begun_of, route_of}
+use Rattle.move_judge.proofs.Carried.{arrived, append_nil, in_parts, all_in_parts, all_left, all_right}
+use Rattle.move_judge.proofs.Meeting.{no_way}
 use Rattle.move_judge.proofs.fits.comes_home.Goals as goal
 
-pub returns-in-Pair : goal.returns-in-Pair
-returns-in-Pair g c = home_as _ _ _ _ _ _ (looked_up (pair_table c.in-Pair.callback) (tables c.args.registry.now) c.args.dimension.now _ (rw c.in-Pair.is at c.callback.ensures.table) c.id.ensures) c.comes_home_by.ensures
+pub returns-in_default : goal.returns-in_default
+returns-in_default g c =
+    let p = c.args.parts.now in
+    no_way c.requires.laws _ _ _ [] (route_of p) _ refl c.requires.some
+    (c.requires.laws.spans.start (g.C.Callback.table c.args.callback.now) c.args.lane.now.dimension.now c.args.lane.now.vehicle _ c.in_default.ensures.span)
 
-pub returns-in-Node : goal.returns-in-Node
-returns-in-Node g c = home_as _ _ _ _ _ _ (looked_up (node_table c.in-Node.callback) (tables c.args.registry.now) c.args.dimension.now _ (rw c.in-Node.is at c.callback.ensures.table) c.id.ensures) c.comes_home_by-in-Node.ensures
+pub carry_on-requires-clause-known : goal.carry_on-requires-clause-known
+carry_on-requires-clause-known g c =
+    let p = c.args.parts.now in
+    all_left c.requires.laws (λ n. n < length c.args.lane.now.dimension.now.ranges) p.front.now (way_of p.turned p.first.now ++ (p.second.now ++ (p.third.now ++ p.back.now))) c.requires.known
 
-pub returns-in-Listed : goal.returns-in-Listed
-returns-in-Listed g c = home_as _ _ _ _ _ _ (looked_up (matrix_table c.in-Listed.callback) (tables c.args.registry.now) c.args.dimension.now _ (rw c.in-Listed.is at c.callback.ensures.table) c.id.ensures) c.comes_home_by-in-Listed.ensures
+pub returns-in_default-carry_on : goal.returns-in_default-carry_on
+returns-in_default-carry_on g c =
+    let p = c.args.parts.now in
+    let begun = c.requires.laws.spans.start (g.C.Callback.table c.args.callback.now) c.args.lane.now.dimension.now c.args.lane.now.vehicle _ c.in-Some.ensures.span in
+    no_way c.requires.laws _ _ _ p.front.now (way_of p.turned p.first.now ++ (p.second.now ++ (p.third.now ++ p.back.now))) _ refl c.requires.some (c.in_default-carry_on.ensures.span [] begun refl)
 
-pub returns-in-Values : goal.returns-in-Values
-returns-in-Values g c = home_as _ _ _ _ _ _ (looked_up (vector_table c.in-Values.callback) (tables c.args.registry.now) c.args.dimension.now _ (rw c.in-Values.is at c.callback.ensures.table) c.id.ensures) c.comes_home_by-in-Values.ensures
+pub carry_middle-requires-clause-here : goal.carry_middle-requires-clause-here
+carry_middle-requires-clause-here g c =
+    let begun = c.requires.laws.spans.start (g.C.Callback.table c.args.callback.now) c.args.lane.now.dimension.now c.args.lane.now.vehicle _ c.in-Some.ensures.span in
+    (c.in-Some-carry_on.ensures.span [] begun refl).0
 
-pub returns-in-Stayed : goal.returns-in-Stayed
-returns-in-Stayed g c = home_as _ _ _ _ _ _ (looked_up (stay_table c.in-Stayed.callback) (tables c.args.registry.now) c.args.dimension.now _ (rw c.in-Stayed.is at c.callback.ensures.table) c.id.ensures) c.comes_home_by-in-Stayed.ensures
+pub carry_middle-requires-clause-last : goal.carry_middle-requires-clause-last
+carry_middle-requires-clause-last g c =
+    let begun = c.requires.laws.spans.start (g.C.Callback.table c.args.callback.now) c.args.lane.now.dimension.now c.args.lane.now.vehicle _ c.in-Some.ensures.span in
+    (c.in-Some-carry_on.ensures.span [] begun refl).1
 
-pub comes_home_by-requires : goal.comes_home_by-requires
-comes_home_by-requires g c = record {
-  laws = c.requires.laws;
-  sized = (rw c.in-Pair.is at c.callback.ensures.nodes) ∙ c.requires.served.sized;
-  some = c.requires.some;
-  known = c.requires.known;
-  low = c.requires.low;
-  high = c.requires.high;
-}
+pub carry_middle-requires-clause-known : goal.carry_middle-requires-clause-known
+carry_middle-requires-clause-known g c =
+    let p = c.args.parts.now in
+    all_right c.requires.laws (λ n. n < length c.args.lane.now.dimension.now.ranges) p.front.now (middle_of p) (all_left c.requires.laws (λ n. n < length c.args.lane.now.dimension.now.ranges) (begun_of p) p.back.now (all_in_parts (λ n. n < length c.args.lane.now.dimension.now.ranges) p c.requires.known))
 
-pub comes_home_by-requires-in-Node : goal.comes_home_by-requires-in-Node
-comes_home_by-requires-in-Node g c = record {
-  laws = c.requires.laws;
-  sized = (rw c.in-Node.is at c.callback.ensures.nodes) ∙ c.requires.served.sized;
-  some = c.requires.some;
-  known = c.requires.known;
-  low = c.requires.low;
-  high = c.requires.high;
-}
+pub returns-in_default-carry_middle : goal.returns-in_default-carry_middle
+returns-in_default-carry_middle g c =
+    let p = c.args.parts.now in
+    no_way c.requires.laws _ _ _ (begun_of p) p.back.now _ (in_parts p) c.requires.some c.in_default-carry_middle.ensures.span
 
-pub comes_home_by-requires-in-Listed : goal.comes_home_by-requires-in-Listed
-comes_home_by-requires-in-Listed g c = record {
-  laws = c.requires.laws;
-  sized = (rw c.in-Listed.is at c.callback.ensures.nodes) ∙ c.requires.served.sized;
-  some = c.requires.some;
-  known = c.requires.known;
-  low = c.requires.low;
-  high = c.requires.high;
-}
+pub carry_on-requires-2-clause-known : goal.carry_on-requires-2-clause-known
+carry_on-requires-2-clause-known g c =
+    let p = c.args.parts.now in
+    all_right c.requires.laws (λ n. n < length c.args.lane.now.dimension.now.ranges) (begun_of p) p.back.now (all_in_parts (λ n. n < length c.args.lane.now.dimension.now.ranges) p c.requires.known)
 
-pub comes_home_by-requires-in-Values : goal.comes_home_by-requires-in-Values
-comes_home_by-requires-in-Values g c = record {
-  laws = c.requires.laws;
-  sized = (rw c.in-Values.is at c.callback.ensures.nodes) ∙ c.requires.served.sized;
-  some = c.requires.some;
-  known = c.requires.known;
-  low = c.requires.low;
-  high = c.requires.high;
-}
+pub returns-in_default-carry_on-2 : goal.returns-in_default-carry_on-2
+returns-in_default-carry_on-2 g c =
+    let p = c.args.parts.now in
+    let s1 = c.in-Some-carry_middle.ensures.span in
+    no_way c.requires.laws _ _ _ (begun_of p ++ p.back.now) [] _ (append_nil c.requires.laws _ ∙ in_parts p) c.requires.some
+    (c.in_default-carry_on-2.ensures.span (begun_of p) s1.0 s1.1)
 
-pub comes_home_by-requires-in-Stayed : goal.comes_home_by-requires-in-Stayed
-comes_home_by-requires-in-Stayed g c = record {
-  laws = c.requires.laws;
-  sized = (rw c.in-Stayed.is at c.callback.ensures.nodes) ∙ c.requires.served.sized;
-  some = c.requires.some;
-  known = c.requires.known;
-  low = c.requires.low;
-  high = c.requires.high;
-}
+pub returns : goal.returns
+returns g c =
+    let p = c.args.parts.now in
+    let s1 = c.in-Some-carry_middle.ensures.span in
+    let s2 = c.in-Some-carry_on-2.ensures.span (begun_of p) s1.0 s1.1 in
+    let home = arrived _ _ _ _ _ _ _ (in_parts p) (c.step_to-home.ensures _ s2.0 s2.1) in
+    let decided = c.requires.laws.spans.bounds (g.C.Callback.table c.args.callback.now) c.args.lane.now.dimension.now c.args.lane.now.vehicle (route_of p) _ c.requires.some home in
+    (λ is. decided.0 (sym c.is_some.ensures ∙ is), λ inside. c.is_some.ensures ∙ decided.1 inside)

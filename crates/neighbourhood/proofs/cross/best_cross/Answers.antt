@@ -1,6 +1,6 @@
 use Rattle.std.proofs.Common.{inl, inr, ◌-◌, arith, refl, length}
 use Rattle.neighbourhood.specs.Searched.{searched}
-use Rattle.neighbourhood.proofs.Rows.{crosses_end, crosses_from, cross_row, cross_row_done}
+use Rattle.neighbourhood.proofs.PairRows.{crosses_end, crosses_from, cross_row, cross_row_done}
 use Rattle.neighbourhood.proofs.Still.{cross_kept}
 use Rattle.neighbourhood.proofs.Small.{begin_room, place_room, wide_some, width_casts}
 use Rattle.neighbourhood.proofs.cross.best_cross.Goals as goal

@@ -1,82 +1,16 @@
-use Rattle.std.proofs.Common.{◌≡◌, ℕ, ◌+◌, ◌-◌, ◌<◌, ◌⊎◌, arith, subst, inl, inr, [], ◌∷◌, length, ◌≤◌}
+use Rattle.std.proofs.Common.{◌≡◌, ℕ, ◌+◌, ◌-◌, ◌<◌, ◌⊎◌, arith, refl, subst, inl, inr, [], ◌∷◌, length, ◌≤◌}
 use Rattle.plan_core.specs.Plan.{route_at}
 use Rattle.neighbourhood.specs.Search.{IsBestSoFar}
 use Rattle.neighbourhood.specs.Searched.{searched}
 use Rattle.neighbourhood.proofs.Orders.{cross_none}
-use Rattle.neighbourhood.proofs.Rows.{crosses_past}
+use Rattle.neighbourhood.proofs.PairRows.{crosses_past}
 use Rattle.neighbourhood.proofs.Saved.{cross_most, cross_possible, cross_saved, into_room, out_room}
 use Rattle.neighbourhood.proofs.cross.cross_over.Goals.{then-last, else-last}
-use Rattle.neighbourhood.proofs.Small.{begin_else, begin_then, below_else, below_then, edge_at, end_after, end_edges, end_else, end_long, end_then, next_less, one_small, place_fits, row_end, row_short, row_some, two_fit, two_fits, two_low, wide_some, wide_two}
+use Rattle.neighbourhood.proofs.Small.{begin_else, begin_then, below_else, below_then, edge_at, end_else, end_then, next_less, place_fits, row_end, row_some, two_fit, two_fits, two_low, wide_some, wide_two}
 use Rattle.neighbourhood.proofs.cross.cross_over.Goals as goal
 
 pub row-next-requires : goal.row-next-requires
 row-next-requires g c = record { high = into_room (searched c.args.search.now) c.requires.search c.args.gathered.now c.requires.gathered (c.args.keep + 1) c.requires.keep }
-
-pub cross_row-requires-clause-possible : goal.cross_row-requires-clause-possible
-cross_row-requires-clause-possible g c =
-    let q = searched c.args.search.now in
-    let sized = c.requires.gathered.from.sized in
-    let wide = c.requires.gathered.to.sized in
-    let fit = c.requires.keep in
-    λ l h.
-    let few : l + 1 < length c.args.gathered.now.to.now = elim c.if-last.branch [
-      | then-last w ↦ below_then l c.if-last.end _ w.end-is h
-      | else-last w ↦ below_else l c.if-last.end _ w.end-is h
-    ] in
-    let some : (c.args.keep < length (route_at q.view.routes q.v)) ⊎ (l < length (route_at q.view.routes q.w)) = elim c.if-last.branch [
-      | then-last w ↦ let e = w.end-is in inr (omega arith)
-      | else-last w ↦ let o = w.if-last.false in inl (omega arith)
-    ] in
-    cross_possible q c.requires.search c.args.gathered.now c.requires.gathered c.args.keep l c.requires.apart fit few some
-
-pub cross_row-requires-clause-saving : goal.cross_row-requires-clause-saving
-cross_row-requires-clause-saving g c =
-    let q = searched c.args.search.now in
-    let a = c.args.gathered.now in
-    let sized = c.requires.gathered.from.sized in
-    let wide = c.requires.gathered.to.sized in
-    let fit = c.requires.keep in
-    let f = c.way_at-lost.ensures.value in
-    λ l h.
-    let few : l + 1 < length a.to.now = elim c.if-last.branch [
-      | then-last w ↦ below_then l c.if-last.end _ w.end-is h
-      | else-last w ↦ below_else l c.if-last.end _ w.end-is h
-    ] in
-    let some : (c.args.keep < length (route_at q.view.routes q.v)) ⊎ (l < length (route_at q.view.routes q.w)) = elim c.if-last.branch [
-      | then-last w ↦ let e = w.end-is in inr (omega arith)
-      | else-last w ↦ let o = w.if-last.false in inl (omega arith)
-    ] in
-    let saved = cross_saved q c.requires.search a c.requires.gathered c.args.keep l c.row-here.result.now c.row-next.result.now fit few
-    (cross_possible q c.requires.search a c.requires.gathered c.args.keep l c.requires.apart fit few some) c.row-here.ensures.cells c.row-next.ensures.cells in
-    omega arith
-
-pub returns : goal.returns
-returns g c =
-    let q = searched c.args.search.now in
-    let sized = c.requires.gathered.from.sized in
-    let wide = c.requires.gathered.to.sized in
-    elim c.if-last.branch [
-      | then-last w ↦
-          let e = w.end-is in
-          let o = w.if-last.true in
-          let f : c.if-last.end + 1 ≡ length c.args.gathered.now.to.now - 1 = omega arith in
-          subst (λ (k : ℕ). IsBestSoFar q (4 ∷ q.v ∷ c.args.keep ∷ q.w ∷ k ∷ []) c.cross_row.result.found) f
-          (cross_none q c.requires.search c.args.keep c.if-last.end c.cross_row.result.found (omega arith) (omega arith) c.cross_row.ensures)
-      | else-last w ↦
-          let e = w.end-is in
-          subst (λ (k : ℕ). IsBestSoFar q (4 ∷ q.v ∷ c.args.keep ∷ q.w ∷ k ∷ []) c.cross_row.result.found) e c.cross_row.ensures
-    ]
-
-pub cross_row-requires-clause-best : goal.cross_row-requires-clause-best
-cross_row-requires-clause-best g c =
-    crosses_past (searched c.args.search.now) c.requires.search c.args.keep 0 c.args.begin c.args.best.found (omega arith) (λ k l h counts. absurd (c.requires.onto k h counts)) c.requires.best
-
-pub cross_row-requires-clause-order : goal.cross_row-requires-clause-order
-cross_row-requires-clause-order g c =
-    elim c.if-last.branch [
-      | then-last w ↦ begin_then c.args.begin c.if-last.end _ w.end-is c.requires.begin
-      | else-last w ↦ begin_else c.args.begin c.if-last.end _ w.end-is c.requires.begin
-    ]
 
 pub returns-then-lost-from : goal.returns-then-lost-from
 returns-then-lost-from g c =
@@ -98,24 +32,6 @@ returns-then-lost-from g c =
 
 pub row-here-requires : goal.row-here-requires
 row-here-requires g c = record { high = out_room (searched c.args.search.now) c.requires.search c.args.gathered.now c.requires.gathered c.args.keep (next_less _ _ c.requires.keep) }
-
-pub cross_row-requires-clause-ways : goal.cross_row-requires-clause-ways
-cross_row-requires-clause-ways g c =
-    let high : c.if-last.end + 1 ≤ length c.args.gathered.now.to.now = elim c.if-last.branch [
-      | then-last w ↦ end_then c.if-last.end _ _ w.end-is c.requires.gathered.to.sized
-      | else-last w ↦ end_else c.if-last.end _ _ w.end-is c.requires.gathered.to.sized
-    ] in
-    record {
-      edges = end_edges c.if-last.end _ _ high c.requires.gathered.to_edges.counted;
-      to = end_long c.if-last.end _ _ high c.row-next.ensures.sized;
-      on = end_after c.if-last.end _ _ high c.row-here.ensures.sized;
-    }
-
-pub cross_row-requires-clause-most : goal.cross_row-requires-clause-most
-cross_row-requires-clause-most g c = c.requires.gathered.most
-
-pub cross_row-requires-clause-short : goal.cross_row-requires-clause-short
-cross_row-requires-clause-short g c = row_short _ _ c.row-here.ensures.sized c.requires.gathered.to.short
 
 pub way_at-lost-requires : goal.way_at-lost-requires
 way_at-lost-requires g c = edge_at c.args.keep _ _ c.requires.keep c.requires.gathered.from_edges.counted
@@ -147,11 +63,63 @@ overflow_sub-end g c = wide_two _ _ c.requires.gathered.to.sized
 pub overflow_sub-end-else-last : goal.overflow_sub-end-else-last
 overflow_sub-end-else-last g c = wide_some _ _ c.requires.gathered.to.sized
 
-pub cross_row-requires-clause-search : goal.cross_row-requires-clause-search
-cross_row-requires-clause-search g c = c.requires.search
+pub best_of_row-requires-clause-candidates : goal.best_of_row-requires-clause-candidates
+best_of_row-requires-clause-candidates g c =
+    let q = searched c.args.search.now in
+    let a = c.args.gathered.now in
+    let sized = c.requires.gathered.from.sized in
+    let wide = c.requires.gathered.to.sized in
+    let fit = c.requires.keep in
+    let f = c.way_at-lost.ensures.value in
+    λ l low h.
+    let few : l + 1 < length a.to.now = elim c.if-last.branch [
+      | then-last w ↦ below_then l c.if-last.end _ w.end-is h
+      | else-last w ↦ below_else l c.if-last.end _ w.end-is h
+    ] in
+    let some : (c.args.keep < length (route_at q.view.routes q.v)) ⊎ (l < length (route_at q.view.routes q.w)) = elim c.if-last.branch [
+      | then-last w ↦ let e = w.end-is in inr (omega arith)
+      | else-last w ↦ let o = w.if-last.false in inl (omega arith)
+    ] in
+    let can = cross_possible q c.requires.search a c.requires.gathered c.args.keep l c.requires.apart fit few some in
+    let saved = cross_saved q c.requires.search a c.requires.gathered c.args.keep l c.row-here.result.now c.row-next.result.now fit few can c.row-here.ensures.cells c.row-next.ensures.cells in
+    record { possible = can; near = (refl, refl, c.requires.apart); saving = omega arith }
 
-pub cross_row-requires-clause-apart : goal.cross_row-requires-clause-apart
-cross_row-requires-clause-apart g c = c.requires.apart
+pub best_of_row-requires-clause-ways : goal.best_of_row-requires-clause-ways
+best_of_row-requires-clause-ways g c =
+    let wide = c.requires.gathered.to.sized in
+    let counted = c.requires.gathered.to_edges.counted in
+    let to = c.row-next.ensures.sized in
+    let on = c.row-here.ensures.sized in
+    let high : c.if-last.end + 1 ≤ length c.args.gathered.now.to.now = elim c.if-last.branch [
+      | then-last w ↦ end_then c.if-last.end _ _ w.end-is wide
+      | else-last w ↦ end_else c.if-last.end _ _ w.end-is wide
+    ] in
+    λ k l h. record { edges = omega arith; to = omega arith; on = omega arith; most = c.requires.gathered.most }
 
-pub cross_row-requires-clause-fixed : goal.cross_row-requires-clause-fixed
-cross_row-requires-clause-fixed g c = one_small _ c.way_at-lost.ensures.small
+pub best_of_row-requires-clause-best : goal.best_of_row-requires-clause-best
+best_of_row-requires-clause-best g c =
+    crosses_past (searched c.args.search.now) c.requires.search c.args.keep 0 c.args.begin c.args.best.found (omega arith) (λ k l h counts. absurd (c.requires.onto k h counts)) c.requires.best
+
+pub best_of_row-requires-clause-order : goal.best_of_row-requires-clause-order
+best_of_row-requires-clause-order g c =
+    elim c.if-last.branch [
+      | then-last w ↦ begin_then c.args.begin c.if-last.end _ w.end-is c.requires.begin
+      | else-last w ↦ begin_else c.args.begin c.if-last.end _ w.end-is c.requires.begin
+    ]
+
+pub returns : goal.returns
+returns g c =
+    let q = searched c.args.search.now in
+    let sized = c.requires.gathered.from.sized in
+    let wide = c.requires.gathered.to.sized in
+    elim c.if-last.branch [
+      | then-last w ↦
+          let e = w.end-is in
+          let o = w.if-last.true in
+          let f : c.if-last.end + 1 ≡ length c.args.gathered.now.to.now - 1 = omega arith in
+          subst (λ (k : ℕ). IsBestSoFar q (4 ∷ q.v ∷ c.args.keep ∷ q.w ∷ k ∷ []) c.best_of_row.result.found) f
+          (cross_none q c.requires.search c.args.keep c.if-last.end c.best_of_row.result.found (omega arith) (omega arith) c.best_of_row.ensures)
+      | else-last w ↦
+          let e = w.end-is in
+          subst (λ (k : ℕ). IsBestSoFar q (4 ∷ q.v ∷ c.args.keep ∷ q.w ∷ k ∷ []) c.best_of_row.result.found) e c.best_of_row.ensures
+    ]

@@ -1,6 +1,6 @@
 use Rattle.std.proofs.Common.{◌+◌, ◌-◌, arith, refl, length}
 use Rattle.neighbourhood.specs.Searched.{searched}
-use Rattle.neighbourhood.proofs.Rows.{reverses_begin, reverses_end, reverse_row, reverse_row_done}
+use Rattle.neighbourhood.proofs.PairRows.{reverses_begin, reverses_end, reverse_row, reverse_row_done}
 use Rattle.neighbourhood.proofs.Small.{place_room, wide_some, width_casts}
 use Rattle.neighbourhood.proofs.reverse.best_reverse.Goals as goal
 

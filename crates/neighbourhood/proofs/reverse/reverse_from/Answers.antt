@@ -1,23 +1,11 @@
-use Rattle.std.proofs.Common.{◌+◌, ◌-◌, arith, length}
+use Rattle.std.proofs.Common.{◌+◌, ◌-◌, arith, refl, length}
 use Rattle.neighbourhood.specs.Searched.{searched}
-use Rattle.neighbourhood.proofs.Rows.{reverses_past}
+use Rattle.neighbourhood.proofs.PairRows.{reverses_past}
 use Rattle.neighbourhood.proofs.Saved.{reverse_possible, reverse_saved, edges_inside, out_room_inside}
+use Rattle.neighbourhood.proofs.Found.{above, same}
 use Rattle.neighbourhood.proofs.Still.{reverse_free}
-use Rattle.neighbourhood.proofs.Small.{all_of, edge_before, last_order, next_less, next_order, one_less, place_room, row_edges, row_last, row_long, row_short, sum_low, sums_at, too_early, way_sum_fits, way_sum_low, wide_some, width_casts}
+use Rattle.neighbourhood.proofs.Small.{edge_before, next_less, next_order, one_less, place_room, sum_low, sums_at, too_early, way_sum_fits, way_sum_low, wide_some, width_casts}
 use Rattle.neighbourhood.proofs.reverse.reverse_from.Goals as goal
-
-pub reverse_row-requires-clause-possible : goal.reverse_row-requires-clause-possible
-reverse_row-requires-clause-possible g c =
-    λ last l h.
-    reverse_possible (searched c.args.search.now) c.requires.search c.args.gathered.now c.requires.gathered c.requires.inside c.args.first last c.requires.first.0 l (place_room last _ h)
-
-pub reverse_row-requires-clause-saving : goal.reverse_row-requires-clause-saving
-reverse_row-requires-clause-saving g c =
-    let f = c.way_at.ensures.value in
-    λ last l h.
-    let saved = reverse_saved (searched c.args.search.now) c.requires.search c.args.gathered.now c.requires.gathered c.requires.inside c.args.first last c.args.sums.now c.args.back_sums.now
-    c.row.result.now c.row-2.result.now c.requires.first.0 l (place_room last _ h) c.requires.sums c.row.ensures.cells c.row-2.ensures.cells in
-    omega arith
 
 pub returns-then-first-first_free : goal.returns-then-first-first_free
 returns-then-first-first_free g c =
@@ -32,26 +20,6 @@ row-requires g c = record { high = out_room_inside (searched c.args.search.now) 
 
 pub row-requires-2 : goal.row-requires-2
 row-requires-2 g c = record { high = out_room_inside (searched c.args.search.now) c.requires.search c.args.gathered.now c.requires.gathered c.requires.inside c.args.first (next_less _ _ c.requires.first.1) }
-
-pub reverse_row-requires-clause-ways : goal.reverse_row-requires-clause-ways
-reverse_row-requires-clause-ways g c =
-    record {
-      edges = row_edges _ _ (edges_inside (searched c.args.search.now) c.requires.search c.args.gathered.now c.requires.gathered c.requires.inside);
-      sums = all_of _ _ c.requires.sums.sums.counted;
-      back_sums = all_of _ _ c.requires.sums.back_sums.counted;
-      before = row_long _ _ c.row.ensures.sized;
-      here = row_last _ _ _ c.row-2.ensures.sized c.requires.first.1;
-      small = c.requires.sums.small;
-    }
-
-pub reverse_row-requires-clause-short : goal.reverse_row-requires-clause-short
-reverse_row-requires-clause-short g c = row_short _ _ c.row-2.ensures.sized c.requires.gathered.from.short
-
-pub reverse_row-requires-clause-best : goal.reverse_row-requires-clause-best
-reverse_row-requires-clause-best g c = c.requires.best
-
-pub returns : goal.returns
-returns g c = c.reverse_row.ensures
 
 pub first_free-requires-clause-view : goal.first_free-requires-clause-view
 first_free-requires-clause-view g c = c.requires.search.view
@@ -83,14 +51,39 @@ overflow_cast-width g c = width_casts _ c.requires.gathered.from.short
 pub overflow_sub-width : goal.overflow_sub-width
 overflow_sub-width g c = wide_some _ _ c.requires.gathered.from.sized
 
-pub reverse_row-requires-clause-search : goal.reverse_row-requires-clause-search
-reverse_row-requires-clause-search g c = c.requires.search
+pub best_of_row-requires-clause-candidates : goal.best_of_row-requires-clause-candidates
+best_of_row-requires-clause-candidates g c =
+    let q = searched c.args.search.now in
+    let a = c.args.gathered.now in
+    let f = c.way_at.ensures.value in
+    λ last l h.
+    let low = above c.args.first last last l (same last) in
+    let saved = reverse_saved q c.requires.search a c.requires.gathered c.requires.inside c.args.first last c.args.sums.now c.args.back_sums.now
+    c.row.result.now c.row-2.result.now c.requires.first.0 low (place_room last _ h) c.requires.sums c.row.ensures.cells c.row-2.ensures.cells in
+    record {
+      possible = reverse_possible q c.requires.search a c.requires.gathered c.requires.inside c.args.first last c.requires.first.0 low (place_room last _ h);
+      near = (refl, c.requires.inside);
+      saving = omega arith;
+    }
 
-pub reverse_row-requires-clause-inside : goal.reverse_row-requires-clause-inside
-reverse_row-requires-clause-inside g c = c.requires.inside
+pub best_of_row-requires-clause-ways : goal.best_of_row-requires-clause-ways
+best_of_row-requires-clause-ways g c =
+    let counted = edges_inside (searched c.args.search.now) c.requires.search c.args.gathered.now c.requires.gathered c.requires.inside in
+    let sums = c.requires.sums.sums.counted in
+    let back_sums = c.requires.sums.back_sums.counted in
+    let before = c.row.ensures.sized in
+    let here = c.row-2.ensures.sized in
+    λ k l h. record { edges = omega arith; sums = omega arith; back_sums = omega arith; before = omega arith; here = omega arith; small = c.requires.sums.small }
 
-pub reverse_row-requires-clause-order : goal.reverse_row-requires-clause-order
-reverse_row-requires-clause-order g c = last_order c.args.first _ c.requires.first.1
+pub best_of_row-requires-clause-fixed : goal.best_of_row-requires-clause-fixed
+best_of_row-requires-clause-fixed g c =
+    let sums = c.requires.sums.sums.counted in
+    let back_sums = c.requires.sums.back_sums.counted in
+    let high = c.requires.first.1 in
+    (way_sum_low _ _ c.way_at.ensures.small (c.requires.sums.small.1 c.args.first 0 (sums_at c.args.first _ _ high back_sums)), sum_low _ (c.requires.sums.small.0 c.args.first 0 (sums_at c.args.first _ _ high sums)))
 
-pub reverse_row-requires-clause-fixed : goal.reverse_row-requires-clause-fixed
-reverse_row-requires-clause-fixed g c = (way_sum_low _ _ c.way_at.ensures.small (c.requires.sums.small.1 c.args.first 0 (sums_at c.args.first _ _ c.requires.first.1 c.requires.sums.back_sums.counted)), sum_low _ (c.requires.sums.small.0 c.args.first 0 (sums_at c.args.first _ _ c.requires.first.1 c.requires.sums.sums.counted)))
+pub best_of_row-requires-clause-best : goal.best_of_row-requires-clause-best
+best_of_row-requires-clause-best g c = c.requires.best
+
+pub returns : goal.returns
+returns g c = c.best_of_row.ensures

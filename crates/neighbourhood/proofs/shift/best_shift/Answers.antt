@@ -2,9 +2,9 @@ use Rattle.std.proofs.Common.{◌≡◌, ℕ, ◌+◌, arith, subst, [], ◌∷�
 use Rattle.plan_core.specs.Plan.{route_at}
 use Rattle.neighbourhood.specs.Search.{IsBestSoFar}
 use Rattle.neighbourhood.specs.Searched.{searched}
-use Rattle.neighbourhood.proofs.Shifts.{shifts_at, shifts_begin, shifts_end, shifts_place_done, shifts_row, shifts_row_done, shifts_row_skipped}
-use Rattle.neighbourhood.proofs.shift.best_shift.Goals.{then-place-count, else-place-count}
-use Rattle.neighbourhood.proofs.Small.{few_counts, wide_some, width_casts}
+use Rattle.neighbourhood.proofs.Shifts.{shift_are, shifts_at, shifts_begin, shifts_end, shifts_left, shifts_row, shifts_row_done}
+use Rattle.neighbourhood.proofs.Still.{shift_free}
+use Rattle.neighbourhood.proofs.Small.{wide_some, width_casts}
 use Rattle.neighbourhood.proofs.shift.best_shift.Goals as goal
 
 pub loop-place-init : goal.loop-place-init
@@ -13,36 +13,27 @@ loop-place-init g c = shifts_begin (searched c.args.search.now) c.requires.searc
 pub loop-count-init : goal.loop-count-init
 loop-count-init g c = shifts_at (searched c.args.search.now) c.requires.search c.loop-place.place c.loop-place.best.found c.loop-place.invariant
 
-pub shift_over-best-requires-clause-free : goal.shift_over-best-requires-clause-free
-shift_over-best-requires-clause-free g c =
-    let sized = c.requires.gathered.from.sized in
-    let fit = c.if-place-count.true in
-    let few = c.loop-count-test.true in
-    λ both. c.loose_from-free.ensures.most c.loop-count.count (omega arith) (omega arith) both
-
 pub shift_over-best-requires-clause-best : goal.shift_over-best-requires-clause-best
 shift_over-best-requires-clause-best g c =
     shifts_row (searched c.args.search.now) c.requires.search c.loop-place.place c.loop-count.count c.loop-count.best.found c.loop-count.invariant
 
 pub loop-count-preserved : goal.loop-count-preserved
 loop-count-preserved g c =
-    let long = c.requires.gathered.from.sized in
     let wide = c.requires.gathered.to.sized in
-    elim c.if-place-count.branch [
-      | then-place-count w ↦
-          shifts_row_done (searched c.args.search.now) c.requires.search c.loop-place.place c.loop-count.count (length c.args.gathered.now.to.now) c.if-place-count.best.found
-          (λ e. absurd (c.requires.apart e)) (λ o. omega arith) (rw w.best-is w.shift_over-best.ensures)
-      | else-place-count w ↦
-          shifts_row_skipped (searched c.args.search.now) c.requires.search c.loop-place.place c.loop-count.count c.if-place-count.best.found
-          (let out = w.if-place-count.false in omega arith) (rw w.best-is c.loop-count.invariant)
-    ]
+    shifts_row_done (searched c.args.search.now) c.requires.search c.loop-place.place c.loop-count.count (length c.args.gathered.now.to.now) c.shift_over-best.result.found
+    (λ e. absurd (c.requires.apart e)) (λ o. omega arith) c.shift_over-best.ensures
 
 pub loop-place-preserved : goal.loop-place-preserved
 loop-place-preserved g c =
     let q = searched c.args.search.now in
-    let e : c.loop-count.count ≡ 4 = let t = c.loop-count-test.false in let h = c.loop-count.auto.count-end in omega arith in
-    shifts_place_done q c.requires.search c.loop-place.place c.loop-count.best.found
-    (subst (λ (k : ℕ). IsBestSoFar q (1 ∷ q.v ∷ c.loop-place.place ∷ k ∷ []) c.loop-count.best.found) e c.loop-count.invariant)
+    shifts_left q c.requires.search c.loop-place.place c.loop-count.count c.loop-count.best.found
+    (λ k a counts.
+    let are = shift_are q c.requires.search c.loop-place.place k a counts in
+    let free = shift_free q c.requires.search c.loop-place.place k a c.requires.apart counts in
+    let most = c.loose_from-free.ensures.most k are.few are.fits (free.0, free.2) in
+    let t = c.loop-count-test.false in
+    omega arith)
+    c.loop-count.invariant
 
 pub returns : goal.returns
 returns g c =
@@ -77,7 +68,12 @@ pub shift_over-best-requires-clause-apart : goal.shift_over-best-requires-clause
 shift_over-best-requires-clause-apart g c = c.requires.apart
 
 pub shift_over-best-requires-clause-count : goal.shift_over-best-requires-clause-count
-shift_over-best-requires-clause-count g c = (c.loop-count.auto.count, few_counts _ c.loop-count-test.true)
+shift_over-best-requires-clause-count g c = let t = c.loop-count-test.true in let few = c.loose_from-free.ensures.few in (c.loop-count.auto.count, omega arith)
 
 pub shift_over-best-requires-clause-place : goal.shift_over-best-requires-clause-place
-shift_over-best-requires-clause-place g c = (c.loop-place.auto.place, c.if-place-count.true)
+shift_over-best-requires-clause-place g c =
+    let t = c.loop-count-test.true in
+    let low = c.loop-count.auto.count in
+    let sized = c.requires.gathered.from.sized in
+    let fit = (c.loose_from-free.ensures.loose (omega arith)).0 in
+    (c.loop-place.auto.place, omega arith)

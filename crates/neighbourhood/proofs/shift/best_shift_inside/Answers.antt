@@ -3,9 +3,8 @@ use Rattle.plan_core.specs.Plan.{route_at}
 use Rattle.neighbourhood.specs.Search.{IsBestSoFar}
 use Rattle.neighbourhood.specs.Searched.{searched}
 use Rattle.neighbourhood.proofs.Saved.{same_stops}
-use Rattle.neighbourhood.proofs.Shifts.{shifts_at, shifts_begin, shifts_end, shifts_place_done, shifts_row, shifts_row_done, shifts_row_skipped}
-use Rattle.neighbourhood.proofs.shift.best_shift_inside.Goals.{then-place-count, else-place-count}
-use Rattle.neighbourhood.proofs.Small.{few_counts, wide_some, width_casts}
+use Rattle.neighbourhood.proofs.Shifts.{shift_are, shifts_at, shifts_begin, shifts_end, shifts_left, shifts_row, shifts_row_done}
+use Rattle.neighbourhood.proofs.Small.{wide_some, width_casts}
 use Rattle.neighbourhood.proofs.shift.best_shift_inside.Goals as goal
 
 pub loop-place-init : goal.loop-place-init
@@ -24,22 +23,24 @@ loop-count-preserved g c =
     let long = c.requires.gathered.from.sized in
     let same = same_stops q c.requires.search c.args.gathered.now c.requires.gathered c.requires.inside in
     let wide = rw same at c.requires.gathered.to.sized in
-    elim c.if-place-count.branch [
-      | then-place-count w ↦
-          let fit = w.if-place-count.true in
-          shifts_row_done q c.requires.search c.loop-place.place c.loop-count.count (length c.args.gathered.now.from.now - c.loop-count.count) c.if-place-count.best.found
-          (λ e. omega arith) (λ o. absurd (o c.requires.inside)) (rw w.best-is w.shift_within-best.ensures)
-      | else-place-count w ↦
-          shifts_row_skipped q c.requires.search c.loop-place.place c.loop-count.count c.if-place-count.best.found
-          (let out = w.if-place-count.false in omega arith) (rw w.best-is c.loop-count.invariant)
-    ]
+    let few = c.loop-count-test.true in
+    let most = c.min-most.ensures in
+    shifts_row_done q c.requires.search c.loop-place.place c.loop-count.count (length c.args.gathered.now.from.now - c.loop-count.count) c.shift_within-best.result.found
+    (λ e. omega arith) (λ o. absurd (o c.requires.inside)) c.shift_within-best.ensures
 
 pub loop-place-preserved : goal.loop-place-preserved
 loop-place-preserved g c =
     let q = searched c.args.search.now in
-    let e : c.loop-count.count ≡ 4 = let t = c.loop-count-test.false in let h = c.loop-count.auto.count-end in omega arith in
-    shifts_place_done q c.requires.search c.loop-place.place c.loop-count.best.found
-    (subst (λ (k : ℕ). IsBestSoFar q (1 ∷ q.v ∷ c.loop-place.place ∷ k ∷ []) c.loop-count.best.found) e c.loop-count.invariant)
+    shifts_left q c.requires.search c.loop-place.place c.loop-count.count c.loop-count.best.found
+    (λ k a counts.
+    let are = shift_are q c.requires.search c.loop-place.place k a counts in
+    let fits = are.fits in
+    let few = are.few in
+    let long = c.requires.gathered.from.sized in
+    let most = c.min-most.ensures in
+    let t = c.loop-count-test.false in
+    omega arith)
+    c.loop-count.invariant
 
 pub returns : goal.returns
 returns g c =
@@ -49,11 +50,11 @@ returns g c =
     shifts_end q c.requires.search c.loop-place.best.found
     (subst (λ (k : ℕ). IsBestSoFar q (1 ∷ q.v ∷ k ∷ []) c.loop-place.best.found) e c.loop-place.invariant)
 
-pub overflow_cast-place-end : goal.overflow_cast-place-end
-overflow_cast-place-end g c = width_casts _ c.requires.gathered.from.short
+pub overflow_cast-end : goal.overflow_cast-end
+overflow_cast-end g c = width_casts _ c.requires.gathered.from.short
 
-pub overflow_sub-place-end : goal.overflow_sub-place-end
-overflow_sub-place-end g c = wide_some _ _ c.requires.gathered.from.sized
+pub overflow_sub-end : goal.overflow_sub-end
+overflow_sub-end g c = wide_some _ _ c.requires.gathered.from.sized
 
 pub shift_within-best-requires-clause-search : goal.shift_within-best-requires-clause-search
 shift_within-best-requires-clause-search g c = c.requires.search
@@ -65,7 +66,7 @@ pub shift_within-best-requires-clause-inside : goal.shift_within-best-requires-c
 shift_within-best-requires-clause-inside g c = c.requires.inside
 
 pub shift_within-best-requires-clause-count : goal.shift_within-best-requires-clause-count
-shift_within-best-requires-clause-count g c = (c.loop-count.auto.count, few_counts _ c.loop-count-test.true)
+shift_within-best-requires-clause-count g c = let t = c.loop-count-test.true in let most = c.min-most.ensures in (c.loop-count.auto.count, omega arith)
 
 pub shift_within-best-requires-clause-place : goal.shift_within-best-requires-clause-place
-shift_within-best-requires-clause-place g c = (c.loop-place.auto.place, c.if-place-count.true)
+shift_within-best-requires-clause-place g c = let t = c.loop-count-test.true in let most = c.min-most.ensures in (c.loop-place.auto.place, omega arith)

@@ -1,22 +1,12 @@
-use Rattle.std.proofs.Common.{◌≡◌, ℕ, ◌+◌, ◌-◌, ap, arith, length, refl, slice_index}
+use Rattle.std.proofs.Common.{◌≡◌, ℕ, ◌+◌, ◌-◌, ap, arith, subst, [], ◌∷◌, length, refl, slice_index}
 use Rattle.way_costs.specs.Ways.{hop}
+use Rattle.neighbourhood.specs.Search.{IsBestSoFar}
 use Rattle.neighbourhood.specs.Searched.{searched, costs_of}
 use Rattle.neighbourhood.proofs.Saved.{out_room, shift_most, shift_saved, into_room, shift_possible}
 use Rattle.neighbourhood.proofs.Shifts.{shifts_past}
 use Rattle.neighbourhood.proofs.Still.{shift_free}
-use Rattle.neighbourhood.proofs.Found.{begun}
-use Rattle.neighbourhood.proofs.Small.{after_low, before_after, before_first, begin_high, begins, count_fits, count_last, count_less, gap_order, not_both, row_end, row_short, row_some, too_early, two_fit, two_low, two_more_fit, two_more_low, wide_some, width_casts}
+use Rattle.neighbourhood.proofs.Small.{after_low, before_after, before_first, count_fits, count_last, count_less, gap_order, row_end, row_some, too_early, two_fit, two_low, two_more_fit, two_more_low, wide_some, width_casts}
 use Rattle.neighbourhood.proofs.shift.shift_over.Goals as goal
-
-pub returns-then-free-count : goal.returns-then-free-count
-returns-then-free-count g c =
-    let q = searched c.args.search.now in
-    let wide = c.requires.gathered.to.sized in
-    shifts_past q c.requires.search c.args.place c.args.count 1 (length c.args.gathered.now.to.now) c.args.best.found (wide_some _ _ c.requires.gathered.to.sized)
-    (λ k l h counts.
-    let free = shift_free q c.requires.search c.args.place c.args.count k c.requires.apart counts in
-    absurd (not_both c.args.count c.args.free (c.requires.free (free.0, free.2)) c.if-free-count.true))
-    c.requires.best
 
 pub row-goes-requires : goal.row-goes-requires
 row-goes-requires g c = record { high = out_room (searched c.args.search.now) c.requires.search c.args.gathered.now c.requires.gathered (c.args.place + c.args.count - 1) (count_last _ _ _ c.requires.place.1) }
@@ -59,52 +49,8 @@ returns-then-reach-higher g c =
     omega arith)
     c.requires.best
 
-pub shift_row-requires-clause-saving : goal.shift_row-requires-clause-saving
-shift_row-requires-clause-saving g c =
-    let f = c.from.ensures in
-    let f2 = c.from-2.ensures in
-    let begin = c.first_free-begin.ensures.value in
-    λ at l h.
-    let saved = shift_saved (searched c.args.search.now) c.requires.search c.args.gathered.now c.requires.gathered c.args.place c.args.count at c.closing-gained.result
-    c.row-comes.result.now c.row-goes.result.now c.requires.apart c.requires.place.0 c.requires.count.0 c.requires.place.1 (begun c.first_free-begin.result at (begins _ _ c.first_free-begin.ensures.value) l) h c.row-comes.ensures.cells c.row-goes.ensures.cells c.closing-gained.ensures.value in
-    let e : at + 0 - 1 + 1 ≡ at + 0 = omega arith in
-    let goes = ap (λ (n : ℕ). slice_index c.row-goes.result.now n) e in
-    omega arith
-
-pub shift_row-requires-clause-best : goal.shift_row-requires-clause-best
-shift_row-requires-clause-best g c =
-    let q = searched c.args.search.now in
-    shifts_past q c.requires.search c.args.place c.args.count 1 c.first_free-begin.result c.args.best.found (begins _ _ c.first_free-begin.ensures.value)
-    (λ k l h counts. absurd (too_early _ k c.first_free-begin.result (shift_free q c.requires.search c.args.place c.args.count k c.requires.apart counts).1 h c.first_free-begin.ensures.value))
-    c.requires.best
-
 pub row-comes-requires : goal.row-comes-requires
 row-comes-requires g c = record { high = into_room (searched c.args.search.now) c.requires.search c.args.gathered.now c.requires.gathered c.args.place (count_less _ _ _ c.requires.place.1) }
-
-pub shift_row-requires-clause-ways : goal.shift_row-requires-clause-ways
-shift_row-requires-clause-ways g c =
-    let some = c.requires.count.0 in
-    let low = c.requires.place.0 in
-    let fit = c.requires.place.1 in
-    let wide = c.requires.gathered.to.sized in
-    let counted = c.requires.gathered.to_edges.counted in
-    let to = c.row-comes.ensures.sized in
-    let on = c.row-goes.ensures.sized in
-    record { edges = omega arith; to = omega arith; on = omega arith }
-
-pub shift_row-requires-clause-most : goal.shift_row-requires-clause-most
-shift_row-requires-clause-most g c = c.requires.gathered.most
-
-pub shift_row-requires-clause-short : goal.shift_row-requires-clause-short
-shift_row-requires-clause-short g c = row_short _ _ c.row-goes.ensures.sized c.requires.gathered.to.short
-
-pub shift_row-requires-clause-possible : goal.shift_row-requires-clause-possible
-shift_row-requires-clause-possible g c =
-    let begin = c.first_free-begin.ensures.value in
-    λ at l h. shift_possible (searched c.args.search.now) c.requires.search c.args.gathered.now c.requires.gathered c.args.place c.args.count at c.requires.apart c.requires.place.0 c.requires.count.0 c.requires.place.1 (begun c.first_free-begin.result at (begins _ _ c.first_free-begin.ensures.value) l) h
-
-pub returns : goal.returns
-returns g c = c.shift_row.ensures
 
 pub overflow_add-after : goal.overflow_add-after
 overflow_add-after g c = count_fits c.args.place c.args.count _ c.requires.place.1 c.requires.gathered.from.short
@@ -166,14 +112,45 @@ wanted-higher-requires g c = two_more_low _ _ _ c.way_at.ensures.small c.way_at-
 pub overflow_cast-width : goal.overflow_cast-width
 overflow_cast-width g c = width_casts _ c.requires.gathered.to.short
 
-pub shift_row-requires-clause-search : goal.shift_row-requires-clause-search
-shift_row-requires-clause-search g c = c.requires.search
+pub best_of_row-requires-clause-candidates : goal.best_of_row-requires-clause-candidates
+best_of_row-requires-clause-candidates g c =
+    let q = searched c.args.search.now in
+    let a = c.args.gathered.now in
+    let wide = c.requires.gathered.to.sized in
+    let f = c.from.ensures in
+    let f2 = c.from-2.ensures in
+    λ k l h.
+    let e : k - 0 + 1 + 0 - 1 ≡ k = omega arith in
+    let e2 : k - 0 + 1 + 0 ≡ k + 1 = omega arith in
+    let edge = ap (λ (n : ℕ). slice_index a.to_edges.now n) e in
+    let comes = ap (λ (n : ℕ). slice_index c.row-comes.result.now n) e in
+    let goes = ap (λ (n : ℕ). slice_index c.row-goes.result.now n) e2 in
+    let saved = shift_saved q c.requires.search a c.requires.gathered c.args.place c.args.count (k - 0 + 1) c.closing-gained.result
+    c.row-comes.result.now c.row-goes.result.now c.requires.apart c.requires.place.0 c.requires.count.0 c.requires.place.1 (omega arith) (omega arith) c.row-comes.ensures.cells c.row-goes.ensures.cells c.closing-gained.ensures.value in
+    record {
+      possible = shift_possible q c.requires.search a c.requires.gathered c.args.place c.args.count (k - 0 + 1) c.requires.apart c.requires.place.0 c.requires.count.0 c.requires.place.1 (omega arith) (omega arith);
+      near = (refl, refl, c.requires.count.1);
+      saving = omega arith;
+    }
 
-pub shift_row-requires-clause-few : goal.shift_row-requires-clause-few
-shift_row-requires-clause-few g c = c.requires.count.1
+pub best_of_row-requires-clause-best : goal.best_of_row-requires-clause-best
+best_of_row-requires-clause-best g c =
+    let q = searched c.args.search.now in
+    let begin = c.first_free-begin.ensures.value in
+    shifts_past q c.requires.search c.args.place c.args.count 1 (c.first_free-begin.result - 1 - 0 + 1) c.args.best.found (omega arith)
+    (λ k l h counts. absurd (too_early _ k c.first_free-begin.result (shift_free q c.requires.search c.args.place c.args.count k c.requires.apart counts).1 (omega arith) begin))
+    c.requires.best
 
-pub shift_row-requires-clause-low : goal.shift_row-requires-clause-low
-shift_row-requires-clause-low g c = begins _ _ c.first_free-begin.ensures.value
+pub best_of_row-requires-clause-ways : goal.best_of_row-requires-clause-ways
+best_of_row-requires-clause-ways g c =
+    let wide = c.requires.gathered.to.sized in
+    let counted = c.requires.gathered.to_edges.counted in
+    let to = c.row-comes.ensures.sized in
+    let on = c.row-goes.ensures.sized in
+    λ k l h. record { edges = omega arith; to = omega arith; on = omega arith; most = c.requires.gathered.most }
 
-pub shift_row-requires-clause-order : goal.shift_row-requires-clause-order
-shift_row-requires-clause-order g c = begin_high _ _ _ c.first_free-begin.ensures.high c.requires.gathered.to.sized
+pub returns : goal.returns
+returns g c =
+    let wide = c.requires.gathered.to.sized in
+    let e : length c.args.gathered.now.to.now - 1 - 0 + 1 ≡ length c.args.gathered.now.to.now = omega arith in
+    subst (λ (n : ℕ). IsBestSoFar (searched c.args.search.now) (1 ∷ c.args.search.now.v ∷ c.args.place ∷ c.args.count ∷ c.args.search.now.w ∷ n ∷ []) c.best_of_row.result.found) e c.best_of_row.ensures

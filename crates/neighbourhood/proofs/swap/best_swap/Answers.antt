@@ -1,6 +1,6 @@
 use Rattle.std.proofs.Common.{◌-◌, arith, length}
 use Rattle.neighbourhood.specs.Searched.{searched}
-use Rattle.neighbourhood.proofs.Rows.{swap_apart, swap_row, swap_row_done, swaps_begin, swaps_end}
+use Rattle.neighbourhood.proofs.PairRows.{swap_apart, swap_row, swap_row_done, swaps_begin, swaps_end}
 use Rattle.neighbourhood.proofs.Small.{place_room, wide_some, width_casts}
 use Rattle.neighbourhood.proofs.swap.best_swap.Goals as goal
 

@@ -1,8 +1,8 @@
 use Rattle.std.proofs.Common.{◌+◌, ◌-◌, arith, length}
 use Rattle.neighbourhood.specs.Searched.{searched}
-use Rattle.neighbourhood.proofs.Rows.{swap_behind, swap_row, swap_row_done, swaps_begin, swaps_end}
+use Rattle.neighbourhood.proofs.PairRows.{swap_behind, swap_row, swap_row_done, swaps_begin, swaps_end}
 use Rattle.neighbourhood.proofs.Saved.{same_stops}
-use Rattle.neighbourhood.proofs.Small.{place_room, wide_some, width_casts}
+use Rattle.neighbourhood.proofs.Small.{width_casts}
 use Rattle.neighbourhood.proofs.swap.best_swap_inside.Goals as goal
 
 pub loop-place-init : goal.loop-place-init
@@ -20,17 +20,23 @@ loop-place-preserved g c =
     let wide = rw same at c.requires.gathered.to.sized in
     swap_row_done q c.requires.search c.loop-place.place (length c.args.gathered.now.from.now - 1) c.swap_within-best.result.found (omega arith) c.swap_within-best.ensures
 
+-- the last customer has none behind it
 pub returns : goal.returns
 returns g c =
+    let q = searched c.args.search.now in
     let low = c.loop-place-test.false in
     let long = c.requires.gathered.from.sized in
-    swaps_end (searched c.args.search.now) c.requires.search c.loop-place.place c.loop-place.best.found (omega arith) c.loop-place.invariant
+    let same = same_stops q c.requires.search c.args.gathered.now c.requires.gathered c.requires.inside in
+    let wide = rw same at c.requires.gathered.to.sized in
+    let x = c.loop-place.place in
+    let row = swap_row q c.requires.search x (x + 1) c.loop-place.best.found (swap_behind q.v q.w x c.requires.inside) c.loop-place.invariant in
+    swaps_end q c.requires.search (x + 1) c.loop-place.best.found (omega arith) (swap_row_done q c.requires.search x (x + 1) c.loop-place.best.found (omega arith) row)
 
 pub overflow_cast-place-end : goal.overflow_cast-place-end
 overflow_cast-place-end g c = width_casts _ c.requires.gathered.from.short
 
 pub overflow_sub-place-end : goal.overflow_sub-place-end
-overflow_sub-place-end g c = wide_some _ _ c.requires.gathered.from.sized
+overflow_sub-place-end g c = let long = c.requires.gathered.from.sized in omega arith
 
 pub swap_within-best-requires-clause-search : goal.swap_within-best-requires-clause-search
 swap_within-best-requires-clause-search g c = c.requires.search
@@ -42,4 +48,4 @@ pub swap_within-best-requires-clause-inside : goal.swap_within-best-requires-cla
 swap_within-best-requires-clause-inside g c = c.requires.inside
 
 pub swap_within-best-requires-clause-place : goal.swap_within-best-requires-clause-place
-swap_within-best-requires-clause-place g c = (c.loop-place.auto.place, place_room c.loop-place.place _ c.loop-place-test.true)
+swap_within-best-requires-clause-place g c = let t = c.loop-place-test.true in (c.loop-place.auto.place, omega arith)

@@ -1,11 +1,11 @@
-use Rattle.std.proofs.Common.{◌+◌, ◌-◌, arith, length, sym, ◌∙◌}
+use Rattle.std.proofs.Common.{◌+◌, ◌-◌, arith, refl, length, sym, ◌∙◌}
 use Rattle.std.proofs.lemmas.Bool.{false≢true}
 use Rattle.neighbourhood.specs.Searched.{searched}
-use Rattle.neighbourhood.proofs.Rows.{swaps_past}
+use Rattle.neighbourhood.proofs.PairRows.{swaps_past}
 use Rattle.neighbourhood.proofs.Saved.{into_room, out_room, swap_most, swap_possible, swap_saved}
 use Rattle.neighbourhood.proofs.Still.{swap_free}
 use Rattle.neighbourhood.proofs.Found.{begun}
-use Rattle.neighbourhood.proofs.Small.{begin_order, begins, edge_at, edge_before, end_casts, four_fit, four_low, leaves_room, next_less, one_less, place_fits, place_room, row_edges, row_end, row_long, row_short, row_some, three_fit, too_early, two_fit, two_small, wide_one, wide_some}
+use Rattle.neighbourhood.proofs.Small.{begins, edge_at, edge_before, end_casts, four_fit, four_low, leaves_room, next_less, one_less, place_fits, place_room, row_end, row_some, three_fit, too_early, two_fit, wide_one, wide_some}
 use Rattle.neighbourhood.proofs.swap.swap_over.Goals as goal
 
 pub row-next-requires : goal.row-next-requires
@@ -13,17 +13,6 @@ row-next-requires g c = record { high = into_room (searched c.args.search.now) c
 
 pub row-back-requires : goal.row-back-requires
 row-back-requires g c = record { high = into_room (searched c.args.search.now) c.requires.search c.args.gathered.now c.requires.gathered c.args.place (next_less _ _ c.requires.place.1) }
-
-pub swap_row-requires-clause-saving : goal.swap_row-requires-clause-saving
-swap_row-requires-clause-saving g c =
-    let f = c.way_at.ensures.value in
-    let f2 = c.way_at-2.ensures.value in
-    let begin = c.first_free-begin.ensures.value in
-    λ at l h.
-    let saved = swap_saved (searched c.args.search.now) c.requires.search c.args.gathered.now c.requires.gathered c.args.place at
-    c.row-before.result.now c.row-here.result.now c.row-next.result.now c.row-back.result.now c.requires.apart c.requires.place.0 c.requires.place.1 (begun c.first_free-begin.result at (begins _ _ c.first_free-begin.ensures.value) l) (place_room at _ h)
-    c.row-before.ensures.cells c.row-here.ensures.cells c.row-next.ensures.cells c.row-back.ensures.cells in
-    omega arith
 
 pub returns-then-not-may_leave : goal.returns-then-not-may_leave
 returns-then-not-may_leave g c =
@@ -33,13 +22,6 @@ returns-then-not-may_leave g c =
     (λ k l h counts.
     let free = swap_free q c.requires.search c.args.place k c.requires.apart counts in
     absurd (false≢true (sym c.if-not-may_leave.true ∙ c.may_leave.ensures.1 (free.0, free.2))))
-    c.requires.best
-
-pub swap_row-requires-clause-best : goal.swap_row-requires-clause-best
-swap_row-requires-clause-best g c =
-    let q = searched c.args.search.now in
-    swaps_past q c.requires.search c.args.place 1 c.first_free-begin.result c.args.best.found (begins _ _ c.first_free-begin.ensures.value)
-    (λ k l h counts. absurd (too_early _ k c.first_free-begin.result (swap_free q c.requires.search c.args.place k c.requires.apart counts).1 h c.first_free-begin.ensures.value))
     c.requires.best
 
 pub returns-then-lost-from : goal.returns-then-lost-from
@@ -69,37 +51,6 @@ row-before-requires g c = record { high = out_room (searched c.args.search.now) 
 
 pub row-here-requires : goal.row-here-requires
 row-here-requires g c = record { high = out_room (searched c.args.search.now) c.requires.search c.args.gathered.now c.requires.gathered c.args.place (next_less _ _ c.requires.place.1) }
-
-pub swap_row-requires-clause-order : goal.swap_row-requires-clause-order
-swap_row-requires-clause-order g c = begin_order _ _ _ c.first_free-begin.ensures.high c.requires.gathered.to.sized
-
-pub swap_row-requires-clause-near : goal.swap_row-requires-clause-near
-swap_row-requires-clause-near g c = λ e. absurd (c.requires.apart e)
-
-pub swap_row-requires-clause-ways : goal.swap_row-requires-clause-ways
-swap_row-requires-clause-ways g c =
-    record {
-      edges = row_edges _ _ c.requires.gathered.to_edges.counted;
-      before = row_long _ _ c.row-before.ensures.sized;
-      here = row_end _ _ _ c.row-here.ensures.sized c.requires.gathered.to.sized;
-      next = row_long _ _ c.row-next.ensures.sized;
-      back = row_long _ _ c.row-back.ensures.sized;
-    }
-
-pub swap_row-requires-clause-most : goal.swap_row-requires-clause-most
-swap_row-requires-clause-most g c = c.requires.gathered.most
-
-pub swap_row-requires-clause-short : goal.swap_row-requires-clause-short
-swap_row-requires-clause-short g c = row_short _ _ c.row-here.ensures.sized c.requires.gathered.to.short
-
-pub swap_row-requires-clause-possible : goal.swap_row-requires-clause-possible
-swap_row-requires-clause-possible g c =
-    let begin = c.first_free-begin.ensures.value in
-    λ at l h.
-    swap_possible (searched c.args.search.now) c.requires.search c.args.gathered.now c.requires.gathered c.args.place at (λ e. absurd (c.requires.apart e)) c.requires.place.0 c.requires.place.1 (begun c.first_free-begin.result at (begins _ _ c.first_free-begin.ensures.value) l) (place_room at _ h)
-
-pub returns : goal.returns
-returns g c = c.swap_row.ensures
 
 pub may_leave-requires-clause-view : goal.may_leave-requires-clause-view
 may_leave-requires-clause-view g c = c.requires.search.view
@@ -167,11 +118,40 @@ wanted-floor-requires g c = four_low _ _ _ _ c.way_at-3.ensures.small c.way_at-4
 pub overflow_cast-end : goal.overflow_cast-end
 overflow_cast-end g c = end_casts _ c.requires.gathered.to.short
 
-pub swap_row-requires-clause-search : goal.swap_row-requires-clause-search
-swap_row-requires-clause-search g c = c.requires.search
+pub best_of_row-requires-clause-candidates : goal.best_of_row-requires-clause-candidates
+best_of_row-requires-clause-candidates g c =
+    let q = searched c.args.search.now in
+    let a = c.args.gathered.now in
+    let f = c.way_at.ensures.value in
+    let f2 = c.way_at-2.ensures.value in
+    let begin = c.first_free-begin.ensures.value in
+    λ at l h.
+    let low = begun c.first_free-begin.result at (begins _ _ begin) l in
+    let saved = swap_saved q c.requires.search a c.requires.gathered c.args.place at
+    c.row-before.result.now c.row-here.result.now c.row-next.result.now c.row-back.result.now c.requires.apart c.requires.place.0 c.requires.place.1 low (place_room at _ h)
+    c.row-before.ensures.cells c.row-here.ensures.cells c.row-next.ensures.cells c.row-back.ensures.cells in
+    record {
+      possible = swap_possible q c.requires.search a c.requires.gathered c.args.place at (λ e. absurd (c.requires.apart e)) c.requires.place.0 c.requires.place.1 low (place_room at _ h);
+      near = (refl, refl, λ e. absurd (c.requires.apart e));
+      saving = omega arith;
+    }
 
-pub swap_row-requires-clause-low : goal.swap_row-requires-clause-low
-swap_row-requires-clause-low g c = begins _ _ c.first_free-begin.ensures.value
+pub best_of_row-requires-clause-ways : goal.best_of_row-requires-clause-ways
+best_of_row-requires-clause-ways g c =
+    let counted = c.requires.gathered.to_edges.counted in
+    let before = c.row-before.ensures.sized in
+    let here = c.row-here.ensures.sized in
+    let next = c.row-next.ensures.sized in
+    let back = c.row-back.ensures.sized in
+    let begin = c.first_free-begin.ensures.value in
+    λ k l h. (omega arith, record { edges = omega arith; before = omega arith; here = omega arith; next = omega arith; back = omega arith; most = c.requires.gathered.most })
 
-pub swap_row-requires-clause-fixed : goal.swap_row-requires-clause-fixed
-swap_row-requires-clause-fixed g c = two_small _ _ c.way_at.ensures.small c.way_at-2.ensures.small
+pub best_of_row-requires-clause-best : goal.best_of_row-requires-clause-best
+best_of_row-requires-clause-best g c =
+    let q = searched c.args.search.now in
+    swaps_past q c.requires.search c.args.place 1 c.first_free-begin.result c.args.best.found (begins _ _ c.first_free-begin.ensures.value)
+    (λ k l h counts. absurd (too_early _ k c.first_free-begin.result (swap_free q c.requires.search c.args.place k c.requires.apart counts).1 h c.first_free-begin.ensures.value))
+    c.requires.best
+
+pub returns : goal.returns
+returns g c = c.best_of_row.ensures

@@ -1,12 +1,11 @@
-use Rattle.std.proofs.Common.{refl}
 use Rattle.way_costs.proofs.table.fill_by.Goals as goal
 
 pub fill_rows-requires : goal.fill_rows-requires
 fill_rows-requires g c = record {
   answers = c.requires.answers;
   nodes = c.requires.nodes;
-  known = tt;
-  across = λ i j h k. refl;
+  known = c.known_ways.ensures;
+  across = c.is_read_across.ensures;
   from = c.requires.from;
   to = c.requires.to;
   some = c.requires.some;

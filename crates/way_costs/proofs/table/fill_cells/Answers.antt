@@ -33,8 +33,8 @@ fill_by-requires-in-Node g c = record {
 pub returns-in-Node : goal.returns-in-Node
 returns-in-Node g c = record { hops = c.fill_by-in-Node.ensures.hops; floors = c.fill_by-in-Node.ensures.floors }
 
-pub fill_known-requires : goal.fill_known-requires
-fill_known-requires g c = record {
+pub fill_by-requires-in-Listed : goal.fill_by-requires-in-Listed
+fill_by-requires-in-Listed g c = record {
   answers = table_asked (setting c.args.setup.now) _ _ _ c.registry.ensures.value c.cost.ensures.value (rw c.in-Listed.is at c.callback.ensures.table);
   nodes = size_asked (setting c.args.setup.now) _ _ c.registry.ensures.value c.registry.ensures.sound (rw c.in-Listed.is at c.callback.ensures.nodes);
   from = c.requires.from;
@@ -45,7 +45,7 @@ fill_known-requires g c = record {
 }
 
 pub returns-in-Listed : goal.returns-in-Listed
-returns-in-Listed g c = record { hops = c.fill_known.ensures.hops; floors = c.fill_known.ensures.floors }
+returns-in-Listed g c = record { hops = c.fill_by-in-Listed.ensures.hops; floors = c.fill_by-in-Listed.ensures.floors }
 
 pub fill_by-requires-in-Values : goal.fill_by-requires-in-Values
 fill_by-requires-in-Values g c = record {

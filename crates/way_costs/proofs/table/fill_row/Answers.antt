@@ -7,15 +7,6 @@ use Rattle.way_costs.proofs.table.fill_row.Goals as goal
 pub returns-in-Some-clause-ways : goal.returns-in-Some-clause-ways
 returns-in-Some-clause-ways g c = λ k h. c.read_row.ensures.ways k h ∙ c.requires.across c.args.stop (slice_index c.args.to.now k) c.requires.stop (c.requires.to k 0 h)
 
-pub returns-then-to-gt-FEW-clause-sized : goal.returns-then-to-gt-FEW-clause-sized
-returns-then-to-gt-FEW-clause-sized g c = c.ask_together.ensures.sized
-
-pub returns-then-to-gt-FEW-clause-ways : goal.returns-then-to-gt-FEW-clause-ways
-returns-then-to-gt-FEW-clause-ways g c = c.ask_together.ensures.ways
-
-pub returns-then-to-gt-FEW-clause-least : goal.returns-then-to-gt-FEW-clause-least
-returns-then-to-gt-FEW-clause-least g c = λ k d h. omega arith
-
 pub returns-then-turned-clause-sized : goal.returns-then-turned-clause-sized
 returns-then-turned-clause-sized g c = c.ask_back.ensures.sized
 
@@ -52,15 +43,6 @@ returns-in-Some-clause-sized g c = c.read_row.ensures.sized
 pub returns-in-Some-clause-least : goal.returns-in-Some-clause-least
 returns-in-Some-clause-least g c = c.read_row.ensures.least
 
-pub ask_together-requires-clause-stop : goal.ask_together-requires-clause-stop
-ask_together-requires-clause-stop g c = c.requires.stop
-
-pub ask_together-requires-clause-to : goal.ask_together-requires-clause-to
-ask_together-requires-clause-to g c = c.requires.to
-
-pub ask_together-requires-clause-room : goal.ask_together-requires-clause-room
-ask_together-requires-clause-room g c = c.requires.room
-
 pub ask_back-requires-clause-stop : goal.ask_back-requires-clause-stop
 ask_back-requires-clause-stop g c = node_asked _ _ c.args.stop c.requires.nodes c.requires.stop
 
@@ -95,3 +77,21 @@ returns-then-stop-eq0-clause-ways g c =
 
 pub returns-then-stop-eq0-clause-least : goal.returns-then-stop-eq0-clause-least
 returns-then-stop-eq0-clause-least g c = λ k d h. omega arith
+
+pub ask_many-requires-clause-stop : goal.ask_many-requires-clause-stop
+ask_many-requires-clause-stop g c = node_asked _ _ c.args.stop c.requires.nodes c.requires.stop
+
+pub ask_many-requires-clause-to : goal.ask_many-requires-clause-to
+ask_many-requires-clause-to g c = nodes_asked _ _ c.args.to.now c.requires.nodes c.requires.to
+
+pub ask_many-requires-clause-room : goal.ask_many-requires-clause-room
+ask_many-requires-clause-room g c = c.requires.room
+
+pub returns-then-to-gt-FEW-clause-sized : goal.returns-then-to-gt-FEW-clause-sized
+returns-then-to-gt-FEW-clause-sized g c = c.ask_many.ensures.sized
+
+pub returns-then-to-gt-FEW-clause-ways : goal.returns-then-to-gt-FEW-clause-ways
+returns-then-to-gt-FEW-clause-ways g c = let s = setting c.args.setup.now in ways_of c.args.asking.now.turned _ (table_at s.tables s.cost) c.args.stop c.args.stop c.args.to.now _ c.requires.answers refl c.ask_many.ensures.ways
+
+pub returns-then-to-gt-FEW-clause-least : goal.returns-then-to-gt-FEW-clause-least
+returns-then-to-gt-FEW-clause-least g c = λ k d h. omega arith

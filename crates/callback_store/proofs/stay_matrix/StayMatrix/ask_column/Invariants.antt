@@ -1,7 +1,0 @@
-use Rattle.callback_store.specs.Tables.{stay_table, entry}
-use Rattle.callback_store.proofs.Rows.{AreFirst}
-use Rattle.callback_store.proofs.stay_matrix.StayMatrix.ask_column.Given as goal
-
--- the answers so far
-abbrev pub invariant-loop-k : goal.invariant-loop-k
-invariant-loop-k l = AreFirst (λ i. entry (stay_table l.self) i l.j) l.from l.k l.answers

@@ -1,8 +1,0 @@
-use Rattle.std.proofs.Common.{slice_index}
-use Rattle.callback_store.specs.Tables.{vector_table}
-use Rattle.callback_store.proofs.Rows.{AreFirst}
-use Rattle.callback_store.proofs.vector.Vector.ask_all.Given as goal
-
--- the answers so far
-abbrev pub invariant-loop-k : goal.invariant-loop-k
-invariant-loop-k l = AreFirst (λ i. slice_index (vector_table l.self).entries i) l.nodes l.k l.answers
