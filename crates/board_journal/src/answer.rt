@@ -8,7 +8,7 @@ use board_rules::{Denial, Reply};
 
 /// The reply to a proposal, with the variants of `Denial`. Vehicles, places and dimensions are at most 65,535. It takes eight bytes, and a
 /// `Reply` takes several times as many: where each instruction counts, match on it and make no `Reply`.
-#[derive(Clone, Copy, Debug, PartialEq, Eq)]
+#[derive(Clone, Copy)]
 pub enum Answer {
     Committed(u32),
     NoSession,

@@ -4,7 +4,7 @@ use board_rules::{Entry, Hold, Ruling};
 use move_core::Move;
 
 /// An entry, lent by the journal.
-#[derive(Clone, Copy, Debug, Drop)]
+#[derive(Clone, Copy, Drop)]
 pub enum Kept<'a> {
     /// A proposal, with the fields of its entry and its call. The reply stands in fewer bytes, and is `answer.reply()`.
     Proposal {

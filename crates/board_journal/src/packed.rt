@@ -12,7 +12,7 @@ use move_core::Move;
 use std::mem::size_of;
 
 /// A proposal or a call on pins or fronts with its reply, or the index of an entry among those that stand whole. The desk is at most 65,535.
-#[derive(Clone, Copy, Debug, PartialEq, Eq)]
+#[derive(Clone, Copy)]
 pub(crate) enum Packed {
     Proposal {
         desk: u16,

@@ -2,7 +2,7 @@
 use move_core::Move;
 
 /// A proposal of a desk: the fields of its entry and its call.
-#[derive(Clone, Copy, Debug)]
+#[derive(Clone, Copy)]
 pub struct Proposal {
     pub desk: u32,
     pub turn: u32,

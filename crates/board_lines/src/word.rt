@@ -7,7 +7,7 @@ ghost use Rattle.board_lines.specs.Table.{word_of, of_letter};
 use rbac_core::Separation;
 
 /// A command of the board, by family. Each has one word, which a line names it by.
-#[derive(Clone, Copy, Debug, PartialEq, Eq)]
+#[derive(Clone, Copy)]
 pub enum Word {
     /// A proposal, which names a base.
     Propose(MoveWord),
@@ -24,7 +24,7 @@ pub enum Word {
 }
 
 /// The moves.
-#[derive(Clone, Copy, Debug, PartialEq, Eq)]
+#[derive(Clone, Copy)]
 pub enum MoveWord {
     Insert,
     Remove,
@@ -35,7 +35,7 @@ pub enum MoveWord {
 }
 
 /// Pins and freezes.
-#[derive(Clone, Copy, Debug, PartialEq, Eq)]
+#[derive(Clone, Copy)]
 pub enum HoldWord {
     Pin,
     Unpin,
@@ -44,7 +44,7 @@ pub enum HoldWord {
 }
 
 /// Changes of users, roles, assignments, permissions and pairs.
-#[derive(Clone, Copy, Debug, PartialEq, Eq)]
+#[derive(Clone, Copy)]
 pub enum ManageWord {
     AddUser,
     DeleteUser,
@@ -60,7 +60,7 @@ pub enum ManageWord {
 }
 
 /// Changes of a set of separation of duty.
-#[derive(Clone, Copy, Debug, PartialEq, Eq)]
+#[derive(Clone, Copy)]
 pub enum SetWord {
     Create,
     Add,
@@ -70,7 +70,7 @@ pub enum SetWord {
 }
 
 /// Changes of sessions.
-#[derive(Clone, Copy, Debug, PartialEq, Eq)]
+#[derive(Clone, Copy)]
 pub enum SessionWord {
     Open,
     Close,
@@ -79,7 +79,7 @@ pub enum SessionWord {
 }
 
 /// Questions.
-#[derive(Clone, Copy, Debug, PartialEq, Eq)]
+#[derive(Clone, Copy)]
 pub enum AskWord {
     List,
     Json,

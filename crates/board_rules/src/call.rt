@@ -6,7 +6,7 @@ use rbac_core::Command;
 use std::alloc::AllocError;
 
 /// What a session asks of the board. Customers and vehicles count from 1, and each number may be any u32.
-#[derive(Debug, Drop)]
+#[derive(Drop)]
 pub enum Call {
     /// A change of the plan, judged against the version `base` that the session has seen. It is denied by the first rule that it fails, in
     /// the order of `Denial`.
@@ -97,7 +97,7 @@ impl Call {
 }
 
 /// A call with its tag: the desk that makes it, from 1, and the number of that desk's turn, from 1.
-#[derive(Debug, Drop)]
+#[derive(Drop)]
 pub struct Event {
     pub desk: u32,
     pub turn: u32,
@@ -105,7 +105,7 @@ pub struct Event {
 }
 
 /// A journaled call and its reply.
-#[derive(Debug, Drop)]
+#[derive(Drop)]
 pub struct Entry {
     pub desk: u32,
     pub turn: u32,

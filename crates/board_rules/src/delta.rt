@@ -4,7 +4,7 @@ use std::marker::Model;
 
 /// What one call changes of the plan, the pins and the freezes: the new value for each customer whose spot or pin differs and for each
 /// vehicle whose frozen length differs, and the version afterwards. Customers, vehicles and places count from 1.
-#[derive(Debug, Drop)]
+#[derive(Drop)]
 pub struct Delta {
     places: Vec<(u32, Option<(u32, u32)>)>,
     pins: Vec<(u32, Option<u32>)>,

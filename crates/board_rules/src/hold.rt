@@ -95,7 +95,7 @@ impl Hold {
 }
 
 /// Why such a call is refused: those of the variants of `Refusal` that it may have.
-#[derive(Clone, Copy, Debug, PartialEq, Eq)]
+#[derive(Clone, Copy)]
 pub enum HoldRefusal {
     NoSession,
     NoAccess,
@@ -145,7 +145,7 @@ impl HoldRefusal {
 }
 
 /// The reply to such a call.
-#[derive(Clone, Copy, Debug, PartialEq, Eq)]
+#[derive(Clone, Copy)]
 pub enum Ruling {
     Done,
     Refused(HoldRefusal),

@@ -1,7 +1,7 @@
 use separation_core::Name;
 
 /// The part of the policy that a session asks to see, as a list of names.
-#[derive(Clone, Copy, Debug, PartialEq, Eq)]
+#[derive(Clone, Copy)]
 pub enum Review {
     /// The users that are assigned to the role, in the order in which they were created (AssignedUsers).
     Users(Name),

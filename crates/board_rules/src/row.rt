@@ -5,7 +5,7 @@ use std::marker::Model;
 
 /// One line of a listing: where a customer stands, and its early values. The values are kept inside the row, so that a row takes no memory
 /// of its own.
-#[derive(Debug, Drop)]
+#[derive(Drop)]
 pub struct Row {
     vehicle: u32,
     place: u32,

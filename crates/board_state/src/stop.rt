@@ -2,7 +2,7 @@
 use board_rules::Denial;
 
 /// Why a proposal is not committed.
-#[derive(Clone, Copy, Debug, PartialEq, Eq)]
+#[derive(Clone, Copy)]
 pub enum Stop {
     /// A rule denies it.
     Denied(Denial),

@@ -12,7 +12,7 @@ use separation_core::{Name, Sets};
 use std::alloc::AllocError;
 
 /// The parts in which a policy may differ from another. Its plain numbers and what DSD counts are no parts: they may always differ.
-#[derive(Clone, Copy, Debug)]
+#[derive(Clone, Copy)]
 pub struct Parts {
     /// The users and their assigned roles.
     pub users: bool,

@@ -1,7 +1,7 @@
 //! The two kinds of separation of duty.
 
 /// The two kinds of separation of duty.
-#[derive(Clone, Copy, Debug, PartialEq, Eq)]
+#[derive(Clone, Copy)]
 pub enum Separation {
     /// SSD (6.3): a set limits for which roles a user is authorized.
     Static,

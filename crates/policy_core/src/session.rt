@@ -5,7 +5,7 @@ use role_hierarchy::RoleSet;
 use separation_core::Name;
 
 /// A session: its user and the roles that are active in it (ANSI INCITS 359-2004, 6.1).
-#[derive(Clone, Copy, Debug)]
+#[derive(Clone, Copy)]
 pub struct Session {
     pub user: Name,
     pub active: RoleSet,
@@ -21,7 +21,7 @@ impl Session {
 }
 
 /// Which roles of a session DSD counts.
-#[derive(Clone, Copy, Debug, PartialEq, Eq)]
+#[derive(Clone, Copy)]
 pub enum Counting {
     /// Those that are active.
     Active,

@@ -151,7 +151,7 @@ fn commands_by_a_spare_policy(rt: HostRuntime) {
 /// Tries the command, once more where memory ran out, and gives it up.
 fn try_and_give_up(rt: &impl Abort, twin: &mut Twin, command: &Command) {
     let is_tried = twin.prepare(command).is_ok() || twin.prepare(command).is_ok();
-    assert!(rt; is_tried, "{command:?}");
+    assert!(rt; is_tried);
     twin.give_up();
 }
 
@@ -161,7 +161,7 @@ fn keep(rt: &impl Abort, twin: &mut Twin, command: Command) {
         Ok(_) => twin.settle(command),
         Err(_) => match twin.prepare(&command) {
             Ok(_) => twin.settle(command),
-            Err(_) => assert!(rt; false, "{command:?}"),
+            Err(_) => assert!(rt; false),
         },
     }
 }

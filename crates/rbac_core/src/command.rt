@@ -11,7 +11,7 @@ use std::alloc::AllocError;
 /// refusals in the order in which they are tried. Before them any command is refused with `NoSession`, where the acting session does not
 /// exist, and with `NoAccess`, where it lacks `admin` on the board and the command is none of the four session commands for its own user.
 /// `NoMemory` may come in place of any answer.
-#[derive(Debug, Drop)]
+#[derive(Drop)]
 pub enum Command {
     /// AddUser (6.1): a new user, without roles. Refusals: `Already`, `Full`.
     AddUser {

@@ -6,7 +6,7 @@ use std::alloc::AllocError;
 use std::marker::Model;
 
 /// Names in order; one may come twice. Contracts see their list.
-#[derive(Debug, Drop)]
+#[derive(Drop)]
 pub struct Names {
     names: Vec<Name>,
 }

@@ -3,7 +3,7 @@ use crate::tally::Outcome;
 use std::sync::Wait;
 
 /// A point of a round.
-#[derive(Clone, Copy, PartialEq, Eq, Debug)]
+#[derive(Clone, Copy, Debug)]
 pub enum Point {
     /// The worker has brought its view up to the published plan, and has not searched it yet.
     Seen,

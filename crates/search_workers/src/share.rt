@@ -27,7 +27,7 @@ impl<N: Naming, R: Wait + Drop> Promise<Work<N, R>> for WorkOf<N, R> {
 }
 
 /// Why workers gave nothing back.
-#[derive(Clone, Copy, PartialEq, Eq, Debug)]
+#[derive(Clone, Copy)]
 pub enum WorkFault {
     NoMemory,
     /// A thread could not be started.

@@ -3,7 +3,7 @@ ghost use Rattle.std.specs.Prelude.{◌≡◌, ◌+◌, ◌<◌, ◌^◌, if◌t
 ghost use Rattle.search_workers.specs.Kinds.{is_committed, is_denied, is_refused, is_idle};
 
 /// How a round ended.
-#[derive(Clone, Copy, PartialEq, Eq, Debug, Drop)]
+#[derive(Clone, Copy, Debug, Drop)]
 pub enum Outcome {
     /// Its proposal changed the plan.
     Committed,
@@ -16,7 +16,7 @@ pub enum Outcome {
 }
 
 /// How many rounds ended in each way. Those that were not idle are the ones that were tried.
-#[derive(Clone, Copy, PartialEq, Eq, Debug, Drop)]
+#[derive(Clone, Copy, Drop)]
 pub struct Tally {
     pub tried: u32,
     pub committed: u32,

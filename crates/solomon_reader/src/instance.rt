@@ -24,7 +24,7 @@ pub struct Node {
 ///
 /// `vehicles` is 1 to 1,000 and `capacity` at most 9,999,999. `nodes` has 2 to 1,001 nodes, of
 /// which node 0 is the depot.
-#[derive(Debug, Drop)]
+#[derive(Drop)]
 pub struct Instance {
     /// 1 to 64 bytes from space to `~`.
     pub name: String,

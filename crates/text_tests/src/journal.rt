@@ -57,7 +57,7 @@ fn compare(rt: &impl Abort, journal: &Journal, index: usize, turn: u32, reply: R
             assert_eq!(rt; *mv, SHIFT);
             assert_eq!(rt; answer.reply(), reply);
         }
-        other => panic!(rt; "{index}: {other:?}"),
+        _ => panic!(rt; "another entry at {index}"),
     }
 }
 
@@ -68,7 +68,7 @@ fn compare_turns(rt: &impl Abort, journal: &Journal, last: u32) {
         turn = turn.wrapping_add(1);
         match kept {
             Kept::Proposal { turn: found, .. } => assert_eq!(rt; found, turn),
-            other => panic!(rt; "{turn}: {other:?}"),
+            _ => panic!(rt; "another entry at {turn}"),
         }
     }
     assert_eq!(rt; turn, last);
@@ -121,7 +121,7 @@ fn keeps_whole_what_fits_no_record(rt: HostRuntime) -> Result<(), Fail> {
             assert_eq!(rt; *mv, SHIFT);
             assert_eq!(rt; *reply, far);
         }
-        other => panic!(rt; "{other:?}"),
+        _ => panic!(rt; "another entry"),
     }
     Ok(())
 }
@@ -149,7 +149,7 @@ fn compare_hold(
             assert_eq!(rt; hold, wanted);
             assert_eq!(rt; ruling.reply(), reply);
         }
-        other => panic!(rt; "{index}: {other:?}"),
+        _ => panic!(rt; "another entry at {index}"),
     }
     Ok(())
 }
