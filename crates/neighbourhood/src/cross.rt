@@ -9,7 +9,8 @@ use crate::kinds::Kind;
 use crate::rows::{Candidates, best_of_row};
 use crate::searched::{Gathered, Search};
 use move_judge::must_keep;
-use way_costs::{CutRow, row, way_at};
+use row_gains::{CutRow, way_at};
+use way_costs::row;
 
 /// The better of the best so far and the crosses that keep so many customers of the first vehicle. None counts that keeps fewer than `begin`
 /// of the second.

@@ -8,7 +8,8 @@ use crate::kinds::Kind;
 use crate::rows::{Candidates, best_of_row};
 use crate::searched::{Gathered, Search};
 use move_judge::first_free;
-use way_costs::{ReverseRow, row, way_at};
+use row_gains::{ReverseRow, way_at};
+use way_costs::row;
 
 /// The better of the best so far and the reverses from a place on.
 fn reverse_from(

@@ -8,7 +8,7 @@ ghost use Rattle.neighbourhood.specs.Searched.{searched, IsSearch};
 use crate::best::Best;
 use crate::kinds::Kind;
 use crate::searched::Search;
-use way_costs::{Row, first_gain};
+use row_gains::{Row, first_gain};
 
 /// A row of candidates: their kind, what each of them loses and gains wherever it stands, and the ways along the stops.
 #[derive(Drop)]

@@ -9,7 +9,8 @@ use crate::kinds::Kind;
 use crate::rows::{Candidates, best_of_row};
 use crate::searched::{Gathered, Search};
 use move_judge::{first_free, loose_from};
-use way_costs::{CutRow, hop, row, way_at};
+use row_gains::{CutRow, way_at};
+use way_costs::{hop, row};
 
 /// What the way costs that closes a gap, from one stop of the first vehicle to a later one. That from the depot and that to the depot are
 /// among the ways between both vehicles.

@@ -9,7 +9,8 @@ use crate::rows::{Candidates, best_of_row};
 use crate::searched::{Gathered, Search};
 use move_core::Move;
 use move_judge::{first_free, may_leave};
-use way_costs::{SwapRow, row, way_at};
+use row_gains::{SwapRow, way_at};
+use way_costs::row;
 
 /// The better of the best so far and the swaps of the customer at a place with those of another vehicle.
 #[inline(always)]

@@ -6,5 +6,4 @@ pub mod Saved
 pub mod Cells
 pub mod Stops
 pub mod Joined
-pub mod Wins
 pub mod Loops

@@ -18,6 +18,9 @@ edge_in k n m h e = omega arith
 pub edge_done : (k n m i : ℕ) → k < m → m + 1 ≡ n → n - 1 ≤ i → k < i
 edge_done k n m i h e all = omega arith
 
+pub passed : (m k end : ℕ) → m < end → end ≤ k → m < k
+passed m k end h l = omega arith
+
 pub two_some : (n : ℕ) → 2 ≤ n → 1 ≤ n
 two_some n h = omega arith
 

@@ -3,5 +3,4 @@ pub mod Known
 pub mod Sides
 pub mod Costs
 pub mod Savings
-pub mod Rows
 pub mod Laws

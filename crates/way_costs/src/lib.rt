@@ -1,15 +1,13 @@
 //! What the ways between stops cost: asked once, kept in tables and sums, and what each kind of move saves by them.
 #![tactic(auto)]
 
-mod gains;
 mod hops;
 mod known;
 mod laws;
 mod sides;
 mod table;
 
-pub use gains::{CutRow, ReverseRow, Row, RowCosts, SwapRow, first_gain};
 pub use hops::{fill_stops, hop};
 pub use laws::moves_save;
 pub use sides::{Along, Sides, Ways, parts_of};
-pub use table::{most_of, row, way_at};
+pub use table::{most_of, row};

@@ -616,13 +616,3 @@ pub fn row(cells: &[u32], width: usize, index: usize) -> &[u32]
 {
     &cells[index * width..index * width + width]
 }
-
-/// What the way at a place of a row costs.
-#[inline(always)]
-pub fn way_at(ways: &[u32], place: usize) -> u64
-    requires { place < length ways.now }
-    ensures value { result ≡ slice_index ways.now place }
-    ensures small { result < 2 ^ 32 }
-{
-    u64::from(ways[place])
-}

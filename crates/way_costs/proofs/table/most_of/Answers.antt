@@ -1,7 +1,7 @@
 use Rattle.std.proofs.Common.{ℕ, ◌≡◌, ◌≤◌, inl, inr, subst, arith, slice_index, length}
 use Rattle.std.proofs.lemmas.Bool.{cases_lt}
 use Rattle.std.proofs.lemmas.Grind.{common_steps}
-use Rattle.way_costs.proofs.Wins.{passed}
+use Rattle.way_costs.proofs.Loops.{passed}
 use Rattle.std.proofs.lemmas.List.{get_or_default}
 use Rattle.way_costs.proofs.table.most_of.Goals as goal
 

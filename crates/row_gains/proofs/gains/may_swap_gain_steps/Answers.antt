@@ -1,0 +1,23 @@
+use Rattle.std.proofs.Common.{◌+◌, ◌≤◌, sym}
+use Rattle.std.proofs.lemmas.Bool.{false≢true}
+use Rattle.row_gains.specs.Rows.{lost_by_swap, gained_by_swap}
+use Rattle.row_gains.proofs.Wins.{step_begin, swap_shorter, step_order, step_room, steps_all}
+use Rattle.row_gains.proofs.gains.may_swap_gain_steps.Goals as goal
+
+pub may_swap_gain_over-requires-clause-row : goal.may_swap_gain_over-requires-clause-row
+may_swap_gain_over-requires-clause-row c = swap_shorter c.args.row.now _ c.args.end c.steps_end-whole.ensures.high c.requires.row
+
+pub overflow_sub-end : goal.overflow_sub-end
+overflow_sub-end c = step_room c.args.from c.args.end c.requires.long
+
+pub may_swap_gain_over-requires-2-clause-order : goal.may_swap_gain_over-requires-2-clause-order
+may_swap_gain_over-requires-2-clause-order c = step_order c.args.end
+
+pub may_swap_gain_over-requires-2-clause-begin : goal.may_swap_gain_over-requires-2-clause-begin
+may_swap_gain_over-requires-2-clause-begin c = step_begin c.args.from c.args.end c.requires.begin c.requires.long
+
+pub returns-then-may_swap_gain_over : goal.returns-then-may_swap_gain_over
+returns-then-may_swap_gain_over c = λ e. absurd (false≢true (sym e))
+
+pub returns : goal.returns
+returns c = λ e. steps_all (λ k. lost_by_swap c.args.row.now k ≤ c.args.more + gained_by_swap c.args.row.now k) c.args.from _ c.args.end c.steps_end-whole.ensures.last (c.may_swap_gain_over.ensures c.if-may_swap_gain_over.false) (c.may_swap_gain_over-2.ensures e)

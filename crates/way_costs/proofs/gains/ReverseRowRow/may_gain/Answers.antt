@@ -1,4 +1,0 @@
-use Rattle.way_costs.proofs.gains.ReverseRowRow.may_gain.Goals as goal
-
-pub overflow_sub-end : goal.overflow_sub-end
-overflow_sub-end c = c.requires.order
