@@ -22,13 +22,14 @@ use Rattle.policy_core.specs.State.{PolicyState, is_session, session_of, is_user
 use Rattle.policy_core.specs.Commands.{authorized_for, activate_refusal, open_refusal, slots_of, inherit_refusal, kept_authorized, kept_session, narrowed, narrowed_all, deassigned, uninherited, role_gone}
 use Rattle.policy_core.specs.Authority.{AreBelow, AreCounted, IsAuthorized, IsNotAuthorizedToActivate, IsNotAuthorizedToOpen, IsCycle, KeepsAuthorized, KeepsAuthorizedOf}
 
--- a refusal that is not one of the sets is not that of a set
-not_dsd : (due : Refusal) (found : Option (List ℕ)) → ((name : List ℕ) → ¬ (Dsd name ≡ due)) → ¬ (option_map Dsd found ≡ Some due)
-not_dsd due None other h = cc
-not_dsd due (Some name) other h = other name (some_same h)
-  where
-    some_same : {x y : Refusal} → Some x ≡ Some y → x ≡ y
-    some_same e = cc
+-- whether a command is refused as not authorized, or as a cycle
+abbrev is_unauthorized : Option Refusal → Bool
+is_unauthorized (Some NotAuthorized) = true
+is_unauthorized o = false
+
+abbrev is_cycle : Option Refusal → Bool
+is_cycle (Some Cycle) = true
+is_cycle o = false
 
 module _ (p : PolicyState) (is : IsOrder p.order) where
   pub below : (roles : ℕ) → AreBelow p roles (closed p.order roles)
@@ -58,11 +59,12 @@ module _ (p : PolicyState) (is : IsOrder p.order) where
   activating : (a here active allowed : Bool) (found : Option (List ℕ)) →
       (cond (not a) (Some NoRole) (cond (here && active) (Some Already) (cond (not here) (Some NotThere) (cond (not allowed) (Some NotAuthorized) (option_map Dsd found)))) ≡ Some NotAuthorized)
       → (a ≡ true) × (here ≡ true) × (active ≡ false) × (allowed ≡ false)
-  activating false here active allowed found h = cc
-  activating true true true allowed found h = cc
-  activating true false active allowed found h = cc
+  activating false here active allowed found h = absurd (false≢true (ap is_unauthorized h))
+  activating true true true allowed found h = absurd (false≢true (ap is_unauthorized h))
+  activating true false active allowed found h = absurd (false≢true (ap is_unauthorized h))
   activating true true false false found h = (refl, refl, refl, refl)
-  activating true true false true found h = absurd (not_dsd NotAuthorized found (λ name e. cc) h)
+  activating true true false true None h = absurd (false≢true (ap is_unauthorized h))
+  activating true true false true (Some name) h = absurd (false≢true (ap is_unauthorized h))
 
   activating_back : (a here active allowed : Bool) (rest : Option Refusal) → a ≡ true → here ≡ true → active ≡ false → allowed ≡ false →
       cond (not a) (Some NoRole) (cond (here && active) (Some Already) (cond (not here) (Some NotThere) (cond (not allowed) (Some NotAuthorized) rest))) ≡ Some NotAuthorized
@@ -87,12 +89,12 @@ module _ (p : PolicyState) (is : IsOrder p.order) where
   opening : (a b allowed full : Bool) (found : Option (List ℕ)) →
       (cond (not a) (Some NoUser) (cond (not b) (Some NoRole) (cond (not allowed) (Some NotAuthorized) (option_or (option_map Dsd found) (cond full (Some Full) None)))) ≡ Some NotAuthorized)
       → (a ≡ true) × (b ≡ true) × (allowed ≡ false)
-  opening false b allowed full found h = cc
-  opening true false allowed full found h = cc
+  opening false b allowed full found h = absurd (false≢true (ap is_unauthorized h))
+  opening true false allowed full found h = absurd (false≢true (ap is_unauthorized h))
   opening true true false full found h = (refl, refl, refl)
-  opening true true true true None h = cc
-  opening true true true false None h = cc
-  opening true true true full (Some name) h = cc
+  opening true true true true None h = absurd (false≢true (ap is_unauthorized h))
+  opening true true true false None h = absurd (false≢true (ap is_unauthorized h))
+  opening true true true full (Some name) h = absurd (false≢true (ap is_unauthorized h))
 
   opening_back : (a b allowed : Bool) (rest : Option Refusal) → a ≡ true → b ≡ true → allowed ≡ false →
       cond (not a) (Some NoUser) (cond (not b) (Some NoRole) (cond (not allowed) (Some NotAuthorized) rest)) ≡ Some NotAuthorized
@@ -127,13 +129,13 @@ module _ (p : PolicyState) (is : IsOrder p.order) where
   inheriting : (a b pair above : Bool) (ssd dsd : Option (List ℕ)) →
       (cond (not a) (Some NoRole) (cond (not b) (Some NoRole) (cond pair (Some Already) (cond above (Some Cycle) (option_or (option_map Ssd ssd) (option_map Dsd dsd))))) ≡ Some Cycle)
       → (a ≡ true) × (b ≡ true) × (pair ≡ false) × (above ≡ true)
-  inheriting false b pair above ssd dsd h = cc
-  inheriting true false pair above ssd dsd h = cc
-  inheriting true true true above ssd dsd h = cc
+  inheriting false b pair above ssd dsd h = absurd (false≢true (ap is_cycle h))
+  inheriting true false pair above ssd dsd h = absurd (false≢true (ap is_cycle h))
+  inheriting true true true above ssd dsd h = absurd (false≢true (ap is_cycle h))
   inheriting true true false true ssd dsd h = (refl, refl, refl, refl)
-  inheriting true true false false (Some name) dsd h = cc
-  inheriting true true false false None (Some name) h = cc
-  inheriting true true false false None None h = cc
+  inheriting true true false false (Some name) dsd h = absurd (false≢true (ap is_cycle h))
+  inheriting true true false false None (Some name) h = absurd (false≢true (ap is_cycle h))
+  inheriting true true false false None None h = absurd (false≢true (ap is_cycle h))
 
   inheriting_back : (a b pair above : Bool) (rest : Option Refusal) → a ≡ true → b ≡ true → pair ≡ false → above ≡ true →
       cond (not a) (Some NoRole) (cond (not b) (Some NoRole) (cond pair (Some Already) (cond above (Some Cycle) rest))) ≡ Some Cycle

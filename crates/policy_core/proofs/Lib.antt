@@ -13,5 +13,6 @@ mod PlaceLaws
 mod ReviewLaws
 mod SetLaws
 mod SlotLaws
+mod TestLaws
 mod WiderLaws
 pub mod Inserted

@@ -2,7 +2,7 @@
 use Rattle.std.proofs.Common.{◌≡◌, cond, ℕ, Bool, true, false, List, [], ◌∷◌, ◌||◌, map, Option, Some, None, sym, refl, ap, ap₂, ◌∙◌}
 use Rattle.std.specs.Prelude.{Result, Ok, Err, OnOk, OnErr, bytes_eq, is_some, unwrap_or, not}
 use Rattle.std.specs.Map.{lookup}
-use Rattle.std.specs.Option.{option_map, option_or}
+use Rattle.std.specs.Option.{option_map}
 use Rattle.std.specs.List.{list_any, list_all}
 use Rattle.role_hierarchy.specs.Order.{Order, is_there}
 use Rattle.role_hierarchy.specs.Below.{closed}
@@ -13,7 +13,7 @@ use Rattle.separation_core.specs.declared.sets.Limit.{Limit}
 use Rattle.separation_core.specs.declared.sets.SetFault.{SetFault}
 use Rattle.separation_core.specs.declared.sets.SetFault.TheVariants as fault
 use Rattle.policy_core.specs.declared.refusal.Refusal.{Refusal}
-use Rattle.policy_core.specs.declared.refusal.Refusal.TheVariants.{NoRole, Already, Ssd, Dsd}
+use Rattle.policy_core.specs.declared.refusal.Refusal.TheVariants.{Already, Ssd, Dsd}
 use Rattle.policy_core.specs.declared.separation.Separation.{Separation}
 use Rattle.policy_core.specs.declared.separation.Separation.TheVariants.{Static, Dynamic}
 use Rattle.policy_core.specs.declared.session.Session.{Session}
@@ -23,6 +23,7 @@ use Rattle.policy_core.specs.Kinds.{sets_of, with_sets, given_by, broken_by}
 use Rattle.policy_core.specs.Commands.{as_refusal, slots_of, set_created, member_added, add_member_refusal, set_numbered}
 use Rattle.policy_core.specs.State.{PolicyState, IsPolicy, counted, is_role, slot_of}
 use Rattle.policy_core.proofs.CommandLaws.{chosen_there}
+use Rattle.policy_core.proofs.TestLaws.{passes, found, missed}
 use Rattle.policy_core.proofs.FreeLaws.{bare_ssd, bare_dsd, in_none-with_set, in_none-changed, in_none-without_set, with_none, without_none, apart_slots}
 
 any_closed : (order : Order) (limit : Limit) (users : List (List ℕ × ℕ)) → list_any (λ roles. is_broken (closed order roles) limit) (map (λ u. u.1) users) ≡ list_any (λ given. is_broken given limit) (map (λ u. closed order u.1) users)
@@ -69,18 +70,29 @@ module _ (now : PolicyState) (is : IsPolicy now) (kind : Separation) (name : Lis
       ∙ sym (judged kind now (changed (sets_of kind now) name f))
 
 -- a role that joins a set, where the set that it makes was judged
-pub may_join : (kind : Separation) (p : PolicyState) (name role : List ℕ) (slot : ℕ) (limit : Limit) (roles : ℕ) → Some slot ≡ lookup (bytes_eq role) p.roles → Some limit ≡ limit_of (sets_of kind p) name → has limit.roles slot ≡ false → roles ≡ with_role limit.roles slot →
-    ((f : Limit → Limit) (old : Limit) → limit_of (sets_of kind p) name ≡ Some old → f old ≡ record { roles = roles; number = limit.number } → None ≡ broken_by kind (with_sets kind p (changed (sets_of kind p) name f))) → None ≡ add_member_refusal kind p name role
-unfolding add_member_refusal
-may_join kind p name role slot limit roles there here new is_roles judged =
-    let named : is_role p role ≡ true = ap is_some (sym there) in
-    let at : slot_of p role ≡ slot = ap (λ (o : Option ℕ). unwrap_or o 0) (sym there) in
-    let room : add_refusal (limit_of (sets_of kind p) name) (slot_of p role) ≡ None = ap₂ add_refusal (sym here) at ∙ ap (λ (t : Bool). cond t (Some fault.Member) None) new in
-    let with_roles : ℕ → Limit = λ r. record { roles = r; number = limit.number } in
-    let whole : None ≡ broken_by kind (member_added kind p name role) = judged (limit_with (slot_of p role)) limit (sym here) (ap with_roles (ap (with_role limit.roles) at ∙ sym is_roles)) in
-    whole
-    ∙ sym (ap (λ (t : Bool). cond (not t) (Some NoRole) (option_or (as_refusal Already (add_refusal (limit_of (sets_of kind p) name) (slot_of p role))) (broken_by kind (member_added kind p name role)))) named
-    ∙ ap (λ (o : Option SetFault). option_or (as_refusal Already o) (broken_by kind (member_added kind p name role))) room)
+module _ (kind : Separation) (p : PolicyState) (name role : List ℕ) (slot : ℕ) (limit : Limit) (there : Some slot ≡ lookup (bytes_eq role) p.roles) (here : Some limit ≡ limit_of (sets_of kind p) name) where
+  at : slot ≡ slot_of p role
+  at = ap (λ (o : Option ℕ). unwrap_or o 0) there
+
+  pub in_set : true ≡ has limit.roles slot → Some Already ≡ add_member_refusal kind p name role
+  unfolding add_member_refusal
+  in_set h =
+      passes _ (ap is_some there) (found _ (ap (λ t. as_refusal Already (cond t (Some fault.Member) None)) h ∙ ap₂ (λ (o : Option Limit) s. as_refusal Already (add_refusal o s)) here at))
+
+  pub room : has limit.roles slot ≡ false → add_refusal (limit_of (sets_of kind p) name) (slot_of p role) ≡ None
+  room new = sym (ap₂ add_refusal here at) ∙ ap (λ (t : Bool). cond t (Some fault.Member) None) new
+
+  -- what it breaks
+  module _ (roles : ℕ) (is_roles : roles ≡ with_role limit.roles slot) (broken : Option Refusal)
+      (judged : (f : Limit → Limit) (old : Limit) → limit_of (sets_of kind p) name ≡ Some old → f old ≡ record { roles = roles; number = limit.number } → broken ≡ broken_by kind (with_sets kind p (changed (sets_of kind p) name f))) where
+    pub may_break : broken ≡ broken_by kind (member_added kind p name role)
+    may_break =
+        let with_roles : ℕ → Limit = λ r. record { roles = r; number = limit.number } in
+        judged (limit_with (slot_of p role)) limit (sym here) (ap with_roles (ap (with_role limit.roles) (sym at) ∙ sym is_roles))
+
+    pub may_join : has limit.roles slot ≡ false → broken ≡ add_member_refusal kind p name role
+    unfolding add_member_refusal
+    may_join new = passes _ (ap is_some there) (missed (ap (as_refusal Already) (sym (room new))) may_break)
 
 -- other sets, which are not broken either
 sets_whole : (kind : Separation) (p : PolicyState) → IsPolicy p → (groups : Groups) → first_breaking (given_by kind p) groups ≡ None → ((slot : ℕ) → is_there p.order slot ≡ false → is_in_some groups slot ≡ false) → IsPolicy (with_sets kind p groups)

@@ -1,9 +1,9 @@
-use Rattle.std.proofs.Common.{sym, subst, ap, ◌∙◌}
+use Rattle.std.proofs.Common.{sym, refl, subst, ap, ◌∙◌}
 use Rattle.policy_core.specs.Seen.{state_of}
 use Rattle.policy_core.specs.State.{PolicyState, IsPolicy}
 use Rattle.policy_core.specs.Parts.{DifferIn}
 use Rattle.policy_core.proofs.CommandLaws.{same_parts}
-use Rattle.policy_core.proofs.PartLaws.{moved, restored, restored_whole, dsd_copied, sessions_copied, on_err}
+use Rattle.policy_core.proofs.PartLaws.{moved, restored, restored_whole, order_copied, ssd_copied, dsd_copied, sessions_copied, on_err}
 use Rattle.policy_core.proofs.policy.Policy.restore.Goals as goal
 
 pub returns-clause-ok : goal.returns-clause-ok
@@ -43,3 +43,12 @@ returns-in_err-dsd-clause-lacking c = on_err _ (dsd_copied c.args.parts c.in_err
 
 pub returns-in_err-sessions-clause-lacking : goal.returns-in_err-sessions-clause-lacking
 returns-in_err-sessions-clause-lacking c = on_err _ (sessions_copied c.args.parts c.in_err-sessions.ensures.lacking)
+
+pub restore_grants-requires : goal.restore_grants-requires
+restore_grants-requires c = (moved c.args.parts (state_of c.self.inside) c.args.from.now _ _ c.self.view_is refl c.requires).grants
+
+pub returns-in_err-order-clause-lacking : goal.returns-in_err-order-clause-lacking
+returns-in_err-order-clause-lacking c = on_err _ (order_copied c.args.parts c.in_err-order.ensures.lacking)
+
+pub returns-in_err-ssd-clause-lacking : goal.returns-in_err-ssd-clause-lacking
+returns-in_err-ssd-clause-lacking c = on_err _ (ssd_copied c.args.parts c.in_err-ssd.ensures.lacking)
