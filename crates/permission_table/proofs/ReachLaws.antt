@@ -30,6 +30,10 @@ index role place = 256 * (place / 256) + role
 pub inside : (sets : List ℕ) (role place : ℕ) → length sets % 256 ≡ 0 → role < 256 → place < length sets → index role place < length sets
 inside sets role place whole small within = omega (arith, whole)
 
+-- no place is behind the last block
+pub in_blocks : (q block first len n : ℕ) → q < n → len ≡ n → n % 256 ≡ 0 → len / 256 ≤ block → q < 256 * block + first
+in_blocks q block first len n within same whole past = omega (arith, within, same, whole, past)
+
 -- within one block a place is told by its number in the block
 in_block : (p q : ℕ) → p / 256 ≡ q / 256 → eqb (p % 256) (q % 256) ≡ eqb p q
 in_block p q same = elim (cases_eq p q) [

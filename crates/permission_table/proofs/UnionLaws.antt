@@ -1,5 +1,5 @@
 -- Rows of roles that are joined one by one.
-use Rattle.std.proofs.Common.{◌||◌, ◌⊎◌, ◌≡◌, ℕ, ◌+◌, ◌≤◌, true, false, inl, inr, sym, ap, ◌∙◌, arith}
+use Rattle.std.proofs.Common.{◌||◌, ◌⊎◌, ◌≡◌, ℕ, ◌+◌, ◌<◌, ◌≤◌, true, false, inl, inr, sym, ap, ◌∙◌, arith}
 use Rattle.std.specs.Prelude.{bit_or}
 use Rattle.std.proofs.lemmas.Bool.{or_left, or_right, or_cases, cases_lt, false≢true}
 use Rattle.role_hierarchy.specs.Roles.{has}
@@ -49,3 +49,23 @@ module _ (p : PolicyState) (roles : ℕ) (operation : Operation) where
       | inr high ↦ absurd (false≢true (sym (none c.0 high) ∙ c.1))
     ]),
   )
+
+-- what is found between two members, where none is before the first and none between them
+pub two_between : (roles from one other : ℕ) → ((q : ℕ) → from ≤ q → q < one → has roles q ≡ false) → ((q : ℕ) → one + 1 ≤ q → q < other → has roles q ≡ false)
+    → (q : ℕ) → from ≤ q → q ≤ other → has roles q ≡ true → (q ≡ one) ⊎ (q ≡ other)
+two_between roles from one other before between q low high here = elim (cases_lt q one) [
+  | inl below ↦ absurd (false≢true (sym (before q low below) ∙ here))
+  | inr past ↦ elim (cases_lt q (one + 1)) [
+    | inl same ↦ inl (omega (arith, same, past))
+    | inr next ↦ elim (cases_lt q other) [
+      | inl inside ↦ absurd (false≢true (sym (between q next inside) ∙ here))
+      | inr over ↦ inr (omega (arith, over, high))
+    ]
+  ]
+]
+
+pub one_alone : (roles from one : ℕ) → ((q : ℕ) → from ≤ q → q < one → has roles q ≡ false) → (q : ℕ) → from ≤ q → q ≤ one → has roles q ≡ true → q ≡ one
+one_alone roles from one before q low high here = elim (cases_lt q one) [
+  | inl below ↦ absurd (false≢true (sym (before q low below) ∙ here))
+  | inr past ↦ omega (arith, past, high)
+]

@@ -1,6 +1,7 @@
 -- Words of a row that are joined one by one.
-use Rattle.std.proofs.Common.{◌≡◌, ℕ, suc, ◌-◌, ◌*◌, ◌/◌, ◌%◌, ◌^◌, ◌<◌, ◌≤◌, max, Bool, true, false, cond, ◌&&◌, ◌||◌, eqb, leb, ltb, List, [], ◌∷◌, get_or, inl, inr, refl, sym, ap, ap₂, ◌∙◌, arith}
-use Rattle.std.proofs.lemmas.Bool.{and_parts, and_from, cases_lt, le-leb, lt-ltb, leb-true, ltb-true, false≢true}
+use Rattle.std.proofs.Common.{◌≡◌, ℕ, suc, ◌+◌, ◌-◌, ◌*◌, ◌/◌, ◌%◌, ◌^◌, ◌<◌, ◌≤◌, max, Bool, true, false, cond, ◌&&◌, ◌||◌, eqb, leb, ltb, List, [], ◌∷◌, get_or, set, length, inl, inr, refl, sym, ap, ap₂, ◌∙◌, arith}
+use Rattle.std.proofs.lemmas.Bool.{and_parts, and_from, cases_eq, cases_lt, le-leb, lt-ltb, leb-true, ltb-true, false≢true}
+use Rattle.std.proofs.lemmas.List.{get_or-set_same, get_or-set_other}
 use Rattle.std.specs.Prelude.{bit_or}
 use Rattle.role_hierarchy.specs.Roles.{has}
 use Rattle.role_hierarchy.specs.RoleLaws.{has-bit_or, has-bit_and, has-empty, same_roles}
@@ -121,3 +122,30 @@ module _ (ws vs us : List ℕ) (small : AllByRecursion IsWord ws) (small_other :
       has_added number
       ∙ ap (λ t. has (joined ws) number || t) (sym (has-part_of low high (joined vs) number))
       ∙ sym (has-bit_or (joined ws) (part_of low high (joined vs)) number))
+
+-- one more word is written, the others stay
+module _ (f : ℕ → ℕ) (place v : ℕ) (ws : List ℕ) where
+  pub written_at : (P : ℕ → Type 0) → place < length ws → v ≡ f place → ((k : ℕ) → P k → k < place → get_or ws k 0 ≡ f k) → (k : ℕ) → P k → k < place + 1 → get_or (set ws place v) k 0 ≡ f k
+  written_at P within is before k here low = elim (cases_eq k place) [
+    | inl e ↦ ap (λ i. get_or (set ws place v) i 0) e ∙ get_or-set_same ws place v 0 within ∙ is ∙ ap f (sym e)
+    | inr ne ↦ get_or-set_other ws place k v 0 ne ∙ before k here (omega (arith, low, ne))
+  ]
+
+  pub written_past : ((k : ℕ) → place ≤ k → get_or ws k 0 ≡ f k) → (k : ℕ) → place + 1 ≤ k → get_or (set ws place v) k 0 ≡ f k
+  written_past after k high = get_or-set_other ws place k v 0 (omega (arith, high)) ∙ after k (omega (arith, high))
+
+  pub written_below : (from : ℕ) → from ≤ place → ((k : ℕ) → k < from → get_or ws k 0 ≡ f k) → (k : ℕ) → k < from → get_or (set ws place v) k 0 ≡ f k
+  written_below from order before k low = get_or-set_other ws place k v 0 (omega (arith, low, order)) ∙ before k low
+
+-- places of the words
+pub in_words : (place end n : ℕ) → place < end → end ≤ 32 → n ≡ 32 → place < n
+in_words place end n below few whole = omega (arith, below, few, whole)
+
+pub itself : (n : ℕ) → n ≤ n
+itself n = omega arith
+
+pub one_up : (a b : ℕ) → a ≤ b → a ≤ b + 1
+one_up a b h = omega (arith, h)
+
+pub next_within : (a b : ℕ) → a < b → a + 1 ≤ b
+next_within a b h = omega (arith, h)

@@ -1,9 +1,9 @@
-use Rattle.std.proofs.Common.{◌≡◌, ℕ, ◌*◌, ◌/◌, ◌%◌, ◌<◌, ◌+◌, List, length, set, ap, sym, ◌∙◌, arith, ◌&&◌, not, eqb, length-set}
+use Rattle.std.proofs.Common.{subst, ◌≡◌, ℕ, ◌*◌, ◌/◌, ◌%◌, ◌<◌, ◌+◌, List, length, set, ap, sym, ◌∙◌, arith, ◌&&◌, not, eqb, length-set}
 use Rattle.std.specs.Prelude.{nat_lt}
 use Rattle.std.proofs.lemmas.List.{get_or_default}
 use Rattle.role_hierarchy.specs.Roles.{has, without}
 use Rattle.permission_table.specs.Reaching.{is_marked}
-use Rattle.permission_table.proofs.ReachLaws.{index, inside, removed, member_next, leave_more}
+use Rattle.permission_table.proofs.ReachLaws.{index, inside, removed, member_next, member_none, leave_more}
 use Rattle.permission_table.proofs.reaching.Reaching.leave.Goals as goal
 
 pub loop-role-preserved : goal.loop-role-preserved
@@ -23,3 +23,9 @@ loop-role-preserved c =
           ∙ leave_more (eqb q place) (eqb role r) (nat_lt role c.loop-role.from && has c.args.roles role) (is_marked c.self.inside.sets.items role q)
           ∙ ap (λ t. not (eqb q place && t) && is_marked c.self.inside.sets.items role q) (sym (member_next c.args.roles c.loop-role.from r role c.in-Some.ensures.member c.in-Some.ensures.from c.in-Some.ensures.least));
     }
+
+pub returns-clause-marks : goal.returns-clause-marks
+returns-clause-marks c role q low within =
+    c.loop-role.invariant.marks role q low (subst (λ (x : List ℕ). q < length x) (sym c.self.view_is) within)
+    ∙ ap (λ t. not (eqb q c.args.place && t) && is_marked c.self.inside.sets.items role q) (member_none c.args.roles c.loop-role.from role c.in_default.ensures.none)
+    ∙ ap (λ x. not (eqb q c.args.place && has c.args.roles role) && is_marked x role q) c.self.view_is

@@ -1,9 +1,9 @@
-use Rattle.std.proofs.Common.{ℕ, ◌+◌, ◌-◌, ◌*◌, ◌<◌, inl, inr, List, length, ap, sym, ◌∙◌, arith}
+use Rattle.std.proofs.Common.{◌≡◌, subst, ℕ, ◌+◌, ◌-◌, ◌*◌, ◌<◌, inl, inr, List, length, ap, sym, ◌∙◌, arith}
 use Rattle.std.proofs.lemmas.Bool.{cases_lt}
 use Rattle.std.proofs.lemmas.List.{get_or_default}
 use Rattle.role_hierarchy.specs.Roles.{has}
 use Rattle.permission_table.specs.Reaching.{is_marked}
-use Rattle.permission_table.proofs.ReachLaws.{unmarked}
+use Rattle.permission_table.proofs.ReachLaws.{in_blocks, unmarked}
 use Rattle.permission_table.proofs.reaching.Reaching.next.Goals as goal
 
 pub returns-in-Some-clause-between : goal.returns-in-Some-clause-between
@@ -36,3 +36,11 @@ loop-block-preserved c =
             ∙ c.in_default.ensures.none (q - 256 * block) (omega (arith, here)))
       ];
     }
+
+pub returns-clause-none : goal.returns-clause-none
+returns-clause-none c q low high =
+    let sets : List ℕ = c.self.inside.sets.items in
+    let within : q < length sets = subst (λ (x : List ℕ). q < length x) (sym c.self.view_is) high in
+    let same : c.len.result ≡ length sets = omega (arith, c.len.ensures) in
+    ap (λ x. is_marked x c.args.role q) (sym c.self.view_is)
+    ∙ c.loop-block.invariant.between q low (in_blocks q c.loop-block.block c.loop-block.first c.len.result (length sets) within same c.self.invariant c.loop-block-test.false) within

@@ -6,7 +6,7 @@ use Rattle.std.specs.Prelude.{unwrap_or}
 use Rattle.permission_table.specs.Bits.{SessionAccess}
 use Rattle.permission_table.specs.Reaching.{SessionsState}
 use Rattle.permission_table.specs.Rights.{followed, refreshed, changed_at}
-use Rattle.permission_table.proofs.PlaceLaws.{changed_by_writing, unchanged_at, unchanged_past, value_at}
+use Rattle.permission_table.proofs.PlaceLaws.{changed_by_writing, unchanged_at, unchanged_past, value_at, no_entry}
 use Rattle.permission_table.proofs.ReachLaws.{mark_at, place_within, turned_written}
 use Rattle.permission_table.proofs.RightsLaws.{refreshed_none, refreshed_some, followed_reach}
 use Rattle.permission_table.proofs.sessions.Sessions.refresh_at.Goals as goal
@@ -56,3 +56,8 @@ invariant_of-self-2 c =
 pub returns-clause-room : goal.returns-clause-room
 returns-clause-room c =
     ap₂ (λ m n. min (spare c.self.inside.rows) (m - n)) c.turn.ensures.places (length-set_value_at c.self.inside.rows.entries c.args.place c.follow.new.self) ∙ ap (λ (s : SessionsState). s.room) c.self.view_is
+
+pub returns-in_default-get_index_mut-clause-rows : goal.returns-in_default-get_index_mut-clause-rows
+returns-in_default-get_index_mut-clause-rows c =
+    unchanged_past (refreshed c.args.policy.now) c.self.inside.rows.entries c.args.place (no_entry c.self.inside.rows.entries c.args.place (sym c.in_default-get_index_mut.ensures.value))
+    ∙ ap (λ (s : SessionsState). changed_at (refreshed c.args.policy.now) s.entries c.args.place) c.self.view_is
