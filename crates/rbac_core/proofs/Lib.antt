@@ -1,4 +1,5 @@
 mod AffectedLaws
+mod ChangeLaws
 mod ChangedLaws
 mod MemoryLaws
 mod NumberLaws

@@ -1,6 +1,6 @@
 use Rattle.std.proofs.Common.{◌≡◌, ℕ, Bool, true, false, Some, filter, take, get_or, sym, ap, ◌∙◌, ◌++◌, ◌∷◌, []}
 use Rattle.std.specs.Prelude.{slice_get}
-use Rattle.std.proofs.lemmas.List.{append-nil}
+use Rattle.std.proofs.lemmas.List.{append-nil, take_all}
 use Rattle.std.proofs.lemmas.Option.{slice_get-get_or}
 use Rattle.rbac_core.specs.Affected.{has_lost}
 use Rattle.rbac_core.proofs.AffectedLaws.{filter_next}
@@ -21,3 +21,6 @@ loop-session-preserved c =
           (ap (λ v. v.items) w.sessions-is ∙ c.loop-session.invariant ∙ sym (append-nil (filter keep (take i c.args.all.now)))
           ∙ filter_next keep c.args.all.now i n false here (sym c.has_lost.ensures ∙ w.if-has_lost.false))
     ]
+
+pub returns : goal.returns
+returns c = c.loop-session.invariant ∙ ap (filter (has_lost c.args.old.now c.args.new.now)) (take_all c.loop-session.session-index c.args.all.now c.loop-session-test.false)
