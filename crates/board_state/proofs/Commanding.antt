@@ -150,6 +150,10 @@ pub if_ok : {A E : Type 0} (P Q : A → Type 0) (r : Result A E) → ((x : A) �
 if_ok P Q (Ok x) f h = f x h
 if_ok P Q (Err e) f h = tt
 
+pub always : {A E : Type 0} (P : Type 0) (r : Result A E) → P → IfOk r (λ _. P)
+always P (Ok x) h = h
+always P (Err e) h = tt
+
 -- where nothing is tried, each change leaves nothing tried
 pub untried_change : (change : Change) (policy : Tried) → policy.tried ≡ policy.now → IsGivenUp change policy
 untried_change Nothing policy e = e

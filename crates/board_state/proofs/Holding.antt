@@ -1,9 +1,10 @@
 -- Calls on pins and frozen fronts.
-use Rattle.std.proofs.Common.{◌≡◌, ℕ, true, false, List, Ok, Err, Result, sym, ap, refl, ◌∙◌, subst, arith}
+use Rattle.std.proofs.Common.{◌≡◌, ℕ, true, false, List, Ok, Err, Result, sym, ap, refl, ◌∙◌, subst}
 use Rattle.std.specs.Prelude.{MatchResult, IfOk}
 use Rattle.callback_store.specs.declared.meter.Meter.{Meter}
 use Rattle.dimension_core.specs.Setting.{Setting}
 use Rattle.pin_core.specs.Pins.{PinState}
+use Rattle.move_core.specs.declared.moves.Move.{Move}
 use Rattle.rbac_core.specs.declared.command.Command.{Command}
 use Rattle.board_rules.specs.State.{BoardState}
 use Rattle.board_rules.specs.Rules.{Basis, Agree}
@@ -13,20 +14,20 @@ use Rattle.board_rules.specs.declared.hold.Hold.TheVariants.{Pin, Unpin, Freeze,
 use Rattle.board_rules.specs.declared.hold.HoldRefusal.{HoldRefusal}
 use Rattle.board_rules.specs.Holds.{call_of, refusal_for, is_hold}
 use Rattle.board_rules.specs.declared.call.Call.{Call}
-use Rattle.board_rules.specs.declared.call.Call.TheVariants.{Policy}
+use Rattle.board_rules.specs.declared.call.Call.TheVariants.{Policy, Propose}
 use Rattle.board_rules.specs.declared.reply.Refusal.{Refusal}
 use Rattle.board_rules.specs.declared.reply.Reply.{Reply}
 use Rattle.board_rules.specs.declared.reply.Reply.TheVariants.{Done, Refused}
 use Rattle.board_rules.specs.Step.{after}
 use Rattle.board_state.specs.declared.change.Change.{Change}
-use Rattle.board_state.specs.declared.change.Change.TheVariants.{Nothing, Pins}
+use Rattle.board_state.specs.declared.change.Change.TheVariants.{Nothing, Replace, Pins, Command as CommandChange}
 use Rattle.board_state.specs.declared.change.PinChange.{PinChange}
 use Rattle.board_state.specs.Held.{HeldState, Holds}
-use Rattle.board_state.specs.Changes.{WillHold, WillHoldPins, IsSettleable, PinsWillBe}
+use Rattle.board_state.specs.Changes.{WillHold, WillHoldPins, IsSettleable, IsCommandReady, PinsWillBe}
 use Rattle.board_state.specs.Replies.{hold_reply}
 use Rattle.board_state.specs.Work.{WorksJust, WorksAtMost, IsWorkOf, call_asks, call_probes}
 use Rattle.board_state.proofs.Stepping.{pins_will, stays}
-use Rattle.board_state.proofs.WorkLaws.{wider}
+use Rattle.board_state.proofs.WorkLaws.{probe_most}
 
 -- a value that does not depend on the commits is the same for facts that agree
 agreeing : {X : Type 0} (s : Setting) (b c : Basis) → Agree s b c → (F : Basis → X) → F (record c { is_changed = b.is_changed }) ≡ F c → F b ≡ F c
@@ -94,10 +95,10 @@ hold_work s pins routes (Thaw session vehicle n) reply old new one = one
 
 pub hold_most : (s : Setting) (pins : PinState) (routes : List (List ℕ)) (hold : Hold) (old new : Meter) → WorksJust old new 0 1
     → WorksAtMost old new (call_asks s routes (call_of hold)) (call_probes pins routes (call_of hold))
-hold_most s pins routes (Pin session customer) old new one = wider old new 0 1 0 1 one (omega arith) (omega arith)
-hold_most s pins routes (Unpin session customer) old new one = wider old new 0 1 0 1 one (omega arith) (omega arith)
-hold_most s pins routes (Freeze session vehicle n) old new one = wider old new 0 1 0 1 one (omega arith) (omega arith)
-hold_most s pins routes (Thaw session vehicle n) old new one = wider old new 0 1 0 1 one (omega arith) (omega arith)
+hold_most s pins routes (Pin session customer) old new one = probe_most old new one
+hold_most s pins routes (Unpin session customer) old new one = probe_most old new one
+hold_most s pins routes (Freeze session vehicle n) old new one = probe_most old new one
+hold_most s pins routes (Thaw session vehicle n) old new one = probe_most old new one
 
 is_hold_call : (hold : Hold) → is_hold (call_of hold) ≡ true
 is_hold_call (Pin session customer) = refl
@@ -109,3 +110,14 @@ is_hold_call (Thaw session vehicle n) = refl
 pub hold_no_policy : (hold : Hold) (session : ℕ) (command : Command) → call_of hold ≡ Policy session command → ⊥
 hold_no_policy hold session command is =
     let no : true ≡ false = sym (is_hold_call hold) ∙ ap (λ (x : Call). is_hold x) is in cc
+
+-- and neither is a proposal
+pub proposal_no_policy : (session base number : ℕ) (mv : Move) (command : Command) → Propose session base mv ≡ Policy number command → ⊥
+proposal_no_policy session base number mv command is = absurd cc
+
+-- the change of a policy command may be put in place
+pub command_settles : (held : HeldState) (change : Change) → IsCommandReady held.policy held.tables change → IsSettleable held change
+command_settles held Nothing ready = tt
+command_settles held (Replace commit) ready = absurd ready
+command_settles held (Pins made) ready = absurd ready
+command_settles held (CommandChange rows command) ready = ready

@@ -6,6 +6,7 @@ pub mod Commanding
 pub mod Stepping
 pub mod Holding
 pub mod Opened
+pub mod Putting
 pub mod Numbers
 pub mod Spots
 pub mod Releases

@@ -1,12 +1,15 @@
 -- The new routes of a judged call lead from the state on which it was judged to the state after it.
-use Rattle.std.proofs.Common.{◌≡◌, ℕ, ◌+◌, ◌-◌, ◌<◌, ◌∙◌, refl, sym, ap, subst, arith, List, [], ◌∷◌, length, slice_index, Result, Ok, Err}
-use Rattle.std.specs.Prelude.{slice_set, IfOk}
+use Rattle.std.proofs.Common.{◌≡◌, ℕ, ◌+◌, ◌-◌, ◌<◌, ◌∙◌, refl, sym, ap, subst, arith, List, [], ◌∷◌, ◌++◌, length, take, get_or, slice_index, Result, Ok, Err}
+use Rattle.std.specs.declared.sync.Arc.{Arc}
+use Rattle.std.proofs.lemmas.List.{map-append, take_more}
+use Rattle.std.proofs.lemmas.Option.{slice_get-get_or}
+use Rattle.std.specs.Prelude.{slice_get, slice_set, option_to_list, IfOk}
 use Rattle.std.proofs.Common.{length-set}
 use Rattle.std.proofs.lemmas.Grind.{same_number_lists}
 use Rattle.std.proofs.lemmas.List.FromFn.{length-map-range_with_len, get_or-map-range_with_len}
 use Rattle.dimension_core.specs.Setting.{Setting}
 use Rattle.plan_core.specs.Commits.{AreStamps, last_commit}
-use Rattle.plan_core.specs.Plan.{Changes, PlanState, AreApart, AreSizes, with_routes, with_stamps}
+use Rattle.plan_core.specs.Plan.{Changes, PlanState, AreApart, AreSizes, changes_of, with_routes, with_stamps}
 use Rattle.board_rules.specs.Delta.{AreRoutesOf, stamps_of}
 use Rattle.board_rules.specs.State.{BoardState}
 use Rattle.board_state.specs.declared.change.Change.{Change}
@@ -67,3 +70,17 @@ routes_right s held change state next sizes ready holds will =
 pub ok_then : {X E : Type 0} (P Q : X → Type 0) (result : Result X E) → ((x : X) → P x → Q x) → IfOk result P → IfOk result Q
 ok_then P Q (Ok x) f p = f x p
 ok_then P Q (Err e) f p = tt
+
+-- one route more is there once more
+pub again_more : {Z : Type 0} (xs all : List (ℕ × Arc (List ℕ) Z)) (k : ℕ) (x y : ℕ × Arc (List ℕ) Z) → changes_of xs ≡ changes_of (take k all) → k < length all → y ≡ get_or all k y
+    → x.0 ≡ y.0 → x.1.value ≡ y.1.value → changes_of (xs ++ x ∷ []) ≡ changes_of (take (k + 1) all)
+again_more xs all k x y so_far h is same alike =
+    map-append (λ c. (c.0, c.1.value)) xs (x ∷ [])
+    ∙ ((λ i. so_far i ++ (same i, alike i) ∷ [])
+    ∙ (ap (λ z. changes_of (take k all) ++ (z.0, z.1.value) ∷ []) is
+    ∙ (sym (map-append (λ c. (c.0, c.1.value)) (take k all) (get_or all k y ∷ [])) ∙ ap changes_of (sym (take_more all k y h)))))
+
+pub again_one : {Z : Type 0} (all : List (ℕ × Arc (List ℕ) Z)) (k : ℕ) (x : ℕ × Arc (List ℕ) Z) (route : Arc (List ℕ) Z) → k < length all → x ≡ get_or all k x → route.value ≡ x.1.value
+    → (x.0, route.value) ∷ [] ≡ changes_of (option_to_list (slice_get all k))
+again_one all k x route h is alike =
+    (λ i. (x.0, alike i) ∷ []) ∙ (ap (λ z. (z.0, z.1.value) ∷ []) is ∙ ap (λ o. changes_of (option_to_list o)) (sym (slice_get-get_or all k x h)))

@@ -5,12 +5,20 @@ use Rattle.std.proofs.lemmas.Bool.{both_ways, cases_order}
 use Rattle.std.proofs.lemmas.List.Sums.{sum_by-cons, sum_by-drop_more}
 use Rattle.std.proofs.lemmas.Option.{get_or_from_slice_get, slice_get_within}
 use Rattle.plan_core.specs.declared.touch.Touch.{Touch}
+use Rattle.plan_core.specs.Drafts.{DraftState, drafts_of}
 use Rattle.pin_core.specs.Pins.{PinState, IsHeld, StandsOn, DoPinsHold, pin_of}
 use Rattle.pin_core.specs.Allowed.{IsTouched, AreAllTouched}
 use Rattle.pin_core.specs.Override.{IsPassed, DoPinsPass, IsFirstForbidden, after_commit}
 use Rattle.board_rules.specs.Override.{IsAllowed, DoPinsAllow, IsFirstHeldBack, AreAnswers}
 use Rattle.board_state.specs.Deltas.{AreFreed}
+use Rattle.board_state.specs.Held.{HeldState}
+use Rattle.board_state.specs.Verdicts.{ArePlaceable}
 use Rattle.board_state.specs.Work.{is_leaving, leaving}
+
+-- new routes may be placed in what is the same
+pub placed_as : (a b : HeldState) (drafts : List DraftState) (touched : List Touch) → a ≡ b → ArePlaceable b (drafts_of b.plan.routes drafts) touched
+    → ArePlaceable a (drafts_of a.plan.routes drafts) touched
+placed_as a b drafts touched e h = subst (λ (x : HeldState). ArePlaceable x (drafts_of x.plan.routes drafts) touched) (sym e) h
 
 -- pins that hold forbid nothing
 pub held_allow : (pins : PinState) (free : ℕ → Bool) (others : List (List ℕ)) → DoPinsHold pins others → DoPinsAllow pins free others

@@ -2,13 +2,21 @@
 use Rattle.std.proofs.Common.{◌≡◌, ℕ, ◌+◌, ◌≤◌, ◌∙◌, List, refl, ap, subst, arith, Result, Ok, Err, Option, Some, None}
 use Rattle.std.specs.Prelude.{IfErr, IfNone}
 use Rattle.callback_store.specs.declared.meter.Meter.{Meter}
-use Rattle.callback_store.specs.Meter.{Asks, after_probe}
-use Rattle.plan_core.specs.Plan.{Changes}
+use Rattle.callback_store.specs.Meter.{Asks, AsksAtMost, after_probe}
+use Rattle.dimension_core.specs.Setting.{Setting}
+use Rattle.plan_core.specs.declared.touch.Touch.{Touch}
+use Rattle.plan_core.specs.Drafts.{DraftState, drafts_of}
+use Rattle.plan_core.specs.Plan.{Changes, with_routes}
+use Rattle.move_core.specs.declared.moves.Move.{Move}
+use Rattle.move_core.specs.Moves.{changes_by}
+use Rattle.move_core.specs.Touched.{touched_by}
+use Rattle.board_rules.specs.Rules.{routes_after}
 use Rattle.board_rules.specs.declared.reply.Denial.{Denial}
+use Rattle.board_state.specs.Held.{HeldState}
 use Rattle.board_state.specs.declared.stop.Stop.{Stop}
 use Rattle.board_state.specs.declared.stop.Stop.TheVariants.{Denied, NoMemory}
-use Rattle.board_state.specs.Verdicts.{IsEarly, ComesEarly, IsLateAt, IsLate, IsPinnedAt, IsPinned, asks_most, probes_least, probes_most, early_least, stop_asks, stop_asks_least, stop_least, stop_most}
-use Rattle.board_state.specs.Work.{Works, WorksJust, WorksAtMost, Stage, at_vehicles, at_facts, at_customers, at_fronts, at_pins, at_bounds, stage_of, least_at, most_at, asks_at, asks_least_at}
+use Rattle.board_state.specs.Verdicts.{IsEarly, ComesEarly, IsLateAt, IsLate, IsPinnedAt, IsPinned, IsWorkOfMove, IsWorkOfPins, asks_most, probes_least, probes_most, early_least, stop_asks, stop_asks_least, stop_least, stop_most}
+use Rattle.board_state.specs.Work.{Works, WorksJust, WorksAtMost, Stage, at_vehicles, at_facts, at_customers, at_fronts, at_pins, at_bounds, stage_of, least_at, most_at, asks_at, asks_least_at, leaving, leaving_by, leaving_with}
 
 -- nothing was counted
 pub idle : (m : Meter) (asks probes : ℕ) → WorksAtMost m m asks probes
@@ -68,6 +76,10 @@ then {i} {j} {k} {l} a b c asks probes more_asks more_probes all_asks all_probes
 -- one probe more, exactly
 pub probe_more : (a b c : Meter) (n : ℕ) → WorksJust a b 0 n → WorksJust b c 0 1 → WorksJust a c 0 (n + 1)
 probe_more a b c n h q = both a b c 0 0 n n 0 0 1 1 h q
+
+-- one probe is no more than one
+pub probe_most : (old new : Meter) → WorksJust old new 0 1 → WorksAtMost old new 0 1
+probe_most old new one = wider old new 0 1 0 1 one (omega arith) (omega arith)
 
 -- a count of asks alone
 pub asks_alone : (a b : Meter) (i asks : ℕ) → Asks a b i asks → Works a b i asks 0 0
@@ -217,6 +229,43 @@ pinned_whole {C} a b l r {x} e h =
   where
     none_before : (n : ℕ) → 0 + 0 + n ≡ n
     none_before n = omega arith
+
+-- the work of judging the pins of the drafts of a move is that of the move
+pub pins_work : {C : Type 0} (held : HeldState) (mv : Move) (drafts : List DraftState) (ts all : List Touch) (r : Result C Stop) (a b : Meter)
+    → drafts_of held.plan.routes drafts ≡ changes_by held.plan.routes mv → ts ≡ all → all ≡ touched_by held.plan.routes mv
+    → IsWorkOfPins (leaving_with held drafts ts) r a b → IsWorkOfPins (leaving_by held.pins held.plan.routes mv) r a b
+pins_work held mv drafts ts all r a b same read listed work =
+    subst (λ (us : List Touch). IsWorkOfPins (leaving held.pins (routes_after held.plan.routes mv) us) r a b) (read ∙ listed)
+    (subst (λ (cs : Changes). IsWorkOfPins (leaving held.pins (with_routes cs held.plan.routes) ts) r a b) same work)
+
+-- the bounds are judged after the pins, to an end or as far as memory allows
+pub pins_and_bounds : (a b c : Meter) (l i m : ℕ) → WorksJust a b 0 l → Asks b c i m → Works a c i m (0 + 0 + l) (0 + 0 + l)
+pins_and_bounds a b c l i m h q =
+    both_within a b c 0 0 l l i m 0 0 i m (0 + 0 + l) (0 + 0 + l) h (asks_alone b c i m q) (omega arith) (omega arith) (omega arith) (omega arith)
+
+pub pins_and_some : (a b c : Meter) (l m : ℕ) → WorksJust a b 0 l → AsksAtMost b c m → Works a c 0 m 0 (0 + 0 + l)
+pins_and_some a b c l m h q =
+    both_within a b c 0 0 l l 0 m 0 0 0 m 0 (0 + 0 + l) h (asks_alone b c 0 m q) (omega arith) (omega arith) (omega arith) (omega arith)
+
+-- the work of a move is the same where what is held is
+pub work_as : {C : Type 0} (s : Setting) (a b : HeldState) (mv : Move) (r : Result C Stop) (old new : Meter) → a ≡ b → IsWorkOfMove s a mv 0 0 r old new → IsWorkOfMove s b mv 0 0 r old new
+work_as s a b mv r old new e h = subst (λ (x : HeldState). IsWorkOfMove s x mv 0 0 r old new) e h
+
+-- where all that would leave were probed, that is enough for a stop by a pin, and for one by a front
+pub all_probed : (a b : Meter) (l : ℕ) → WorksJust a b 0 l → Works a b 0 0 (0 + 0 + l) l
+all_probed a b l h = within a b 0 0 l l 0 0 (0 + 0 + l) l h (omega arith) (omega arith) (omega arith) (omega arith)
+
+pub some_probed : (a b : Meter) (l : ℕ) → WorksJust a b 0 l → Works a b 0 0 (0 + 0) l
+some_probed a b l h = within a b 0 0 l l 0 0 (0 + 0) l h (omega arith) (omega arith) (omega arith) (omega arith)
+
+-- no judgement of a proposal counts more than a whole one
+pub early_most : (a b : Meter) (i n t l m : ℕ) → Works a b 0 0 i n → WorksAtMost a b m (n + t + l)
+early_most a b i n t l m h = wider a b 0 n m (n + t + l) h (omega arith) (omega arith)
+
+pub move_most : {C : Type 0} (a b c : Meter) (n t l i m : ℕ) (r : Result C Stop) → WorksJust a b 0 n → Works b c i (asks_most m r) (probes_least 0 t l r) (probes_most 0 t l r)
+    → WorksAtMost a c m (n + t + l)
+move_most a b c n t l i m r h q =
+    wider a c (asks_most m r) (probes_most n t l r) m (n + t + l) (after_named a b c n t l i (asks_most m r) r h q) (most_asks m r) (most_probes n t l r)
 
 -- what stops new routes by a pin or a front stops them late
 pub late_if_pinned : (stop : Stop) → IsPinned stop → IsLate stop

@@ -1,27 +1,28 @@
-use Rattle.std.proofs.Common.{◌≡◌, ◌≤◌, ℕ, ◌⊎◌, List, length, sym, ap, ◌∙◌, subst, arith, All}
+use Rattle.std.proofs.Common.{◌≡◌, ◌≤◌, ℕ, ◌⊎◌, List, Some, Ok, Err, length, sym, ap, ◌∙◌, subst, All}
 use Rattle.callback_store.specs.Meter.{Asks, AsksJust, AsksAtMost}
 use Rattle.dimension_core.specs.Setup.{setting}
 use Rattle.dimension_core.specs.NewRoutes.{AllFit, AllKnown, IsOut}
 use Rattle.plan_core.specs.declared.touch.Touch.{Touch}
-use Rattle.plan_core.specs.Drafts.{DraftState, drafted, drafts_of, with_drafts}
+use Rattle.plan_core.specs.Drafts.{DraftState, AreFrontsWithin, drafted, drafts_of}
 use Rattle.plan_core.specs.Plan.{Changes, changes_of, with_routes, IsPlan, AreChanges}
 use Rattle.pin_core.specs.Pins.{AreFreezesKept, IsHeld}
 use Rattle.pin_core.specs.Allowed.{IsTouched}
 use Rattle.range_cache.specs.Asks.{judge_asks, asks_before}
 use Rattle.range_cache.specs.Pending.{AreNewRows}
-use Rattle.move_core.specs.Moves.{changes_by}
+use Rattle.move_core.specs.Moves.{changes_by, effect}
 use Rattle.move_core.specs.Touched.{touched_by}
 use Rattle.board_rules.specs.Override.{DoPinsAllow}
 use Rattle.board_rules.specs.Rules.{PassesCustomers, PassesAll, may_override, routes_after}
 use Rattle.board_state.specs.Deltas.{AreFreed}
+use Rattle.board_state.specs.declared.change.NewRoutes.{NewRoutes}
 use Rattle.board_state.specs.Held.{HeldState, IsReady, held_basis}
 use Rattle.board_rules.specs.declared.reply.Denial.TheVariants.{Bound}
-use Rattle.board_state.specs.declared.stop.Stop.TheVariants.{Denied}
+use Rattle.board_state.specs.declared.stop.Stop.TheVariants.{Denied, NoMemory}
 use Rattle.board_state.specs.Verdicts.{IsStop, IsPinStop, ArePlaceable, probes_least}
 use Rattle.board_state.specs.Work.{Works, leaving}
 use Rattle.board_state.proofs.NewPlans.{all_under}
 use Rattle.board_state.proofs.Proposals.{both_are, pin_stop, passes_all, out_of_bounds}
-use Rattle.board_state.proofs.WorkLaws.{both_within, asks_alone, late_if_pinned, pinned_whole, pinned_stop}
+use Rattle.board_state.proofs.WorkLaws.{idle, late_if_pinned, pinned_whole, pinned_stop, pins_work, pins_and_bounds, pins_and_some, work_as}
 use Rattle.board_state.proofs.state.State.judge_routes.Goals as goal
 
 pub drafted-requires-clause-holding : goal.drafted-requires-clause-holding
@@ -109,14 +110,10 @@ returns-in-Ok-written-clause-work g c =
     let s = setting a.setup.now in
     let changes = ap (λ (ds : List DraftState). drafts_of held.plan.routes ds) c.as_slice.ensures ∙ c.in-Ok.ensures.changes in
     let judged = ap (λ (ds : List DraftState). drafts_of held.plan.routes ds) c.as_slice-2.ensures ∙ c.in-Ok.ensures.changes in
-    let pins = subst (λ (cs : Changes). Works a.meter.now c.judge_pins.new.meter 0 0 (probes_least 0 0 (leaving held.pins (with_routes cs held.plan.routes) a.touched.items) c.judge_pins.result)
-    (leaving held.pins (with_routes cs held.plan.routes) a.touched.items)) changes
-    (subst (λ (ts : List Touch). Works a.meter.now c.judge_pins.new.meter 0 0 (probes_least 0 0 (leaving held.pins (with_drafts c.as_slice.result.now held.plan.routes) ts) c.judge_pins.result)
-    (leaving held.pins (with_drafts c.as_slice.result.now held.plan.routes) ts)) c.deref-2.ensures.value c.judge_pins.ensures.work) in
-    let touched = subst (λ (ts : List Touch). Works a.meter.now c.judge_pins.new.meter 0 0 (probes_least 0 0 (leaving held.pins (routes_after held.plan.routes a.proposal.now.mv.now) ts) c.judge_pins.result)
-    (leaving held.pins (routes_after held.plan.routes a.proposal.now.mv.now) ts)) listed pins in
+    let pins = pins_work held a.proposal.now.mv.now c.as_slice.result.now c.deref-2.result.now a.touched.items c.judge_pins.result a.meter.now c.judge_pins.new.meter
+    changes c.deref-2.ensures.value listed c.judge_pins.ensures.work in
     let bounds = subst (λ (cs : Changes). AsksJust c.judge_pins.new.meter c.judge_in.new.meter (judge_asks (length s.dimensions) held.plan.routes cs)) judged c.in-Ok-judge_in.ensures.whole in
-    rw (sym c.self.view_is) (both_within _ _ _ _ _ _ _ _ _ _ _ _ _ _ _ (pinned_whole _ _ _ _ c.in-Ok-judge_pins.is touched) (asks_alone _ _ _ _ bounds) (omega arith) (omega arith) (omega arith) (omega arith))
+    work_as s _ _ a.proposal.now.mv.now (Ok c.in-Ok-written.changes) _ _ c.self.view_is (pins_and_bounds _ _ _ _ _ _ (pinned_whole _ _ _ _ c.in-Ok-judge_pins.is pins) bounds)
 
 pub returns-in_default-written-clause-work : goal.returns-in_default-written-clause-work
 returns-in_default-written-clause-work g c =
@@ -126,14 +123,10 @@ returns-in_default-written-clause-work g c =
     let s = setting a.setup.now in
     let changes = ap (λ (ds : List DraftState). drafts_of held.plan.routes ds) c.as_slice.ensures ∙ c.in-Ok.ensures.changes in
     let judged = ap (λ (ds : List DraftState). drafts_of held.plan.routes ds) c.as_slice-2.ensures ∙ c.in-Ok.ensures.changes in
-    let pins = subst (λ (cs : Changes). Works a.meter.now c.judge_pins.new.meter 0 0 (probes_least 0 0 (leaving held.pins (with_routes cs held.plan.routes) a.touched.items) c.judge_pins.result)
-    (leaving held.pins (with_routes cs held.plan.routes) a.touched.items)) changes
-    (subst (λ (ts : List Touch). Works a.meter.now c.judge_pins.new.meter 0 0 (probes_least 0 0 (leaving held.pins (with_drafts c.as_slice.result.now held.plan.routes) ts) c.judge_pins.result)
-    (leaving held.pins (with_drafts c.as_slice.result.now held.plan.routes) ts)) c.deref-2.ensures.value c.judge_pins.ensures.work) in
-    let touched = subst (λ (ts : List Touch). Works a.meter.now c.judge_pins.new.meter 0 0 (probes_least 0 0 (leaving held.pins (routes_after held.plan.routes a.proposal.now.mv.now) ts) c.judge_pins.result)
-    (leaving held.pins (routes_after held.plan.routes a.proposal.now.mv.now) ts)) listed pins in
+    let pins = pins_work held a.proposal.now.mv.now c.as_slice.result.now c.deref-2.result.now a.touched.items c.judge_pins.result a.meter.now c.judge_pins.new.meter
+    changes c.deref-2.ensures.value listed c.judge_pins.ensures.work in
     let bounds = subst (λ (cs : Changes). AsksAtMost c.judge_pins.new.meter c.judge_in.new.meter (judge_asks (length s.dimensions) held.plan.routes cs)) judged c.judge_in.ensures.asks in
-    rw (sym c.self.view_is) (both_within _ _ _ _ _ _ _ _ _ _ _ _ _ _ _ (pinned_whole _ _ _ _ c.in-Ok-judge_pins.is touched) (asks_alone _ _ _ _ bounds) (omega arith) (omega arith) (omega arith) (omega arith))
+    work_as {C = NewRoutes} s _ _ a.proposal.now.mv.now (Err NoMemory) _ _ c.self.view_is (pins_and_some _ _ _ _ _ (pinned_whole _ _ _ _ c.in-Ok-judge_pins.is pins) bounds)
 
 pub returns-in-Err-Bound-clause-work : goal.returns-in-Err-Bound-clause-work
 returns-in-Err-Bound-clause-work g c =
@@ -143,19 +136,15 @@ returns-in-Err-Bound-clause-work g c =
     let s = setting a.setup.now in
     let changes = ap (λ (ds : List DraftState). drafts_of held.plan.routes ds) c.as_slice.ensures ∙ c.in-Ok.ensures.changes in
     let judged = ap (λ (ds : List DraftState). drafts_of held.plan.routes ds) c.as_slice-2.ensures ∙ c.in-Ok.ensures.changes in
-    let pins = subst (λ (cs : Changes). Works a.meter.now c.judge_pins.new.meter 0 0 (probes_least 0 0 (leaving held.pins (with_routes cs held.plan.routes) a.touched.items) c.judge_pins.result)
-    (leaving held.pins (with_routes cs held.plan.routes) a.touched.items)) changes
-    (subst (λ (ts : List Touch). Works a.meter.now c.judge_pins.new.meter 0 0 (probes_least 0 0 (leaving held.pins (with_drafts c.as_slice.result.now held.plan.routes) ts) c.judge_pins.result)
-    (leaving held.pins (with_drafts c.as_slice.result.now held.plan.routes) ts)) c.deref-2.ensures.value c.judge_pins.ensures.work) in
-    let touched = subst (λ (ts : List Touch). Works a.meter.now c.judge_pins.new.meter 0 0 (probes_least 0 0 (leaving held.pins (routes_after held.plan.routes a.proposal.now.mv.now) ts) c.judge_pins.result)
-    (leaving held.pins (routes_after held.plan.routes a.proposal.now.mv.now) ts)) listed pins in
+    let pins = pins_work held a.proposal.now.mv.now c.as_slice.result.now c.deref-2.result.now a.touched.items c.judge_pins.result a.meter.now c.judge_pins.new.meter
+    changes c.deref-2.ensures.value listed c.judge_pins.ensures.work in
     let v = c.in-Err-Bound.vehicle in
     let d = c.in-Err-Bound.dimension in
     let least = rw c.in-Err-Bound.field-0-is at c.in-Err-Bound.ensures.least in
     let named = subst (λ (cs : Changes). Asks c.judge_pins.new.meter c.judge_in.new.meter (asks_before (length s.dimensions) held.plan.routes cs v d) (judge_asks (length s.dimensions) held.plan.routes cs)) judged least in
     let all = changes_by held.plan.routes a.proposal.now.mv.now in
     let bounds = both_are (λ x y. Asks c.judge_pins.new.meter c.judge_in.new.meter (asks_before (length s.dimensions) held.plan.routes all x y) (judge_asks (length s.dimensions) held.plan.routes all)) _ _ _ _ c.in-Err-Bound.vehicle-is c.in-Err-Bound.dimension-is named in
-    rw (sym c.self.view_is) (both_within _ _ _ _ _ _ _ _ _ _ _ _ _ _ _ (pinned_whole _ _ _ _ c.in-Ok-judge_pins.is touched) (asks_alone _ _ _ _ bounds) (omega arith) (omega arith) (omega arith) (omega arith))
+    work_as {C = NewRoutes} s _ _ a.proposal.now.mv.now (Err (Denied (Bound _ _))) _ _ c.self.view_is (pins_and_bounds _ _ _ _ _ _ (pinned_whole _ _ _ _ c.in-Ok-judge_pins.is pins) bounds)
 
 pub judge_in-requires-clause-known : goal.judge_in-requires-clause-known
 judge_in-requires-clause-known g c =
@@ -174,18 +163,15 @@ judge_in-requires-clause-short g c =
 pub returns-in-Err-clause-work : goal.returns-in-Err-clause-work
 returns-in-Err-clause-work g c =
     let a = c.args in
+    let s = setting a.setup.now in
     let held : HeldState = record { policy = c.self.inside.policy; tables = c.self.inside.tables; plan = c.self.inside.plan; pins = c.self.inside.pins; cache = c.self.inside.cache } in
     let listed = c.requires.touched ∙ ap (λ (h : HeldState). touched_by h.plan.routes a.proposal.now.mv.now) (sym c.self.view_is) in
     let changes = ap (λ (ds : List DraftState). drafts_of held.plan.routes ds) c.as_slice.ensures ∙ c.in-Ok.ensures.changes in
-    let pins = subst (λ (cs : Changes). Works a.meter.now c.judge_pins.new.meter 0 0 (probes_least 0 0 (leaving held.pins (with_routes cs held.plan.routes) a.touched.items) c.judge_pins.result)
-    (leaving held.pins (with_routes cs held.plan.routes) a.touched.items)) changes
-    (subst (λ (ts : List Touch). Works a.meter.now c.judge_pins.new.meter 0 0 (probes_least 0 0 (leaving held.pins (with_drafts c.as_slice.result.now held.plan.routes) ts) c.judge_pins.result)
-    (leaving held.pins (with_drafts c.as_slice.result.now held.plan.routes) ts)) c.deref-2.ensures.value c.judge_pins.ensures.work) in
-    let touched = subst (λ (ts : List Touch). Works a.meter.now c.judge_pins.new.meter 0 0 (probes_least 0 0 (leaving held.pins (routes_after held.plan.routes a.proposal.now.mv.now) ts) c.judge_pins.result)
-    (leaving held.pins (routes_after held.plan.routes a.proposal.now.mv.now) ts)) listed pins in
+    let pins = pins_work held a.proposal.now.mv.now c.as_slice.result.now c.deref-2.result.now a.touched.items c.judge_pins.result a.meter.now c.judge_pins.new.meter
+    changes c.deref-2.ensures.value listed c.judge_pins.ensures.work in
     let stopped = subst (λ (n : ℕ). Works a.meter.now c.judge_pins.new.meter 0 0 n (leaving held.pins (routes_after held.plan.routes a.proposal.now.mv.now) (touched_by held.plan.routes a.proposal.now.mv.now)))
-    (ap (λ r. probes_least 0 0 (leaving held.pins (routes_after held.plan.routes a.proposal.now.mv.now) (touched_by held.plan.routes a.proposal.now.mv.now)) r) c.in-Err.is) touched in
-    rw (sym c.self.view_is) (pinned_stop _ _ _ _ _ _ _ c.in-Err.stop c.in-Err.ensures.pinned stopped)
+    (ap (λ r. probes_least 0 0 (leaving held.pins (routes_after held.plan.routes a.proposal.now.mv.now) (touched_by held.plan.routes a.proposal.now.mv.now)) r) c.in-Err.is) pins in
+    work_as {C = NewRoutes} s _ _ a.proposal.now.mv.now (Err c.in-Err.stop) _ _ c.self.view_is (pinned_stop _ _ _ _ _ _ _ c.in-Err.stop c.in-Err.ensures.pinned stopped)
 
 pub returns-in-Err-NoMemory-clause-work : goal.returns-in-Err-NoMemory-clause-work
 returns-in-Err-NoMemory-clause-work g c =
@@ -195,14 +181,106 @@ returns-in-Err-NoMemory-clause-work g c =
     let s = setting a.setup.now in
     let changes = ap (λ (ds : List DraftState). drafts_of held.plan.routes ds) c.as_slice.ensures ∙ c.in-Ok.ensures.changes in
     let judged = ap (λ (ds : List DraftState). drafts_of held.plan.routes ds) c.as_slice-2.ensures ∙ c.in-Ok.ensures.changes in
-    let pins = subst (λ (cs : Changes). Works a.meter.now c.judge_pins.new.meter 0 0 (probes_least 0 0 (leaving held.pins (with_routes cs held.plan.routes) a.touched.items) c.judge_pins.result)
-    (leaving held.pins (with_routes cs held.plan.routes) a.touched.items)) changes
-    (subst (λ (ts : List Touch). Works a.meter.now c.judge_pins.new.meter 0 0 (probes_least 0 0 (leaving held.pins (with_drafts c.as_slice.result.now held.plan.routes) ts) c.judge_pins.result)
-    (leaving held.pins (with_drafts c.as_slice.result.now held.plan.routes) ts)) c.deref-2.ensures.value c.judge_pins.ensures.work) in
-    let touched = subst (λ (ts : List Touch). Works a.meter.now c.judge_pins.new.meter 0 0 (probes_least 0 0 (leaving held.pins (routes_after held.plan.routes a.proposal.now.mv.now) ts) c.judge_pins.result)
-    (leaving held.pins (routes_after held.plan.routes a.proposal.now.mv.now) ts)) listed pins in
+    let pins = pins_work held a.proposal.now.mv.now c.as_slice.result.now c.deref-2.result.now a.touched.items c.judge_pins.result a.meter.now c.judge_pins.new.meter
+    changes c.deref-2.ensures.value listed c.judge_pins.ensures.work in
     let bounds = subst (λ (cs : Changes). AsksAtMost c.judge_pins.new.meter c.judge_in.new.meter (judge_asks (length s.dimensions) held.plan.routes cs)) judged c.judge_in.ensures.asks in
-    rw (sym c.self.view_is) (both_within _ _ _ _ _ _ _ _ _ _ _ _ _ _ _ (pinned_whole _ _ _ _ c.in-Ok-judge_pins.is touched) (asks_alone _ _ _ _ bounds) (omega arith) (omega arith) (omega arith) (omega arith))
+    work_as {C = NewRoutes} s _ _ a.proposal.now.mv.now (Err NoMemory) _ _ c.self.view_is (pins_and_some _ _ _ _ _ (pinned_whole _ _ _ _ c.in-Ok-judge_pins.is pins) bounds)
 
 pub returns-in-Err-clause-late : goal.returns-in-Err-clause-late
 returns-in-Err-clause-late g c = late_if_pinned c.in-Err.stop c.in-Err.ensures.pinned
+
+pub drafted-requires-clause-pinned : goal.drafted-requires-clause-pinned
+drafted-requires-clause-pinned g c =
+    let ready = subst (λ (h : HeldState). IsReady (setting c.args.setup.now) h) (sym c.self.view_is) c.requires.ready in
+    ready.pinned ∙ sym ready.customers
+
+pub drafted-requires-clause-frozen : goal.drafted-requires-clause-frozen
+drafted-requires-clause-frozen g c =
+    let ready = subst (λ (h : HeldState). IsReady (setting c.args.setup.now) h) (sym c.self.view_is) c.requires.ready in
+    ready.frozen ∙ sym ready.sized
+
+pub drafted-requires-clause-fitting : goal.drafted-requires-clause-fitting
+drafted-requires-clause-fitting g c =
+    let ready = subst (λ (h : HeldState). IsReady (setting c.args.setup.now) h) (sym c.self.view_is) c.requires.ready in
+    ready.fitting
+
+pub drafted-requires-clause-touched : goal.drafted-requires-clause-touched
+drafted-requires-clause-touched g c =
+    c.deref.ensures.value ∙ c.requires.touched ∙ ap (λ (h : HeldState). touched_by h.plan.routes c.args.proposal.now.mv.now) (sym c.self.view_is)
+
+pub drafted-requires-clause-effect : goal.drafted-requires-clause-effect
+drafted-requires-clause-effect g c =
+    let mv = c.args.proposal.now.mv.now in
+    subst (λ (h : HeldState). effect h.plan.customers h.plan.routes mv ≡ Some (changes_by h.plan.routes mv)) (sym c.self.view_is)
+    (subst (λ (n : ℕ). effect n c.args.self.now.plan.routes mv ≡ Some (changes_by c.args.self.now.plan.routes mv)) (sym c.requires.ready.customers) c.requires.passes.0.1)
+
+pub judge_pins-requires-clause-placeable : goal.judge_pins-requires-clause-placeable
+judge_pins-requires-clause-placeable g c =
+    let held : HeldState = record { policy = c.self.inside.policy; tables = c.self.inside.tables; plan = c.self.inside.plan; pins = c.self.inside.pins; cache = c.self.inside.cache } in
+    let changes = ap (λ (ds : List DraftState). drafts_of held.plan.routes ds) c.as_slice.ensures ∙ c.in-Ok.ensures.changes in
+    subst (λ (cs : Changes). ArePlaceable held cs c.deref-2.result.now) (sym changes)
+    (subst (λ (ts : List Touch). ArePlaceable held (changes_by held.plan.routes c.args.proposal.now.mv.now) ts) (c.deref.ensures.value ∙ sym c.deref-2.ensures.value) c.in-Ok.ensures.placeable)
+
+pub judge_pins-requires-clause-within : goal.judge_pins-requires-clause-within
+judge_pins-requires-clause-within g c =
+    subst (λ (ds : List DraftState). AreFrontsWithin c.self.inside.plan.routes ds) (sym c.as_slice.ensures) c.in-Ok.ensures.within
+
+pub judge_in-requires-clause-cache : goal.judge_in-requires-clause-cache
+judge_in-requires-clause-cache g c =
+    let ready = subst (λ (h : HeldState). IsReady (setting c.args.setup.now) h) (sym c.self.view_is) c.requires.ready in
+    ready.cache
+
+pub judge_in-requires-clause-fronts : goal.judge_in-requires-clause-fronts
+judge_in-requires-clause-fronts g c =
+    subst (λ (ds : List DraftState). AreFrontsWithin c.self.inside.plan.routes ds) (sym c.as_slice-2.ensures) c.in-Ok.ensures.within
+
+pub written-requires-clause-changes : goal.written-requires-clause-changes
+written-requires-clause-changes g c =
+    subst (λ (cs : Changes). AreChanges (length c.self.inside.plan.routes) cs) (sym c.in-Ok.ensures.changes) c.in-Ok.ensures.placeable.changes
+
+pub written-requires-clause-within : goal.written-requires-clause-within
+written-requires-clause-within g c =
+    c.in-Ok.ensures.within
+
+pub returns-in_default-clause-same : goal.returns-in_default-clause-same
+returns-in_default-clause-same g c =
+    c.self.view_is
+
+pub returns-in-Err-clause-same : goal.returns-in-Err-clause-same
+returns-in-Err-clause-same g c =
+    c.self.view_is
+
+pub returns-in-Err-Bound-clause-same : goal.returns-in-Err-Bound-clause-same
+returns-in-Err-Bound-clause-same g c =
+    c.self.view_is
+
+pub returns-in-Err-NoMemory-clause-same : goal.returns-in-Err-NoMemory-clause-same
+returns-in-Err-NoMemory-clause-same g c =
+    c.self.view_is
+
+pub returns-in_default-written-clause-same : goal.returns-in_default-written-clause-same
+returns-in_default-written-clause-same g c =
+    c.written.ensures.same ∙ c.self.view_is
+
+pub returns-in-Ok-written-clause-same : goal.returns-in-Ok-written-clause-same
+returns-in-Ok-written-clause-same g c =
+    c.written.ensures.same ∙ c.self.view_is
+
+pub returns-in_default-clause-work : goal.returns-in_default-clause-work
+returns-in_default-clause-work g c =
+    idle _ _ _
+
+pub returns-in-Ok-written-clause-changes : goal.returns-in-Ok-written-clause-changes
+returns-in-Ok-written-clause-changes g c =
+    c.in-Ok-written.ensures.changes ∙ c.in-Ok.ensures.changes ∙ ap (λ (h : HeldState). changes_by h.plan.routes c.args.proposal.now.mv.now) c.self.view_is
+
+pub returns-in-Ok-written-clause-made : goal.returns-in-Ok-written-clause-made
+returns-in-Ok-written-clause-made g c =
+    let a = c.args in
+    let mv = a.proposal.now.mv.now in
+    let same = c.in-Ok-written.ensures.changes ∙ c.in-Ok.ensures.changes ∙ ap (λ (h : HeldState). changes_by h.plan.routes mv) c.self.view_is in
+    record {
+      sound = subst (λ (h : HeldState). IsPlan h.plan.customers h.plan.routes) c.self.view_is c.in-Ok.ensures.sound;
+      possible = subst (λ (n : ℕ). effect n a.self.now.plan.routes mv ≡ Some (changes_by a.self.now.plan.routes mv)) (sym c.requires.ready.customers) c.requires.passes.0.1 ∙ ap Some (sym same);
+      by = c.requires.touched;
+    }

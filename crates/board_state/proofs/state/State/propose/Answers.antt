@@ -1,8 +1,10 @@
-use Rattle.std.proofs.Common.{◌+◌, ◌∙◌, Some, None, ap, arith}
+use Rattle.std.proofs.Common.{◌≡◌, ◌+◌, ◌∙◌, ℕ, Some, None, Ok, Err, sym, ap, subst}
 use Rattle.dimension_core.specs.Setup.{setting}
+use Rattle.permission_table.specs.Tables.{rows_at, rows_of}
 use Rattle.board_rules.specs.Rules.{basis_of}
-use Rattle.board_state.specs.Held.{held_basis}
-use Rattle.board_state.proofs.WorkLaws.{wider, denied_early}
+use Rattle.board_state.specs.declared.stop.Stop.TheVariants.{Denied}
+use Rattle.board_state.specs.Held.{HeldState, Holds, held_basis}
+use Rattle.board_state.proofs.WorkLaws.{after_named, denied_early, early_most, move_most}
 use Rattle.board_state.proofs.state.State.propose.Goals as goal
 
 pub returns-in-Ok-clause-reply : goal.returns-in-Ok-clause-reply
@@ -38,4 +40,64 @@ returns-in-Some-clause-work g c =
     denied_early _ _ _ _ _ _ _ _ _ c.in-Some.denial c.in-Some.ensures.early c.in-Some.ensures.work
 
 pub returns-in-Some-clause-most : goal.returns-in-Some-clause-most
-returns-in-Some-clause-most g c = wider _ _ _ _ _ _ c.early_denial.ensures.work (omega arith) (omega arith)
+returns-in-Some-clause-most g c = early_most _ _ _ _ _ _ _ c.early_denial.ensures.work
+
+pub early_denial-requires-clause-ready : goal.early_denial-requires-clause-ready
+early_denial-requires-clause-ready g c = c.requires
+
+pub take_move-requires-clause-ready : goal.take_move-requires-clause-ready
+take_move-requires-clause-ready g c = c.requires
+
+pub early_denial-requires-clause-place : goal.early_denial-requires-clause-place
+early_denial-requires-clause-place g c =
+    subst (λ (h : HeldState). rows_at h.tables c.place_of-place.result ≡ rows_of h.tables c.args.session) c.self.view_is c.place_of-place.ensures
+
+pub take_move-requires-clause-place : goal.take_move-requires-clause-place
+take_move-requires-clause-place g c =
+    subst (λ (h : HeldState). rows_at h.tables c.place_of-place.result ≡ rows_of h.tables c.args.session) c.self.view_is c.place_of-place.ensures
+
+pub take_move-requires-clause-passes : goal.take_move-requires-clause-passes
+take_move-requires-clause-passes g c = c.in_default.ensures.denial
+
+pub returns-in-Some-clause-holds : goal.returns-in-Some-clause-holds
+returns-in-Some-clause-holds g c state holds = holds
+
+pub returns-in-Ok-clause-holds : goal.returns-in-Ok-clause-holds
+returns-in-Ok-clause-holds g c = c.in-Ok.ensures.holds
+
+pub returns-in-Ok-clause-work : goal.returns-in-Ok-clause-work
+returns-in-Ok-clause-work g c =
+    after_named _ _ _ _ _ _ _ _ (Ok c.in-Ok.version) c.in_default.ensures.work c.in-Ok.ensures.work
+
+pub returns-in-Err-Denied-clause-holds : goal.returns-in-Err-Denied-clause-holds
+returns-in-Err-Denied-clause-holds g c state holds =
+    subst (λ (h : HeldState). Holds (setting c.args.setup.now) h state) (sym c.in-Err-Denied.ensures.err) holds
+
+pub returns-in-Err-Denied-clause-work : goal.returns-in-Err-Denied-clause-work
+returns-in-Err-Denied-clause-work g c =
+    let work = rw c.in-Err-Denied.field-0-is at c.in-Err-Denied.ensures.work in
+    after_named {C = ℕ} _ _ _ _ _ _ _ _ (Err (Denied c.in-Err-Denied.denial)) c.in_default.ensures.work work
+
+pub returns-in-Ok-clause-untried : goal.returns-in-Ok-clause-untried
+returns-in-Ok-clause-untried g c = c.take_move.ensures.untried
+
+pub returns-in-Ok-clause-most : goal.returns-in-Ok-clause-most
+returns-in-Ok-clause-most g c =
+    move_most _ _ _ _ _ _ _ _ c.take_move.result c.in_default.ensures.work c.take_move.ensures.work
+
+pub returns-in-Err-Denied-clause-untried : goal.returns-in-Err-Denied-clause-untried
+returns-in-Err-Denied-clause-untried g c = c.take_move.ensures.untried
+
+pub returns-in-Err-Denied-clause-most : goal.returns-in-Err-Denied-clause-most
+returns-in-Err-Denied-clause-most g c =
+    move_most _ _ _ _ _ _ _ _ c.take_move.result c.in_default.ensures.work c.take_move.ensures.work
+
+pub returns-in-Err-NoMemory-clause-untried : goal.returns-in-Err-NoMemory-clause-untried
+returns-in-Err-NoMemory-clause-untried g c = c.take_move.ensures.untried
+
+pub returns-in-Err-NoMemory-clause-most : goal.returns-in-Err-NoMemory-clause-most
+returns-in-Err-NoMemory-clause-most g c =
+    move_most _ _ _ _ _ _ _ _ c.take_move.result c.in_default.ensures.work c.take_move.ensures.work
+
+pub returns-in-Err-NoMemory-clause-err : goal.returns-in-Err-NoMemory-clause-err
+returns-in-Err-NoMemory-clause-err g c = c.in-Err-NoMemory.ensures.err
