@@ -21,6 +21,9 @@ use Rattle.range_cache.proofs.Walking.{asks_few}
 pub stops_fit : (n : ℕ) → n ≤ 1000 → Fits w32 n
 stops_fit n few = omega arith
 
+pub stops_wide : (n : ℕ) → n ≤ 1000 → Fits w64 n
+stops_wide n few = omega arith
+
 pub few_ranges : (n : ℕ) (xs ys : List Bounds) → xs ≡ ys → length ys ≤ 8 → n ≤ 1000 → length xs * n ≤ 1000000
 few_ranges n xs ys e most few =
     let same = ap length e in
@@ -95,7 +98,7 @@ nothing_left s v [] [] m ranges e none =
 nothing_left s v [] (x ∷ after) m ranges e none = absurd (omega arith)
 nothing_left s v (x ∷ before) after m ranges e none = absurd (omega arith)
 
-all_places : (d n m : ℕ) → n ≡ m → n ≤ d → d ≤ n → d ≡ m
+pub all_places : (d n m : ℕ) → n ≡ m → n ≤ d → d ≤ n → d ≡ m
 all_places d n m e last first = omega arith
 
 -- a route that is in bounds in each dimension

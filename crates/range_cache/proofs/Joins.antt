@@ -3,9 +3,12 @@ use Rattle.std.proofs.Common.{◌≡◌, ◌∙◌, ℕ, ◌+◌, ◌-◌, ◌*�
 use Rattle.std.specs.Prelude.{slice_index_or}
 use Rattle.std.proofs.lemmas.List.{get_or_append_left, get_or-append_right}
 use Rattle.dimension_core.specs.declared.range.Range.{Range}
+use Rattle.dimension_core.specs.Cumuls.{Bounds}
 use Rattle.dimension_core.specs.Spans.{no_range}
 use Rattle.range_cache.specs.Cache.{RowState, range_at}
-use Rattle.range_cache.proofs.Rows.{AreFilled, filled_more, part_long, part_at}
+use Rattle.range_cache.specs.Parts.{IsJoin}
+use Rattle.range_cache.proofs.Changing.{all_places}
+use Rattle.range_cache.proofs.Rows.{AreFilled, filled_more, part_long, part_at, room_for}
 
 -- the range is that of the old row up to the front, and that of the fresh one after it
 abbrev pub IsPart : ℕ → RowState → RowState → ℕ → ℕ → Range → Type 0
@@ -40,3 +43,30 @@ module _ (n count front : ℕ) (old fresh : RowState) (few : front ≤ old.stops
 -- there is still room for all ranges
 pub room_still : (needed a b c : ℕ) → needed ≤ a → a ≤ b → b ≤ c → needed ≤ c
 room_still needed a b c enough more most = omega arith
+
+-- and for those of one more dimension, one part after the other
+pub first_fits : (count n room front rest used one : ℕ) → n < count → used ≡ n * (front + rest) → count * (front + rest) ≤ room → one ≡ front → used + one ≤ room
+first_fits count n room front rest used one h is enough long =
+    let all = room_for count n room (front + rest) h used is enough in omega (arith, all, long)
+
+pub last_fits : (count n room front rest used one half two more : ℕ) → n < count → used ≡ n * (front + rest) → count * (front + rest) ≤ room → one ≡ front → half ≡ used + one → two ≡ rest
+    → room ≤ more → half + two ≤ more
+last_fits count n room front rest used one half two more h is enough long joined last grown =
+    let all = room_for count n room (front + rest) h used is enough in omega (arith, all, long, joined, last, grown)
+
+-- a row in which all dimensions are joined
+pub all_joined : (front : ℕ) (old fresh row : RowState) (d : ℕ) (xs ys : List Bounds) → xs ≡ ys → length xs ≤ d → d ≤ length xs → row.stops ≡ front + fresh.stops
+    → AreFilled (IsPart front old fresh) (front + fresh.stops) d row.ranges → IsJoin (length ys) front old fresh row
+all_joined front old fresh row d xs ys is last first counted filled =
+    let all : d ≡ length ys = all_places d (length xs) (length ys) (ap length is) last first in
+    let same : AreFilled (IsPart front old fresh) (front + fresh.stops) (length ys) row.ranges =
+    subst (λ (n : ℕ). AreFilled (IsPart front old fresh) (front + fresh.stops) n row.ranges) all filled in
+    let done : AreFilled (IsPart front old fresh) row.stops (length ys) row.ranges = subst (λ (n : ℕ). AreFilled (IsPart front old fresh) n (length ys) row.ranges) (sym counted) same in
+    record {
+      counted = counted;
+      sized = done.sized;
+      first = λ e k h l. (done.each e k h (omega (arith, counted, l))).0 l;
+      after = λ e k h l.
+          let back : front + k - front ≡ k = omega arith in
+          (done.each e (front + k) h (omega (arith, counted, l))).1 (omega arith) ∙ ap (range_at fresh e) back;
+    }

@@ -124,3 +124,43 @@ returns g c =
       least = tt;
       missed = tt;
     }
+
+pub walk_drafts-requires : goal.walk_drafts-requires
+walk_drafts-requires g c =
+    let r = c.requires in
+    record { cache = r.cache; known = r.known; short = r.short; fronts = r.fronts }
+
+pub bounds-new_routes-k : goal.bounds-new_routes-k
+bounds-new_routes-k g c = c.loop-k-test.true
+
+pub index-fresh-requires : goal.index-fresh-requires
+index-fresh-requires g c = row_place _ _ _ _ c.loop-k-test.true c.loop-k.invariant.held c.loop-k.room.fresh.ok.0
+
+pub index_mut-requires : goal.index_mut-requires
+index_mut-requires g c = row_place _ _ _ _ c.loop-k-test.true c.loop-k.invariant.sized c.loop-k.room.rows.ok.0
+
+pub overflow_sub-vehicle : goal.overflow_sub-vehicle
+overflow_sub-vehicle g c =
+    let s = setting c.args.setup.now in
+    let routes = c.args.plan.now.routes in
+    let draft = g.R.NewRoute.draft in
+    let new = c.args.new_routes.now in
+    let i = c.loop-k.k in
+    let r = c.index-new_routes-k.result in
+    let v = c.named-vehicle.result in
+    let next = new_next draft routes new i v r c.index-new_routes-k.is c.loop-k-test.true c.named-vehicle.ensures in
+    let known = first_known s (routes_by draft routes (drop i new)) (routes_by draft routes (drop (i + 1) new)) (v, drafted routes (draft r)) c.loop-k.invariant.rows.known next in
+    known.0
+
+pub index-old-requires : goal.index-old-requires
+index-old-requires g c =
+    let s = setting c.args.setup.now in
+    let routes = c.args.plan.now.routes in
+    let draft = g.R.NewRoute.draft in
+    let new = c.args.new_routes.now in
+    let i = c.loop-k.k in
+    let r = c.index-new_routes-k.result in
+    let v = c.named-vehicle.result in
+    let next = new_next draft routes new i v r c.index-new_routes-k.is c.loop-k-test.true c.named-vehicle.ensures in
+    let known = first_known s (routes_by draft routes (drop i new)) (routes_by draft routes (drop (i + 1) new)) (v, drafted routes (draft r)) c.loop-k.invariant.rows.known next in
+    place_below _ _ _ _ _ known.0 known.1 c.self.inside.rows.ok.0 (ap (λ (x : CacheState). length x.rows) c.self.view_is) c.requires.cache.sized
