@@ -1,21 +1,25 @@
 -- A core keeps its history after one more call, and what it holds is ready for the next judgement.
-use Rattle.std.proofs.Common.{◌≡◌, ℕ, zero, suc, Some, ◌+◌, ◌-◌, ◌<◌, ◌≤◌, true, List, [], ◌∷◌, ◌++◌, length, refl, sym, ap, ◌∙◌, subst, arith, inl, inr, length-set, length-append}
-use Rattle.std.specs.Prelude.{◌==◌, slice_get, slice_index, slice_set, replicate, cond, if◌then◌else◌}
+use Rattle.std.proofs.Common.{◌≡◌, ℕ, zero, suc, Some, ◌+◌, ◌-◌, ◌<◌, ◌≤◌, true, List, [], ◌∷◌, ◌++◌, length, refl, sym, ap, ◌∙◌, subst, arith, inl, inr, length-set, length-append, Result, Ok, Err}
+use Rattle.std.specs.Prelude.{OnErr, ◌==◌, slice_get, slice_index, slice_set, replicate, cond, if◌then◌else◌}
 use Rattle.std.proofs.lemmas.Bool.{and_parts, leb-true, cases_eq, eq-eqb, ne_eqb, eqb-true}
 use Rattle.std.proofs.lemmas.List.{length-replicate, get_or-set_same, get_or-set_other}
+use Rattle.callback_store.specs.declared.meter.Meter.{Meter}
 use Rattle.dimension_core.specs.Setting.{Setting}
 use Rattle.dimension_core.specs.Feasible.{IsFeasible}
 use Rattle.pin_core.specs.Pins.{PinState, DoPinsHold, DoFrontsFit}
 use Rattle.range_cache.specs.Cache.{IsCacheOf}
 use Rattle.policy_core.specs.State.{PolicyState}
 use Rattle.permission_table.specs.Compiled.{AreCompiled, HasSizes}
+use Rattle.board_rules.specs.declared.call.Call.{Call}
 use Rattle.board_rules.specs.declared.call.Entry.{Entry}
+use Rattle.board_rules.specs.declared.reply.Reply.{Reply}
 use Rattle.board_rules.specs.Good.{IsGood}
 use Rattle.board_rules.specs.History.{Opening, state_after, turns_of, is_turn, IsNext, IsLegal}
 use Rattle.board_rules.specs.State.{BoardState}
 use Rattle.board_rules.specs.Step.{IsReply, after}
 use Rattle.board_state.specs.Changes.{Tries, GivesUp, WillHold}
 use Rattle.board_state.specs.Held.{HeldState, Holds, IsOpening, IsReady}
+use Rattle.board_state.specs.Work.{IsWorkOf, WorksAtMost, call_asks, call_probes}
 use Rattle.board_core.specs.Kept.{CoreState, IsKept}
 use Rattle.board_core.specs.Prepared.{PreparedState, Makes}
 
@@ -160,3 +164,31 @@ kept_opened s core desks opening journal turns low high =
     zeros zero k = refl
     zeros (suc n) zero = refl
     zeros (suc n) (suc k) = zeros n k
+
+-- what is counted on what is held is counted of the state for which it stands
+pub work_of : (s : Setting) (held : HeldState) (state : BoardState) (call : Call) (reply : Reply) (from to : Meter) → Holds s held state
+    → IsWorkOf s held.pins held.plan.routes call reply from to → IsWorkOf s state.pins state.routes call reply from to
+work_of s held state call reply from to holds work =
+    subst (λ (rs : List (List ℕ)). IsWorkOf s state.pins rs call reply from to) holds.routes
+    (subst (λ (p : PinState). IsWorkOf s p held.plan.routes call reply from to) holds.pins work)
+
+pub most_of : (s : Setting) (held : HeldState) (state : BoardState) (call : Call) (from to : Meter) → Holds s held state
+    → WorksAtMost from to (call_asks s held.plan.routes call) (call_probes held.pins held.plan.routes call) → WorksAtMost from to (call_asks s state.routes call) (call_probes state.pins state.routes call)
+most_of s held state call from to holds most =
+    subst (λ (rs : List (List ℕ)). WorksAtMost from to (call_asks s rs call) (call_probes state.pins rs call)) holds.routes
+    (subst (λ (p : PinState). WorksAtMost from to (call_asks s held.plan.routes call) (call_probes p held.plan.routes call)) holds.pins most)
+
+pub none_counted : (m : Meter) (asks probes : ℕ) → WorksAtMost m m asks probes
+none_counted m asks probes = record {
+  walks = refl;
+  asks_low = omega arith;
+  asks_least = omega arith;
+  asks_high = omega arith;
+  probes_low = omega arith;
+  probes_least = omega arith;
+  probes_high = omega arith;
+}
+
+pub on_err : {T E : Type 0} (result : Result T E) (P : Type 0) → P → OnErr result P
+on_err (Ok x) P h = tt
+on_err (Err e) P h = h

@@ -4,3 +4,4 @@ pub mod Marks
 pub mod Stops
 pub mod Taking
 pub mod Asking
+pub mod Applying

@@ -1,4 +1,4 @@
-use Rattle.std.proofs.Common.{◌≡◌, ◌-◌, ◌++◌, ◌∷◌, [], length, refl, sym, ap, subst, ◌∙◌}
+use Rattle.std.proofs.Common.{◌≡◌, ◌-◌, ◌++◌, ◌∷◌, [], length, length-set, refl, sym, ap, subst, ◌∙◌}
 use Rattle.std.specs.Prelude.{slice_set}
 use Rattle.dimension_core.specs.Setup.{setting}
 use Rattle.board_rules.specs.declared.call.Entry.{Entry}
@@ -8,7 +8,7 @@ use Rattle.permission_table.specs.Compiled.{AreCompiled, HasSizes}
 use Rattle.board_state.specs.Changes.{Tries}
 use Rattle.board_state.specs.Held.{Holds}
 use Rattle.board_core.specs.Kept.{CoreState}
-use Rattle.board_core.proofs.Keeping.{kept_same, kept_after, turn_due}
+use Rattle.board_core.proofs.Keeping.{kept_same, kept_after, turn_due, none_counted, on_err}
 use Rattle.board_core.proofs.body.Core.command.Goals as goal
 
 pub command-requires-clause-compiled : goal.command-requires-clause-compiled
@@ -65,3 +65,33 @@ returns-clause-untried g c tried = c.command.ensures.given_up
 
 pub returns-clause-given_up : goal.returns-clause-given_up
 returns-clause-given_up g c = c.command.ensures.given_up
+
+pub returns-in_err-make_room-clause-most : goal.returns-in_err-make_room-clause-most
+returns-in_err-make_room-clause-most g c = none_counted _ _ _
+
+pub returns-in_err-make_room-clause-desks : goal.returns-in_err-make_room-clause-desks
+returns-in_err-make_room-clause-desks g c = ap (λ (x : CoreState). length x.turns) c.self.view_is
+
+pub returns-in_err-make_room-clause-err : goal.returns-in_err-make_room-clause-err
+returns-in_err-make_room-clause-err g c = on_err _ _ (c.make_room.ensures.entries ∙ ap (λ (x : CoreState). x.journal) c.self.view_is)
+
+pub returns-in_err-reply-clause-desks : goal.returns-in_err-reply-clause-desks
+returns-in_err-reply-clause-desks g c = ap (λ (x : CoreState). length x.turns) c.self.view_is
+
+pub returns-in_err-reply-clause-err : goal.returns-in_err-reply-clause-err
+returns-in_err-reply-clause-err g c = on_err _ _ (c.make_room.ensures.entries ∙ ap (λ (x : CoreState). x.journal) c.self.view_is)
+
+pub returns-clause-ok : goal.returns-clause-ok
+returns-clause-ok g c =
+    c.push_command.ensures.entries ∙ ap (λ es. es ++ commanded c.args.desk c.args.turn c.args.session c.args.command c.in_ok-reply.reply ∷ []) (c.make_room.ensures.entries ∙ ap (λ (x : CoreState). x.journal) c.self.view_is)
+    ∙ ap (λ r. c.args.self.now.journal ++ commanded c.args.desk c.args.turn c.args.session c.args.command r ∷ []) (sym c.copy_of-answer.ensures)
+
+pub push_command-requires : goal.push_command-requires
+push_command-requires g c = c.in_ok-make_room.ensures.ready
+
+pub overflow_sub-desk : goal.overflow_sub-desk
+overflow_sub-desk g c = c.requires.taken.low
+
+pub returns-clause-desks : goal.returns-clause-desks
+returns-clause-desks g c =
+    length-set c.self.inside.turns.items (c.args.desk - 1) c.args.turn ∙ ap (λ (x : CoreState). length x.turns) c.self.view_is

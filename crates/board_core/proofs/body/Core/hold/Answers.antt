@@ -1,16 +1,14 @@
-use Rattle.std.proofs.Common.{◌≡◌, ℕ, List, ◌-◌, ◌++◌, ◌∷◌, [], length, refl, sym, ap, subst, ◌∙◌}
+use Rattle.std.proofs.Common.{◌≡◌, ◌-◌, ◌++◌, ◌∷◌, [], length, length-set, refl, sym, ap, subst, ◌∙◌}
 use Rattle.std.specs.Prelude.{slice_set}
 use Rattle.dimension_core.specs.Setup.{setting}
-use Rattle.pin_core.specs.Pins.{PinState}
 use Rattle.board_rules.specs.declared.call.Entry.{Entry}
 use Rattle.board_rules.specs.History.{state_after}
 use Rattle.board_rules.specs.Holds.{call_of, reply_to}
 use Rattle.board_journal.specs.Entries.{held}
 use Rattle.board_state.specs.Changes.{Tries}
 use Rattle.board_state.specs.Held.{Holds, IsReady}
-use Rattle.board_state.specs.Work.{IsWorkOf, WorksAtMost, call_asks, call_probes}
 use Rattle.board_core.specs.Kept.{CoreState}
-use Rattle.board_core.proofs.Keeping.{kept_same, kept_after, turn_due}
+use Rattle.board_core.proofs.Keeping.{kept_same, kept_after, turn_due, work_of, most_of, none_counted, on_err}
 use Rattle.board_core.proofs.body.Core.hold.Goals as goal
 
 pub hold-ruling-requires : goal.hold-ruling-requires
@@ -48,22 +46,15 @@ pub returns-clause-work : goal.returns-clause-work
 returns-clause-work g c =
     let s = setting c.args.setup.now in
     let state = state_after s c.args.self.now.journal in
-    let inside = c.self.inside.state in
-    let call = call_of c.args.hold in
-    let reply = reply_to c.hold-ruling.result in
     let holds = subst (λ (x : CoreState). Holds s x.held state) (sym c.self.view_is) c.requires.kept.held in
-    subst (λ (rs : List (List ℕ)). IsWorkOf s state.pins rs call reply c.args.meter.now c.hold-ruling.new.meter) holds.routes
-    (subst (λ (p : PinState). IsWorkOf s p inside.plan.routes call reply c.args.meter.now c.hold-ruling.new.meter) holds.pins c.hold-ruling.ensures.work)
+    work_of s c.self.inside.state state (call_of c.args.hold) (reply_to c.hold-ruling.result) c.args.meter.now c.hold-ruling.new.meter holds c.hold-ruling.ensures.work
 
 pub returns-clause-most : goal.returns-clause-most
 returns-clause-most g c =
     let s = setting c.args.setup.now in
     let state = state_after s c.args.self.now.journal in
-    let inside = c.self.inside.state in
-    let call = call_of c.args.hold in
     let holds = subst (λ (x : CoreState). Holds s x.held state) (sym c.self.view_is) c.requires.kept.held in
-    subst (λ (rs : List (List ℕ)). WorksAtMost c.args.meter.now c.hold-ruling.new.meter (call_asks s rs call) (call_probes state.pins rs call)) holds.routes
-    (subst (λ (p : PinState). WorksAtMost c.args.meter.now c.hold-ruling.new.meter (call_asks s inside.plan.routes call) (call_probes p inside.plan.routes call)) holds.pins c.hold-ruling.ensures.most)
+    most_of s c.self.inside.state state (call_of c.args.hold) c.args.meter.now c.hold-ruling.new.meter holds c.hold-ruling.ensures.most
 
 pub returns-in_err-make_room-clause-untried : goal.returns-in_err-make_room-clause-untried
 returns-in_err-make_room-clause-untried g c tried = subst (λ (x : CoreState). x.held.policy.tried ≡ x.held.policy.now) (sym c.self.view_is) tried
@@ -71,3 +62,26 @@ returns-in_err-make_room-clause-untried g c tried = subst (λ (x : CoreState). x
 pub returns-clause-untried : goal.returns-clause-untried
 returns-clause-untried g c tried =
     c.hold-ruling.ensures.untried (subst (λ (x : CoreState). x.held.policy.tried ≡ x.held.policy.now) (sym c.self.view_is) tried)
+
+pub returns-in_err-make_room-clause-most : goal.returns-in_err-make_room-clause-most
+returns-in_err-make_room-clause-most g c = none_counted _ _ _
+
+pub returns-in_err-make_room-clause-desks : goal.returns-in_err-make_room-clause-desks
+returns-in_err-make_room-clause-desks g c = ap (λ (x : CoreState). length x.turns) c.self.view_is
+
+pub returns-in_err-make_room-clause-err : goal.returns-in_err-make_room-clause-err
+returns-in_err-make_room-clause-err g c = on_err _ _ (c.make_room.ensures.entries ∙ ap (λ (x : CoreState). x.journal) c.self.view_is)
+
+pub returns-clause-ok : goal.returns-clause-ok
+returns-clause-ok g c =
+    c.push_hold.ensures.entries ∙ ap (λ es. es ++ held c.args.desk c.args.turn c.args.hold c.hold-ruling.result ∷ []) (c.make_room.ensures.entries ∙ ap (λ (x : CoreState). x.journal) c.self.view_is)
+
+pub push_hold-requires : goal.push_hold-requires
+push_hold-requires g c = c.in_ok-make_room.ensures.ready
+
+pub overflow_sub-desk : goal.overflow_sub-desk
+overflow_sub-desk g c = c.requires.taken.low
+
+pub returns-clause-desks : goal.returns-clause-desks
+returns-clause-desks g c =
+    length-set c.self.inside.turns.items (c.args.desk - 1) c.args.turn ∙ ap (λ (x : CoreState). length x.turns) c.self.view_is
