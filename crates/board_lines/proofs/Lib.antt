@@ -12,3 +12,4 @@ mod Floats
 mod Pieces
 mod Decimals
 mod Starting
+mod Words

@@ -4,6 +4,7 @@ use Rattle.move_core.specs.declared.moves.Move.{Move}
 use Rattle.move_core.specs.declared.moves.Move.TheVariants as plan
 use Rattle.permission_core.specs.declared.objects.Operation.{Operation}
 use Rattle.permission_core.specs.declared.objects.Object.{Object}
+use Rattle.permission_core.specs.declared.objects.ObjectRange.{ObjectRange}
 use Rattle.rbac_core.specs.declared.command.Command.{Command as PolicyCommand}
 use Rattle.rbac_core.specs.declared.command.Command.TheVariants as policy
 use Rattle.board_rules.specs.declared.call.Call.{Call}
@@ -152,74 +153,70 @@ audit_says s = record { kinds = refl; made = refl }
 
 -- ---- from the words of a command to the command
 
-propose_text : (s : ℕ) (w : MoveWord) (a : Arguments) (ws : List (List ℕ)) → kinds_of a ≡ (row_of (Propose w)).kinds → IsLine ws (say s (Propose w) a) → IsCommandText ws (command_of s (Propose w) a)
-unfolding command_of
-propose_text s moves.Insert (a_number c (a_number v (a_number p (a_number b no_more)))) ws e h = h
-propose_text s moves.Remove (a_number v (a_number p (a_number b no_more))) ws e h = h
-propose_text s moves.Shift (a_number v (a_number p (a_number l (a_number w (a_number q (a_number b no_more)))))) ws e h = h
-propose_text s moves.Swap (a_number v (a_number p (a_number w (a_number q (a_number b no_more))))) ws e h = h
-propose_text s moves.Reverse (a_number v (a_number p (a_number q (a_number b no_more)))) ws e h = h
-propose_text s moves.Cross (a_number v (a_number k (a_number w (a_number l (a_number b no_more))))) ws e h = h
-propose_text s _ _ ws e h = absurd (cc)
+-- P holds of all arguments of these kinds
+abbrev OfKinds : Kinds → (Arguments → Type 0) → Type 0
+OfKinds nothing P = P no_more
+OfKinds object P = (o : Object) → P (the_object o)
+OfKinds range P = (r : ObjectRange) → P (the_range r)
+OfKinds names P = (ns : List (List ℕ)) → P (the_names ns)
+OfKinds (number more) P = (n : ℕ) → OfKinds more (λ a. P (a_number n a))
+OfKinds (name more) P = (n : List ℕ) → OfKinds more (λ a. P (a_name n a))
+OfKinds (operation more) P = (op : Operation) → OfKinds more (λ a. P (an_operation op a))
 
-hold_text : (s : ℕ) (w : HoldWord) (a : Arguments) (ws : List (List ℕ)) → kinds_of a ≡ (row_of (Hold w)).kinds → IsLine ws (say s (Hold w) a) → IsCommandText ws (command_of s (Hold w) a)
-unfolding command_of
-hold_text s holds.Pin (a_number c no_more) ws e h = h
-hold_text s holds.Unpin (a_number c no_more) ws e h = h
-hold_text s holds.Freeze (a_number v (a_number l no_more)) ws e h = h
-hold_text s holds.Thaw (a_number v (a_number l no_more)) ws e h = h
-hold_text s _ _ ws e h = absurd (cc)
+at_arguments : (a : Arguments) (P : Arguments → Type 0) → OfKinds (kinds_of a) P → P a
+at_arguments no_more P h = h
+at_arguments (the_object o) P h = h o
+at_arguments (the_range r) P h = h r
+at_arguments (the_names ns) P h = h ns
+at_arguments (a_number n more) P h = at_arguments more (λ a. P (a_number n a)) (h n)
+at_arguments (a_name n more) P h = at_arguments more (λ a. P (a_name n a)) (h n)
+at_arguments (an_operation op more) P h = at_arguments more (λ a. P (an_operation op a)) (h op)
 
-manage_text : (s : ℕ) (w : ManageWord) (a : Arguments) (ws : List (List ℕ)) → kinds_of a ≡ (row_of (Manage w)).kinds → IsLine ws (say s (Manage w) a) → IsCommandText ws (command_of s (Manage w) a)
-unfolding command_of
-manage_text s manages.AddUser (a_name u no_more) ws e h = h
-manage_text s manages.DeleteUser (a_name u no_more) ws e h = h
-manage_text s manages.AddRole (a_name r no_more) ws e h = h
-manage_text s manages.DeleteRole (a_name r no_more) ws e h = h
-manage_text s manages.Assign (a_name u (a_name r no_more)) ws e h = h
-manage_text s manages.Deassign (a_name u (a_name r no_more)) ws e h = h
-manage_text s manages.Grant (a_name r (an_operation op (the_range over))) ws e h = h
-manage_text s manages.Revoke (a_name r (an_operation op (the_range over))) ws e h = h
-manage_text s manages.Inherit (a_name r (a_name j no_more)) ws e h = h
-manage_text s manages.Uninherit (a_name r (a_name j no_more)) ws e h = h
-manage_text s manages.Migrate no_more ws e h = h
-manage_text s _ _ ws e h = absurd (cc)
+abbrev IsText : ℕ → Word → List (List ℕ) → Arguments → Type 0
+IsText s w ws a = IsLine ws (say s w a) → IsCommandText ws (command_of s w a)
 
-session_text : (s : ℕ) (w : SessionWord) (a : Arguments) (ws : List (List ℕ)) → kinds_of a ≡ (row_of (Session w)).kinds → IsLine ws (say s (Session w) a) → IsCommandText ws (command_of s (Session w) a)
+text_of : (s : ℕ) (w : Word) (ws : List (List ℕ)) → OfKinds (row_of w).kinds (IsText s w ws)
 unfolding command_of
-session_text s sessions.Open (a_name u (the_names rs)) ws e h = h
-session_text s sessions.Close (a_number n no_more) ws e h = h
-session_text s sessions.Activate (a_number n (a_name r no_more)) ws e h = h
-session_text s sessions.Deactivate (a_number n (a_name r no_more)) ws e h = h
-session_text s _ _ ws e h = absurd (cc)
-
-ask_text : (s : ℕ) (w : AskWord) (a : Arguments) (ws : List (List ℕ)) → kinds_of a ≡ (row_of (Ask w)).kinds → IsLine ws (say s (Ask w) a) → IsCommandText ws (command_of s (Ask w) a)
-unfolding command_of
-ask_text s asks.List no_more ws e h = h
-ask_text s asks.Json no_more ws e h = h
-ask_text s asks.Audit no_more ws e h = h
-ask_text s asks.Check (an_operation op (the_object o)) ws e h = h
-ask_text s asks.Users (a_name r no_more) ws e h = h
-ask_text s asks.Roles (a_name u no_more) ws e h = h
-ask_text s asks.Active (a_number n no_more) ws e h = h
-ask_text s _ _ ws e h = absurd (cc)
-
-separate_text : (s : ℕ) (kind : Separation) (w : SetWord) (a : Arguments) (ws : List (List ℕ)) → kinds_of a ≡ (row_of (Separate kind w)).kinds → IsLine ws (say s (Separate kind w) a) → IsCommandText ws (command_of s (Separate kind w) a)
-unfolding command_of
-separate_text s kind sets.Create (a_name x (a_number n (the_names rs))) ws e h = h
-separate_text s kind sets.Add (a_name x (a_name r no_more)) ws e h = h
-separate_text s kind sets.Drop (a_name x (a_name r no_more)) ws e h = h
-separate_text s kind sets.Delete (a_name x no_more) ws e h = h
-separate_text s kind sets.Number (a_name x (a_number n no_more)) ws e h = h
-separate_text s kind _ _ ws e h = absurd (cc)
+text_of s (Propose moves.Insert) ws = λ _ _ _ _ h. h
+text_of s (Propose moves.Remove) ws = λ _ _ _ h. h
+text_of s (Propose moves.Shift) ws = λ _ _ _ _ _ _ h. h
+text_of s (Propose moves.Swap) ws = λ _ _ _ _ _ h. h
+text_of s (Propose moves.Reverse) ws = λ _ _ _ _ h. h
+text_of s (Propose moves.Cross) ws = λ _ _ _ _ _ h. h
+text_of s (Hold holds.Pin) ws = λ _ h. h
+text_of s (Hold holds.Unpin) ws = λ _ h. h
+text_of s (Hold holds.Freeze) ws = λ _ _ h. h
+text_of s (Hold holds.Thaw) ws = λ _ _ h. h
+text_of s (Manage manages.AddUser) ws = λ _ h. h
+text_of s (Manage manages.DeleteUser) ws = λ _ h. h
+text_of s (Manage manages.AddRole) ws = λ _ h. h
+text_of s (Manage manages.DeleteRole) ws = λ _ h. h
+text_of s (Manage manages.Assign) ws = λ _ _ h. h
+text_of s (Manage manages.Deassign) ws = λ _ _ h. h
+text_of s (Manage manages.Grant) ws = λ _ _ _ h. h
+text_of s (Manage manages.Revoke) ws = λ _ _ _ h. h
+text_of s (Manage manages.Inherit) ws = λ _ _ h. h
+text_of s (Manage manages.Uninherit) ws = λ _ _ h. h
+text_of s (Manage manages.Migrate) ws = λ h. h
+text_of s (Separate kind sets.Create) ws = λ _ _ _ h. h
+text_of s (Separate kind sets.Add) ws = λ _ _ h. h
+text_of s (Separate kind sets.Drop) ws = λ _ _ h. h
+text_of s (Separate kind sets.Delete) ws = λ _ h. h
+text_of s (Separate kind sets.Number) ws = λ _ _ h. h
+text_of s (Session sessions.Open) ws = λ _ _ h. h
+text_of s (Session sessions.Close) ws = λ _ h. h
+text_of s (Session sessions.Activate) ws = λ _ _ h. h
+text_of s (Session sessions.Deactivate) ws = λ _ _ h. h
+text_of s (Ask asks.List) ws = λ h. h
+text_of s (Ask asks.Json) ws = λ h. h
+text_of s (Ask asks.Audit) ws = λ h. h
+text_of s (Ask asks.Check) ws = λ _ _ h. h
+text_of s (Ask asks.Users) ws = λ _ h. h
+text_of s (Ask asks.Roles) ws = λ _ h. h
+text_of s (Ask asks.Active) ws = λ _ h. h
 
 pub command_text : (s : ℕ) (w : Word) (a : Arguments) (ws : List (List ℕ)) → kinds_of a ≡ (row_of w).kinds → IsLine ws (say s w a) → IsCommandText ws (command_of s w a)
-command_text s (Propose w) a ws e h = propose_text s w a ws e h
-command_text s (Hold w) a ws e h = hold_text s w a ws e h
-command_text s (Manage w) a ws e h = manage_text s w a ws e h
-command_text s (Separate kind w) a ws e h = separate_text s kind w a ws e h
-command_text s (Session w) a ws e h = session_text s w a ws e h
-command_text s (Ask w) a ws e h = ask_text s w a ws e h
+command_text s w a ws e = at_arguments a (IsText s w ws) (rw e (text_of s w ws))
 
 -- ---- questions
 

@@ -1,8 +1,8 @@
 -- What stands in a text where memory ran out while it grew.
-use Rattle.std.proofs.Common.{◌≡◌, ◌∙◌, ◌<◌, ◌≤◌, List, [], ℕ, ◌++◌, length, take, drop, get_or, Result, Ok, Err, if◌then◌else◌, refl, sym, ap, suc}
+use Rattle.std.proofs.Common.{◌≡◌, ◌∙◌, ◌+◌, ◌<◌, ◌≤◌, List, [], ◌∷◌, ℕ, ◌++◌, length, map, take, drop, get_or, Result, Ok, Err, if◌then◌else◌, refl, sym, ap, suc}
 use Rattle.std.specs.Prelude.{OnErr, is_ok}
 use Rattle.std.specs.List.{flat_map}
-use Rattle.std.proofs.lemmas.List.{append-nil, append_assoc, take-append-drop, take_all}
+use Rattle.std.proofs.lemmas.List.{append-nil, append_assoc, map-append, take-append-drop, take_all, take_more}
 use Rattle.std.proofs.lemmas.Grind.{flat_map-append}
 use Rattle.std.proofs.lemmas.Result.{on_err_weaker}
 use Rattle.std.proofs.Math.Seq.{drop-cons}
@@ -53,3 +53,17 @@ cut_loop {X = X} f xs i d x old mid new lt is e s =
 -- a loop appended the texts of all elements
 pub loop_done : {X : Type 0} (f : X → List ℕ) (xs : List X) (i : ℕ) (more : List ℕ) → length xs ≤ i → flat_map f xs ++ more ≡ flat_map f (take i xs) ++ more
 loop_done {X = X} f xs i more le = ap (λ (l : List X). flat_map f l ++ more) (sym (take_all i xs le))
+
+-- ---- loops that push one element for each
+
+pub one_grown : {X Y : Type 0} (f : X → Y) (xs : List X) (i : ℕ) (d : X) (old mid new : List Y) → i < length xs → mid ≡ old ++ map f (take i xs) → new ≡ mid ++ f (get_or xs i d) ∷ [] → new ≡ old ++ map f (take (i + 1) xs)
+one_grown {Y = Y} f xs i d old mid new lt e grown =
+    grown
+    ∙ ap (λ (l : List Y). l ++ f (get_or xs i d) ∷ []) e
+    ∙ append_assoc old (map f (take i xs)) (f (get_or xs i d) ∷ [])
+    ∙ ap (λ (l : List Y). old ++ l) (sym (ap (map f) (take_more xs i d lt) ∙ map-append f (take i xs) (get_or xs i d ∷ [])))
+
+pub one_pushed : {V X Y : Type 0} (view : V → Y) (f : X → Y) (xs : List X) (i : ℕ) (d x : X) (v : V) (mid new : List V) → i < length xs → x ≡ get_or xs i d → map view mid ≡ map f (take i xs) → view v ≡ f x → new ≡ mid ++ v ∷ [] → map view new ≡ map f (take (i + 1) xs)
+one_pushed {X = X} {Y = Y} view f xs i d x v mid new lt is e made grown =
+    let last : map view new ≡ map view mid ++ f (get_or xs i d) ∷ [] = ap (map view) grown ∙ map-append view mid (v ∷ []) ∙ ap (λ (y : Y). map view mid ++ y ∷ []) (made ∙ ap f is) in
+    one_grown f xs i d [] (map view mid) (map view new) lt e last
