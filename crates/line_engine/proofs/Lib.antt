@@ -1,5 +1,6 @@
 pub mod Bytes
 pub mod CutLines
+pub mod Faulted
 pub mod Marked
 pub mod Runs
 pub mod Sending

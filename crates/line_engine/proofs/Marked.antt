@@ -1,5 +1,5 @@
 -- Answers of a front as outcomes of a line.
-use Rattle.std.proofs.Common.{◌≡◌, ℕ, List, inl, inr, refl, sym, ap, subst, ◌∙◌, Result, Ok, Err, IfOk, OnErr}
+use Rattle.std.proofs.Common.{◌≡◌, ℕ, List, inl, inr, refl, sym, ap, subst, ◌∙◌, Result, Ok, Err, IfOk, OnErr, Bor, map}
 use Rattle.board_lines.specs.declared.command.Command.{Command}
 use Rattle.board_lines.specs.declared.command.Command.TheVariants as commands
 use Rattle.board_lines.specs.declared.command.LineFault.{LineFault}
@@ -7,7 +7,10 @@ use Rattle.board_lines.specs.declared.command.ReadFault.{ReadFault}
 use Rattle.board_lines.specs.declared.command.ReadFault.TheVariants.{Line, NoMemory}
 use Rattle.board_lines.specs.declared.reading.Proposed.{Proposed}
 use Rattle.board_lines.specs.declared.reading.Order.{Order}
-use Rattle.board_lines.specs.Reading.{Says, Proposes, Holds, Orders, by_policy}
+use Rattle.board_lines.specs.declared.reading.Head.{Head}
+use Rattle.board_lines.specs.declared.reading.Head.TheVariants.{Asks}
+use Rattle.board_lines.specs.declared.word.Word.{Word}
+use Rattle.board_lines.specs.Reading.{Begins, Says, Proposes, Holds, Orders, after_word, by_policy}
 use Rattle.board_rules.specs.declared.call.Call.{Call}
 use Rattle.board_rules.specs.declared.call.Call.TheVariants as calls
 use Rattle.board_rules.specs.declared.hold.Hold.{Hold}
@@ -120,3 +123,16 @@ pub bad_head : {S : Type 0} (step : S → Command → Answer → S → Type 0) (
     → (text : List ℕ) → Marks (λ outcome. Gives step old read outcome old) text (marks.Bad fault)
 bad_head step old read fault is text =
     record { outcome = Bad fault; holds = subst (λ (x : Result Command LineFault). Gives step old x (Bad fault) old) (sym is) (refl, refl); reported = refl; replied = refl; refused = refl }
+
+-- a line whose head names its command
+pub begun : (head : Head) (session : ℕ) (named word : Word) (args : Bor (List (Bor (List ℕ)))) (read : Result Command LineFault) → head ≡ Asks session named args → named ≡ word → Begins (Ok head) read
+    → read ≡ after_word session word (map (λ w. w.now) args.now)
+begun head session named word args read is same h = subst (λ (x : Head). Begins (Ok x) read) is h ∙ ap (λ (w : Word). after_word session w (map (λ x. x.now) args.now)) same
+
+pub marks_as : {S E : Type 0} (step : S → Command → Answer → S → Type 0) (old new : S) (read is : Result Command LineFault) → read ≡ is → (text : List ℕ) (r : Result Mark E)
+    → IfOk r (Marks (λ outcome. Gives step old is outcome new) text) → IfOk r (Marks (λ outcome. Gives step old read outcome new) text)
+marks_as step old new read is e text r h = subst (λ (x : Result Command LineFault). IfOk r (Marks (λ outcome. Gives step old x outcome new) text)) (sym e) h
+
+pub drops_as : {S E : Type 0} (step : S → Command → Answer → S → Type 0) (refuses : S → Command → S → Type 0) (old new : S) (read is : Result Command LineFault) → read ≡ is → (r : Result Mark E)
+    → OnErr r (Drops step refuses old is new) → OnErr r (Drops step refuses old read new)
+drops_as step refuses old new read is e r h = subst (λ (x : Result Command LineFault). OnErr r (Drops step refuses old x new)) (sym e) h

@@ -281,3 +281,14 @@ one_last (b ∷ rest) = omega arith
 pub nothing_left : {S : Type 0} (step : S → Command → Answer → S → Type 0) (s : S) (rest : List ℕ) (n r : ℕ) → length rest ≡ 0 → Finished step s s [] rest n n r r
 nothing_left step s [] n r e = record { outcomes = []; run = refl; text = refl; answers = omega arith; refusals = omega arith }
 nothing_left step s (b ∷ rest) n r e = absurd (omega (arith, e))
+
+-- ---- what is left becomes shorter
+
+pub shorter : (left line after : List ℕ) → left ≡ line ++ 10 ∷ after → length after < length left
+shorter left line after e = omega (arith, ap length e, length-append line (10 ∷ after))
+
+pub shorter_part : (piece done left after : List ℕ) → piece ≡ done ++ left → length after < length left → length after < length piece
+shorter_part piece done left after e lt = omega (arith, ap length e, length-append done left, lt)
+
+pub shorter_none : (after piece : List ℕ) → after ≡ [] → 0 < length piece → length after < length piece
+shorter_none after piece e lt = omega (arith, ap length e, lt)

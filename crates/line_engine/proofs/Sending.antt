@@ -1,6 +1,8 @@
 -- Replies are passed to the writer as a run goes on.
-use Rattle.std.proofs.Common.{◌≡◌, ℕ, inl, inr, List, [], ◌++◌, length, Option, sym, ap, subst, ◌∙◌, append_assoc}
+use Rattle.std.proofs.Common.{◌≡◌, ◌<◌, true, false, arith, ℕ, inl, inr, List, [], ◌++◌, length, Option, sym, ap, subst, ◌∙◌, append_assoc}
+use Rattle.std.specs.Prelude.{◌==◌}
 use Rattle.std.specs.Io.KnownBytes.{Appends}
+use Rattle.std.proofs.lemmas.Bool.Decides.{nat_tests}
 use Rattle.std.proofs.lemmas.List.{append-nil}
 use Rattle.board_lines.specs.declared.command.Command.{Command}
 use Rattle.line_engine.specs.Answers.{Answer}
@@ -60,3 +62,14 @@ whole_piece piece done left e n = sym (e ∙ ap (λ (l : List ℕ). done ++ l) (
 -- nothing was held at first
 pub nil_first : (was out now : List ℕ) → was ≡ [] → now ≡ was ++ out → now ≡ out
 nil_first was out now e f = f ∙ ap (λ (l : List ℕ). l ++ out) e
+
+-- all of a piece was taken
+pub part_whole : {S : Type 0} (step : S → Command → Answer → S → Type 0) (a b : S) (out partial done piece rest : List ℕ) (s0 s1 n0 n1 r0 r1 : ℕ)
+    → done ≡ piece → Progress step a b out (partial ++ done) rest s0 s1 n0 n1 r0 r1 → Progress step a b out (partial ++ piece) rest s0 s1 n0 n1 r0 r1
+part_whole step a b out partial done piece rest s0 s1 n0 n1 r0 r1 e p = subst (λ (l : List ℕ). Progress step a b out (partial ++ l) rest s0 s1 n0 n1 r0 r1) e p
+
+pub none_of : (xs : List ℕ) → true ≡ (length xs == 0) → length xs ≡ 0
+none_of xs e = grind (arith, nat_tests)
+
+pub some_of : (xs : List ℕ) → false ≡ (length xs == 0) → 0 < length xs
+some_of xs e = grind (arith, nat_tests)

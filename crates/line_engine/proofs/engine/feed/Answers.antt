@@ -1,8 +1,9 @@
-use Rattle.std.proofs.Common.{◌≡◌, ◌∙◌, [], ◌∷◌, ◌++◌, ap, sym, append_assoc, List, ℕ}
+use Rattle.std.proofs.Common.{◌≡◌, ◌∙◌, [], ◌∷◌, ◌++◌, ap, sym, append_assoc, map, List, ℕ, Bor}
 use Rattle.std.proofs.lemmas.List.{append-nil}
 use Rattle.std.proofs.lemmas.Result.{err_from_is_err_and}
 use Rattle.line_engine.specs.Running.{HasNoEnd}
-use Rattle.line_engine.proofs.Runs.{nothing_yet, no_memory, no_memory_within, keep_broken, keep_done, feed_line, feed_broken_line, held_then}
+use Rattle.line_engine.proofs.Faulted.{no_result}
+use Rattle.line_engine.proofs.Runs.{nothing_yet, no_memory, no_memory_within, keep_broken, keep_done, feed_line, feed_broken_line, held_then, shorter, shorter_none, shorter_part}
 use Rattle.line_engine.proofs.engine.feed.Goals as goal
 
 pub lines-init : goal.lines-init
@@ -104,3 +105,53 @@ lines-preserved g c =
         feed_line g.F.Front.step _ _ _ i.3.0 t.0 c.args.partial.now.items i.0 (line ++ 10 ∷ []) c.lines.partial.items _ _ _ _ _ _ _ _ _ _ i.3.2 t.2,
       ),
     )
+
+pub keep-requires : goal.keep-requires
+keep-requires g c =
+    let same = c.rest.ensures ∙ (rw c.in_default.is at c.in_ok-line.ensures.line).1 in
+    let plain : HasNoEnd c.rest.result.now = rw same (rw c.in_default.is at c.in_ok-line.ensures.line).0 in
+    record { line = c.lines.invariant.3.2.cut.partial; plain = plain }
+
+pub take_line-requires : goal.take_line-requires
+take_line-requires g c =
+    let i = c.lines.invariant in
+    let words = rw c.in-Some.is at c.in_ok-line.ensures.words in
+    record { line = i.3.2.cut.partial; plain = (rw c.in-Some.is at c.in_ok-line.ensures.line).0; ready = i.2; words = ap (map (λ (w : Bor (List ℕ)). w.now)) c.as_slice-in-lines.ensures.value ∙ words }
+
+pub lines-smaller : goal.lines-smaller
+lines-smaller g c =
+    let cut = (rw c.in-Some.is at c.in_ok-line.ensures.line).1 in
+    shorter _ c.in-Some.line.now c.keep_next.new.self cut
+
+pub returns-then-is_full-clause-shorter : goal.returns-then-is_full-clause-shorter
+returns-then-is_full-clause-shorter g c =
+    let i = c.lines.invariant in
+    let cut : c.lines.left ≡ c.in-Some.line.now ++ 10 ∷ c.rest-then-is_full.result.now = rw c.rest-then-is_full.ensures (rw c.in-Some.is at c.in_ok-line.ensures.line).1 in
+    λ _. shorter_part _ i.0 _ _ i.1 (shorter _ c.in-Some.line.now c.rest-then-is_full.result.now cut)
+
+pub returns-in_err-words-clause-ok : goal.returns-in_err-words-clause-ok
+returns-in_err-words-clause-ok g c = no_result _ _ c.from_residual.ensures.0
+
+pub returns-in_err-words-clause-shorter : goal.returns-in_err-words-clause-shorter
+returns-in_err-words-clause-shorter g c = λ _. no_result _ _ c.from_residual.ensures.0
+
+pub returns-in_err-line-clause-ok : goal.returns-in_err-line-clause-ok
+returns-in_err-line-clause-ok g c = no_result _ _ c.from_residual-in_err-line.ensures.0
+
+pub returns-in_err-line-clause-shorter : goal.returns-in_err-line-clause-shorter
+returns-in_err-line-clause-shorter g c = λ _. no_result _ _ c.from_residual-in_err-line.ensures.0
+
+pub returns-in_err-keep-clause-ok : goal.returns-in_err-keep-clause-ok
+returns-in_err-keep-clause-ok g c = no_result _ _ c.from_residual-in_err-keep.ensures.0
+
+pub returns-in_err-keep-clause-shorter : goal.returns-in_err-keep-clause-shorter
+returns-in_err-keep-clause-shorter g c = λ _. no_result _ _ c.from_residual-in_err-keep.ensures.0
+
+pub returns-in_err-take_line-clause-ok : goal.returns-in_err-take_line-clause-ok
+returns-in_err-take_line-clause-ok g c = no_result _ _ c.from_residual-in_err-take_line.ensures.0
+
+pub returns-in_err-take_line-clause-shorter : goal.returns-in_err-take_line-clause-shorter
+returns-in_err-take_line-clause-shorter g c = λ _. no_result _ _ c.from_residual-in_err-take_line.ensures.0
+
+pub returns-in_default-clause-shorter : goal.returns-in_default-clause-shorter
+returns-in_default-clause-shorter g c = shorter_none _ _ c.as_slice.ensures

@@ -3,7 +3,7 @@ use Rattle.std.proofs.lemmas.List.{append-nil}
 use Rattle.std.proofs.lemmas.Result.{err_from_is_err_and}
 use Rattle.line_engine.proofs.Bytes.{Appends-none, Appends-then}
 use Rattle.line_engine.proofs.Runs.{nothing_yet}
-use Rattle.line_engine.proofs.Sending.{Reaches-then, AppendsPrefix-then, sent_all, part_taken, part_stopped, part_unwritten, behind}
+use Rattle.line_engine.proofs.Sending.{Reaches-then, AppendsPrefix-then, sent_all, part_taken, part_stopped, part_unwritten, part_whole, behind, none_of, some_of, whole_piece}
 use Rattle.line_engine.proofs.engine.take_piece.Goals as goal
 
 pub parts-init : goal.parts-init
@@ -58,3 +58,20 @@ parts-preserved g c =
       i.4,
       part_taken g.F.Front.step _ _ _ i.1 _ held c.args.partial.now.items i.0 c.parts.partial.items f.0 _ _ _ _ _ _ _ _ _ _ i.5 f.2,
     )
+
+pub feed-requires : goal.feed-requires
+feed-requires g c =
+    let i = c.parts.invariant in
+    record { line = i.5.cut.partial; ready = i.3 }
+
+pub parts-smaller : goal.parts-smaller
+parts-smaller g c = c.in-Ok.ensures.shorter (some_of _ c.parts-test.ensures)
+
+pub parts-smaller-in-Continue-1 : goal.parts-smaller-in-Continue-1
+parts-smaller-in-Continue-1 g c = c.in-Ok.ensures.shorter (some_of _ c.parts-test.ensures)
+
+pub returns : goal.returns
+returns g c =
+    let i = c.parts.invariant in
+    let all = whole_piece c.args.piece.now i.0 _ i.2 (none_of c.parts.left.now c.parts-test.ensures) in
+    record { ready = i.3; ok = (i.1, i.4, part_whole g.F.Front.step _ _ _ c.args.partial.now.items i.0 _ _ _ _ _ _ _ _ all i.5); err = tt }
