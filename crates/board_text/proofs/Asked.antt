@@ -1,5 +1,6 @@
 -- Questions that are not answered.
-use Rattle.std.proofs.Common.{◌≡◌, ◌++◌, ◌∙◌, ℕ, List, Option, Some, None, Result, Ok, Err, IfOk, OnOk, refl}
+use Rattle.std.proofs.Common.{◌≡◌, ◌++◌, ◌∙◌, true, false, ℕ, List, Option, Some, None, Result, Ok, Err, IfOk, OnOk, refl}
+use Rattle.std.specs.Prelude.{IfErr, is_ok}
 use Rattle.board_rules.specs.declared.call.Entry.{Entry}
 use Rattle.board_rules.specs.declared.reply.AskFault.{AskFault}
 use Rattle.board_rules.specs.declared.reply.AskFault.TheVariants.{NoSession, NoAccess, NoUser, NoRole, NotThere, NoMemory}
@@ -43,3 +44,12 @@ pub audited : {E : Type 0} (state : DeskState) (session : ℕ) (entries : List E
     → OnOk r ((es : List Entry) × IsBoardStep state (commands.Audit session) (Audited es) state × (new ≡ old ++ audit_text es))
 audited state session entries old new put (Ok u) asked are p told = (entries, ((asked, are), refl), told ∙ p)
 audited state session entries old new put (Err e) asked are p told = tt
+
+-- a result is only one of the two
+pub not_ok : {A E : Type 0} (r : Result A E) (P : A → Type 0) → false ≡ is_ok r → IfOk r P
+not_ok (Ok a) P e = absurd (cc)
+not_ok (Err e) P f = tt
+
+pub not_err : {A E : Type 0} (r : Result A E) (P : E → Type 0) → true ≡ is_ok r → IfErr r P
+not_err (Ok a) P e = tt
+not_err (Err e) P f = absurd (cc)

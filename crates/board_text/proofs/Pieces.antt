@@ -32,6 +32,13 @@ long_line had line rest c n = (c.0, 10 ∷ rest, c.3 ∙ ap (λ (l : List ℕ). 
 pub short_line : (had line rest : List ℕ) → IsCut had line rest → length line ≤ 4097 → (l : List ℕ) × IsLine l × (line ≡ ended l) × (had ≡ ended l ++ rest)
 short_line had line rest c n = (c.0, record { plain = c.1; short = omega (arith, n, ap (λ (l : List ℕ). length l) c.2, length-append c.0 (10 ∷ [])) }, c.2, c.3 ∙ ap (λ (l : List ℕ). l ++ rest) c.2)
 
+-- what was cut is what was held
+pub cut_of : (had given line rest : List ℕ) → given ≡ had → IsCut given line rest → IsCut had line rest
+cut_of had given line rest e c = subst (λ (l : List ℕ). IsCut l line rest) e c
+
+pub plain_of : (had given : List ℕ) → given ≡ had → HasNoEnd given → HasNoEnd had
+plain_of had given e h = subst HasNoEnd e h
+
 pub long_part : (had : List ℕ) → HasNoEnd had → 4096 < length had → IsTooLong had
 long_part had plain n = (had, [], sym (append-nil had), plain, n)
 
