@@ -4,6 +4,7 @@ pub mod Pages
 pub mod Adding
 pub mod Staying
 pub mod Lanes
+pub mod Loops
 pub mod Renewed
 pub mod Pictures
 pub mod Rules

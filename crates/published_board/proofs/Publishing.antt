@@ -49,6 +49,12 @@ pub sees_of : (o : Opening) (b : Book) (v : Option Reached) (p : Picture) (w : O
 sees_of o b None p w of sees = absurd of
 sees_of o b (Some r) p w of sees = ((sees.grows r refl).opening ∙ of.0, (sees.grows r refl).book ∙ of.1, sees.picture.legal)
 
+-- what was seen before is a beginning of what is seen once the published list was
+pub grown : (o : Opening) (b : Book) (before : List Entry) (v : Option Reached) (p : Picture) (w after : Option Reached) → entries_in v ≡ before → IsOf o b v → Sees v p w → after ≡ w
+    → IsPrefix before (entries_in after)
+grown o b before v p w after had of sees same =
+    subst (λ (es : List Entry). IsPrefix es (entries_in after)) had (subst (IsPrefix (entries_in v)) (sym (ap entries_in (same ∙ sees.now))) (grows_in o b v p w of sees))
+
 -- who knows what the log tells has seen it
 pub known_of : (o : Opening) (b : Book) (trail : Reached) (v : Option Reached) → opening_of trail.pages ≡ o → trail.book ≡ b → IsLegal (history_in trail.pages)
     → MatchOption v ⊥ (TellSame trail) → IsOf o b v

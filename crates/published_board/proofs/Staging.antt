@@ -69,6 +69,12 @@ given_back head trail back p pending after known tie same kept =
           record { pending_is = kept ∙ was.pending_is; known_tells = known_back trail back known same was.known_tells };
     }
 
+-- a publication in which nothing changed
+pub unmoved : (head : Head) (trail : Reached) (p q : Picture) (pending after : List Step) (v w : Option Reached)
+    → IsPublished head trail p pending v → q ≡ p → after ≡ pending → w ≡ v → IsPublished head trail q after w
+unmoved head trail p q pending after v w tie same still known =
+    subst (λ (x : Picture × (List Step × Option Reached)). IsPublished head trail x.0 x.1.0 x.1.1) (λ i. (sym same i, (sym still i, sym known i))) tie
+
 -- what was pending is shown
 pub shown : (head : Head) (trail : Reached) (p q : Picture) (pending after : List Step) (v w : Option Reached)
     → IsPublished head trail p pending v → q ≡ fold after_step p pending → after ≡ [] → Sees v q w → IsPublished head trail q after w

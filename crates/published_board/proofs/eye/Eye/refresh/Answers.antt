@@ -10,7 +10,8 @@ use Rattle.board_rules.specs.History.{IsLegal}
 use Rattle.published_board.specs.Kepts.{AreKeptFor, EyeState, IsKeptFor}
 use Rattle.published_board.specs.Pictures.{picture_of}
 use Rattle.published_board.proofs.Rules.{sees, goes_self}
-use Rattle.published_board.proofs.Publishing.{legal_in, sees_of, grows_in}
+use Rattle.published_board.proofs.Prefixes.{prefix_self}
+use Rattle.published_board.proofs.Publishing.{legal_in, sees_of, grows_in, grown}
 use Rattle.published_board.proofs.eye.Eye.refresh.Goals as goal
 
 pub enter_as-requires : goal.enter_as-requires
@@ -88,3 +89,24 @@ returns-in-Err-renewed-clause-legal g c =
     let was : IsOf o b (view c.in-Some.reader.place) = subst (λ (v : Option Reached). IsOf o b v) had_is c.self.invariant.0 in
     let saw = c.in-Ok.ensures.1 in
     legal_in o b (view c.leave.result.place) (subst (λ (v : Option Reached). IsOf o b v) (sym saw.now ∙ sym c.leave.ensures.1) (sees_of o b _ _ _ was saw))
+
+pub returns-in-Err-clause-grows : goal.returns-in-Err-clause-grows
+returns-in-Err-clause-grows g c =
+    let had_is = ap (option_and_then (λ r. view r.place)) (sym c.take.ensures.value ∙ c.in-Some.is) in
+    subst (IsPrefix c.args.self.now.seen) (sym (ap (λ (e : EyeState). e.seen) c.self.view_is) ∙ ap entries_in (had_is ∙ sym c.in-Err.ensures.1)) (prefix_self c.args.self.now.seen)
+
+pub returns-in-Ok-renewed-clause-grows : goal.returns-in-Ok-renewed-clause-grows
+returns-in-Ok-renewed-clause-grows g c =
+    let o = g.N.Naming.opening in
+    let b = g.N.Naming.book in
+    let had_is = ap (option_and_then (λ r. view r.place)) (sym c.take.ensures.value ∙ c.in-Some.is) in
+    let was : IsOf o b (view c.in-Some.reader.place) = subst (λ (v : Option Reached). IsOf o b v) had_is c.self.invariant.0 in
+    grown o b c.args.self.now.seen _ _ _ (view c.leave.result.place) (sym (ap entries_in had_is) ∙ ap (λ (e : EyeState). e.seen) c.self.view_is) was c.in-Ok.ensures.1 c.leave.ensures.1
+
+pub returns-in-Err-renewed-clause-grows : goal.returns-in-Err-renewed-clause-grows
+returns-in-Err-renewed-clause-grows g c =
+    let o = g.N.Naming.opening in
+    let b = g.N.Naming.book in
+    let had_is = ap (option_and_then (λ r. view r.place)) (sym c.take.ensures.value ∙ c.in-Some.is) in
+    let was : IsOf o b (view c.in-Some.reader.place) = subst (λ (v : Option Reached). IsOf o b v) had_is c.self.invariant.0 in
+    grown o b c.args.self.now.seen _ _ _ (view c.leave.result.place) (sym (ap entries_in had_is) ∙ ap (λ (e : EyeState). e.seen) c.self.view_is) was c.in-Ok.ensures.1 c.leave.ensures.1

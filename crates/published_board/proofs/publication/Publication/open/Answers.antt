@@ -63,3 +63,20 @@ invariant_of-result g c =
     let same = same_self trail next.base base in
     at_rest c.open-head.result.0 trail next _ _ (subst (λ (ps : List Page). IsLegal (history_in ps)) (sym c.open-head.ensures.pages) c.requires.legal) c.open-head.ensures.head
     same values.1 (knows trail _ next _ rule same)
+
+pub returns-clause-opening : goal.returns-clause-opening
+returns-clause-opening g c = ap opening_of c.open-head.ensures.pages
+
+pub returns-clause-entries : goal.returns-clause-entries
+returns-clause-entries g c = ap entries_of c.open-head.ensures.pages
+
+pub returns-clause-shown : goal.returns-clause-shown
+returns-clause-shown g c =
+    let now : Shown = c.in-Ok.writer.desk.shown.value in
+    let values = where_ok _ c.publish_as-writer.result.1 (c.publish_as-writer.ensures.succeeds tt) c.publish_as-writer.ensures.values in
+    let stays = values.0 ∙ ap (fold after_step (picture_of now)) c.in-Ok.ensures.1 in
+    ap (λ (p : Picture). entries_of p.base.pages) stays ∙ (ap (λ (x : Shown). entries_of x.base.pages) c.in-Ok.ensures.0 ∙ (ap (λ (r : Reached). entries_of r.pages) c.again.ensures ∙ ap entries_of c.open-head.ensures.pages))
+
+pub of-requires-clause-routes : goal.of-requires-clause-routes
+of-requires-clause-routes g c =
+    ap (λ v. v.routes) c.requires.view ∙ ap (λ (ps : List Page). (state_after (opening_of ps).setting (entries_of ps)).routes) (sym c.open-head.ensures.pages)
