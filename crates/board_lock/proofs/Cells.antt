@@ -1,5 +1,5 @@
 -- Cells that are filled one by one.
-use Rattle.std.proofs.Common.{◌≡◌, ℕ, suc, ◌+◌, ◌-◌, ◌<◌, List, [], ◌∷◌, ◌++◌, length, length-append, refl, sym, ap, ◌∙◌, arith, inl, inr}
+use Rattle.std.proofs.Common.{◌≡◌, ℕ, suc, ◌+◌, ◌-◌, ◌<◌, ◌≤◌, List, [], ◌∷◌, ◌++◌, length, length-append, refl, sym, ap, ◌∙◌, arith, inl, inr}
 use Rattle.std.specs.Prelude.{slice_index_or}
 use Rattle.std.proofs.Math.Seq.{get_or-append_seam}
 use Rattle.std.proofs.lemmas.Bool.{cases_eq}
@@ -39,3 +39,13 @@ same_cells n none xs cells sized are =
     list_same none cells xs (are.sized ∙ sym sized) (λ k below.
     let at : k + 1 - 1 ≡ k = omega arith in
     ap (λ (m : ℕ). slice_index_or cells m none) (sym at) ∙ (are.each (k + 1) (omega arith) (omega (arith, below, sized)) ∙ ap (λ (m : ℕ). slice_index_or xs m none) at))
+
+-- how far a loop over the numbers below another one has come
+pub from_one : (n : ℕ) → 1 ≤ n + 1
+from_one n = omega arith
+
+pub next_within : (n m most : ℕ) → n < m → most ≡ m → n + 1 ≤ most
+next_within n m most below is = omega arith
+
+pub at_end : (n m : ℕ) → m ≤ n → n ≤ m → n ≡ m
+at_end n m over within = omega arith
