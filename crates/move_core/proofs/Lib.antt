@@ -14,3 +14,4 @@ pub mod FirstChange
 pub mod TouchedKnown
 pub mod ByEffect
 pub mod Savings
+pub mod Reading
