@@ -55,6 +55,18 @@ as_long p xs ys e h = let long = ap length e in omega arith
 pub end_within : (p : ℕ) (xs ys : List ℕ) → xs ≡ ys → p ≤ length ys + 1 → p ≤ length xs + 1
 end_within p xs ys e h = let long = ap length e in omega arith
 
+pub place_within : (p : ℕ) (xs ys : List ℕ) → xs ≡ ys → p ≤ length ys + 1 → p - 1 ≤ length xs
+place_within p xs ys e h = let long = ap length e in omega arith
+
+pub first_within : (p n : ℕ) (xs ys : List ℕ) → xs ≡ ys → p + n ≤ length ys + 1 → p - 1 ≤ length xs
+first_within p n xs ys e h = let long = ap length e in omega arith
+
+pub last_within : (p n : ℕ) (xs ys : List ℕ) → xs ≡ ys → 1 ≤ p → p + n ≤ length ys + 1 → p - 1 + n ≤ length xs
+last_within p n xs ys e low h = let long = ap length e in omega arith
+
+pub first_before : (p q n : ℕ) → p < q → q ≤ n → p - 1 ≤ n
+first_before p q n h high = omega arith
+
 -- parts of a route that is the old one
 pub front_of_old : (n : ℕ) (xs r s : List ℕ) → xs ≡ take n r → r ≡ s → xs ≡ take n s
 front_of_old n xs r s e f = e ∙ ap (take n) f

@@ -36,3 +36,8 @@ module _ (q : Searched) (is : IsSearch q) where
           let saving = (are k h l).saving in
           let less = none k l h in
           omega arith
+
+-- a candidate by what was computed of it
+pub same_candidate : (q : Searched) (mv other : Move) (fixed fixed_gained lost gained loses gains : ℕ) → mv ≡ other → lost ≡ loses → gained ≡ gains
+    → IsCandidate q other (fixed + loses) (fixed_gained + gains) → IsCandidate q mv (fixed + lost) (fixed_gained + gained)
+same_candidate q mv other fixed fixed_gained lost gained loses gains e l g h = rw (e, l, g) h

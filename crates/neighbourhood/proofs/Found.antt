@@ -7,6 +7,9 @@ begun a b h k = omega arith
 pub found_below : (k end : ℕ) → k ≤ end → k ≢ end → k + 1 ≤ end
 found_below k end h other = omega arith
 
+pub found_within : (k end : ℕ) → k ≤ end → k ≢ end → k < end
+found_within k end h other = omega arith
+
 pub same : (n : ℕ) → n ≤ n
 same n = omega arith
 

@@ -1,5 +1,5 @@
 -- What a search gathers before it begins, put together.
-use Rattle.std.proofs.Common.{◌≡◌, ◌∙◌, ℕ, ◌-◌, ◌^◌, ◌≤◌, ap, arith, refl, sym, subst, true, false, List, ◌++◌, length, length-append, take, drop, All}
+use Rattle.std.proofs.Common.{◌≡◌, ◌∙◌, ℕ, ◌+◌, ◌-◌, ◌^◌, ◌≤◌, ap, arith, refl, sym, subst, true, false, List, ◌++◌, length, length-append, take, drop, All}
 use Rattle.std.proofs.Math.Seq.{take-append_seam, drop-append_seam}
 use Rattle.callback_store.specs.Tables.{Table}
 use Rattle.way_costs.specs.Sides.{AlongState, AreFloored, AreWaysBetween, IsAlong, TwoWays}
@@ -100,3 +100,10 @@ inside_summed q g S E all cells on back n m way goes long counted joined f e her
     let wide : n ≡ length g.from.now = counted ∙ long ∙ ap length (sym front) in
     summed_inside q g E way cells on back (subst (λ (xs : List ℕ). IsAlong (costs_of q) xs E way) (sym front) goes) e
     (here ∙ ap (λ (k : ℕ). take (k - 1) cells) wide) (there ∙ ap (λ (k : ℕ). drop (k - 1) cells) wide)
+
+-- a vehicle has at least the depot at both ends
+pub two_stops : (n m : ℕ) → n ≡ m + 2 → 2 ≤ n
+two_stops n m e = omega arith
+
+pub some_stops : (xs ys : List ℕ) (m : ℕ) → xs ≡ ys → length ys ≡ m + 2 → 1 ≤ length xs
+some_stops xs ys m same e = let long = ap length same in omega arith

@@ -3,7 +3,7 @@ use Rattle.std.proofs.lemmas.Bool.{false≢true}
 use Rattle.dimension_core.specs.Setup.{setting}
 use Rattle.move_judge.proofs.Between.{first_known, first_misfits, fits_changed, second_known, cross_between}
 use Rattle.move_judge.proofs.Keeping.{kept_as, kept_front, kept_back}
-use Rattle.move_judge.proofs.Places.{front_of_old, back_of_old, two_parts}
+use Rattle.move_judge.proofs.Places.{at_most_as, as_long, front_of_old, back_of_old, two_parts}
 use Rattle.move_judge.proofs.allowed.cross_fits.Goals as goal
 
 pub fits-requires-clause-known : goal.fits-requires-clause-known
@@ -80,3 +80,61 @@ returns g c =
     (two_parts _ _ _ _ (front_of_old _ _ _ _ c.split_at.ensures.front c.customers.ensures) (back_of_old _ _ _ _ c.split_at-2.ensures.back c.customers-2.ensures))
     (two_parts _ _ _ _ (front_of_old _ _ _ _ c.split_at-2.ensures.front c.customers-2.ensures) (back_of_old _ _ _ _ c.split_at.ensures.back c.customers.ensures))
     (c.fits.ensures.0 c.if-not-fits.false) c.fits-2.ensures
+
+pub customers-requires-clause-low : goal.customers-requires-clause-low
+customers-requires-clause-low g c =
+    let f = (c.requires.laws.possible.cross (setting c.args.setup.now).customers c.args.view.now.routes c.args.pair.v c.args.keep c.args.pair.w c.args.keep_other).0 c.requires.possible in
+    f.vehicle.low
+
+pub customers-requires-clause-high : goal.customers-requires-clause-high
+customers-requires-clause-high g c =
+    let f = (c.requires.laws.possible.cross (setting c.args.setup.now).customers c.args.view.now.routes c.args.pair.v c.args.keep c.args.pair.w c.args.keep_other).0 c.requires.possible in
+    f.vehicle.high
+
+pub split_at-requires : goal.split_at-requires
+split_at-requires g c =
+    let f = (c.requires.laws.possible.cross (setting c.args.setup.now).customers c.args.view.now.routes c.args.pair.v c.args.keep c.args.pair.w c.args.keep_other).0 c.requires.possible in
+    as_long _ _ _ c.customers.ensures f.kept
+
+pub customers-requires-2-clause-low : goal.customers-requires-2-clause-low
+customers-requires-2-clause-low g c =
+    let f = (c.requires.laws.possible.cross (setting c.args.setup.now).customers c.args.view.now.routes c.args.pair.v c.args.keep c.args.pair.w c.args.keep_other).0 c.requires.possible in
+    f.other.low
+
+pub customers-requires-2-clause-high : goal.customers-requires-2-clause-high
+customers-requires-2-clause-high g c =
+    let f = (c.requires.laws.possible.cross (setting c.args.setup.now).customers c.args.view.now.routes c.args.pair.v c.args.keep c.args.pair.w c.args.keep_other).0 c.requires.possible in
+    f.other.high
+
+pub split_at-requires-2 : goal.split_at-requires-2
+split_at-requires-2 g c =
+    let f = (c.requires.laws.possible.cross (setting c.args.setup.now).customers c.args.view.now.routes c.args.pair.v c.args.keep c.args.pair.w c.args.keep_other).0 c.requires.possible in
+    as_long _ _ _ c.customers-2.ensures f.kept_other
+
+pub fits-requires-clause-laws : goal.fits-requires-clause-laws
+fits-requires-clause-laws g c =
+    c.requires.laws
+
+pub fits-requires-clause-low : goal.fits-requires-clause-low
+fits-requires-clause-low g c =
+    let f = (c.requires.laws.possible.cross (setting c.args.setup.now).customers c.args.view.now.routes c.args.pair.v c.args.keep c.args.pair.w c.args.keep_other).0 c.requires.possible in
+    f.vehicle.low
+
+pub fits-requires-clause-high : goal.fits-requires-clause-high
+fits-requires-clause-high g c =
+    let f = (c.requires.laws.possible.cross (setting c.args.setup.now).customers c.args.view.now.routes c.args.pair.v c.args.keep c.args.pair.w c.args.keep_other).0 c.requires.possible in
+    at_most_as _ _ _ c.requires.view.vehicles f.vehicle.high
+
+pub fits-requires-2-clause-laws : goal.fits-requires-2-clause-laws
+fits-requires-2-clause-laws g c =
+    c.requires.laws
+
+pub fits-requires-2-clause-low : goal.fits-requires-2-clause-low
+fits-requires-2-clause-low g c =
+    let f = (c.requires.laws.possible.cross (setting c.args.setup.now).customers c.args.view.now.routes c.args.pair.v c.args.keep c.args.pair.w c.args.keep_other).0 c.requires.possible in
+    f.other.low
+
+pub fits-requires-2-clause-high : goal.fits-requires-2-clause-high
+fits-requires-2-clause-high g c =
+    let f = (c.requires.laws.possible.cross (setting c.args.setup.now).customers c.args.view.now.routes c.args.pair.v c.args.keep c.args.pair.w c.args.keep_other).0 c.requires.possible in
+    at_most_as _ _ _ c.requires.view.vehicles f.other.high

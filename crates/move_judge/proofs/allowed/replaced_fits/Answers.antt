@@ -1,4 +1,4 @@
-use Rattle.std.proofs.Common.{List, ℕ, ◌++◌, ◌↔◌, IsTrue, take, subst}
+use Rattle.std.proofs.Common.{List, ℕ, ◌++◌, ◌↔◌, ◌≤◌, All, IsTrue, take, subst, sym}
 use Rattle.dimension_core.specs.Feasible.{FitsAll}
 use Rattle.dimension_core.specs.Setup.{setting}
 use Rattle.move_judge.specs.Parts.{way_of}
@@ -16,3 +16,12 @@ returns g c =
     let by = c.args.by in
     subst (λ (xs : List ℕ). IsTrue c.fits.result ↔ FitsAll (setting c.args.setup.now) c.args.v (take by.begin c.args.route.now ++ (way_of by.turned by.first.now ++ (by.second.now ++ (by.third.now ++ xs)))))
     (rest_whole c.args.route.now by.end) c.fits.ensures
+
+pub fits-requires-clause-known : goal.fits-requires-clause-known
+fits-requires-clause-known g c =
+    let by = c.args.by in
+    subst (λ (xs : List ℕ). All (λ (n : ℕ). n ≤ (setting c.args.setup.now).customers) (take by.begin c.args.route.now ++ (way_of by.turned by.first.now ++ (by.second.now ++ (by.third.now ++ xs)))))
+    (sym (rest_whole c.args.route.now by.end)) c.requires.known
+
+pub fits-requires-clause-laws : goal.fits-requires-clause-laws
+fits-requires-clause-laws g c = c.requires.laws

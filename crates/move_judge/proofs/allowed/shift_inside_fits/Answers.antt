@@ -3,7 +3,7 @@ use Rattle.dimension_core.specs.Setup.{setting}
 use Rattle.move_judge.specs.declared.allowed.Replacement.{Replacement}
 use Rattle.move_judge.specs.Replaced.{replaced}
 use Rattle.move_judge.proofs.Inside.{one_known, fits_changed, shift_forwards, shift_backwards}
-use Rattle.move_judge.proofs.Places.{before_from, after_from}
+use Rattle.move_judge.proofs.Places.{at_most_as, before_from, after_from, last_within}
 use Rattle.move_judge.proofs.Replaced.{forwards, backwards}
 use Rattle.move_judge.proofs.allowed.shift_inside_fits.Goals.{then-onto-begin, else-onto-begin}
 use Rattle.move_judge.proofs.allowed.shift_inside_fits.Goals as goal
@@ -43,3 +43,42 @@ returns g c =
           (ap (λ (by : Replacement). replaced c.customers-route.result.now by) w.by-is
           ∙ backwards c.args.moved.place c.args.moved.length c.args.at _ _ f.from.low w.if-onto-begin.false c.customers-route.ensures)
     ]
+
+pub customers-route-requires-clause-low : goal.customers-route-requires-clause-low
+customers-route-requires-clause-low g c =
+    let f = (c.requires.laws.possible.shift (setting c.args.setup.now).customers c.args.view.now.routes c.args.v c.args.moved.place c.args.moved.length c.args.v c.args.at).0 c.requires.possible in
+    f.from.vehicle.low
+
+pub customers-route-requires-clause-high : goal.customers-route-requires-clause-high
+customers-route-requires-clause-high g c =
+    let f = (c.requires.laws.possible.shift (setting c.args.setup.now).customers c.args.view.now.routes c.args.v c.args.moved.place c.args.moved.length c.args.v c.args.at).0 c.requires.possible in
+    f.from.vehicle.high
+
+pub overflow_sub-begin : goal.overflow_sub-begin
+overflow_sub-begin g c =
+    let f = (c.requires.laws.possible.shift (setting c.args.setup.now).customers c.args.view.now.routes c.args.v c.args.moved.place c.args.moved.length c.args.v c.args.at).0 c.requires.possible in
+    f.from.low
+
+pub overflow_sub-onto : goal.overflow_sub-onto
+overflow_sub-onto g c =
+    let f = (c.requires.laws.possible.shift (setting c.args.setup.now).customers c.args.view.now.routes c.args.v c.args.moved.place c.args.moved.length c.args.v c.args.at).0 c.requires.possible in
+    f.onto.low
+
+pub slice_bounds-stretch-end : goal.slice_bounds-stretch-end
+slice_bounds-stretch-end g c =
+    let f = (c.requires.laws.possible.shift (setting c.args.setup.now).customers c.args.view.now.routes c.args.v c.args.moved.place c.args.moved.length c.args.v c.args.at).0 c.requires.possible in
+    last_within _ _ _ _ c.customers-route.ensures f.from.low f.from.high
+
+pub replaced_fits-requires-clause-laws : goal.replaced_fits-requires-clause-laws
+replaced_fits-requires-clause-laws g c =
+    c.requires.laws
+
+pub replaced_fits-requires-clause-low : goal.replaced_fits-requires-clause-low
+replaced_fits-requires-clause-low g c =
+    let f = (c.requires.laws.possible.shift (setting c.args.setup.now).customers c.args.view.now.routes c.args.v c.args.moved.place c.args.moved.length c.args.v c.args.at).0 c.requires.possible in
+    f.from.vehicle.low
+
+pub replaced_fits-requires-clause-high : goal.replaced_fits-requires-clause-high
+replaced_fits-requires-clause-high g c =
+    let f = (c.requires.laws.possible.shift (setting c.args.setup.now).customers c.args.view.now.routes c.args.v c.args.moved.place c.args.moved.length c.args.v c.args.at).0 c.requires.possible in
+    at_most_as _ _ _ c.requires.view.vehicles f.from.vehicle.high

@@ -3,8 +3,8 @@ use Rattle.neighbourhood.specs.Best.{numbers_of}
 use Rattle.neighbourhood.specs.Rows.{move_at}
 use Rattle.neighbourhood.specs.Search.{IsBestSoFar}
 use Rattle.neighbourhood.specs.Searched.{searched}
-use Rattle.neighbourhood.proofs.Candidates.{kind_next, row_past}
-use Rattle.neighbourhood.proofs.Found.{before, before_end, both_ways, found_below, on, on_next}
+use Rattle.neighbourhood.proofs.Candidates.{kind_next, row_past, same_candidate}
+use Rattle.neighbourhood.proofs.Found.{before, before_end, both_ways, found_below, found_within, on, on_next}
 use Rattle.neighbourhood.proofs.rows.best_of_row.Goals as goal
 
 pub returns-then-not-may_gain : goal.returns-then-not-may_gain
@@ -40,3 +40,39 @@ pub returns : goal.returns
 returns g c =
     let q = searched c.args.search.now in
     subst (λ (k : ℕ). IsBestSoFar q (numbers_of (move_at q c.args.row.now.kind k)) c.row.best.found) (both_ways c.row.at c.args.end c.row-test.false c.row.invariant.high) c.row.invariant.best
+
+pub or_better-best-requires-clause-possible : goal.or_better-best-requires-clause-possible
+or_better-best-requires-clause-possible g c =
+    let found = c.first_gain-found.result in
+    let q = searched c.args.search.now in
+    let row = c.args.row.now in
+    let m = same_candidate q c.move_at-mv.result (move_at q row.kind found) row.lost row.gained c.lost.result c.gained.result (g.R.RowCosts.loses row.ways.now found) (g.R.RowCosts.gains row.ways.now found)
+    c.move_at-mv.ensures c.lost.ensures.value c.gained.ensures.value
+    (c.requires.candidates found (on c.args.first c.row.at found c.row.invariant.low c.first_gain-found.ensures.low) (found_within found c.args.end c.first_gain-found.ensures.high c.if-found-last.false)) in
+    m.possible
+
+pub or_better-best-requires-clause-near : goal.or_better-best-requires-clause-near
+or_better-best-requires-clause-near g c =
+    let found = c.first_gain-found.result in
+    let q = searched c.args.search.now in
+    let row = c.args.row.now in
+    let m = same_candidate q c.move_at-mv.result (move_at q row.kind found) row.lost row.gained c.lost.result c.gained.result (g.R.RowCosts.loses row.ways.now found) (g.R.RowCosts.gains row.ways.now found)
+    c.move_at-mv.ensures c.lost.ensures.value c.gained.ensures.value
+    (c.requires.candidates found (on c.args.first c.row.at found c.row.invariant.low c.first_gain-found.ensures.low) (found_within found c.args.end c.first_gain-found.ensures.high c.if-found-last.false)) in
+    m.near
+
+pub or_better-best-requires-clause-saving : goal.or_better-best-requires-clause-saving
+or_better-best-requires-clause-saving g c =
+    let found = c.first_gain-found.result in
+    let q = searched c.args.search.now in
+    let row = c.args.row.now in
+    let m = same_candidate q c.move_at-mv.result (move_at q row.kind found) row.lost row.gained c.lost.result c.gained.result (g.R.RowCosts.loses row.ways.now found) (g.R.RowCosts.gains row.ways.now found)
+    c.move_at-mv.ensures c.lost.ensures.value c.gained.ensures.value
+    (c.requires.candidates found (on c.args.first c.row.at found c.row.invariant.low c.first_gain-found.ensures.low) (found_within found c.args.end c.first_gain-found.ensures.high c.if-found-last.false)) in
+    m.saving
+
+pub may_gain-requires-clause-row : goal.may_gain-requires-clause-row
+may_gain-requires-clause-row g c = c.requires.ways
+
+pub first_gain-found-requires-clause-row : goal.first_gain-found-requires-clause-row
+first_gain-found-requires-clause-row g c = λ k h l. c.requires.ways k (on c.args.first c.row.at k c.row.invariant.low h) l

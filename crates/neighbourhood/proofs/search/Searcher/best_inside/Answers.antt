@@ -1,10 +1,10 @@
-use Rattle.std.proofs.Common.{◌≡◌, ◌∙◌, ◌≤◌, ◌*◌, List, ℕ, All, ap, arith, length, refl, subst, sym}
+use Rattle.std.proofs.Common.{◌≡◌, ◌∙◌, ◌≤◌, ◌*◌, List, ℕ, All, ap, length, refl, subst, sym}
 use Rattle.callback_store.specs.Tables.{table_at}
 use Rattle.dimension_core.specs.Setup.{setting}
 use Rattle.plan_core.specs.Plan.{route_at}
 use Rattle.way_costs.specs.Sides.{AlongState, TwoWays}
-use Rattle.way_costs.specs.Ways.{AreStops, stops}
-use Rattle.neighbourhood.proofs.Gathers.{goes_along, halves_fit, inside_gathered, inside_summed, sums_fit}
+use Rattle.way_costs.specs.Ways.{stops}
+use Rattle.neighbourhood.proofs.Gathers.{goes_along, halves_fit, inside_gathered, inside_summed, some_stops, sums_fit, two_stops}
 use Rattle.neighbourhood.proofs.search.Searcher.best_inside.Goals as goal
 
 pub are_empty-requires-clause-v : goal.are_empty-requires-clause-v
@@ -20,14 +20,7 @@ pub gather_among-requires-clause-known : goal.gather_among-requires-clause-known
 gather_among-requires-clause-known g c = subst (λ (xs : List ℕ). All (λ x. x ≤ (setting c.args.setup.now).customers) xs) (sym c.deref.ensures.value) c.in_ok-fill_stops.ensures.known
 
 pub gather_among-requires-clause-some : goal.gather_among-requires-clause-some
-gather_among-requires-clause-some g c =
-    let s = setting c.args.setup.now in
-    let S = c.fill_stops.new.all.items in
-    let are : AreStops s.customers c.args.view.now.routes c.args.v S = c.in_ok-fill_stops.ensures in
-    let same : c.deref.result.now ≡ S = c.deref.ensures.value in
-    let sized = are.sized in
-    let long = ap length same in
-    omega arith
+gather_among-requires-clause-some g c = some_stops _ _ _ c.deref.ensures.value c.in_ok-fill_stops.ensures.sized
 
 pub gather_among-requires-clause-short : goal.gather_among-requires-clause-short
 gather_among-requires-clause-short g c = subst (λ (xs : List ℕ). length xs ≤ 1002) (sym c.deref.ensures.value) c.in_ok-fill_stops.ensures.short
@@ -41,12 +34,7 @@ pub gather-requires-clause-depot : goal.gather-requires-clause-depot
 gather-requires-clause-depot g c = (stops (route_at c.args.view.now.routes c.args.v), c.in_ok-fill_stops.ensures.is)
 
 pub gather-requires-clause-long : goal.gather-requires-clause-long
-gather-requires-clause-long g c =
-    let s = setting c.args.setup.now in
-    let S = c.fill_stops.new.all.items in
-    let are : AreStops s.customers c.args.view.now.routes c.args.v S = c.in_ok-fill_stops.ensures in
-    let sized = are.sized in
-    omega arith
+gather-requires-clause-long g c = two_stops _ _ c.in_ok-fill_stops.ensures.sized
 
 pub gather-requires-clause-short : goal.gather-requires-clause-short
 gather-requires-clause-short g c = c.in_ok-fill_stops.ensures.short
