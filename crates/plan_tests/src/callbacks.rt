@@ -2,7 +2,8 @@ ghost use Rattle.std.specs.Prelude.{◌≡◌, ◌<◌, ◌+◌, ◌-◌, ◌*�
 ghost use Rattle.callback_store.specs.Registry.{tables};
 ghost use Rattle.callback_store.specs.Tables.{nodes_of};
 
-use crate::comparing::{compare, compare_meter};
+use crate::comparing::same;
+use crate::meters::compare_meter;
 use callback_store::{
     Callback, Matrix, Meter, RegisterFault, Registry, Slot, StayMatrix, Transit, TransitId, Unary,
     Vector,
@@ -35,22 +36,7 @@ fn compare_answers(rt: &impl Abort, registry: &Registry, id: TransitId, wanted: 
         Slot::Values(callback) => answers_of(callback),
         Slot::Stayed(callback) => answers_of(callback),
     };
-    assert_eq!(rt; found, wanted);
-}
-
-/// Compares all answers of a callback, as they are lent.
-fn compare_lent(rt: &impl Abort, found: Option<&[u32]>, wanted: &[u32]) {
-    assert!(rt; found == Some(wanted), "{found:?}");
-}
-
-/// Compares the name that a callback got, or why it got none.
-fn compare_name(
-    rt: &impl Abort,
-    found: Result<u32, RegisterFault>,
-    wanted: Result<u32, RegisterFault>,
-    step: u32,
-) {
-    assert_eq!(rt; found, wanted, "at {step}");
+    same(rt, found, wanted, "answers");
 }
 
 fn ask_both_kinds(rt: &impl Abort, registry: &Registry, load: TransitId, time: TransitId)
@@ -59,10 +45,10 @@ fn ask_both_kinds(rt: &impl Abort, registry: &Registry, load: TransitId, time: T
     requires nodes { nodes_of (tables registry.now) ≡ 2 }
 {
     let mut meter = Meter::new();
-    compare(rt, registry.ask(load, &mut meter, 1, 0), 4, "load");
-    compare(rt, registry.ask(time, &mut meter, 0, 1), 10, "out");
-    compare(rt, registry.ask(time, &mut meter, 1, 0), 20, "back");
-    compare(rt, meter.asks, 3, "asks");
+    same(rt, registry.ask(load, &mut meter, 1, 0), 4, "load");
+    same(rt, registry.ask(time, &mut meter, 0, 1), 10, "out");
+    same(rt, registry.ask(time, &mut meter, 1, 0), 20, "back");
+    same(rt, meter.asks, 3, "asks");
     compare_answers(rt, registry, load, [0, 0, 4, 4]);
     compare_answers(rt, registry, time, [0, 10, 20, 0]);
 }
@@ -100,11 +86,17 @@ fn ask_a_matrix(rt: &impl Abort, registry: &Registry, costs: TransitId)
     requires nodes { nodes_of (tables registry.now) ≡ 2 }
 {
     let mut meter = Meter::new();
-    compare(rt, registry.ask(costs, &mut meter, 0, 1), 10, "out");
-    compare(rt, registry.ask(costs, &mut meter, 1, 0), 20, "back");
-    compare(rt, meter.asks, 2, "asks");
+    same(rt, registry.ask(costs, &mut meter, 0, 1), 10, "out");
+    same(rt, registry.ask(costs, &mut meter, 1, 0), 20, "back");
+    same(rt, meter.asks, 2, "asks");
     compare_answers(rt, registry, costs, [0, 10, 20, 0]);
-    compare_lent(rt, registry.answers(costs), &[0, 10, 20, 0]);
+    let lent = registry.answers(costs);
+    same(
+        rt,
+        lent,
+        Some([0, 10, 20, 0].as_slice()),
+        "answers that are lent",
+    );
 }
 
 /// A callback that is given as its answers is asked as any other, and lends them.
@@ -118,7 +110,7 @@ fn answers_from_a_matrix(rt: HostRuntime) {
     let wide = vec![in rt.alloc(); 0u32; 9].expect(&rt, "memory");
     let wide = Matrix::new(3, Arc::new(rt.alloc(), wide).expect(&rt, "memory"));
     let refused = registry.register_matrix(wide).map(|id| id.index());
-    compare_name(&rt, refused, Err(RegisterFault::Size), 0);
+    same(&rt, refused, Err(RegisterFault::Size), "a name");
 }
 
 fn ask_stays_and_values(rt: &impl Abort, registry: &Registry, time: TransitId, load: TransitId)
@@ -127,10 +119,10 @@ fn ask_stays_and_values(rt: &impl Abort, registry: &Registry, time: TransitId, l
     requires nodes { nodes_of (tables registry.now) ≡ 2 }
 {
     let mut meter = Meter::new();
-    compare(rt, registry.ask(time, &mut meter, 0, 1), 13, "out");
-    compare(rt, registry.ask(time, &mut meter, 1, 0), 25, "back");
-    compare(rt, registry.ask(load, &mut meter, 1, 0), 4, "load");
-    compare(rt, meter.asks, 3, "asks");
+    same(rt, registry.ask(time, &mut meter, 0, 1), 13, "out");
+    same(rt, registry.ask(time, &mut meter, 1, 0), 25, "back");
+    same(rt, registry.ask(load, &mut meter, 1, 0), 4, "load");
+    same(rt, meter.asks, 3, "asks");
     compare_answers(rt, registry, time, [3, 13, 25, 5]);
     compare_answers(rt, registry, load, [0, 0, 4, 4]);
 }
@@ -174,11 +166,11 @@ fn ask_and_count(
         let id = if *is_paired { pairs } else { nodes };
         for way in 0..9u32 {
             let answer = registry.ask(id, &mut meter, way / 3, way % 3);
-            compare(rt, answer, wanted[way as usize], "answer");
-            compare(rt, meter.asks, calls.load(Ordering::SeqCst), "calls so far");
+            same(rt, answer, wanted[way as usize], "answer");
+            same(rt, meter.asks, calls.load(Ordering::SeqCst), "calls so far");
         }
     }
-    compare(rt, meter.asks, 18, "asks");
+    same(rt, meter.asks, 18, "asks");
 }
 
 /// An ask calls the closure once: the closures count their calls beside the meter.
@@ -236,10 +228,10 @@ fn refuses_sizes_and_a_seventeenth(rt: HostRuntime) {
         .expect(&rt, "memory");
         let unary = Unary::new(size, call);
         let answer = registry.register_unary(unary).map(|id| id.index());
-        compare_name(&rt, answer, wanted, step);
+        same(&rt, (step, answer), (step, wanted), "a name");
     }
-    compare(&rt, u64::from(registry.count()), 16, "count");
-    compare(&rt, u64::from(registry.nodes()), 2, "nodes");
+    same(&rt, u64::from(registry.count()), 16, "count");
+    same(&rt, u64::from(registry.nodes()), 2, "nodes");
 }
 
 #[test]
@@ -257,7 +249,7 @@ fn counts_stay_at_their_greatest(rt: HostRuntime) {
     compare_meter(&rt, meter, u64::MAX, u64::MAX, u64::MAX);
     meter.ask_many(0);
     meter.ask_many(5);
-    compare(&rt, meter.asks, u64::MAX, "asks");
+    same(&rt, meter.asks, u64::MAX, "asks");
     let mut fresh = Meter::new();
     fresh.ask_many(6);
     fresh.probe();

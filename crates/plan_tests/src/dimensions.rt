@@ -3,7 +3,7 @@ ghost use Rattle.callback_store.specs.Registry.{tables};
 ghost use Rattle.callback_store.specs.Tables.{nodes_of};
 ghost use Rattle.dimension_core.specs.Setup.{setting};
 
-use crate::comparing::compare;
+use crate::comparing::same;
 use callback_store::{Meter, Registry, Transit, TransitId, Unary};
 use dimension_core::{
     Dimension, DimensionFault, Range, Setup, SetupFault, cumuls_are_by_place, first_out,
@@ -13,14 +13,6 @@ use std::alloc::Global;
 use std::process::Abort;
 
 const LIMIT: u64 = 1_000_000_000_000;
-
-fn compare_span(rt: &impl Abort, found: Option<Range>, wanted: Option<Range>, what: &str) {
-    assert!(rt; found == wanted, "{found:?} is {what}");
-}
-
-fn compare_answer(rt: &impl Abort, found: bool, wanted: bool, what: Range) {
-    assert!(rt; found == wanted, "{found} of {what:?}");
-}
 
 /// Whether the start is fixed to 0, the customer's range, and whether the route is in bounds.
 const RANGES: &[(bool, u64, u64, bool)] = &[
@@ -49,22 +41,9 @@ fn the_earliest_cumul_alone_does_not_decide(
         let ranges = vec![in alloc; Range { lo: 0, hi: 100 }, range, range].expect(rt, "memory");
         let time = Dimension::new(registry, id, 0, caps, *fixed, ranges).expect(rt, "bounds");
         let answer = time.in_bounds(registry, &[1], 1, &mut meter);
-        compare_answer(rt, answer, *wanted, range);
+        same(rt, (range, answer), (range, *wanted), "in bounds");
     }
-    compare(rt, meter.asks, 10, "asks");
-}
-
-fn compare_fault(
-    rt: &impl Abort,
-    found: Option<DimensionFault>,
-    wanted: Option<DimensionFault>,
-    vehicles: usize,
-    nodes: usize,
-) {
-    assert!(rt;
-        found == wanted,
-        "{found:?} of {vehicles} capacities, {nodes} ranges"
-    );
+    same(rt, meter.asks, 10, "asks");
 }
 
 /// Whether its callback is registered, its slack, how many vehicles of which capacity, how many nodes with a range from where to where,
@@ -102,7 +81,13 @@ fn a_dimension_is_refused(rt: &impl Abort, alloc: Global, registry: &Registry, i
         let range = Range { lo: *lo, hi: *hi };
         let ranges = vec![in alloc; range; *nodes].expect(rt, "memory");
         let answer = Dimension::new(registry, id, *slack_max, caps, false, ranges);
-        compare_fault(rt, answer.err(), *wanted, *vehicles, *nodes);
+        let sizes = (*vehicles, *nodes);
+        same(
+            rt,
+            (sizes, answer.err()),
+            (sizes, *wanted),
+            "capacities and ranges",
+        );
     }
 }
 
@@ -122,19 +107,6 @@ fn loads(
         dimensions.push(load).expect(rt, "memory");
     }
     dimensions
-}
-
-fn compare_refusal(
-    rt: &impl Abort,
-    found: Option<SetupFault>,
-    wanted: Option<SetupFault>,
-    customers: u32,
-    count: u32,
-) {
-    assert!(rt;
-        found == wanted,
-        "{found:?} of {customers} customers, {count} dimensions"
-    );
 }
 
 /// Customers, vehicles, dimensions, whether the callbacks are lost, the greatest number of events, and why the setup is refused, if it is.
@@ -174,17 +146,23 @@ fn a_setup_is_refused(rt: HostRuntime) {
             registry
         };
         let answer = Setup::new(*customers, *vehicles, registry, dimensions, id, *max_events);
-        compare_refusal(&rt, answer.err(), *wanted, *customers, *count);
+        let sizes = (*customers, *count);
+        same(
+            &rt,
+            (sizes, answer.err()),
+            (sizes, *wanted),
+            "customers and dimensions",
+        );
     }
 }
 
 fn compare_setup(rt: &impl Abort, setup: &Setup) {
-    compare(rt, u64::from(setup.customers()), 2, "customers");
-    compare(rt, u64::from(setup.vehicles()), 1, "vehicles");
-    compare(rt, u64::from(setup.registry().count()), 1, "callbacks");
-    compare(rt, u64::from(setup.cost().index()), 0, "cost");
-    compare(rt, u64::from(setup.max_events()), 10, "events");
-    compare(rt, setup.dimensions().len() as u64, 2, "dimensions");
+    same(rt, u64::from(setup.customers()), 2, "customers");
+    same(rt, u64::from(setup.vehicles()), 1, "vehicles");
+    same(rt, u64::from(setup.registry().count()), 1, "callbacks");
+    same(rt, u64::from(setup.cost().index()), 0, "cost");
+    same(rt, u64::from(setup.max_events()), 10, "events");
+    same(rt, setup.dimensions().len() as u64, 2, "dimensions");
 }
 
 fn compare_first_out(rt: &impl Abort, setup: &Setup)
@@ -193,9 +171,9 @@ fn compare_first_out(rt: &impl Abort, setup: &Setup)
 {
     let mut meter = Meter::new();
     let out = first_out(setup, 1, &[1, 2], &mut meter);
-    compare(rt, meter.asks, 6, "asks");
+    same(rt, meter.asks, 6, "asks");
     let none = first_out(setup, 1, &[2], &mut meter);
-    assert_eq!(rt; (out, none), (Some(2), None));
+    same(rt, (out, none), (Some(2), None), "the first dimension out");
 }
 
 /// A route that the first dimension bears and the second does not.
@@ -233,17 +211,17 @@ fn spans_stop_by_stop(rt: &impl Abort, alloc: Global, registry: &Registry, id: T
         .expect(rt, "memory");
         let time = Dimension::new(registry, id, 5, caps, fixed, ranges).expect(rt, "bounds");
         let span = Range { lo: 0, hi: start };
-        compare_answer(rt, time.is_fixed(), fixed, span);
-        compare_span(rt, time.start(1), Some(span), "start");
+        same(rt, (span, time.is_fixed()), (span, fixed), "is fixed");
+        same(rt, time.start(1), Some(span), "start");
         let next = time.extend(registry, span, 0, 1, 1, &mut meter);
-        compare_span(rt, next, Some(Range { lo: 12, hi: first }), "next");
+        same(rt, next, Some(Range { lo: 12, hi: first }), "next");
         let late = Range { lo: 31, hi: 45 };
         let none = time.extend(registry, late, 2, 1, 1, &mut meter);
-        compare_span(rt, none, None, "late");
+        same(rt, none, None, "late");
         let reached = time.reach(registry, &[1, 2], 1, &mut meter);
-        compare_span(rt, reached, Some(Range { lo: 22, hi: last }), "reached");
+        same(rt, reached, Some(Range { lo: 22, hi: last }), "reached");
     }
-    compare(rt, meter.asks, 8, "asks");
+    same(rt, meter.asks, 8, "asks");
 }
 
 /// Two customers, and each transit 10. One callback serves all of these, since a boxed closure is proved anew wherever one is made.

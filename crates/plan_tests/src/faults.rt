@@ -1,11 +1,9 @@
 //! The texts of faults, a table a type.
+use crate::comparing::all_written;
 use callback_store::RegisterFault;
 use dimension_core::{DimensionFault, SetupFault};
 use move_core::MoveFault;
 use pin_core::PinFault;
-use std::alloc::Global;
-use std::fmt::Display;
-use std::process::Abort;
 
 const REGISTER_FAULTS: &[(RegisterFault, &str)] = &[
     (
@@ -57,23 +55,11 @@ const MOVE_FAULTS: &[(MoveFault, &str)] = &[
     (MoveFault::NoMemory, "out of memory"),
 ];
 
-fn compare(rt: &impl Abort, found: &str, wanted: &str) {
-    assert_eq!(rt; found, wanted);
-}
-
-/// Each fault is written as its text.
-fn compare_all<R: Abort, D: Display>(rt: &R, alloc: Global, faults: &[(D, &str)]) {
-    for (fault, text) in faults {
-        let written = format!(in alloc; "{fault}").expect(rt, "memory");
-        compare(rt, &written, text);
-    }
-}
-
 #[test]
 fn texts_of_faults(rt: HostRuntime) {
-    compare_all(&rt, rt.alloc(), REGISTER_FAULTS);
-    compare_all(&rt, rt.alloc(), DIMENSION_FAULTS);
-    compare_all(&rt, rt.alloc(), SETUP_FAULTS);
-    compare_all(&rt, rt.alloc(), PIN_FAULTS);
-    compare_all(&rt, rt.alloc(), MOVE_FAULTS);
+    all_written(&rt, rt.alloc(), REGISTER_FAULTS);
+    all_written(&rt, rt.alloc(), DIMENSION_FAULTS);
+    all_written(&rt, rt.alloc(), SETUP_FAULTS);
+    all_written(&rt, rt.alloc(), PIN_FAULTS);
+    all_written(&rt, rt.alloc(), MOVE_FAULTS);
 }

@@ -10,6 +10,8 @@ mod dimensions;
 #[cfg(test)]
 mod faults;
 #[cfg(test)]
+mod meters;
+#[cfg(test)]
 mod moves;
 #[cfg(test)]
 mod new_routes;

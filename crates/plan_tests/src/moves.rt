@@ -1,3 +1,4 @@
+use crate::comparing::same;
 use crate::new_routes::plan_of;
 use move_core::{
     Move, MoveFault, fronts_by_first_change, moves_are_possible, moves_between_carry_over,
@@ -98,7 +99,7 @@ fn touches(rt: &impl Abort, alloc: Global, plan: &Plan, mv: Move, touched: &[Tou
 }
 
 fn demand(rt: &impl Abort, holds: bool, mv: Move) {
-    assert!(rt; holds, "{mv:?}");
+    same(rt, (mv, holds), (mv, true), "a move");
 }
 
 /// Compares the new routes and the customers that are touched, both where the move is asked first whether it has an effect and where it

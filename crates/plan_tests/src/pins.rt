@@ -4,6 +4,7 @@ ghost use Rattle.plan_core.specs.Plan.{AreChanges, changes_of, with_routes};
 ghost use Rattle.pin_core.specs.Allowed.{AreAllTouched, IsPinFault};
 ghost use Rattle.pin_core.specs.Pins.{AreFreezesKept, DoFrontsFit, DoPinsHold};
 
+use crate::comparing::same;
 use pin_core::{
     PinFault, Pins, faults_are_determined, freezes_by_named, front_still_fits,
     fronts_within_routes, opening_holds, pin_holds, pins_after_commits, unpin_holds,
@@ -42,7 +43,7 @@ fn compare(rt: &impl Abort, pins: &Pins, pinned: [Option<u32>; 2], frozen: [u32;
 {
     let found = [pins.pinned(1), pins.pinned(2)];
     let fronts = [pins.frozen(1), pins.frozen(2)];
-    assert!(rt; found == pinned && fronts == frozen, "{found:?} {fronts:?}");
+    same(rt, (found, fronts), (pinned, frozen), "pins and fronts");
 }
 
 #[test]

@@ -1,7 +1,7 @@
 ghost use Rattle.std.specs.Prelude.{◌≡◌, ◌+◌, ◌*◌, length};
 ghost use Rattle.dimension_core.specs.Setup.{setting};
 
-use crate::comparing::compare;
+use crate::comparing::same;
 use crate::new_routes::{pair, plan_of};
 use callback_store::{Meter, Registry, Transit};
 use dimension_core::Setup;
@@ -16,7 +16,8 @@ use std::process::Abort;
 /// Compares where customers stand, by vehicle and place.
 fn compare_places(rt: &impl Abort, plan: &Plan, wanted: &[(u32, Option<(u32, u32)>)]) {
     for (customer, place) in wanted {
-        assert_eq!(rt; plan.place_of(*customer), *place, "{customer}");
+        let found = plan.place_of(*customer);
+        same(rt, (*customer, found), (*customer, *place), "a place");
     }
 }
 
@@ -24,9 +25,9 @@ fn compare_places(rt: &impl Abort, plan: &Plan, wanted: &[(u32, Option<(u32, u32
 fn compare_routes(rt: &impl Abort, plan: &Plan, version: u32, first: &[u32], second: &[u32])
     requires { length plan.now.routes ≡ 2 }
 {
-    compare(rt, u64::from(plan.version()), u64::from(version), "version");
+    same(rt, u64::from(plan.version()), u64::from(version), "version");
     let routes = (plan.route(1).customers(), plan.route(2).customers());
-    assert_eq!(rt; routes, (first, second));
+    same(rt, routes, (first, second), "routes");
 }
 
 /// Customers 1 and 2 on vehicle 1 and 4 on vehicle 2, until 2 and 4 change sides.
@@ -95,7 +96,7 @@ const FRONTS: &[(&[u32], &[u32], u64)] = &[
 fn the_common_front_ends_where_routes_differ(rt: HostRuntime) {
     for (route, other, front) in FRONTS {
         let found = common_front(route, other) as u64;
-        compare(&rt, found, *front, "common front");
+        same(&rt, found, *front, "common front");
     }
 }
 
@@ -104,18 +105,18 @@ fn compare_cost(rt: &impl Abort, setup: &Setup, plan: &Plan, cost: u64, asks: u6
     requires { plan.now.customers ≡ (setting setup.now).customers }
 {
     let mut meter = Meter::new();
-    compare(rt, plan.cost(setup, &mut meter), cost, "cost");
-    compare(rt, meter.asks, asks, "asks");
+    same(rt, plan.cost(setup, &mut meter), cost, "cost");
+    same(rt, meter.asks, asks, "asks");
 }
 
 fn compare_route_costs(rt: &impl Abort, setup: &Setup)
     requires { (setting setup.now).customers ≡ 4 }
 {
     let mut meter = Meter::new();
-    compare(rt, route_cost(setup, &[1, 2], &mut meter), 33, "two");
-    compare(rt, route_cost(setup, &[4], &mut meter), 44, "one");
-    compare(rt, route_cost(setup, &[], &mut meter), 0, "none");
-    compare(rt, meter.asks, 5, "asks");
+    same(rt, route_cost(setup, &[1, 2], &mut meter), 33, "two");
+    same(rt, route_cost(setup, &[4], &mut meter), 44, "one");
+    same(rt, route_cost(setup, &[], &mut meter), 0, "none");
+    same(rt, meter.asks, 5, "asks");
 }
 
 fn compare_costs(rt: &impl Abort, alloc: Global, setup: &Setup)

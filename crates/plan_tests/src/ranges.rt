@@ -8,7 +8,8 @@ ghost use Rattle.range_cache.specs.Asks.{AsksToFault, fault_asks, judge_asks};
 ghost use Rattle.range_cache.specs.Cache.{IsCacheOf};
 ghost use Rattle.range_cache.specs.Pending.{AreNewRows, IsJudgeFault};
 
-use crate::comparing::{compare, compare_meter};
+use crate::comparing::same;
+use crate::meters::compare_meter;
 use crate::new_routes::{one_change, one_draft, pair};
 use callback_store::{Meter, Registry, Transit, TransitId, Unary};
 use dimension_core::{Dimension, Range, Setup, first_out};
@@ -100,7 +101,8 @@ fn compare_earlies(rt: &impl Abort, setup: &Setup, cache: &Cache, plan: &Plan, w
     requires cache { IsCacheOf (setting setup.now) plan.now.routes cache.now }
     requires vehicles { (setting setup.now).vehicles ≡ 2 }
 {
-    assert!(rt; has_earlies(setup, cache, plan, 1, wanted), "{wanted:?}");
+    let are_these = has_earlies(setup, cache, plan, 1, wanted);
+    same(rt, (wanted, are_these), (wanted, true), "early values");
 }
 
 /// What a judgement promises of written routes, in terms of the routes alone.
@@ -144,10 +146,6 @@ fn fault_of_drafts(
     requires fronts { AreFrontsWithin plan.now.routes drafts.now }
 {
     cache.judge(setup, plan, drafts.as_slice(), meter).err()
-}
-
-fn compare_fault(rt: &impl Abort, found: Option<JudgeFault>, wanted: Option<JudgeFault>) {
-    assert_eq!(rt; found, wanted);
 }
 
 /// For four customers and two vehicles: load of at most 10 with the start at 0, and time without bounds but the windows.
@@ -206,11 +204,11 @@ fn inserts(rt: &impl Abort, alloc: Global, setup: &Setup, meter: &mut Meter)
     let mut held = empty(rt, alloc, setup);
     let begun = meter.asks;
     commit(rt, setup, &mut held, 1, &[1], meter);
-    compare(rt, meter.asks.wrapping_sub(begun), 4, "asks");
+    same(rt, meter.asks.wrapping_sub(begun), 4, "asks");
     commit(rt, setup, &mut held, 1, &[1, 2], meter);
-    compare(rt, meter.asks.wrapping_sub(begun), 8, "asks");
+    same(rt, meter.asks.wrapping_sub(begun), 8, "asks");
     commit(rt, setup, &mut held, 1, &[1, 2, 3], meter);
-    compare(rt, meter.asks.wrapping_sub(begun), 12, "asks");
+    same(rt, meter.asks.wrapping_sub(begun), 12, "asks");
     compare_earlies(rt, setup, &held.cache, &held.plan, &[0, 4, 7, 28, 84, 140]);
 }
 
@@ -224,7 +222,7 @@ fn of_a_plan(rt: &impl Abort, alloc: Global, setup: &Setup, meter: &mut Meter)
     plan.replace(one_change(rt, alloc, 1, &[1, 2, 3]));
     let begun = meter.asks;
     let made = made_anew(alloc, setup, &plan, meter).expect(rt, "memory");
-    compare(rt, meter.asks.wrapping_sub(begun), 16, "asks");
+    same(rt, meter.asks.wrapping_sub(begun), 16, "asks");
     let made = made.expect(rt, "in bounds");
     compare_earlies(rt, setup, &made, &plan, &[0, 4, 7, 28, 84, 140]);
 }
@@ -241,17 +239,17 @@ fn removals(rt: &impl Abort, alloc: Global, setup: &Setup, meter: &mut Meter)
     let begun = meter.asks;
     let late = one_change(rt, alloc, 1, &[1, 3]);
     let answer = judge_written(setup, &held.cache, &held.plan, &late, meter).err();
-    compare_fault(rt, answer, Some(JudgeFault::Bound(1, 2)));
-    compare(rt, meter.asks.wrapping_sub(begun), 3, "asks");
+    same(rt, answer, Some(JudgeFault::Bound(1, 2)), "a fault");
+    same(rt, meter.asks.wrapping_sub(begun), 3, "asks");
     let draft = one_draft(rt, alloc, 1, 1, &[3]);
     let answer = fault_of_drafts(setup, &held.cache, &held.plan, &draft, meter);
-    compare_fault(rt, answer, Some(JudgeFault::Bound(1, 2)));
-    compare(rt, meter.asks.wrapping_sub(begun), 6, "asks");
+    same(rt, answer, Some(JudgeFault::Bound(1, 2)), "a fault");
+    same(rt, meter.asks.wrapping_sub(begun), 6, "asks");
     commit(rt, setup, &mut held, 1, &[2, 3], meter);
-    compare(rt, meter.asks.wrapping_sub(begun), 12, "asks");
+    same(rt, meter.asks.wrapping_sub(begun), 12, "asks");
     compare_earlies(rt, setup, &held.cache, &held.plan, &[0, 3, 84, 140]);
     commit(rt, setup, &mut held, 1, &[], meter);
-    compare(rt, meter.asks.wrapping_sub(begun), 12, "asks");
+    same(rt, meter.asks.wrapping_sub(begun), 12, "asks");
     compare_earlies(rt, setup, &held.cache, &held.plan, &[]);
 }
 
@@ -263,7 +261,7 @@ fn the_second_is_out(rt: &impl Abort, alloc: Global, setup: &Setup, meter: &mut 
     let held = empty(rt, alloc, setup);
     let changes = pair(rt, alloc, 2, &[4], 1, &[1, 2, 3, 4]);
     let answer = judge_written(setup, &held.cache, &held.plan, &changes, meter).err();
-    compare_fault(rt, answer, Some(JudgeFault::Bound(1, 1)));
+    same(rt, answer, Some(JudgeFault::Bound(1, 1)), "a fault");
 }
 
 /// Compares the meter, at the end, with the calls that the closures counted.

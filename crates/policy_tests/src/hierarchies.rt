@@ -1,4 +1,4 @@
-use crate::scripts::compare_written;
+use crate::comparing::{all_written, holds, same};
 use role_hierarchy::{Hierarchy, HierarchyFault, RoleSet};
 use std::process::Abort;
 
@@ -6,46 +6,53 @@ type Answer = Result<(), HierarchyFault>;
 
 /// Takes a role, and compares its slot.
 fn add_role(rt: &impl Abort, order: &mut Hierarchy, wanted: Result<u8, HierarchyFault>) {
-    assert_eq!(rt; order.add_role(), wanted);
+    same(rt, order.add_role(), wanted, "one more role");
 }
 
 /// Takes that many roles, which get the slots from 0 on.
 fn add_roles(rt: &impl Abort, order: &mut Hierarchy, count: u32) {
     for slot in 0..count {
-        assert_eq!(rt; order.add_role().map(u32::from), Ok(slot));
+        same(rt, order.add_role().map(u32::from), Ok(slot), "a slot");
     }
 }
 
 /// Adds each pair in turn, and compares the answers.
 fn inherit(rt: &impl Abort, order: &mut Hierarchy, pairs: &[(u8, u8, Answer)]) {
     for (senior, junior, answer) in pairs {
-        assert_eq!(rt; order.add_inheritance(*senior, *junior), *answer);
+        let found = order.add_inheritance(*senior, *junior);
+        same(rt, found, *answer, "a pair that comes");
     }
 }
 
 /// Takes each pair away in turn, and compares the answers.
 fn uninherit(rt: &impl Abort, order: &mut Hierarchy, pairs: &[(u8, u8, Answer)]) {
     for (senior, junior, answer) in pairs {
-        assert_eq!(rt; order.delete_inheritance(*senior, *junior), *answer);
+        let found = order.delete_inheritance(*senior, *junior);
+        same(rt, found, *answer, "a pair that goes");
     }
 }
 
 fn delete_role(rt: &impl Abort, order: &mut Hierarchy, role: u8, wanted: Answer) {
-    assert_eq!(rt; order.delete_role(role), wanted);
-    assert!(rt; !order.has_role(role));
+    same(rt, order.delete_role(role), wanted, "a role that goes");
+    holds(rt, !order.has_role(role), "it is gone");
 }
 
 /// Compares for each pair whether the first role is senior to the second.
 fn compare(rt: &impl Abort, order: &Hierarchy, pairs: &[(u8, u8, bool)]) {
     for (a, b, answer) in pairs {
-        assert_eq!(rt; order.is_senior(*a, *b), *answer, "{a} above {b}");
+        same(
+            rt,
+            (*a, *b, order.is_senior(*a, *b)),
+            (*a, *b, *answer),
+            "whether one is above another",
+        );
     }
 }
 
 /// Compares how many roles there are, and how many stand below one, itself among them.
 fn compare_counts(rt: &impl Abort, order: &Hierarchy, count: u32, role: u8, below: u32) {
-    assert_eq!(rt; order.count(), count);
-    assert_eq!(rt; order.juniors(role).count(), below);
+    same(rt, order.count(), count, "roles");
+    same(rt, order.juniors(role).count(), below, "roles below one");
 }
 
 // Slots 0 to 3 are the roles a, b, c, d: c above a, d above c. Then c may stand neither above d
@@ -84,7 +91,12 @@ fn inheritance_and_its_refusals(rt: HostRuntime) {
 /// Lets each slot k stand above slot k + 1.
 fn chain(rt: &impl Abort, order: &mut Hierarchy) {
     for senior in 0..255u8 {
-        assert_eq!(rt; order.add_inheritance(senior, senior + 1), Ok(()));
+        same(
+            rt,
+            order.add_inheritance(senior, senior + 1),
+            Ok(()),
+            "a pair",
+        );
     }
 }
 
@@ -118,7 +130,7 @@ fn compare_closure(rt: &impl Abort, order: &Hierarchy, wanted: u32) {
     let mut middle = RoleSet::new();
     middle.insert(1);
     middle.insert(2);
-    assert_eq!(rt; order.closure(middle).count(), wanted);
+    same(rt, order.closure(middle).count(), wanted, "the closure");
 }
 
 const DIAMOND: &[(u8, u8, Answer)] = &[
@@ -156,7 +168,5 @@ const FAULTS: &[(HierarchyFault, &str)] = &[
 
 #[test]
 fn texts_of_the_faults(rt: HostRuntime) {
-    for (fault, text) in FAULTS {
-        compare_written(&rt, rt.alloc(), fault, text);
-    }
+    all_written(&rt, rt.alloc(), FAULTS);
 }

@@ -1,3 +1,4 @@
+use crate::comparing::same;
 use permission_core::{ObjectRange, ObjectSet, Operation, Permissions};
 use std::process::Abort;
 
@@ -5,7 +6,12 @@ use std::process::Abort;
 fn compare(rt: &impl Abort, set: &ObjectSet, first: u32, end: u32, inside: bool) {
     for object in 0..2048u32 {
         let within = first <= object && object < end;
-        assert_eq!(rt; set.contains(object), within == inside, "{object}");
+        same(
+            rt,
+            (object, set.contains(object)),
+            (object, within == inside),
+            "a member",
+        );
     }
 }
 
@@ -54,7 +60,12 @@ fn spans_of_ranges(rt: HostRuntime) {
             None,
         ),
     ] {
-        assert_eq!(rt; range.span(4, 2), span, "{range:?}");
+        same(
+            &rt,
+            (range, range.span(4, 2)),
+            (range, span),
+            "the span of a range",
+        );
     }
 }
 
@@ -66,10 +77,14 @@ fn permits(
     operation: Operation,
     wanted: [bool; 3],
 ) {
-    assert_eq!(rt; permissions.permits(slot, operation, 1001), wanted[0]);
-    assert_eq!(rt; permissions.permits(slot, operation, 1002), wanted[1]);
-    assert_eq!(rt; permissions.permits(slot, operation, 1003), wanted[2]);
-    assert_eq!(rt; permissions.row(slot, operation).contains(1002), wanted[1]);
+    let found = [
+        permissions.permits(slot, operation, 1001),
+        permissions.permits(slot, operation, 1002),
+        permissions.permits(slot, operation, 1003),
+    ];
+    same(rt, found, wanted, "objects");
+    let is_in_row = permissions.row(slot, operation).contains(1002);
+    same(rt, is_in_row, wanted[1], "1002 by the row");
 }
 
 #[test]

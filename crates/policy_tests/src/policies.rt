@@ -1,4 +1,5 @@
-use crate::scripts::{answers, compare_written, name};
+use crate::comparing::{same, same_written};
+use crate::scripts::{answers, name};
 use policy_core::{Policy, Refusal};
 use separation_core::Name;
 use std::alloc::Global;
@@ -139,8 +140,13 @@ const SESSIONS: &str = "\
 1 open u a a => session 3";
 
 fn compare_user(rt: &impl Abort, policy: &Policy, session: u32, user: Option<Name>) {
-    assert_eq!(rt; policy.user_of(session), user);
-    assert_eq!(rt; policy.is_session(session), user.is_some());
+    same(rt, policy.user_of(session), user, "the user of a session");
+    same(
+        rt,
+        policy.is_session(session),
+        user.is_some(),
+        "whether it is one",
+    );
 }
 
 #[test]
@@ -162,19 +168,17 @@ fn numbered(rt: &impl Abort, kind: u8, number: u32) -> Name {
     name(rt, &text)
 }
 
-fn compare(rt: &impl Abort, found: Result<(), Refusal>) {
-    assert_eq!(rt; found, Ok(()));
-}
-
 fn add_all_users(rt: &impl Abort, policy: &mut Policy) {
     for user in 1..1024u32 {
-        compare(rt, policy.add_user(numbered(rt, b'u', user)));
+        let found = policy.add_user(numbered(rt, b'u', user));
+        same(rt, found, Ok(()), "a user");
     }
 }
 
 fn add_all_roles(rt: &impl Abort, policy: &mut Policy) {
     for role in 1..256u32 {
-        compare(rt, policy.add_role(numbered(rt, b'r', role)));
+        let found = policy.add_role(numbered(rt, b'r', role));
+        same(rt, found, Ok(()), "a role");
     }
 }
 
@@ -182,15 +186,20 @@ fn add_all_sets(rt: &impl Abort, policy: &mut Policy) {
     let roles = [numbered(rt, b'r', 1), numbered(rt, b'r', 255)];
     for set in 0..64u32 {
         let set = numbered(rt, b's', set);
-        compare(rt, policy.create_ssd_set(set, 2, &roles));
-        compare(rt, policy.create_dsd_set(set, 2, &roles));
+        same(rt, policy.create_ssd_set(set, 2, &roles), Ok(()), "SSD");
+        same(rt, policy.create_dsd_set(set, 2, &roles), Ok(()), "DSD");
     }
 }
 
 fn add_all_sessions(rt: &impl Abort, policy: &mut Policy) {
     let user = numbered(rt, b'u', 7);
     for session in 2..1025u32 {
-        assert_eq!(rt; policy.create_session(user, &[]), Ok(session));
+        same(
+            rt,
+            policy.create_session(user, &[]),
+            Ok(session),
+            "a session",
+        );
     }
 }
 
@@ -220,9 +229,8 @@ fn limits_at_their_last(rt: HostRuntime) {
 }
 
 fn compare_sizes(rt: &impl Abort, policy: &Policy) {
-    assert_eq!(rt; policy.last_session(), 2);
-    assert_eq!(rt; policy.customers(), 4);
-    assert_eq!(rt; policy.vehicles(), 2);
+    same(rt, policy.last_session(), 2, "the last session");
+    same(rt, (policy.customers(), policy.vehicles()), (4, 2), "sizes");
 }
 
 #[test]
@@ -256,6 +264,6 @@ fn texts_of_the_refusals(rt: HostRuntime) {
         (Refusal::Ssd(set), "it would break the SSD set x"),
         (Refusal::Dsd(set), "it would break the DSD set x"),
     ] {
-        compare_written(&rt, rt.alloc(), &refusal, text);
+        same_written(&rt, rt.alloc(), &refusal, text);
     }
 }

@@ -1,36 +1,21 @@
 //! Scripts on a policy: each row is a line of a board, ` => ` and its reply.
+use crate::comparing::{holds, same};
 use board_lines::{Command as Line, read_line, reply_text};
 use board_rules::{Call, Refusal as BoardRefusal, Reply};
 use rbac_core::{Command, Outcome, Policy, Refusal, step};
 use separation_core::Name;
 use std::alloc::Global;
-use std::fmt::Display;
 use std::process::Abort;
 
 pub(crate) fn name(rt: &impl Abort, text: &[u8]) -> Name {
     Name::new(text).expect(rt, "the bytes of a name")
 }
 
-pub(crate) fn compare_text(rt: &impl Abort, found: &str, wanted: &str) {
-    assert_eq!(rt; found, wanted);
-}
-
-/// Compares how a value is written.
-pub(crate) fn compare_written<R: Abort, D: Display>(
-    rt: &R,
-    alloc: Global,
-    value: &D,
-    wanted: &str,
-) {
-    let text = format!(in alloc; "{value}").expect(rt, "memory");
-    compare_text(rt, &text, wanted);
-}
-
 /// The session and the command of a line.
 pub(crate) fn command(rt: &impl Abort, alloc: Global, line: &str) -> (u32, Command) {
     let Ok(Line::Submit(Call::Policy { session, command })) = read_line(alloc, line.as_bytes())
     else {
-        assert!(rt; false, "{line}");
+        holds(rt, false, line);
         return (0, Command::Migrate);
     };
     (session, command)
@@ -52,11 +37,7 @@ fn answer(rt: &impl Abort, alloc: Global, policy: &mut Policy, line: &str, wante
     let (session, command) = command(rt, alloc, line);
     let reply = reply_of(rt, step(policy, session, &command));
     let text = reply_text(alloc, reply).expect(rt, "memory");
-    compare_reply(rt, &text, wanted, line);
-}
-
-fn compare_reply(rt: &impl Abort, found: &str, wanted: &str, line: &str) {
-    assert_eq!(rt; found, wanted, "{line}");
+    same(rt, text.as_str(), wanted, line);
 }
 
 /// Gives the commands of a script in turn, and compares the replies.

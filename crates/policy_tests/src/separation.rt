@@ -1,4 +1,5 @@
-use crate::scripts::{compare_text, compare_written, name};
+use crate::comparing::{all_written, same};
+use crate::scripts::name;
 use role_hierarchy::RoleSet;
 use separation_core::{Name, SetFault, Sets};
 use std::alloc::Global;
@@ -23,12 +24,12 @@ fn all_roles() -> RoleSet {
 
 /// Compares the answer of a command on a set.
 fn answer(rt: &impl Abort, found: Result<(), SetFault>, wanted: Result<(), SetFault>) {
-    assert_eq!(rt; found, wanted);
+    same(rt, found, wanted, "a command on a set");
 }
 
 fn created(rt: &impl Abort, sets: &mut Sets, set: &[u8], members: &[u8], number: u32) {
     let found = sets.create(name(rt, set), roles(members), number);
-    assert_eq!(rt; found, Ok(()), "{number} of {members:?}");
+    same(rt, (members, found), (members, Ok(())), "a set that comes");
 }
 
 /// Compares the first set that the roles break; no text stands for none.
@@ -42,28 +43,37 @@ fn compare(rt: &impl Abort, found: Option<Name>, set: &[u8]) {
     } else {
         Some(name(rt, set))
     };
-    assert_eq!(rt; found, wanted);
+    same(rt, found, wanted, "the set that is broken");
 }
 
 /// Compares how many sets there are.
 fn has_size(rt: &impl Abort, sets: &Sets, wanted: usize) {
-    assert_eq!(rt; sets.len(), wanted);
-    assert_eq!(rt; sets.is_full(), wanted == 64);
+    same(
+        rt,
+        (sets.len(), sets.is_full()),
+        (wanted, wanted == 64),
+        "sets",
+    );
 }
 
 fn has_number(rt: &impl Abort, sets: &Sets, set: Name, wanted: u32) {
-    assert_eq!(rt; sets.number(set), Some(wanted));
+    same(rt, sets.number(set), Some(wanted), "the number of a set");
 }
 
 fn place(rt: &impl Abort, sets: &Sets, set: &[u8], wanted: usize) {
-    assert_eq!(rt; sets.place(name(rt, set)), Some(wanted));
+    same(
+        rt,
+        sets.place(name(rt, set)),
+        Some(wanted),
+        "the place of a set",
+    );
 }
 
 /// Compares the bytes and the text of a name with what it was made of.
 fn bytes(rt: &impl Abort, text: &[u8]) {
     let made = name(rt, text);
-    assert_eq!(rt; made.as_bytes(), text);
-    assert_eq!(rt; made.as_str().as_bytes(), text);
+    same(rt, made.as_bytes(), text, "the bytes of a name");
+    same(rt, made.as_str().as_bytes(), text, "the text of a name");
 }
 
 const TEXTS: &[(&[u8], bool)] = &[
@@ -81,13 +91,18 @@ const TEXTS: &[(&[u8], bool)] = &[
 #[test]
 fn names(rt: HostRuntime) {
     for (text, valid) in TEXTS {
-        assert_eq!(rt; Name::new(text).is_some(), *valid);
+        same(
+            &rt,
+            (*text, Name::new(text).is_some()),
+            (*text, *valid),
+            "whether it is a name",
+        );
     }
     bytes(&rt, b"abcdefghijklmnopqrstuvwxyz012345");
     bytes(&rt, b"ann.b-2_c");
-    assert_eq!(rt; name(&rt, b"ann") == name(&rt, b"anna"), false);
+    same(&rt, name(&rt, b"ann") == name(&rt, b"anna"), false, "equal");
     let text = format!(in rt.alloc(); "{:>4}|", name(&rt, b"ann")).expect(&rt, "memory");
-    compare_text(&rt, &text, " ann|");
+    same(&rt, text.as_str(), " ann|", "a name in a field");
 }
 
 /// A set x of the roles 0, 1 and 2, of which fewer than two may come together.
@@ -150,13 +165,23 @@ fn refusals_of_number_and_delete(rt: HostRuntime) {
 fn fill(rt: &impl Abort, sets: &mut Sets) {
     for index in 0..64u8 {
         let set = name(rt, &[b'a' + index / 8, b'0' + index % 8]);
-        assert_eq!(rt; sets.create(set, roles(&[0, 1]), 2), Ok(()));
+        same(
+            rt,
+            sets.create(set, roles(&[0, 1]), 2),
+            Ok(()),
+            "a set that comes",
+        );
     }
 }
 
 /// But for the limit of 64 sets nothing is against another one.
 fn may_come(rt: &impl Abort, sets: &Sets, set: Name, members: RoleSet) {
-    assert_eq!(rt; sets.refusal_of_create(set, members, 2), None);
+    same(
+        rt,
+        sets.refusal_of_create(set, members, 2),
+        None,
+        "a refusal",
+    );
 }
 
 #[test]
@@ -196,9 +221,7 @@ const FAULTS: &[(SetFault, &str)] = &[
 
 #[test]
 fn texts_of_the_faults(rt: HostRuntime) {
-    for (fault, text) in FAULTS {
-        compare_written(&rt, rt.alloc(), fault, text);
-    }
+    all_written(&rt, rt.alloc(), FAULTS);
 }
 
 // The first set by creation is named, whichever of the given sets breaks it.

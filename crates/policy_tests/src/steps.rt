@@ -1,3 +1,4 @@
+use crate::comparing::{holds, same};
 use crate::scripts::{answers, command, name};
 use rbac_core::{
     Command, Names, Policy, Twin, access_stays, affected, carry_out, guard_by, sizes_stay,
@@ -45,8 +46,10 @@ const OWN: &str = "\
 
 /// Session 4 may give the command where it is an administrator, and not else.
 fn compare_guard(rt: &impl Abort, policy: &Policy, command: &Command) {
-    assert!(rt; guard_by(policy, 4, command, true).is_none());
-    assert!(rt; guard_by(policy, 4, command, false).is_some());
+    let by_one = guard_by(policy, 4, command, true);
+    holds(rt, by_one.is_none(), "an administrator may");
+    let by_other = guard_by(policy, 4, command, false);
+    holds(rt, by_other.is_some(), "no one else may");
 }
 
 #[test]
@@ -66,10 +69,6 @@ fn affected_by(rt: &impl Abort, alloc: Global, old: &Policy, line: &str) -> Vec<
     carry_out(&mut new, &command).expect(rt, "a command that is done");
     access_stays(old, &command, &new);
     affected(alloc, old, &command, &new).expect(rt, "memory")
-}
-
-fn compare_sessions(rt: &impl Abort, found: &[u32], wanted: &[u32], line: &str) {
-    assert_eq!(rt; found, wanted, "{line}");
 }
 
 const OPENED: &str = "\
@@ -100,7 +99,7 @@ fn which_sessions_a_command_affects(rt: HostRuntime) {
     answers(&rt, rt.alloc(), &mut policy, OPENED);
     for (line, wanted) in AFFECTED {
         let found = affected_by(&rt, rt.alloc(), &policy, line);
-        compare_sessions(&rt, &found, wanted, line);
+        same(&rt, found.as_slice(), *wanted, line);
     }
     sizes_stay();
 }
@@ -112,7 +111,7 @@ fn stand(rt: &impl Abort, alloc: Global, twin: &mut Twin, line: &str) {
     let (_, command) = command(rt, alloc, line);
     match twin.prepare(&command) {
         Ok(_) => twin.settle(command),
-        Err(_) => assert!(rt; false, "{line}"),
+        Err(_) => holds(rt, false, line),
     }
 }
 
@@ -120,17 +119,15 @@ fn stand(rt: &impl Abort, alloc: Global, twin: &mut Twin, line: &str) {
 fn give_up(rt: &impl Abort, alloc: Global, twin: &mut Twin, line: &str, wanted: bool) {
     let (_, command) = command(rt, alloc, line);
     let is_tried = twin.prepare(&command).is_ok();
-    compare_tried(rt, is_tried, wanted, line);
-}
-
-fn compare_tried(rt: &impl Abort, found: bool, wanted: bool, line: &str) {
-    assert_eq!(rt; found, wanted, "{line}");
+    same(rt, is_tried, wanted, line);
 }
 
 /// Compares whether a role is there, and whether it would be after the command that was tried last.
 fn compare_role(rt: &impl Abort, twin: &Twin, role: Name, is_there: bool, is_tried: bool) {
-    assert_eq!(rt; twin.policy().slot_of(role).is_some(), is_there);
-    assert_eq!(rt; twin.tried().slot_of(role).is_some(), is_tried);
+    let found = twin.policy().slot_of(role).is_some();
+    same(rt, found, is_there, "a role of the policy");
+    let found = twin.tried().slot_of(role).is_some();
+    same(rt, found, is_tried, "a role of the policy that was tried");
 }
 
 #[test]
@@ -151,7 +148,7 @@ fn commands_by_a_spare_policy(rt: HostRuntime) {
 /// Tries the command, once more where memory ran out, and gives it up.
 fn try_and_give_up(rt: &impl Abort, twin: &mut Twin, command: &Command) {
     let is_tried = twin.prepare(command).is_ok() || twin.prepare(command).is_ok();
-    assert!(rt; is_tried);
+    holds(rt, is_tried, "the command is tried");
     twin.give_up();
 }
 
@@ -161,7 +158,7 @@ fn keep(rt: &impl Abort, twin: &mut Twin, command: Command) {
         Ok(_) => twin.settle(command),
         Err(_) => match twin.prepare(&command) {
             Ok(_) => twin.settle(command),
-            Err(_) => assert!(rt; false),
+            Err(_) => holds(rt, false, "memory for the second try"),
         },
     }
 }
@@ -176,7 +173,12 @@ fn give_up_and_keep(rt: &impl Abort, twin: &mut Twin, command: Command) {
 fn be_refused(rt: &impl Abort, twin: &mut Twin, role: Name, other: Name) {
     let is_tried = twin.prepare(&Command::AddRole { role: other }).is_ok();
     let is_again = twin.prepare(&Command::AddRole { role }).is_ok();
-    assert!(rt; !is_again, "{is_tried}");
+    same(
+        rt,
+        (is_tried, is_again),
+        (is_tried, false),
+        "a refused command",
+    );
     compare_role(rt, twin, other, false, false);
 }
 
@@ -210,9 +212,9 @@ fn commands_go_on_after_given_up_ones(rt: HostRuntime) {
 }
 
 fn compare_names(rt: &impl Abort, found: &[Name], wanted: &[&str]) {
-    assert_eq!(rt; found.len(), wanted.len());
+    same(rt, found.len(), wanted.len(), "names");
     for (one, text) in found.iter().zip(wanted) {
-        assert_eq!(rt; one.as_bytes(), text.as_bytes());
+        same(rt, one.as_str(), *text, "a name");
     }
 }
 

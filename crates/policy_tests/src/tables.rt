@@ -1,5 +1,6 @@
 ghost use Rattle.std.specs.Prelude.{◌≡◌};
 
+use crate::comparing::{holds, same};
 use crate::scripts::answers;
 use callback_store::Meter;
 use permission_core::{Object, Operation};
@@ -14,11 +15,22 @@ fn compare(rt: &impl Abort, tables: &Tables, policy: &Policy, rows: &[(u32, u32,
         let mut meter = Meter::new();
         let object = Object::Vehicle(*vehicle);
         let found = tables.check(*session, Operation::Move, object, &mut meter);
-        assert_eq!(rt; found, *wanted, "{session} {vehicle}");
-        assert_eq!(rt; (meter.asks, meter.probes, meter.walks), (0, 1, 0));
+        let counted = (meter.asks, meter.probes, meter.walks);
+        same(
+            rt,
+            (*session, *vehicle, found),
+            (*session, *vehicle, *wanted),
+            "by the rows",
+        );
+        same(rt, counted, (0, 1, 0), "what the rows took");
         let walked = policy.check_plain(*session, Operation::Move, object, &mut meter);
-        assert_eq!(rt; walked, *wanted, "{session} {vehicle}");
-        assert_eq!(rt; meter.walks, 1);
+        same(
+            rt,
+            (*session, *vehicle, walked),
+            (*session, *vehicle, *wanted),
+            "by the walk",
+        );
+        same(rt, meter.walks, 1, "walks");
     }
 }
 
@@ -29,8 +41,8 @@ fn compile(rt: &impl Abort, policy: &Policy, tables: &mut Tables, sessions: &[u3
     ensures customers { tables.new.customers ≡ 4 }
     ensures vehicles { tables.new.vehicles ≡ 2 }
 {
-    assert_eq!(rt; policy.customers(), 4);
-    assert_eq!(rt; policy.vehicles(), 2);
+    holds(rt, policy.customers() == 4, "four customers");
+    holds(rt, policy.vehicles() == 2, "two vehicles");
     let rows = tables.rebuild(policy, sessions).expect(rt, "memory");
     tables.put(rows);
 }
