@@ -25,7 +25,6 @@ use std::sync::{Arc, Mutex, Wait};
 
 /// A desk without its setup, over what lies under its lock. Contracts see it as its number, how many turns it has had, the entries that it
 /// has seen, and those of which the view that it keeps tells.
-#[derive(Drop)]
 pub struct SeatOf<N: Naming, L: Drop> {
     shared: Arc<Mutex<L>>,
     eye: Eye<N>,
@@ -36,6 +35,19 @@ pub struct SeatOf<N: Naming, L: Drop> {
 
 /// A desk without its setup.
 pub type Seat<N, R> = SeatOf<N, Held<N, R>>;
+
+// Written by hand: a derived drop is expanded at every place where a value is dropped.
+impl<N: Naming, L: Drop> Drop for SeatOf<N, L> {
+    fn drop(self) {
+        let Self {
+            shared: _,
+            eye: _,
+            number: _,
+            own: _,
+            alloc: _,
+        } = self;
+    }
+}
 
 impl<N: Naming, L: Drop> Model for SeatOf<N, L> {
     ghost use Rattle.std.specs.Prelude.{◌≤◌};

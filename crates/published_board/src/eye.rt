@@ -37,7 +37,6 @@ pub struct Kept {
 }
 
 /// Contracts see it as the entries that it has seen, and those of which its view tells.
-#[derive(Drop)]
 pub struct Eye<N: Naming> {
     // It is there between any two calls.
     pub reader: Option<CopyReader>,
@@ -47,6 +46,19 @@ pub struct Eye<N: Naming> {
     /// What `latest` was before the copy was read of which the view tells, where nothing was seen since.
     pub told: Option<u64>,
     pub of: PhantomData<N>,
+}
+
+// Written by hand: a derived drop is expanded, down to each list of the view, at every place where a value is dropped.
+impl<N: Naming> Drop for Eye<N> {
+    fn drop(self) {
+        let Self {
+            reader: _,
+            kept: _,
+            latest: _,
+            told: _,
+            of: _,
+        } = self;
+    }
 }
 
 impl<N: Naming> Model for Eye<N> {
