@@ -30,6 +30,15 @@ module _ (s : Setting) (held : HeldState) (board : BoardState) (holds : Holds s 
     last_place = subst (λ (r : List ℕ). p ≤ length r) (same_route v) last;
   }
 
+pub next_within : (k n v m : ℕ) → k < n → n ≡ v → m ≡ v → k + 1 ≤ m
+next_within k n v m h e f = omega (arith, e, f)
+
+pub all_within : (k n v m : ℕ) → n ≤ k → n ≡ v → m ≡ v → m ≤ k
+all_within k n v m h e f = omega (arith, e, f)
+
+pub some_next : (k : ℕ) → 1 ≤ k + 1
+some_next k = omega arith
+
 pub has_early : (s : Setting) (routes : List (List ℕ)) (cache : CacheState) (d v p : ℕ) → IsStop s routes cache v p → 1 ≤ d → d ≤ length s.dimensions → HasEarly s routes cache d v p
 has_early s routes cache d v p stop low high = record {
   kept = stop.kept;

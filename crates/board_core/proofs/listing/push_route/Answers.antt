@@ -1,8 +1,11 @@
-use Rattle.std.proofs.Common.{◌≡◌, ◌+◌, ◌≤◌, length, sym, ap, ◌∙◌, arith}
+use Rattle.std.proofs.Common.{◌≡◌, ◌+◌, ◌≤◌, ℕ, List, length, refl, sym, ap, ◌∙◌, subst, arith}
+use Rattle.std.proofs.lemmas.List.{take_all}
 use Rattle.dimension_core.specs.Setup.{setting}
 use Rattle.plan_core.specs.Plan.{PlanState, route_at}
-use Rattle.board_core.proofs.Listings.{place_seen, place_past, vehicle_past}
-use Rattle.board_core.proofs.Stops.{stop_at}
+use Rattle.move_core.specs.Touched.{touches}
+use Rattle.board_core.specs.Shown.{Grows}
+use Rattle.board_core.proofs.Listings.{grows_none, place_seen, place_past, vehicle_past}
+use Rattle.board_core.proofs.Stops.{fleet, next_within, same_route, some_next, stop_at}
 use Rattle.board_core.proofs.listing.push_route.Goals as goal
 use Rattle.board_core.proofs.listing.push_route.Goals.{then-check_in+in_ok-push, else-check_in}
 
@@ -35,3 +38,34 @@ loop-before-preserved g c = λ board holds.
           (sym (c.check_in-in-loop-before.ensures s board c.args.session holds c.requires.seen) ∙ w.if-check_in.false)
           (c.loop-before.invariant board holds))
     ]
+
+pub route-requires-clause-low : goal.route-requires-clause-low
+route-requires-clause-low g c = c.requires.low
+
+pub route-requires-clause-high : goal.route-requires-clause-high
+route-requires-clause-high g c =
+    let many = ap (λ (p : PlanState). length p.routes) c.plan.ensures ∙ fleet (setting c.args.setup.now) c.args.state.now c.requires.held.0 c.requires.held.1 in
+    subst (λ (n : ℕ). c.args.vehicle ≤ n) (sym many) c.requires.high
+
+pub loop-before-init : goal.loop-before-init
+loop-before-init g c board holds = grows_none (setting c.args.setup.now) board c.args.session c.args.rows.now.items
+
+pub bounds-route-before : goal.bounds-route-before
+bounds-route-before g c = c.loop-before-test.true
+
+pub placed_row-requires : goal.placed_row-requires
+placed_row-requires g c =
+    let s = setting c.args.setup.now in
+    let v = c.args.vehicle in
+    let read = c.customers-route.ensures ∙ (c.deref.ensures ∙ (c.route.ensures.value ∙ ap (λ (p : PlanState). route_at p.routes v) c.plan.ensures)) in
+    let board = c.requires.held.0 in
+    let last = next_within c.loop-before.before _ _ _ c.loop-before-test.true (ap length read) refl in
+    (board.routes, stop_at s c.args.state.now board c.requires.held.1 _ v (c.loop-before.before + 1) c.cache.ensures c.requires.low c.requires.high (some_next c.loop-before.before) last)
+
+pub returns : goal.returns
+returns g c board holds =
+    let s = setting c.args.setup.now in
+    let v = c.args.vehicle in
+    let read = c.customers-route.ensures ∙ (c.deref.ensures ∙ (c.route.ensures.value ∙ ap (λ (p : PlanState). route_at p.routes v) c.plan.ensures)) in
+    let all = take_all c.loop-before.before c.customers-route.result.now c.loop-before-test.false ∙ read ∙ same_route s c.args.state.now board holds v in
+    subst (λ (r : List ℕ). Grows s board c.args.session (touches v 1 r) c.args.rows.now.items c.loop-before.rows.items) all (c.loop-before.invariant board holds)
