@@ -7,7 +7,7 @@ use Rattle.published_board.specs.declared.shown.Shown.{Shown}
 use Rattle.published_board.specs.Reached.{Reached, entries_of, opening_of}
 use Rattle.published_board.specs.Sights.{IsOf, IsPicture, entries_in}
 use Rattle.board_rules.specs.History.{IsLegal}
-use Rattle.published_board.specs.Kepts.{AreKeptFor, EyeState, IsKeptFor}
+use Rattle.published_board.specs.Kepts.{AreKeptFor, EyeState, IsKeptFor, viewed_in}
 use Rattle.published_board.specs.Pictures.{picture_of}
 use Rattle.published_board.proofs.Rules.{sees, goes_self}
 use Rattle.published_board.proofs.Prefixes.{prefix_self}
@@ -110,3 +110,21 @@ returns-in-Err-renewed-clause-grows g c =
     let had_is = ap (option_and_then (λ r. view r.place)) (sym c.take.ensures.value ∙ c.in-Some.is) in
     let was : IsOf o b (view c.in-Some.reader.place) = subst (λ (v : Option Reached). IsOf o b v) had_is c.self.invariant.0 in
     grown o b c.args.self.now.seen _ _ _ (view c.leave.result.place) (sym (ap entries_in had_is) ∙ ap (λ (e : EyeState). e.seen) c.self.view_is) was c.in-Ok.ensures.1 c.leave.ensures.1
+
+pub returns-in-Err-clause-closed : goal.returns-in-Err-clause-closed
+returns-in-Err-clause-closed g c = λ closed.
+    let had_is = ap (option_and_then (λ r. view r.place)) (sym c.take.ensures.value ∙ c.in-Some.is) in
+    let same = c.in-Err.ensures.1 ∙ sym had_is in
+    (λ i. record { seen = entries_in (same i); viewed = viewed_in c.self.inside.kept }) ∙ c.self.view_is
+
+pub invariant_of-self-in-Err-renewed : goal.invariant_of-self-in-Err-renewed
+invariant_of-self-in-Err-renewed g c =
+    let o = g.N.Naming.opening in
+    let b = g.N.Naming.book in
+    let had_is = ap (option_and_then (λ r. view r.place)) (sym c.take.ensures.value ∙ c.in-Some.is) in
+    let was : IsOf o b (view c.in-Some.reader.place) = subst (λ (v : Option Reached). IsOf o b v) had_is c.self.invariant.0 in
+    let saw = c.in-Ok.ensures.1 in (
+      subst (λ (v : Option Reached). IsOf o b v) (sym saw.now ∙ sym c.leave.ensures.1) (sees_of o b _ _ _ was saw),
+      subst (λ k. AreKeptFor o b (entries_in (view c.leave.result.place)) k) (sym c.take-in-Ok.ensures.after) tt,
+      tt,
+    )
