@@ -13,6 +13,9 @@ pub way_append : (f : ℕ → ℕ → ℕ) (i : ℕ) (xs ys : List ℕ) → way 
 way_append f i [] ys = omega arith
 way_append f i (x ∷ xs) ys = let e = way_append f x xs ys in omega arith
 
+sum_same : (x y a b n m : ℕ) → n ≡ x + a → m ≡ y + b → x ≡ y → a ≡ b → n ≡ m
+sum_same x y a b n m new old same rest = omega arith
+
 -- what the named routes cost does not depend on the route of another vehicle
 before_set : (t : Table) (changes : Changes) (routes : List (List ℕ)) (v n : ℕ) (r : List ℕ) → AreApart n changes → 1 ≤ v → ¬ IsNamed changes v
     → cost_before t changes (slice_set routes (v - 1) r) ≡ cost_before t changes routes
@@ -20,10 +23,8 @@ before_set t [] routes v n r apart low out = refl
 before_set t (c ∷ cs) routes v n r (one, high, once, apart) low out =
     let away : c.0 - 1 ≢ v - 1 = λ e. out (inl (omega arith)) in
     let same : route_cost t (route_at (slice_set routes (v - 1) r) c.0) ≡ route_cost t (route_at routes c.0) = ap (route_cost t) (get_or-set_other routes (v - 1) (c.0 - 1) r [] away) in
-    let rest = before_set t cs routes v n r apart low (λ h. out (inr h)) in
-    let old = sum_by-cons (λ (x : ℕ × List ℕ). route_cost t (route_at routes x.0)) c cs in
-    let new = sum_by-cons (λ (x : ℕ × List ℕ). route_cost t (route_at (slice_set routes (v - 1) r) x.0)) c cs in
-    omega arith
+    sum_same _ _ _ _ _ _ (sum_by-cons (λ (x : ℕ × List ℕ). route_cost t (route_at (slice_set routes (v - 1) r) x.0)) c cs)
+    (sum_by-cons (λ (x : ℕ × List ℕ). route_cost t (route_at routes x.0)) c cs) same (before_set t cs routes v n r apart low (λ h. out (inr h)))
 
 -- the cost after new routes differs only by those of the named vehicles
 pub cost-with_routes : (t : Table) (changes : Changes) (routes : List (List ℕ)) → AreApart (length routes) changes
@@ -35,9 +36,12 @@ cost-with_routes t (c ∷ cs) routes (one, high, once, apart) =
     let rest = cost-with_routes t cs set later in
     let same = before_set t cs routes c.0 (length routes) c.1 apart one once in
     let first = sum_by-set (route_cost t) routes (c.0 - 1) c.1 [] (omega arith) in
-    let old = sum_by-cons (λ (x : ℕ × List ℕ). route_cost t (route_at routes x.0)) c cs in
-    let new = sum_by-cons (λ (x : ℕ × List ℕ). route_cost t x.1) c cs in
-    omega arith
+    step _ _ _ _ _ _ _ _ _ _ rest same first (sum_by-cons (λ (x : ℕ × List ℕ). route_cost t (route_at routes x.0)) c cs)
+    (sum_by-cons (λ (x : ℕ × List ℕ). route_cost t x.1) c cs)
+  where
+    step : (made set all before now after b a one new : ℕ) → made + now ≡ set + after → now ≡ before → set + one ≡ all + new → b ≡ one + before → a ≡ new + after
+        → made + b ≡ all + a
+    step made set all before now after b a one new rest same first old last = omega arith
 
 pub cost-one : (t : Table) (v : ℕ) (r : List ℕ) (routes : List (List ℕ)) → AreApart (length routes) ((v, r) ∷ [])
     → cost_of t (with_routes ((v, r) ∷ []) routes) + route_cost t (route_at routes v) ≡ cost_of t routes + route_cost t r

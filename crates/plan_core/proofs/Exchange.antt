@@ -1,8 +1,9 @@
-use Rattle.std.proofs.Common.{zero, suc, ◌≡◌, ◌≢◌, ℕ, ◌-◌, ◌≤◌, ◌⊎◌, ◌∙◌, sym, ap, subst, refl, arith, inl, inr, List, [], ◌∷◌, ◌++◌, length, slice_get, Some, slice_set, slice_index, get_or, Contains, All}
+use Rattle.std.proofs.Common.{zero, suc, ◌≡◌, ◌≢◌, ℕ, ◌-◌, ◌≤◌, ◌⊎◌, ◌∙◌, sym, ap, subst, refl, arith, inl, inr, List, [], ◌∷◌, ◌++◌, length, slice_get, slice_index_or, Some, slice_set, slice_index, get_or, take, drop, drop-cons, add-one, append-nil, ◌+◌, ◌<◌, Contains, All}
+use Rattle.std.specs.declared.sync.Arc.{Arc}
 use Rattle.std.proofs.lemmas.Bool.{cases_eq}
-use Rattle.std.proofs.lemmas.List.{append_assoc, length-set, get_or-set_same, get_or-set_other}
+use Rattle.std.proofs.lemmas.List.{append_assoc, drop_all, take_all, length-map, length-set, get_or-set_same, get_or-set_other}
 use Rattle.std.proofs.lemmas.List.Elements.{Contains-get_or}
-use Rattle.plan_core.specs.Plan.{Changes, StandsAt, IsPlan, IsNamed, AreApart, route_at, former, with_routes, with_stamps}
+use Rattle.plan_core.specs.Plan.{Changes, StandsAt, IsPlan, IsNamed, AreApart, route_at, routes_of, changes_of, former, with_routes, with_stamps}
 use Rattle.plan_core.specs.Homes.{AreHomes}
 use Rattle.plan_core.proofs.Places.{contains_from_stands, stands_from_contains}
 
@@ -156,3 +157,37 @@ known_next n final target version v route rest routes stamps row plan x k d h =
     let here : Contains (route_at final v) (get_or route k d) = subst (λ (r : List ℕ). Contains r (get_or route k d)) (sym own) (Contains-get_or route k d h) in
     let there = stands_from_contains final (get_or route k d) v x.apart.0 (omega arith) here in
     plan.known (get_or route k d) v there.0 there.1
+
+-- the next change is of a vehicle
+pub next_vehicle : {Z : Type 0} (changes : List (ℕ × Arc (List ℕ) Z)) (k n : ℕ) (d : ℕ × Arc (List ℕ) Z) (final : List (List ℕ)) (target : List ℕ) (version : ℕ)
+    (routes : List (Arc (List ℕ) Z)) (stamps row : List ℕ) → k < n → length changes ≡ n
+    → IsExchanging final target version (changes_of (drop k changes)) (routes_of routes) stamps row
+    → (1 ≤ (slice_index_or changes k d).0) × ((slice_index_or changes k d).0 - 1 < length routes)
+next_vehicle {Z} changes k n d final target version routes stamps row h long x =
+    let next : drop k changes ≡ slice_index_or changes k d ∷ drop (k + 1) changes = rw add-one (drop-cons changes k d (omega arith)) in
+    let apart = subst (λ (xs : List (ℕ × Arc (List ℕ) Z)). AreApart (length (routes_of routes)) (changes_of xs)) next x.apart in
+    let low : 1 ≤ (slice_index_or changes k d).0 = apart.0 in
+    let high : (slice_index_or changes k d).0 ≤ length (routes_of routes) = apart.1 in
+    let same = length-map routes (λ r. r.value) in
+    (low, omega arith)
+
+-- after the last change
+pub exchanged : {Z : Type 0} (changes : List (ℕ × Arc (List ℕ) Z)) (k n : ℕ) (final : List (List ℕ)) (target : List ℕ) (version : ℕ) (routes : List (List ℕ)) (stamps row : List ℕ)
+    → n ≤ k → length changes ≡ n → IsExchanging final target version (changes_of (drop k changes)) routes stamps row
+    → IsExchanging final target version [] routes stamps row
+exchanged {Z} changes k n final target version routes stamps row h long x =
+    subst (λ (xs : List (ℕ × Arc (List ℕ) Z)). IsExchanging final target version (changes_of xs) routes stamps row) (drop_all k changes (omega arith)) x
+
+pub homes_exchanged : (final : List (List ℕ)) (target : List ℕ) (version : ℕ) (routes : List (List ℕ)) (stamps row : List ℕ)
+    → IsExchanging final target version [] routes stamps row → AreHomes routes row
+homes_exchanged final target version routes stamps row x = record {
+  at = λ c v p s. x.done c v p (subst (λ (rs : List (List ℕ)). StandsAt rs c v p) x.made s) (λ h. h);
+  known = x.known;
+}
+
+pub gone_all : {Z : Type 0} (changes : List (ℕ × Arc (List ℕ) Z)) (k n : ℕ) (routes : List (List ℕ)) (all : Changes) → n ≤ k → length changes ≡ n
+    → changes_of (take k changes) ++ former routes (changes_of (drop k changes)) ≡ all → changes_of changes ≡ all
+gone_all {Z} changes k n routes all h long gone =
+    sym (append-nil (changes_of changes))
+    ∙ ap (λ (xs : List (ℕ × Arc (List ℕ) Z)). changes_of xs ++ []) (sym (take_all k changes (omega arith)))
+    ∙ subst (λ (xs : List (ℕ × Arc (List ℕ) Z)). changes_of (take k changes) ++ former routes (changes_of xs) ≡ all) (drop_all k changes (omega arith)) gone

@@ -1,6 +1,7 @@
 -- The longest common prefix of two lists, as a number.
-use Rattle.std.proofs.Common.{◌≡◌, ℕ, zero, suc, ◌+◌, ◌<◌, ◌≤◌, ◌⊎◌, ap, refl, arith, inl, inr, List, [], ◌∷◌, length, take, slice_index}
+use Rattle.std.proofs.Common.{◌≡◌, ◌≢◌, ℕ, zero, suc, ◌+◌, ◌<◌, ◌≤◌, ◌⊎◌, sym, ap, subst, refl, arith, inl, inr, List, [], ◌∷◌, length, take, slice_index}
 use Rattle.std.proofs.lemmas.Bool.{cases_eq, eq-eqb, ne_eqb, cases_order}
+use Rattle.std.proofs.lemmas.List.{take_more_same}
 use Rattle.plan_core.specs.Front.{IsCommonFront, common_front}
 
 -- the heads of two lists that are the same
@@ -72,3 +73,21 @@ front_at xs ys n left right same differ = record { left = left; right = right; s
     low k h l e (inl same) = omega arith
     low k h l e (inr (inl more)) = absurd (differ (omega arith) (omega arith) (read xs ys n k more e))
     low k h l e (inr (inr less)) = omega arith
+
+-- one list ends there
+pub front_past : (xs ys : List ℕ) (n : ℕ) → n < length xs → length ys ≤ n → n ≤ length ys → take n xs ≡ take n ys → IsCommonFront xs ys n
+front_past xs ys n more ends within same = front_at xs ys n (omega arith) within same (λ h l e. omega arith)
+
+pub front_whole : (xs ys : List ℕ) (n : ℕ) → length xs ≤ n → n ≤ length xs → n ≤ length ys → take n xs ≡ take n ys → IsCommonFront xs ys (length xs)
+front_whole xs ys n ended end within same =
+    let here : n ≡ length xs = omega arith in
+    subst (λ (m : ℕ). IsCommonFront xs ys m) here (front_at xs ys n end within same (λ h l e. omega arith))
+
+-- or the lists differ
+pub front_differs : (xs ys : List ℕ) (n : ℕ) → n < length xs → n ≤ length ys → take n xs ≡ take n ys → slice_index ys n ≢ slice_index xs n → IsCommonFront xs ys n
+front_differs xs ys n more within same differ = front_at xs ys n (omega arith) within same (λ h l e. differ (sym e))
+
+-- one more element is the same
+pub front_next : (xs ys : List ℕ) (n : ℕ) → n < length xs → n < length ys → take n xs ≡ take n ys → slice_index ys n ≡ slice_index xs n
+    → (take (n + 1) xs ≡ take (n + 1) ys) × (n + 1 ≤ length ys)
+front_next xs ys n h l same e = (take_more_same xs ys n 0 h l same (sym e), omega arith)

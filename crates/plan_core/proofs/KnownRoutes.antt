@@ -1,9 +1,11 @@
 -- The customers of a plan's routes, and of new routes that make a plan.
-use Rattle.std.proofs.Common.{◌≡◌, ℕ, ◌+◌, ◌-◌, ◌<◌, ◌≤◌, ◌⊎◌, ◌↔◌, ◌∙◌, inl, inr, ap, sym, subst, arith, List, [], length, slice_get, get_or, map, Some, All}
+use Rattle.std.proofs.Common.{◌≡◌, ℕ, ◌+◌, ◌-◌, ◌<◌, ◌≤◌, ◌⊎◌, ◌↔◌, ◌∙◌, inl, inr, ap, sym, subst, arith, List, [], ◌∷◌, ◌++◌, length, replicate, slice_get, get_or, map, Some, All}
 use Rattle.std.proofs.lemmas.Bool.{cases_order}
-use Rattle.std.proofs.lemmas.List.{get_or_past}
+use Rattle.std.proofs.lemmas.List.{get_or_past, map_push}
 use Rattle.std.proofs.lemmas.List.Elements.{All-from_get_or}
-use Rattle.plan_core.specs.Plan.{Changes, StandsAt, IsPlan, AreApart, route_at, with_routes}
+use Rattle.std.proofs.lemmas.Grind.{replicate_next}
+use Rattle.std.specs.declared.sync.Arc.{Arc}
+use Rattle.plan_core.specs.Plan.{Changes, StandsAt, IsPlan, AreApart, route_at, routes_of, with_routes}
 use Rattle.plan_core.proofs.Exchange.{route_at-named}
 use Rattle.plan_core.proofs.Places.{map_read, stands_at}
 use Rattle.plan_core.proofs.Short.{routes_short}
@@ -49,3 +51,9 @@ stands_there routes c v k low high =
 pub read_known : {A : Type 0} (f : A → List ℕ) (xs : List A) (k n : ℕ) (a : A) → k < length xs → a ≡ get_or xs k a → IsPlan n (map f xs) → All (λ c. (1 ≤ c) × (c ≤ n)) (f a)
 read_known f xs k n a h e plan =
     subst (λ (r : List ℕ). All (λ c. (1 ≤ c) × (c ≤ n)) r) (sym (map_read f xs k a h e)) (known_place n (map f xs) k plan (place_cases k (length (map f xs))))
+
+-- one more empty route
+pub empty_more : {Z : Type 0} (new routes : List (Arc (List ℕ) Z)) (n : ℕ) (route : Arc (List ℕ) Z) → new ≡ routes ++ route ∷ [] → route.value ≡ []
+    → routes_of routes ≡ replicate n [] → routes_of new ≡ replicate (n + 1) []
+empty_more new routes n route push none all =
+    ap routes_of push ∙ map_push (λ r. r.value) routes route ∙ ap (λ rs. rs ++ route.value ∷ []) all ∙ ap (λ r. replicate n [] ++ r ∷ []) none ∙ sym (replicate_next n [])

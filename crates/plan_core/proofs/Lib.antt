@@ -1,4 +1,6 @@
+pub mod Appended
 pub mod Costs
+pub mod Drafted
 pub mod Exchange
 pub mod Fronts
 pub mod Kept

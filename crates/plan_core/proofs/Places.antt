@@ -1,7 +1,7 @@
 use Rattle.std.proofs.Common.{◌≡◌, ℕ, ◌+◌, ◌-◌, ◌<◌, ◌≤◌, ◌∙◌, sym, ap, subst, arith, List, [], length, slice_get, slice_index, get_or, map, Option, Some, Contains}
 use Rattle.std.proofs.lemmas.List.{get_or-map}
 use Rattle.std.proofs.lemmas.Option.{slice_get_within, get_or_from_slice_get, slice_get-get_or}
-use Rattle.plan_core.specs.Plan.{StandsAt, IsPlan, route_at}
+use Rattle.plan_core.specs.Plan.{PlanState, StandsAt, IsPlan, route_at}
 use Rattle.plan_core.specs.Homes.{AreHomes}
 
 -- an element at a place of a list is among its elements
@@ -63,3 +63,6 @@ stands_at routes v k low high h =
       place = omega arith;
       found = ap (λ (n : ℕ). slice_get (route_at routes v) n) back ∙ slice_get-get_or (route_at routes v) k 0 h;
     }
+
+pub plan_as : (plan other : PlanState) → plan ≡ other → IsPlan plan.customers plan.routes → IsPlan other.customers other.routes
+plan_as plan other e sound = subst (λ (s : PlanState). IsPlan s.customers s.routes) e sound

@@ -1,8 +1,8 @@
-use Rattle.std.proofs.Common.{◌≡◌, ◌∙◌, ◌∷◌, ◌++◌, ◌+◌, ◌-◌, ◌≤◌, ℕ, List, [], length, refl, ap, take, drop, drop-cons, add-one, subst, sym, arith, slice_index_or, Global}
+use Rattle.std.proofs.Common.{◌≡◌, ◌∙◌, ◌∷◌, ◌++◌, ◌+◌, ◌-◌, ◌<◌, ◌≤◌, ℕ, List, [], length, refl, ap, take, drop, drop-cons, add-one, subst, sym, arith, slice_index_or, Global}
 use Rattle.std.specs.declared.sync.Arc.{Arc}
 use Rattle.std.proofs.lemmas.List.{length-set, length-map, get_or-map, map-set, map_push, take_more_set, drop-set-lt}
 use Rattle.plan_core.specs.Plan.{AreApart, route_at, routes_of, changes_of, former, with_routes, with_stamps}
-use Rattle.plan_core.proofs.Exchange.{IsExchanging, exchanging_first, exchanging_step, gone_step, known_next}
+use Rattle.plan_core.proofs.Exchange.{IsExchanging, exchanging_first, exchanging_step, gone_step, known_next, next_vehicle, exchanged, homes_exchanged, gone_all}
 use Rattle.plan_core.proofs.replace.exchange_all.Goals as goal
 
 pub loop-k-init : goal.loop-k-init
@@ -67,3 +67,36 @@ loop-k-preserved c =
       sized = length-set c.loop-k.stamps (change.0 - 1) c.args.version ∙ c.loop-k.invariant.sized
           ∙ sym (length-set c.loop-k.routes (change.0 - 1) c.swap.new.x);
     }
+
+pub overflow_sub-vehicle : goal.overflow_sub-vehicle
+overflow_sub-vehicle c =
+    (next_vehicle _ _ _ c.index-changes-k.result _ _ _ _ _ _ c.loop-k-test.true c.loop-k.auto.changes c.loop-k.invariant.kept).0
+
+pub bounds-routes-vehicle : goal.bounds-routes-vehicle
+bounds-routes-vehicle c =
+    (next_vehicle _ _ _ c.index-changes-k.result _ _ _ _ _ _ c.loop-k-test.true c.loop-k.auto.changes c.loop-k.invariant.kept).1
+
+pub overflow_sub-stamps : goal.overflow_sub-stamps
+overflow_sub-stamps c =
+    (next_vehicle _ _ _ c.index-changes-k.result _ _ _ _ _ _ c.loop-k-test.true c.loop-k.auto.changes c.loop-k.invariant.kept).0
+
+pub bounds-stamps-vehicle : goal.bounds-stamps-vehicle
+bounds-stamps-vehicle c =
+    subst (λ (n : ℕ). (slice_index_or c.loop-k.changes c.loop-k.k c.index-changes-k.result).0 - 1 < n) (sym c.loop-k.invariant.sized)
+    (next_vehicle _ _ _ c.index-changes-k.result _ _ _ _ _ _ c.loop-k-test.true c.loop-k.auto.changes c.loop-k.invariant.kept).1
+
+pub returns-clause-routes : goal.returns-clause-routes
+returns-clause-routes c =
+    (exchanged _ _ _ _ _ _ _ _ _ c.loop-k-test.false c.loop-k.auto.changes c.loop-k.invariant.kept).made
+
+pub returns-clause-stamps : goal.returns-clause-stamps
+returns-clause-stamps c =
+    (exchanged _ _ _ _ _ _ _ _ _ c.loop-k-test.false c.loop-k.auto.changes c.loop-k.invariant.kept).stamped
+
+pub returns-clause-homes : goal.returns-clause-homes
+returns-clause-homes c =
+    homes_exchanged _ _ _ _ _ _ (exchanged _ _ _ _ _ _ _ _ _ c.loop-k-test.false c.loop-k.auto.changes c.loop-k.invariant.kept)
+
+pub returns-clause-former : goal.returns-clause-former
+returns-clause-former c =
+    gone_all _ _ _ _ _ c.loop-k-test.false c.loop-k.auto.changes c.loop-k.invariant.gone

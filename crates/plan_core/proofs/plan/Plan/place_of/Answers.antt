@@ -2,7 +2,7 @@ use Rattle.std.proofs.Common.{◌≡◌, ℕ, ◌-◌, ◌<◌, subst, arith, le
 use Rattle.std.proofs.lemmas.List.{get_or_default, length-map}
 use Rattle.plan_core.specs.Plan.{PlanState, StandsAt, route_at}
 use Rattle.plan_core.specs.Homes.{IsKept}
-use Rattle.plan_core.proofs.Places.{map_read, stands_in, only_there, not_there}
+use Rattle.plan_core.proofs.Places.{map_read, stands_in, only_there, not_there, plan_as}
 use Rattle.plan_core.proofs.Short.{short_read}
 use Rattle.plan_core.proofs.plan.Plan.place_of.Goals as goal
 use Rattle.plan_core.proofs.plan.Plan.place_of.Goals.{After-customers, In-None, In-Some}
@@ -65,3 +65,15 @@ pub returns-in-Some-clause-found : goal.returns-in-Some-clause-found
 returns-in-Some-clause-found c = λ v p s.
     only_there c.args.self.now.customers c.args.self.now.routes c.args.customer c.index-home.result.now c.in-Some.place v p
     (kept (goal.at.returns-in-Some-clause-found c).After-customers).sound (there c) s
+
+pub returns-then-customer-eq0-clause-sound : goal.returns-then-customer-eq0-clause-sound
+returns-then-customer-eq0-clause-sound c = plan_as _ c.args.self.now c.self.view_is c.self.invariant.sound
+
+pub returns-then-home-eq0-clause-sound : goal.returns-then-home-eq0-clause-sound
+returns-then-home-eq0-clause-sound c = plan_as _ c.args.self.now c.self.view_is c.self.invariant.sound
+
+pub returns-in-None-clause-sound : goal.returns-in-None-clause-sound
+returns-in-None-clause-sound c = plan_as _ c.args.self.now c.self.view_is c.self.invariant.sound
+
+pub returns-in-Some-clause-sound : goal.returns-in-Some-clause-sound
+returns-in-Some-clause-sound c = plan_as _ c.args.self.now c.self.view_is c.self.invariant.sound

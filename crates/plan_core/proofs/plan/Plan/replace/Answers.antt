@@ -1,6 +1,7 @@
 use Rattle.std.proofs.Common.{◌≡◌, ℕ, ◌+◌, ◌<◌, List, length, subst, sym, ap, ◌∙◌, Global}
+use Rattle.std.proofs.lemmas.List.{length-map}
 use Rattle.std.specs.declared.sync.Arc.{Arc}
-use Rattle.plan_core.specs.Plan.{PlanState, IsPlan, routes_of, changes_of, with_routes, with_stamps}
+use Rattle.plan_core.specs.Plan.{PlanState, IsPlan, AreApart, former, routes_of, changes_of, with_routes, with_stamps}
 use Rattle.plan_core.specs.Homes.{AreHomes}
 use Rattle.plan_core.proofs.Kept.{replaced_kept, written, kept_at}
 use Rattle.plan_core.proofs.plan.Plan.replace.Goals as goal
@@ -27,3 +28,31 @@ invariant_of-self c =
     (written c.self.inside.stamps.len c.exchange_all.new.stamps c.self.inside.stamps.items stamps_long ∙ stamps)
     (written c.self.inside.homes.len c.exchange_all.new.homes c.self.inside.homes.items homes_long)
     (replaced_kept changes _ c.self.inside.homes.items c.exchange_all.new.homes c.self.invariant sound room homes homes_same)
+
+pub exchange_all-requires-clause-apart : goal.exchange_all-requires-clause-apart
+exchange_all-requires-clause-apart c =
+    let long : length c.args.self.now.routes ≡ length c.self.inside.routes.items =
+    sym (ap (λ (s : PlanState). length s.routes) c.self.view_is) ∙ length-map c.self.inside.routes.items (λ r. r.value) in
+    rw (c.deref_mut.ensures.value, c.deref_mut-4.ensures.value) (subst (λ (n : ℕ). AreApart n (changes_of c.args.changes.items)) long c.requires.changes.apart)
+
+pub exchange_all-requires-clause-plan : goal.exchange_all-requires-clause-plan
+exchange_all-requires-clause-plan c =
+    let changes = changes_of c.args.changes.items in
+    let sound : IsPlan c.self.inside.customers (with_routes changes (routes_of c.self.inside.routes.items)) =
+    subst (λ (s : PlanState). IsPlan s.customers (with_routes changes s.routes)) (sym c.self.view_is) c.requires.plan in
+    rw (c.deref_mut.ensures.value, c.deref_mut-3.ensures.value, c.deref_mut-4.ensures.value, c.self.invariant.counted) sound
+
+pub exchange_all-requires-clause-homes : goal.exchange_all-requires-clause-homes
+exchange_all-requires-clause-homes c = rw (c.deref_mut.ensures.value, c.deref_mut-3.ensures.value) c.self.invariant.homes
+
+pub exchange_all-requires-clause-stamps : goal.exchange_all-requires-clause-stamps
+exchange_all-requires-clause-stamps c =
+    rw (c.deref_mut.ensures.value, c.deref_mut-2.ensures.value) (c.self.invariant.sizes.stamps ∙ length-map c.self.inside.routes.items (λ r. r.value))
+
+pub returns-clause-former : goal.returns-clause-former
+returns-clause-former c =
+    let routes = ap routes_of c.deref_mut.ensures.value ∙ ap (λ (s : PlanState). s.routes) c.self.view_is in
+    ap changes_of (written c.args.changes.len c.exchange_all.new.changes c.args.changes.items (c.exchange_all.auto.changes ∙ c.deref_mut-4.ensures.len))
+    ∙ c.exchange_all.ensures.former
+    ∙ ap (λ (rs : List (List ℕ)). former rs (changes_of c.deref_mut-4.result.now)) routes
+    ∙ ap (λ (xs : List (ℕ × Arc (List ℕ) Global)). former c.args.self.now.routes (changes_of xs)) c.deref_mut-4.ensures.value

@@ -1,0 +1,31 @@
+-- Lists to which a part is appended.
+use Rattle.std.proofs.Common.{◌≡◌, ◌∙◌, ℕ, ◌+◌, ◌<◌, ◌≤◌, sym, ap, arith, List, [], ◌∷◌, ◌++◌, length, take, get_or, append_assoc, Result, Ok, Err, is_ok, OnOk, if◌then◌else◌}
+use Rattle.std.proofs.lemmas.List.{take_more, take_all}
+
+-- one more element of it
+pub part_more : {X : Type 0} (new list old part : List X) (i : ℕ) (x : X) → new ≡ list ++ x ∷ [] → list ≡ old ++ take i part → x ≡ get_or part i x → i < length part
+    → new ≡ old ++ take (i + 1) part
+part_more new list old part i x push front is h =
+    push ∙ ap (λ xs. xs ++ x ∷ []) front ∙ append_assoc old (take i part) (x ∷ [])
+    ∙ ap (λ xs. old ++ xs) (ap (λ y. take i part ++ y ∷ []) is ∙ sym (take_more part i x h))
+
+-- all of its elements
+pub part_all : {X : Type 0} (list old part : List X) (i : ℕ) → list ≡ old ++ take i part → length part ≤ i → list ≡ old ++ part
+part_all list old part i front h = front ∙ ap (λ xs. old ++ xs) (take_all i part h)
+
+pub room_left : (len old part most cap i : ℕ) → len ≡ old + i → most ≤ cap → old + part ≤ most → i < part → len < cap
+room_left len old part most cap i e more room h = omega arith
+
+pub count_more : (new len old i : ℕ) → new ≡ len + 1 → len ≡ old + i → new ≡ old + (i + 1)
+count_more new len old i push e = omega arith
+
+pub count_all : (len old part i : ℕ) → len ≡ old + i → i ≤ part → part ≤ i → len ≡ old + part
+count_all len old part i e low high = omega arith
+
+pub capacity_kept : (new cap old : ℕ) → old ≤ cap → new ≡ cap → old ≤ new
+capacity_kept new cap old h e = omega arith
+
+-- what a result gives where there is a value
+pub given : {T E X : Type 0} (r : Result T E) (x y z : X) → x ≡ (if is_ok r then y else z) → OnOk r (x ≡ y)
+given (Ok t) x y z e = e
+given (Err n) x y z e = tt
