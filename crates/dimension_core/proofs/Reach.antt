@@ -1,8 +1,11 @@
-use Rattle.std.proofs.Common.{◌≡◌, ℕ, suc, ◌+◌, ◌-◌, ◌<◌, ◌≤◌, ◌∙◌, sym, ap, subst, refl, arith, Bool, true, false, List, [], ◌∷◌, ◌++◌, length, take, drop, slice_index, slice_index_or, is_some, IsTrue, ◌↔◌, ◌⊎◌, inl, inr, Option, Some, None}
+use Rattle.std.proofs.Common.{◌≡◌, ℕ, suc, ◌+◌, ◌-◌, ◌<◌, ◌≤◌, ◌==◌, ◌∙◌, sym, ap, subst, refl, arith, Bool, true, false, List, [], ◌∷◌, ◌++◌, length, take, drop, slice_index, slice_index_or, is_some, IsTrue, ◌↔◌, ◌⊎◌, inl, inr, Option, Some, None}
 use Rattle.std.specs.Bool.{OnTrue}
 use Rattle.std.proofs.Math.Logic.{∥∥₁_elim, ∥∥₁_map}
 use Rattle.std.proofs.Props.{props}
+use Rattle.std.proofs.lemmas.Bool.{eqb-true}
 use Rattle.std.proofs.lemmas.List.{take_more, take_all, take-append-drop}
+use Rattle.callback_store.specs.declared.meter.Meter.{Meter}
+use Rattle.callback_store.specs.Meter.{AsksAtMost, asks_wider}
 use Rattle.callback_store.specs.Tables.{Table}
 use Rattle.dimension_core.specs.declared.range.Range.{Range}
 use Rattle.dimension_core.specs.Cumuls.{Bounds, IsCumul, IsStart, IsStep, IsWithin, IsSpan, GoOn, AreCumuls, Reaches, last_of, IsInBounds, IsEarly, route_asks}
@@ -15,6 +18,20 @@ on_true true P p = p refl
 pub asks_some : (route : List ℕ) → 0 < length route → route_asks route ≡ length route + 1
 asks_some [] h = absurd (omega arith)
 asks_some (c ∷ cs) h = refl
+
+pub some_node : (route : List ℕ) → false ≡ (length route == 0) → 0 < length route
+some_node [] e = absurd cc
+some_node (c ∷ cs) e = omega arith
+
+pub no_node : (route : List ℕ) → true ≡ (length route == 0) → route ≡ []
+no_node [] e = refl
+no_node (c ∷ cs) e = let h = eqb-true (length (c ∷ cs)) 0 (sym e) in absurd (omega arith)
+
+pub before_end : (n : ℕ) → 0 < n → n - 1 < n
+before_end n h = omega arith
+
+pub asks_fewer : (a b : Meter) (n m : ℕ) → AsksAtMost a b n → m ≡ n + 1 → AsksAtMost a b m
+asks_fewer a b n m p e = asks_wider a b 0 n 0 m p (omega arith) (omega arith)
 
 pub last_of-push : (n : ℕ) (ms : List ℕ) (m : ℕ) → last_of n (ms ++ m ∷ []) ≡ m
 last_of-push n [] m = refl

@@ -29,3 +29,20 @@ capacity_kept new cap old h e = omega arith
 pub given : {T E X : Type 0} (r : Result T E) (x y z : X) → x ≡ (if is_ok r then y else z) → OnOk r (x ≡ y)
 given (Ok t) x y z e = e
 given (Err n) x y z e = tt
+
+-- four parts, one after the other
+pub four_parts : {X : Type 0} (start one two three a b d e : List X) → start ≡ [] → one ≡ start ++ a → two ≡ one ++ b → three ≡ two ++ d
+    → three ++ e ≡ a ++ (b ++ (d ++ e))
+four_parts start one two three a b d e none first second third =
+    ap (λ xs. xs ++ e) (third ∙ ap (λ xs. xs ++ d) (second ∙ ap (λ xs. xs ++ b) (first ∙ ap (λ xs. xs ++ a) none)))
+    ∙ append_assoc (a ++ b) d e ∙ append_assoc a b (d ++ e)
+
+-- and room for those that are left
+pub room_all : (len a b d e cap : ℕ) → len + (a + b + d + e) ≤ cap → len + (a + (b + (d + e))) ≤ cap
+room_all len a b d e cap h = omega arith
+
+pub room_next : (new len a rest more cap : ℕ) → len + (a + rest) ≤ cap → new ≡ len + a → cap ≤ more → new + rest ≤ more
+room_next new len a rest more cap h e l = omega arith
+
+pub room_now : (len a rest cap : ℕ) → len + (a + rest) ≤ cap → len + a ≤ cap
+room_now len a rest cap h = omega arith

@@ -1,6 +1,8 @@
 -- The fields of a line are read one after the other.
-use Rattle.std.proofs.Common.{◌≡◌, ℕ, List, [], ◌∷◌, length, map, get_or, take, Bor, Result, Ok, Bool, true, false, cond, eqb, refl, ap, ◌∙◌, arith}
+use Rattle.std.proofs.Common.{◌≡◌, ℕ, List, [], ◌∷◌, length, map, get_or, take, Bor, Result, Ok, Err, Bool, true, false, ◌<◌, ◌≤◌, cond, eqb, refl, sym, subst, ap, ◌∙◌, arith}
 use Rattle.std.specs.Prelude.{◌&&◌, ◌||◌, nat_lt, nat_le}
+use Rattle.std.specs.Result.{IsErr, IsErrAnd}
+use Rattle.std.proofs.lemmas.Bool.Decides.{nat_tests}
 use Rattle.text_words.specs.Words.{words}
 use Rattle.solomon_reader.specs.Cuts.{Numbered, numbered}
 use Rattle.solomon_reader.specs.Fields.{is_field, field_value}
@@ -11,7 +13,30 @@ use Rattle.solomon_reader.specs.declared.instance.Node.{Node}
 use Rattle.solomon_reader.specs.Checks.{Fault, fault, checked, value_at, fleet_line_checks, row_checks}
 use Rattle.solomon_reader.proofs.Booleans.{not_two, not_seven}
 use Rattle.solomon_reader.specs.Parts.{◌>>=◌, number_field, need, fleet_of, fleet_read, row_fields_of, row_of}
-use Rattle.solomon_reader.specs.Reading.{node_of}
+use Rattle.solomon_reader.specs.declared.fault.ReadFault.{ReadFault}
+use Rattle.solomon_reader.specs.declared.fault.ReadFault.TheVariants.{NoMemory, At}
+use Rattle.solomon_reader.specs.Reading.{Fails, Gives, node_of}
+
+-- ---- what fails first
+
+fails_as : {Y : Type 0} (bad : ReadFault) (r s : Result Y Fault) → r ≡ s → Fails bad s → Fails bad r
+fails_as {Y = Y} bad r s e h = subst (λ (x : Result Y Fault). Fails bad x) (sym e) h
+
+pub step_bad : {A B : Type 0} (bad : ReadFault) (r : Result A Fault) (f : A → Result B Fault) → Fails bad r → Fails bad (r >>= f)
+step_bad NoMemory r f h = tt
+step_bad (At k n) r f h = rw h refl
+
+pub after_ok : {A B : Type 0} (bad : ReadFault) (r : Result A Fault) (f : A → Result B Fault) (x : A) → r ≡ Ok x → Fails bad (f x) → Fails bad (r >>= f)
+after_ok bad r f x e h = fails_as bad (r >>= f) (f x) (rw e refl) h
+
+-- a fault that is passed on
+pub fault_given : {X Y : Type 0} (view : X → Y) (r : Result X ReadFault) (bad : ReadFault) (read : Result Y Fault) → IsErr r × IsErrAnd r (λ e. e ≡ bad) → Fails bad read → Gives view r read
+fault_given view (Ok x) bad read h k = absurd (cc)
+fault_given view (Err e) bad read h k = subst (λ (f : ReadFault). Fails f read) (sym h.1) k
+
+-- a field by its place
+abbrev pub field_at : ℕ → List (Bor (List ℕ)) → ℕ → Result ℕ Fault
+field_at n ws i = number_field (get_or ws i (record { ref_ptr = (0, 0); now = [] })).now n
 
 -- ---- the fleet
 
@@ -38,6 +63,26 @@ fleet_checked n (x ∷ []) = refl
 fleet_checked n (x ∷ y ∷ []) = two n (field_value x) (field_value y) (is_field x) (is_field y)
 fleet_checked n (x ∷ y ∷ z ∷ more) = rw (not_two (length more)) refl
 
+-- its two fields by their places
+abbrev pair_values : ℕ → List (Bor (List ℕ)) → Result (ℕ × ℕ) Fault
+pair_values n ws = field_at n ws 0 >>= λ v. field_at n ws 1 >>= λ w. need (nat_le 1 v && nat_le v 1000) Count n >>= λ _. pair_of v w
+
+fleet_two : (n : ℕ) (ws : List (Bor (List ℕ))) → 2 ≤ length ws → length ws < 3 → fleet_of n (map (λ w. w.now) ws) ≡ pair_values n ws
+unfolding fleet_of
+fleet_two n [] le lt = absurd (omega arith)
+fleet_two n (x ∷ []) le lt = absurd (omega arith)
+fleet_two n (x ∷ y ∷ []) le lt = refl
+fleet_two n (x ∷ y ∷ z ∷ more) le lt = absurd (omega arith)
+
+pub fleet_fails : (bad : ReadFault) (n : ℕ) (ws : List (Bor (List ℕ))) → 2 ≤ length ws → length ws < 3 → Fails bad (pair_values n ws) → Fails bad (fleet_of n (map (λ w. w.now) ws))
+fleet_fails bad n ws le lt h = fails_as bad (fleet_of n (map (λ w. w.now) ws)) (pair_values n ws) (fleet_two n ws le lt) h
+
+in_range : (v : ℕ) → 1 ≤ v → v ≤ 1000 → (nat_le 1 v && nat_le v 1000) ≡ true
+in_range v ge le = grind (arith, nat_tests)
+
+pub fleet_made : (n v w : ℕ) (ws : List (Bor (List ℕ))) → 2 ≤ length ws → length ws < 3 → field_at n ws 0 ≡ Ok v → field_at n ws 1 ≡ Ok w → 1 ≤ v → v ≤ 1000 → fleet_of n (map (λ w. w.now) ws) ≡ Ok (v, w)
+fleet_made n v w ws le lt e f ge most = fleet_two n ws le lt ∙ rw (e, f, in_range v ge most) refl
+
 -- ---- a node row
 
 seven_list : {A : Type 0} (ws : List A) (d : A) → length ws ≡ 7 → ws ≡ get_or ws 0 d ∷ get_or ws 1 d ∷ get_or ws 2 d ∷ get_or ws 3 d ∷ get_or ws 4 d ∷ get_or ws 5 d ∷ get_or ws 6 d ∷ []
@@ -59,6 +104,18 @@ row_values n a b c d e f g =
 pub row_seven : (n : ℕ) (ws : List (Bor (List ℕ))) (d : Bor (List ℕ)) → length ws ≡ 7 → row_fields_of n (map (λ w. w.now) ws) ≡ row_values n (get_or ws 0 d).now (get_or ws 1 d).now (get_or ws 2 d).now (get_or ws 3 d).now (get_or ws 4 d).now (get_or ws 5 d).now (get_or ws 6 d).now
 unfolding row_fields_of
 row_seven n ws d e = ap (λ (l : List (Bor (List ℕ))). row_fields_of n (map (λ w. w.now) l)) (seven_list ws d e)
+
+abbrev values_at : ℕ → List (Bor (List ℕ)) → Result (ℕ × Node) Fault
+values_at n ws =
+    field_at n ws 0 >>= λ place. field_at n ws 1 >>= λ x. field_at n ws 2 >>= λ y. field_at n ws 3 >>= λ demand. field_at n ws 4 >>= λ ready. field_at n ws 5 >>= λ due. field_at n ws 6 >>= λ service. Ok (place, record { x = x; y = y; demand = demand; ready = ready; due = due; service = service })
+
+pub row_fails : (bad : ReadFault) (n : ℕ) (ws : List (Bor (List ℕ))) → 7 ≤ length ws → length ws < 8 → Fails bad (values_at n ws) → Fails bad (row_fields_of n (map (λ w. w.now) ws))
+row_fails bad n ws le lt h = fails_as bad (row_fields_of n (map (λ w. w.now) ws)) (values_at n ws) (row_seven n ws (record { ref_ptr = (0, 0); now = [] }) (omega arith)) h
+
+pub row_made : (n : ℕ) (ws : List (Bor (List ℕ))) (place x y demand ready due service : ℕ) → 7 ≤ length ws → length ws < 8 → field_at n ws 0 ≡ Ok place → field_at n ws 1 ≡ Ok x → field_at n ws 2 ≡ Ok y → field_at n ws 3 ≡ Ok demand
+    → field_at n ws 4 ≡ Ok ready → field_at n ws 5 ≡ Ok due → field_at n ws 6 ≡ Ok service
+    → row_fields_of n (map (λ w. w.now) ws) ≡ Ok (place, record { x = x; y = y; demand = demand; ready = ready; due = due; service = service })
+row_made n ws place x y demand ready due service le lt a b c d e f g = row_seven n ws (record { ref_ptr = (0, 0); now = [] }) (omega arith) ∙ rw (a, b, c, d, e, f, g) refl
 
 abbrev row_pair : ℕ → ℕ → ℕ → ℕ → ℕ → ℕ → ℕ → Result (ℕ × Node) Fault
 row_pair place x y demand ready due service = Ok (place, record { x = x; y = y; demand = demand; ready = ready; due = due; service = service })
