@@ -36,7 +36,35 @@ struct Tally {
     differ: u32,
 }
 
-/// Compares the next answers near two vehicles, and has the move skipped that they name: whether there is one.
+impl Tally {
+    /// Counts two answers that differ.
+    fn count(&mut self, same: bool) {
+        if !same {
+            self.differ = self.differ.wrapping_add(1);
+        }
+    }
+}
+
+/// The next answer near two vehicles, which both ways of asking have to give.
+fn ask_both<R: Abort + AllocGlobal>(
+    rt: &R,
+    setup: &Setup,
+    view: &View,
+    near: (u32, u32),
+    tally: &mut Tally,
+) -> Option<(Move, u64)>
+    requires view { IsViewOf (setting setup.now) view.now }
+    requires v { (1 ≤ near.0) × (near.0 ≤ (setting setup.now).vehicles) }
+    requires w { (1 ≤ near.1) × (near.1 ≤ (setting setup.now).vehicles) }
+{
+    let (v, w) = near;
+    let found = best_move(rt.alloc(), view, setup, v, w, &tally.skip).expect(rt, "memory");
+    let again = tally.searcher.best_move(view, setup, v, w, &tally.skip);
+    tally.count(found == again.expect(rt, "memory"));
+    found
+}
+
+/// Compares the next answer near two vehicles, and has the move skipped that it names: whether there is one.
 fn compare_answer<R: Abort + AllocGlobal>(
     rt: &R,
     setup: &Setup,
@@ -49,15 +77,10 @@ fn compare_answer<R: Abort + AllocGlobal>(
     requires v { (1 ≤ near.0) × (near.0 ≤ (setting setup.now).vehicles) }
     requires w { (1 ≤ near.1) × (near.1 ≤ (setting setup.now).vehicles) }
 {
-    let (v, w) = near;
-    let found = best_move(rt.alloc(), view, setup, v, w, &tally.skip).expect(rt, "memory");
-    let again = tally.searcher.best_move(view, setup, v, w, &tally.skip);
-    let again = again.expect(rt, "memory");
+    let found = ask_both(rt, setup, view, near, tally);
     let wanted = plain_best(rt, setup, plan, view, near, &tally.skip);
+    tally.count(found == wanted);
     tally.answers = tally.answers.wrapping_add(1);
-    if found != wanted || again != wanted {
-        tally.differ = tally.differ.wrapping_add(1);
-    }
     match found {
         None => false,
         Some((mv, _)) => {
@@ -89,6 +112,24 @@ fn compare_near<R: Abort + AllocGlobal>(
     }
 }
 
+/// Compares the answers near all vehicles of a view of three.
+fn compare_pairs<R: Abort + AllocGlobal>(
+    rt: &R,
+    setup: &Setup,
+    plan: &Plan,
+    view: &View,
+    tally: &mut Tally,
+)
+    requires view { IsViewOf (setting setup.now) view.now }
+    requires vehicles { (setting setup.now).vehicles ≡ 3 }
+{
+    for v in 1..4u32 {
+        for w in 1..4u32 {
+            compare_near(rt, setup, plan, view, (v, w), tally);
+        }
+    }
+}
+
 /// Compares the answers near all vehicles of a random view of three vehicles.
 fn compare_view<R: Abort + AllocGlobal>(
     rt: &R,
@@ -105,11 +146,7 @@ fn compare_view<R: Abort + AllocGlobal>(
     let plan = some_plan(rt, alloc, setup, customers, rng);
     let view = some_view(rt, alloc, &plan, rng);
     if is_view(setup, &plan, &view) {
-        for v in 1..4u32 {
-            for w in 1..4u32 {
-                compare_near(rt, setup, &plan, &view, (v, w), tally);
-            }
-        }
+        compare_pairs(rt, setup, &plan, &view, tally);
     }
 }
 
@@ -142,6 +179,53 @@ fn listed_costs(
     registry.register_matrix(ways).expect(rt, "room")
 }
 
+/// A setup of a sample by the costs of ways, the times of drives and the demands.
+fn some_setup(
+    rt: &impl Abort,
+    alloc: Global,
+    sample: Sample,
+    ways: Transit,
+    drives: Transit,
+    wants: Unary,
+    rng: &mut Lcg64Xsh32,
+) -> Setup
+    requires { (1 ≤ sample.rooms) × (sample.rooms ≤ 140) }
+    ensures customers { (setting result).customers ≡ 7 * sample.rooms }
+    ensures vehicles { (setting result).vehicles ≡ 3 }
+{
+    let rooms = sample.rooms;
+    let mut registry = Registry::new(alloc);
+    let cost = if sample.listed {
+        listed_costs(rt, alloc, &mut registry, 7 * rooms + 1, rng)
+    } else {
+        registry.register(ways).expect(rt, "room")
+    };
+    let time = registry.register(drives).expect(rt, "room");
+    let load = registry.register_unary(wants).expect(rt, "room");
+    let dimensions = some_dimensions(rt, alloc, &registry, (load, time), rooms, rng);
+    let setup = Setup::new(7 * rooms, 3, registry, dimensions, cost, 9).expect(rt, "setup");
+    setup
+}
+
+/// Compares the answers on some views of a setup.
+fn compare_views<R: Abort + AllocGlobal>(
+    rt: &R,
+    alloc: Global,
+    setup: &Setup,
+    sample: Sample,
+    rng: &mut Lcg64Xsh32,
+    tally: &mut Tally,
+)
+    requires rooms { (1 ≤ sample.rooms) × (sample.rooms ≤ 140) }
+    requires customers { (setting setup.now).customers ≡ 7 * sample.rooms }
+    requires vehicles { (setting setup.now).vehicles ≡ 3 }
+{
+    let customers = 7 * sample.rooms;
+    for _ in 0..sample.views {
+        compare_view(rt, alloc, setup, customers, rng, tally);
+    }
+}
+
 /// Compares the answers on some views of a random setup, whose callbacks are not the same both ways.
 fn compare_setup<R: Abort + AllocGlobal>(
     rt: &R,
@@ -152,12 +236,7 @@ fn compare_setup<R: Abort + AllocGlobal>(
 )
     requires { (1 ≤ sample.rooms) × (sample.rooms ≤ 140) }
 {
-    let Sample {
-        rooms,
-        views,
-        listed,
-    } = sample;
-    let customers = 7 * rooms;
+    let nodes = 7 * sample.rooms + 1;
     let (first, second, third) = (below(rng, 1000), below(rng, 1000), below(rng, 1000));
     let cost = Box::new(
         alloc,
@@ -165,34 +244,23 @@ fn compare_setup<R: Abort + AllocGlobal>(
             ensures { result ≡ (31 * i + 17 * j + first % 1000) % 101 }
         { (31 * u64::from(i) + 17 * u64::from(j) + u64::from(first % 1000)) % 101 },
     );
+    let ways = Transit::new(nodes, cost.expect(rt, "memory"));
     let time = Box::new(
         alloc,
         move |i: u32, j: u32| -> u64
             ensures { result ≡ (19 * i + 43 * j + second % 1000) % 101 }
         { (19 * u64::from(i) + 43 * u64::from(j) + u64::from(second % 1000)) % 101 },
     );
+    let drives = Transit::new(nodes, time.expect(rt, "memory"));
     let load = Box::new(
         alloc,
         move |i: u32| -> u64
             ensures { result ≡ (3 * i + third % 1000) % 5 }
         { (3 * u64::from(i) + u64::from(third % 1000)) % 5 },
     );
-    let ways = Transit::new(customers + 1, cost.expect(rt, "memory"));
-    let drives = Transit::new(customers + 1, time.expect(rt, "memory"));
-    let wants = Unary::new(customers + 1, load.expect(rt, "memory"));
-    let mut registry = Registry::new(alloc);
-    let cost = if listed {
-        listed_costs(rt, alloc, &mut registry, customers + 1, rng)
-    } else {
-        registry.register(ways).expect(rt, "room")
-    };
-    let time = registry.register(drives).expect(rt, "room");
-    let load = registry.register_unary(wants).expect(rt, "room");
-    let dimensions = some_dimensions(rt, alloc, &registry, (load, time), rooms, rng);
-    let setup = Setup::new(customers, 3, registry, dimensions, cost, 9).expect(rt, "setup");
-    for _ in 0..views {
-        compare_view(rt, alloc, &setup, customers, rng, tally);
-    }
+    let wants = Unary::new(nodes, load.expect(rt, "memory"));
+    let setup = some_setup(rt, alloc, sample, ways, drives, wants, rng);
+    compare_views(rt, alloc, &setup, sample, rng, tally);
 }
 
 /// Compares the answers on some views of each of some random setups: so many are compared, so many of them name a move, and so many differ.

@@ -61,7 +61,42 @@ fn ranges(
     ranges
 }
 
-/// A dimension of loads and one of times, by the transits of these numbers, in which there is room for `rooms` times seven customers.
+/// A dimension of loads, in which there is room for `rooms` times seven customers.
+fn some_loads(
+    rt: &impl Abort,
+    alloc: Global,
+    registry: &Registry,
+    load: TransitId,
+    rooms: u32,
+    rng: &mut Lcg64Xsh32,
+) -> Dimension
+    requires { (1 ≤ rooms) × (rooms ≤ 140) }
+{
+    let parts = ranges(rt, alloc, 7 * rooms, 1, 900, rng);
+    let room = caps(rt, alloc, 8 * rooms, rng);
+    let loads = Dimension::new(registry, load, 0, room, true, parts);
+    loads.expect(rt, "bounds")
+}
+
+/// A dimension of times, in which there is room for `rooms` times seven customers.
+fn some_times(
+    rt: &impl Abort,
+    alloc: Global,
+    registry: &Registry,
+    time: TransitId,
+    rooms: u32,
+    rng: &mut Lcg64Xsh32,
+) -> Dimension
+    requires { (1 ≤ rooms) × (rooms ≤ 140) }
+{
+    let parts = ranges(rt, alloc, 7 * rooms, 150 * rooms, 250 * rooms, rng);
+    let slack = u64::from(below(rng, 100));
+    let room = caps(rt, alloc, 400 * rooms, rng);
+    let times = Dimension::new(registry, time, slack, room, false, parts);
+    times.expect(rt, "bounds")
+}
+
+/// A dimension of loads and one of times, by the transits of these numbers.
 pub(crate) fn some_dimensions(
     rt: &impl Abort,
     alloc: Global,
@@ -73,21 +108,11 @@ pub(crate) fn some_dimensions(
     requires { (1 ≤ rooms) × (rooms ≤ 140) }
 {
     let (load, time) = ids;
-    let customers = 7 * rooms;
-    let parts = ranges(rt, alloc, customers, 1, 900, rng);
-    let room = caps(rt, alloc, 8 * rooms, rng);
-    let loads = Dimension::new(registry, load, 0, room, true, parts);
-    let parts = ranges(rt, alloc, customers, 150 * rooms, 250 * rooms, rng);
-    let slack = u64::from(below(rng, 100));
-    let room = caps(rt, alloc, 400 * rooms, rng);
-    let times = Dimension::new(registry, time, slack, room, false, parts);
     let mut dimensions = Vec::new(alloc);
-    dimensions
-        .push(loads.expect(rt, "bounds"))
-        .expect(rt, "memory");
-    dimensions
-        .push(times.expect(rt, "bounds"))
-        .expect(rt, "memory");
+    let loads = some_loads(rt, alloc, registry, load, rooms, rng);
+    dimensions.push(loads).expect(rt, "memory");
+    let times = some_times(rt, alloc, registry, time, rooms, rng);
+    dimensions.push(times).expect(rt, "memory");
     dimensions
 }
 

@@ -1,20 +1,10 @@
-use Rattle.std.proofs.Common.{Fits, w32, ℕ, ◌≤◌, ◌+◌, ◌*◌, ◌%◌, ap, refl, rules, arith}
+use Rattle.std.proofs.Common.{Fits, w32, ℕ, ◌≤◌, ◌+◌, ◌*◌, ◌%◌, refl, rules, arith}
 use borrow.Pointer.Called.{post_made}
 use Rattle.callback_store.specs.Boxed.{post_of_closure}
 use Rattle.callback_store.specs.Closures.{pairs_of_function, table_of_function}
-use Rattle.dimension_core.specs.Setting.{Setting}
+use Rattle.neighbourhood_tests.proofs.Sizes.{customers_fit, nodes_fit}
 use Rattle.neighbourhood_tests.proofs.tests.compare_setup.OwnLists.{own-1, at-1-1, at-1-2, own-2, at-2-1}
 use Rattle.neighbourhood_tests.proofs.tests.compare_setup.Goals as goal
-
--- the customers and the nodes are few
-customers_fit : (rooms : ℕ) → rooms ≤ 140 → Fits w32 (7 * rooms)
-customers_fit rooms few = omega arith
-
-nodes_fit : (rooms : ℕ) → rooms ≤ 140 → Fits w32 (7 * rooms + 1)
-nodes_fit rooms few = omega arith
-
-some_customers : (rooms : ℕ) → 1 ≤ rooms → rooms ≤ 140 → (1 ≤ 7 * rooms) × (7 * rooms ≤ 1000)
-some_customers rooms some few = (omega arith, omega arith)
 
 pub new-ways-requires-clause-table : goal.new-ways-requires-clause-table
 new-ways-requires-clause-table g c =
@@ -46,26 +36,8 @@ new-wants-requires-clause-table g c =
           (λ i h. omega arith),
     )
 
-pub overflow_mul-customers : goal.overflow_mul-customers
-overflow_mul-customers g c = customers_fit c.args.sample.rooms c.requires.1
+pub overflow_mul-nodes : goal.overflow_mul-nodes
+overflow_mul-nodes g c = customers_fit c.args.sample.rooms c.requires.1
 
-pub overflow_add-customers : goal.overflow_add-customers
-overflow_add-customers g c = nodes_fit c.args.sample.rooms c.requires.1
-
-pub overflow_add-customers-2 : goal.overflow_add-customers-2
-overflow_add-customers-2 g c = nodes_fit c.args.sample.rooms c.requires.1
-
-pub overflow_add-customers-3 : goal.overflow_add-customers-3
-overflow_add-customers-3 g c = nodes_fit c.args.sample.rooms c.requires.1
-
-pub some_dimensions-dimensions-requires : goal.some_dimensions-dimensions-requires
-some_dimensions-dimensions-requires g c = c.requires
-
-pub compare_view-requires-clause-some : goal.compare_view-requires-clause-some
-compare_view-requires-clause-some g c = some_customers c.args.sample.rooms c.requires.0 c.requires.1
-
-pub compare_view-requires-clause-vehicles : goal.compare_view-requires-clause-vehicles
-compare_view-requires-clause-vehicles g c = ap (λ (s : Setting). s.vehicles) (rw c.expect-setup.ensures at c.new.ensures.ok)
-
-pub compare_view-requires-clause-customers : goal.compare_view-requires-clause-customers
-compare_view-requires-clause-customers g c = ap (λ (s : Setting). s.customers) (rw c.expect-setup.ensures at c.new.ensures.ok)
+pub overflow_add-nodes : goal.overflow_add-nodes
+overflow_add-nodes g c = nodes_fit c.args.sample.rooms c.requires.1
