@@ -1,11 +1,10 @@
-//! Boards that are called directly. Their calls are read from lines, each with ` => ` and what is wanted of it in some tables.
-ghost use Rattle.std.specs.Prelude.{◌≡◌};
-
-use crate::comparing::{compare_told, compare_written};
-use board_core::{AskFault, Board, Call, Denial, Event, Fault, Reply, Review};
-use board_lines::{Command, read_line};
-use callback_store::{Meter, Registry, Transit};
-use dimension_core::{Dimension, Range, Setup};
+//! Boards that are called directly.
+use crate::comparing::{all_written, same};
+use crate::scripts::{answers, cut, event_of, next_turn};
+use crate::setups::{Bounds, Sizes, board_of};
+use board_core::{AskFault, Board, Delta, Fault, Reply, Review};
+use callback_store::Meter;
+use dimension_core::Range;
 use plan_core::Route;
 use range_cache::JudgeFault;
 use rbac_core::{Object, Operation};
@@ -13,39 +12,33 @@ use std::alloc::Global;
 use std::process::Abort;
 use std::sync::Arc;
 
-/// The call of a line, if it is one.
-pub(crate) fn call_of(alloc: Global, line: &str) -> Option<Call> {
-    match read_line(alloc, line.as_bytes()) {
-        Ok(Command::Submit(call)) => Some(call),
-        _ => None,
-    }
-}
-
-/// A call as the next event of desk 1, which alone has turns.
-pub(crate) fn next_event(rt: &impl Abort, board: &Board, call: Call) -> Event {
-    let turn = u32::try_from(board.events())
-        .expect(rt, "few events")
-        .saturating_add(1);
-    Event {
-        desk: 1,
-        turn,
-        call,
-    }
-}
-
-fn event(rt: &impl Abort, alloc: Global, board: &Board, line: &str) -> Event {
-    next_event(rt, board, call_of(alloc, line).expect(rt, "a call"))
-}
-
 // ---- what calls make different
 
-/// The text of what a call makes different, which is then put in place.
-fn difference(rt: &impl Abort, alloc: Global, board: &mut Board, line: &str) -> String {
-    let event = event(rt, alloc, board, line);
-    let mut meter = Meter::new();
-    let prepared = board.prepare(event, &mut meter).expect(rt, "a judged call");
-    let delta = prepared.delta().expect(rt, "memory");
+/// Gives a call as the first event of desk 1, and compares what comes of it, and how many events there are.
+fn take_first(
+    rt: &impl Abort,
+    alloc: Global,
+    board: &mut Board,
+    line: &str,
+    wanted: Result<Reply, Fault>,
+) {
+    let event = event_of(alloc, 1, line).expect(rt, "a call");
+    let found = board.apply(event, &mut Meter::new());
+    same(rt, (found, board.events()), (wanted, 1), line);
+}
+
+/// What a call makes different, which is then put in place.
+fn difference(alloc: Global, board: &mut Board, line: &str) -> Option<Delta> {
+    let event = event_of(alloc, next_turn(board), line)?;
+    let Ok(prepared) = board.prepare(event, &mut Meter::new()) else {
+        return None;
+    };
+    let delta = prepared.delta();
     board.settle(prepared);
+    delta.ok()
+}
+
+fn text_of(alloc: Global, delta: &Delta) -> Option<String> {
     format!(in alloc;
         "{:?} {:?} {:?} {}",
         delta.places(),
@@ -53,47 +46,15 @@ fn difference(rt: &impl Abort, alloc: Global, board: &mut Board, line: &str) -> 
         delta.frozen(),
         delta.version()
     )
-    .expect(rt, "memory")
+    .ok()
 }
 
-/// Makes the calls of a text one after another, and compares what they make different.
-fn differences(rt: &impl Abort, alloc: Global, board: &mut Board, text: &str) {
-    for row in text.split('\n') {
-        let (line, wanted) = row.split_once(" => ").expect(rt, "a reply");
-        let found = difference(rt, alloc, board, line);
-        compare_told(rt, &found, wanted, line);
-    }
-}
-
-/// An event is taken once: with the same tag it is out of turn, and is not journaled.
-fn twice(rt: &impl Abort, alloc: Global, board: &mut Board, line: &str) {
-    let call = call_of(alloc, line).expect(rt, "a call");
-    let first = Event {
-        desk: 1,
-        turn: 1,
-        call,
-    };
-    let reply = board.apply(first, &mut Meter::new());
-    compare_answer(rt, reply, Ok(Reply::Done), board);
-    let call = call_of(alloc, line).expect(rt, "a call");
-    let again = Event {
-        desk: 1,
-        turn: 1,
-        call,
-    };
-    let reply = board.apply(again, &mut Meter::new());
-    compare_answer(rt, reply, Err(Fault::OutOfTurn), board);
-}
-
-/// Compares what came of the first event, which alone is in the journal.
-fn compare_answer(
-    rt: &impl Abort,
-    found: Result<Reply, Fault>,
-    wanted: Result<Reply, Fault>,
-    board: &Board,
-) {
-    assert_eq!(rt; found, wanted);
-    assert_eq!(rt; board.events(), 1);
+/// Makes the call of a row, and compares what it makes different.
+fn compare_difference(rt: &impl Abort, alloc: Global, board: &mut Board, row: &str) {
+    let (line, wanted) = cut(row);
+    let delta = difference(alloc, board, line).expect(rt, "a judged call");
+    let found = text_of(alloc, &delta).expect(rt, "memory");
+    same(rt, found.as_str(), wanted, line);
 }
 
 /// The places of customers, the pins and the frozen lengths that a call makes different, and the version after it.
@@ -123,63 +84,91 @@ const DIFFERENCES: &str = "\
 1 pin 5 => [] [(5, Some(1))] [] 11\n\
 1 freeze 2 2 => [] [] [(2, 2)] 11";
 
-/// What the board says of itself after those.
-fn compare_board(rt: &impl Abort, board: &Board) {
-    let sizes = (
-        board.setup().customers(),
-        board.setup().vehicles(),
-        board.desks(),
-    );
-    assert_eq!(rt; sizes, (5, 2, 2));
-    let counts = (board.turns(1), board.turns(2), board.events());
-    assert_eq!(rt; counts, (25, 0, 25));
-    assert_eq!(rt; (board.version(), board.plan().version()), (11, 11));
-    assert_eq!(rt;
-        (board.place_of(3), board.place_of(4)),
-        (None, Some((2, 2)))
-    );
-    let held = (board.pinned(4), board.pinned(5));
-    assert_eq!(rt;
-        (held, board.frozen(1), board.frozen(2)),
-        ((None, Some(1)), 0, 2)
-    );
-    compare_route(rt, board.route(1).customers(), &[5]);
-    compare_route(rt, board.route(2).customers(), &[1, 4, 2]);
-    compare_route(rt, board.plan().route(2).customers(), &[1, 4, 2]);
+/// What the board says of its sizes, its turns and its versions after those.
+fn compare_numbers(rt: &impl Abort, board: &Board) {
+    let desks = board.desks();
+    if desks != 2 {
+        return same(rt, desks, 2, "desks");
+    }
+    let turns = (board.turns(1), board.turns(2), board.events());
+    let versions = (board.version(), board.plan().version());
+    let found = (turns, versions);
+    same(rt, found, ((25, 0, 25), (11, 11)), "turns and versions");
 }
 
-fn compare_route(rt: &impl Abort, found: &[u32], wanted: &[u32]) {
-    assert_eq!(rt; found, wanted);
+/// What it says of places, pins and fronts, and its routes.
+fn compare_plan(rt: &impl Abort, board: &Board) {
+    let setup = board.setup();
+    let sizes = (setup.customers(), setup.vehicles());
+    if sizes.0 != 5 || sizes.1 != 2 {
+        return same(rt, sizes, (5, 2), "sizes");
+    }
+    let places = (board.place_of(3), board.place_of(4));
+    let pins = (board.pinned(4), board.pinned(5));
+    let fronts = (board.frozen(1), board.frozen(2));
+    let found = (places, pins, fronts);
+    let wanted = ((None, Some((2, 2))), (None, Some(1)), (0, 2));
+    same(rt, found, wanted, "places, pins and fronts");
+}
+
+fn compare_routes(rt: &impl Abort, board: &Board) {
+    let vehicles = board.setup().vehicles();
+    if vehicles != 2 {
+        return same(rt, vehicles, 2, "vehicles");
+    }
+    let routes = [
+        board.route(1).customers(),
+        board.route(2).customers(),
+        board.plan().route(2).customers(),
+    ];
+    let wanted = [[5].as_slice(), &[1, 4, 2], &[1, 4, 2]];
+    same(rt, routes, wanted, "routes");
 }
 
 /// What the board answers after those and one more grant: the session of `root` may freeze a vehicle and view nothing, and audits all
 /// entries.
 fn compare_questions(rt: &impl Abort, board: &Board) {
-    assert_eq!(rt; board.check(1, Operation::Freeze, Object::Vehicle(2)), true);
-    assert_eq!(rt; board.check(1, Operation::View, Object::Vehicle(2)), false);
-    assert_eq!(rt; board.audit(1).map(|entries| entries.len()), Ok(26));
-    assert_eq!(rt;
-        board.audit(2).map(|entries| entries.len()),
-        Err(AskFault::NoSession)
+    let vehicle = Object::Vehicle(2);
+    let checks = (
+        board.check(1, Operation::Freeze, vehicle),
+        board.check(1, Operation::View, vehicle),
     );
+    same(rt, checks, (true, false), "checks");
+    let entries = board.audit(1).map(|entries| entries.len());
+    same(rt, entries, Ok(26), "entries");
+    let entries = board.audit(2).map(|entries| entries.len());
+    same(rt, entries, Err(AskFault::NoSession), "entries");
+}
+
+/// How long a list is.
+fn length_of<T: Drop>(list: Result<Vec<T>, AskFault>) -> Result<usize, AskFault> {
+    Ok(list?.len())
 }
 
 /// What the board lists and reviews after those.
 fn compare_lists(rt: &impl Abort, board: &Board) {
-    let rows = board.list(1).map(|rows| rows.len());
-    compare_answered(rt, rows, Ok(0));
-    let names = board.review(1, Review::Active(1)).map(|names| names.len());
-    compare_answered(rt, names, Ok(1));
-    let names = board.review(1, Review::Active(2)).map(|names| names.len());
-    compare_answered(rt, names, Err(AskFault::NotThere));
+    same(rt, length_of(board.list(1)), Ok(0), "rows");
+    let names = length_of(board.review(1, Review::Active(1)));
+    same(rt, names, Ok(1), "names");
+    let names = length_of(board.review(1, Review::Active(2)));
+    same(rt, names, Err(AskFault::NotThere), "names");
 }
 
-fn compare_answered(
-    rt: &impl Abort,
-    found: Result<usize, AskFault>,
-    wanted: Result<usize, AskFault>,
-) {
-    assert_eq!(rt; found, wanted);
+type Routes = Vec<(u32, Arc<Route>)>;
+
+/// The new routes of a judged call.
+fn new_routes(alloc: Global, board: &mut Board, line: &str) -> Option<Routes> {
+    let event = event_of(alloc, next_turn(board), line)?;
+    let Ok(prepared) = board.prepare(event, &mut Meter::new()) else {
+        return None;
+    };
+    prepared.new_routes().ok()
+}
+
+/// The first of them.
+fn first(routes: &[(u32, Arc<Route>)]) -> Option<(u32, &[u32])> {
+    let (vehicle, route) = routes.first()?;
+    Some((*vehicle, route.customers()))
 }
 
 /// Compares the new routes of a judged call, which is one for one vehicle, or none.
@@ -190,19 +179,8 @@ fn compare_new_routes(
     line: &str,
     wanted: Option<(u32, &[u32])>,
 ) {
-    let event = event(rt, alloc, board, line);
-    let prepared = board
-        .prepare(event, &mut Meter::new())
-        .expect(rt, "a judged call");
-    let routes = prepared.new_routes().expect(rt, "memory");
-    compare_first(rt, &routes, wanted);
-}
-
-fn compare_first(rt: &impl Abort, routes: &[(u32, Arc<Route>)], wanted: Option<(u32, &[u32])>) {
-    let found = routes
-        .first()
-        .map(|(vehicle, route)| (*vehicle, route.customers()));
-    assert_eq!(rt; found, wanted);
+    let routes = new_routes(alloc, board, line).expect(rt, "a judged call");
+    same(rt, first(&routes), wanted, line);
 }
 
 /// How many permissions a call looks up, vehicles before the session, up to the first that fails.
@@ -216,110 +194,97 @@ const PROBES: &str = "\
 1 insert 3 2 1 11 => 1\n\
 1 insert 3 1 1 11 => 2";
 
-fn compare_probes(rt: &impl Abort, alloc: Global, board: &mut Board, row: &str) {
-    let (line, wanted) = row.split_once(" => ").expect(rt, "a reply");
-    let event = event(rt, alloc, board, line);
+/// How many permissions the call of a line looks up.
+fn probes_of(alloc: Global, board: &mut Board, line: &str) -> Option<u64> {
+    let event = event_of(alloc, next_turn(board), line)?;
     let mut meter = Meter::new();
-    assert!(rt; board.apply(event, &mut meter).is_ok());
-    let found = format!(in alloc; "{}", meter.probes).expect(rt, "memory");
-    compare_told(rt, &found, wanted, line);
+    let is_taken = board.apply(event, &mut meter).is_ok();
+    if is_taken { Some(meter.probes) } else { None }
 }
 
-/// A board of five customers, two vehicles and two desks without bounds, with one travel as its cost.
-fn free_board(alloc: Global, transit: Transit) -> Option<Board> {
-    let mut registry = Registry::new(alloc);
-    let cost = registry.register(transit).ok()?;
-    let setup = Setup::new(5, 2, registry, Vec::new(alloc), cost, 100).ok()?;
-    let setup = Arc::new(alloc, setup).ok()?;
-    Board::new(alloc, setup, 2).ok()
+fn compare_probes(rt: &impl Abort, alloc: Global, board: &mut Board, row: &str) {
+    let (line, wanted) = cut(row);
+    let wanted = wanted.parse::<u64>().expect(rt, "a number");
+    same(rt, probes_of(alloc, board, line), Some(wanted), line);
+}
+
+/// Five customers, two vehicles and two desks without bounds.
+const FREE: Sizes = Sizes {
+    customers: 5,
+    vehicles: 2,
+    max_events: 100,
+};
+
+/// An event is taken once: with the same tag it is out of turn, and is not journaled.
+fn compare_all(rt: &impl Abort, alloc: Global, board: &mut Board) {
+    let moves = "1 grant root move vehicle 1 2";
+    take_first(rt, alloc, board, moves, Ok(Reply::Done));
+    take_first(rt, alloc, board, moves, Err(Fault::OutOfTurn));
+    for row in DIFFERENCES.split('\n') {
+        compare_difference(rt, alloc, board, row);
+    }
+    compare_numbers(rt, board);
+    compare_plan(rt, board);
+    compare_routes(rt, board);
+    let grant = "1 grant root audit board => done";
+    answers(rt, alloc, board, &mut Meter::new(), grant);
+    compare_questions(rt, board);
+    compare_lists(rt, board);
+    let insert = Some((1, [3, 5].as_slice()));
+    compare_new_routes(rt, alloc, board, "1 insert 3 1 1 11", insert);
+    compare_new_routes(rt, alloc, board, "1 insert 3 1 1 0", None);
+    for row in PROBES.split('\n') {
+        compare_probes(rt, alloc, board, row);
+    }
 }
 
 #[test]
 fn what_calls_make_different(rt: HostRuntime) {
-    let near = Box::new(
-        rt.alloc(),
-        move |_i: u32, _j: u32| -> u64
-            ensures { result ≡ 1 }
-        { 1 },
-    )
-    .expect(&rt, "memory");
-    let transit = Transit::new(6, near);
-    let mut board = free_board(rt.alloc(), transit).expect(&rt, "a board");
-    twice(&rt, rt.alloc(), &mut board, "1 grant root move vehicle 1 2");
-    differences(&rt, rt.alloc(), &mut board, DIFFERENCES);
-    compare_board(&rt, &board);
-    apply(&rt, rt.alloc(), &mut board, "1 grant root audit board");
-    compare_questions(&rt, &board);
-    compare_lists(&rt, &board);
-    let alloc = rt.alloc();
-    compare_new_routes(
-        &rt,
-        alloc,
-        &mut board,
-        "1 insert 3 1 1 11",
-        Some((1, &[3, 5])),
-    );
-    compare_new_routes(&rt, alloc, &mut board, "1 insert 3 1 1 0", None);
-    for row in PROBES.split('\n') {
-        compare_probes(&rt, alloc, &mut board, row);
-    }
+    let board = board_of(rt.alloc(), FREE, &[1, 1, 1, 1, 1, 1], None);
+    let mut board = board.expect(&rt, "a board");
+    compare_all(&rt, rt.alloc(), &mut board);
 }
 
 // ---- a start that is not fixed
 
-/// Applies a line as the next event of desk 1.
-fn apply(rt: &impl Abort, alloc: Global, board: &mut Board, line: &str) -> Reply {
-    let event = event(rt, alloc, board, line);
-    let mut meter = Meter::new();
-    board.apply(event, &mut meter).expect(rt, "a reply")
-}
+/// One customer and one vehicle.
+const ONE: Sizes = Sizes {
+    customers: 1,
+    vehicles: 1,
+    max_events: 10,
+};
 
-/// A board of one customer and one vehicle, with no slack, capacity 1,000 and the depot's range 0 to 100. The customer has a range of its
-/// own.
-fn one_customer_board(alloc: Global, transit: Transit, fixed: bool, range: Range) -> Option<Board> {
-    let mut registry = Registry::new(alloc);
-    let id = registry.register(transit).ok()?;
-    let caps = Vec::from_slice(alloc, &[1000]).ok()?;
-    let ranges = Vec::from_slice(alloc, &[Range { lo: 0, hi: 100 }, range]).ok()?;
-    let time = Dimension::new(&registry, id, 0, caps, fixed, ranges).ok()?;
-    let mut dimensions = Vec::with_capacity(alloc, 1).ok()?;
-    dimensions.push(time).ok()?;
-    let setup = Setup::new(1, 1, registry, dimensions, id, 10).ok()?;
-    let setup = Arc::new(alloc, setup).ok()?;
-    Board::new(alloc, setup, 1).ok()
-}
+const COMMITTED: &str = "\
+1 grant root move vehicle 1 1 => done\n\
+1 grant root move customer 1 1 => done\n\
+1 insert 1 1 1 0 => committed 1";
 
-/// The reply to the insert of the customer.
-fn inserted(rt: &impl Abort, alloc: Global, board: &mut Board) -> Reply {
-    apply(rt, alloc, board, "1 grant root move vehicle 1 1");
-    apply(rt, alloc, board, "1 grant root move customer 1 1");
-    apply(rt, alloc, board, "1 insert 1 1 1 0")
-}
+const DENIED: &str = "\
+1 grant root move vehicle 1 1 => done\n\
+1 grant root move customer 1 1 => done\n\
+1 insert 1 1 1 0 => denied bound 1 1";
 
-fn compare_reply(rt: &impl Abort, found: Reply, wanted: Reply) {
-    assert_eq!(rt; found, wanted);
-}
+/// Whether the start is fixed, the customer's range, and what comes of its insert.
+const RANGES: &[(bool, Range, &str)] = &[
+    (false, Range { lo: 50, hi: 60 }, COMMITTED),
+    (true, Range { lo: 50, hi: 60 }, DENIED),
+    (false, Range { lo: 5, hi: 9 }, DENIED),
+];
 
-/// Each transit is 10: the range 50 to 60 is met where the start is free alone, and 5 to 9 never.
+/// No slack, capacity 1,000 and the depot's range 0 to 100. Each transit is 10: the range 50 to 60 is met where the start is free alone, and
+/// 5 to 9 never.
 #[test]
 fn the_earliest_cumul_alone_does_not_decide(rt: HostRuntime) {
-    for (fixed, lo, hi, wanted) in [
-        (false, 50u64, 60u64, Reply::Committed(1)),
-        (true, 50, 60, Reply::Denied(Denial::Bound(1, 1))),
-        (false, 5, 9, Reply::Denied(Denial::Bound(1, 1))),
-    ] {
-        let call = Box::new(
-            rt.alloc(),
-            move |_i: u32, _j: u32| -> u64
-                ensures { result ≡ 10 }
-            { 10 },
-        )
-        .expect(&rt, "memory");
-        let tens = Transit::new(2, call);
-        let range = Range { lo, hi };
-        let board = one_customer_board(rt.alloc(), tens, fixed, range);
+    for (fixed, range, script) in RANGES {
+        let bounds = Bounds {
+            slack_max: 0,
+            caps: &[1000],
+            fixed: *fixed,
+            ranges: &[Range { lo: 0, hi: 100 }, *range],
+        };
+        let board = board_of(rt.alloc(), ONE, &[10, 10], Some(bounds));
         let mut board = board.expect(&rt, "a board");
-        compare_reply(&rt, inserted(&rt, rt.alloc(), &mut board), wanted);
+        answers(&rt, rt.alloc(), &mut board, &mut Meter::new(), script);
     }
 }
 
@@ -335,7 +300,5 @@ const JUDGE_FAULTS: &[(JudgeFault, &str)] = &[
 
 #[test]
 fn faults_of_a_judgement(rt: HostRuntime) {
-    for (fault, text) in JUDGE_FAULTS {
-        compare_written(&rt, rt.alloc(), fault, text);
-    }
+    all_written(&rt, rt.alloc(), JUDGE_FAULTS);
 }

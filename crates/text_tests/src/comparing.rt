@@ -1,30 +1,23 @@
-//! Comparisons of texts. What compares owns nothing: each `assert` of a function that holds values is a way out at which all of them are
-//! dropped, which its proof pays for.
+//! Comparisons. A function's proof pays several times as much for an `assert` or a `format!` in it as for a call: so tests call these. They
+//! own nothing: an `assert` is also a way out, at which all is dropped that its function holds.
 use std::alloc::Global;
-use std::fmt::Display;
+use std::fmt::{Debug, Display};
 use std::process::Abort;
 
-pub(crate) fn compare_text(rt: &impl Abort, found: &str, wanted: &str) {
-    assert_eq!(rt; found, wanted);
+/// Compares two values, and says of what they are where they differ.
+pub(crate) fn same<R: Abort, T: Copy + PartialEq + Debug>(rt: &R, found: T, wanted: T, what: &str) {
+    assert_eq!(rt; found, wanted, "{what}");
 }
 
 /// Compares how a value is written.
-pub(crate) fn compare_written<R: Abort, D: Display>(
-    rt: &R,
-    alloc: Global,
-    value: &D,
-    wanted: &str,
-) {
+pub(crate) fn same_written<R: Abort, D: Display>(rt: &R, alloc: Global, value: &D, wanted: &str) {
     let text = format!(in alloc; "{value}").expect(rt, "memory");
-    compare_text(rt, &text, wanted);
+    same(rt, text.as_str(), wanted, "how it is written");
 }
 
-/// Compares a text with the one that is wanted of a line.
-pub(crate) fn compare_told(rt: &impl Abort, found: &str, wanted: &str, line: &str) {
-    assert_eq!(rt; found, wanted, "{line}");
-}
-
-/// Compares how many there are.
-pub(crate) fn compare_count(rt: &impl Abort, found: u64, wanted: u64, what: &str) {
-    assert_eq!(rt; found, wanted, "{what}");
+/// Compares how each value of a table is written.
+pub(crate) fn all_written<R: Abort, D: Display>(rt: &R, alloc: Global, table: &[(D, &str)]) {
+    for (value, wanted) in table {
+        same_written(rt, alloc, value, wanted);
+    }
 }

@@ -1,10 +1,10 @@
 //! A board of four customers and two vehicles over callbacks that count how often they are called.
 ghost use Rattle.std.specs.Prelude.{◌≡◌, ◌+◌, ◌*◌, ◌<◌, slice_index, length};
 
-use crate::boards::{call_of, next_event};
-use crate::comparing::{compare_count, compare_told};
-use board_core::{Board, Reply};
-use board_lines::reply_text;
+use crate::comparing::same;
+use crate::scripts::answers;
+use crate::setups::{Bounds, dimension_of};
+use board_core::Board;
 use callback_store::{Meter, Registry, Transit, TransitId, Unary};
 use dimension_core::{Dimension, Range, Setup};
 use std::alloc::Global;
@@ -13,14 +13,6 @@ use std::sync::Arc;
 use std::sync::atomic::{AtomicU64, Ordering};
 use std::test::Fail;
 
-/// The line of a row, its reply and the limit of its asks; what is not there is empty.
-fn cut(row: &str) -> (&str, &str, &str) {
-    let (line, told) = row.split_once(" => ").unwrap_or(("", row));
-    let (reply, most) = told.split_once(" => ").unwrap_or((told, ""));
-    (line, reply, most)
-}
-
-/// Rows of a line, ` => ` and its reply, and where this is told ` => ` and how many asks the line may make at most.
 const GRANTS: &str = "\
 1 grant root move vehicle 1 2 => done\n\
 1 grant root move customer 1 4 => done";
@@ -74,41 +66,14 @@ const FROZEN: &str = "\
 1 thaw 1 0 => done";
 
 /// What each script is made of.
-const SCRIPTS: [[&str; 3]; 6] = [
-    [NO_RIGHT, "", ""],
-    [GRANTS, INSERTS, REMOVALS],
-    [GRANTS, INSERTS, OLD_BASES],
-    [GRANTS, INSERTS, SHIFTS],
-    [GRANTS, ON_BOTH, CROSSES],
-    [GRANTS, ON_BOTH, FROZEN],
+const SCRIPTS: &[&[&str]] = &[
+    &[NO_RIGHT],
+    &[GRANTS, INSERTS, REMOVALS],
+    &[GRANTS, INSERTS, OLD_BASES],
+    &[GRANTS, INSERTS, SHIFTS],
+    &[GRANTS, ON_BOTH, CROSSES],
+    &[GRANTS, ON_BOTH, FROZEN],
 ];
-
-fn compare_reply(rt: &impl Abort, alloc: Global, reply: Reply, wanted: &str, line: &str) {
-    let text = reply_text(alloc, reply).expect(rt, "memory");
-    compare_told(rt, &text, wanted, line);
-}
-
-/// A line made so many asks, and may make that many at most, where this is told.
-fn compare_asks(rt: &impl Abort, asks: u64, most: &str, line: &str) {
-    if most.is_empty() {
-        return;
-    }
-    let most = most.parse::<u64>().expect(rt, "a number");
-    assert!(rt; asks <= most, "{line}");
-}
-
-/// Applies the line of a row, and compares its reply and its asks. A line that is no call is passed over.
-fn answer(rt: &impl Abort, alloc: Global, board: &mut Board, meter: &mut Meter, row: &str) {
-    let (line, wanted, most) = cut(row);
-    let Some(call) = call_of(alloc, line) else {
-        return;
-    };
-    let event = next_event(rt, board, call);
-    let before = meter.asks;
-    let reply = board.apply(event, meter).expect(rt, "a reply");
-    compare_reply(rt, alloc, reply, wanted, line);
-    compare_asks(rt, meter.asks.wrapping_sub(before), most, line);
-}
 
 /// A board with one desk over a shared setup.
 fn opened(alloc: Global, setup: &Arc<Setup>) -> Option<Board> {
@@ -117,75 +82,78 @@ fn opened(alloc: Global, setup: &Arc<Setup>) -> Option<Board> {
 }
 
 /// Applies the calls of a script to a board, and gives how many there are.
-fn answers(
+fn calls_of(
     rt: &impl Abort,
     alloc: Global,
     board: &mut Board,
     meter: &mut Meter,
-    parts: [&str; 3],
-) -> u64 {
+    parts: &[&str],
+) -> usize {
     for part in parts {
-        for row in part.split('\n') {
-            answer(rt, alloc, board, meter, row);
-        }
+        answers(rt, alloc, board, meter, part);
     }
-    board.events() as u64
+    board.events()
 }
 
-/// The load is at most 10 everywhere.
-const LOADS: &[Range] = &[
-    Range { lo: 0, hi: 10 },
-    Range { lo: 0, hi: 10 },
-    Range { lo: 0, hi: 10 },
-    Range { lo: 0, hi: 10 },
-    Range { lo: 0, hi: 10 },
-];
+/// Compares how many calls there were, and the meter with how often the closures were called.
+fn compare_meter(rt: &impl Abort, meter: Meter, events: usize, calls: u64) {
+    let found = (events, meter.asks, meter.walks);
+    same(rt, found, (47, calls, 0), "calls, asks and walks");
+}
+
+/// The load is at most 10 everywhere, with the start at 0.
+const LOADS: Bounds<'static> = Bounds {
+    slack_max: 0,
+    caps: &[10, 10],
+    fixed: true,
+    ranges: &[
+        Range { lo: 0, hi: 10 },
+        Range { lo: 0, hi: 10 },
+        Range { lo: 0, hi: 10 },
+        Range { lo: 0, hi: 10 },
+        Range { lo: 0, hi: 10 },
+    ],
+};
 
 /// The time has no bounds but the windows.
-const WINDOWS: &[Range] = &[
-    Range { lo: 0, hi: 1000 },
-    Range { lo: 0, hi: 500 },
-    Range { lo: 0, hi: 500 },
-    Range { lo: 0, hi: 140 },
-    Range { lo: 0, hi: 500 },
-];
+const TIMES: Bounds<'static> = Bounds {
+    slack_max: 1000,
+    caps: &[1000, 1000],
+    fixed: false,
+    ranges: &[
+        Range { lo: 0, hi: 1000 },
+        Range { lo: 0, hi: 500 },
+        Range { lo: 0, hi: 500 },
+        Range { lo: 0, hi: 140 },
+        Range { lo: 0, hi: 500 },
+    ],
+};
 
-/// Load with the start at 0, and time.
 fn load_and_time(
     alloc: Global,
     registry: &Registry,
     load: TransitId,
     time: TransitId,
 ) -> Option<Vec<Dimension>> {
-    let mut dimensions = Vec::with_capacity(alloc, 2).ok()?;
-    let caps = Vec::from_slice(alloc, &[10, 10]).ok()?;
-    let ranges = Vec::from_slice(alloc, LOADS).ok()?;
-    let loads = Dimension::new(registry, load, 0, caps, true, ranges).ok()?;
-    dimensions.push(loads).ok()?;
-    let caps = Vec::from_slice(alloc, &[1000, 1000]).ok()?;
-    let ranges = Vec::from_slice(alloc, WINDOWS).ok()?;
-    let times = Dimension::new(registry, time, 1000, caps, false, ranges).ok()?;
-    dimensions.push(times).ok()?;
-    Some(dimensions)
+    let loads = dimension_of(alloc, registry, load, LOADS)?;
+    let times = dimension_of(alloc, registry, time, TIMES)?;
+    vec![in alloc; loads, times].ok()
 }
 
 /// Four customers and two vehicles, with these demands and travels, of which the travel is the cost.
 fn bounded(alloc: Global, demand: Unary, travel: Transit) -> Option<Arc<Setup>> {
     let mut registry = Registry::new(alloc);
-    let load = registry.register_unary(demand).ok()?;
-    let time = registry.register(travel).ok()?;
+    let Ok(load) = registry.register_unary(demand) else {
+        return None;
+    };
+    let Ok(time) = registry.register(travel) else {
+        return None;
+    };
     let dimensions = load_and_time(alloc, &registry, load, time)?;
-    let setup = Setup::new(4, 2, registry, dimensions, time, 100).ok()?;
+    let Ok(setup) = Setup::new(4, 2, registry, dimensions, time, 100) else {
+        return None;
+    };
     Arc::new(alloc, setup).ok()
-}
-
-/// The calls of all scripts.
-const CALLS: u64 = 47;
-
-/// Compares the meter with how often the closures were called.
-fn compare_meter(rt: &impl Abort, meter: Meter, calls: u64) {
-    assert_eq!(rt; calls, meter.asks);
-    assert_eq!(rt; meter.walks, 0);
 }
 
 /// Customers 1 to 4 with demands 4, 3, 3 and 5 and their travels, over callbacks that count how often they are called. In the end they
@@ -223,14 +191,13 @@ fn four_customers(rt: HostRuntime) -> Result<(), Fail> {
     let demand = Unary::new(5, demand);
     let travel = Transit::new(5, travel);
     let setup = bounded(rt.alloc(), demand, travel).ok_or("a setup")?;
-    let alloc = rt.alloc();
     let mut meter = Meter::new();
-    let mut events = 0u64;
+    let mut events = 0usize;
     for parts in SCRIPTS {
-        let mut board = opened(alloc, &setup).expect(&rt, "memory");
-        events = events.wrapping_add(answers(&rt, alloc, &mut board, &mut meter, parts));
+        let mut board = opened(rt.alloc(), &setup).expect(&rt, "memory");
+        let more = calls_of(&rt, rt.alloc(), &mut board, &mut meter, parts);
+        events = events.wrapping_add(more);
     }
-    compare_count(&rt, events, CALLS, "calls");
-    compare_meter(&rt, meter, calls.load(Ordering::SeqCst));
+    compare_meter(&rt, meter, events, calls.load(Ordering::SeqCst));
     Ok(())
 }

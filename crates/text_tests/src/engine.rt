@@ -1,4 +1,4 @@
-use crate::comparing::compare_written;
+use crate::comparing::{all_written, same};
 use board_rules::{AskFault, Call, Denial, Fault, Refusal, Reply, Review, Row};
 use board_text::{Notes, run_explained_lines};
 use line_engine::{Counts, Front, RunFault, run_lines};
@@ -126,6 +126,17 @@ impl Small {
         self.last = (vehicle, place, customer);
         Ok(self.version)
     }
+
+    fn answer(&mut self, call: &Call) -> Reply {
+        match call {
+            Call::Propose { base, mv, .. } => match self.commit(*base, *mv) {
+                Ok(version) => Reply::Committed(version),
+                Err(denial) => Reply::Denied(denial),
+            },
+            Call::Policy { session: 1, .. } => Reply::Done,
+            _ => Reply::Refused(Refusal::NoSession),
+        }
+    }
 }
 
 impl<R> Front<R> for Small {
@@ -140,18 +151,7 @@ impl<R> Front<R> for Small {
     ghost refuses = { λ old command new. Unit {0} };
 
     fn submit(&mut self, _rt: &R, call: Call) -> Result<Reply, Fault> {
-        match call {
-            Call::Propose {
-                session: _,
-                base,
-                mv,
-            } => match self.commit(base, mv) {
-                Ok(version) => Ok(Reply::Committed(version)),
-                Err(denial) => Ok(Reply::Denied(denial)),
-            },
-            Call::Policy { session, .. } if session == 1 => Ok(Reply::Done),
-            _ => Ok(Reply::Refused(Refusal::NoSession)),
-        }
+        Ok(self.answer(&call))
     }
 
     fn propose(
@@ -168,18 +168,14 @@ impl<R> Front<R> for Small {
         if session != 1 {
             return Err(AskFault::NoSession);
         }
-        let mut rows = Vec::new(self.alloc);
         if self.version == 0 {
-            return Ok(rows);
+            return Ok(Vec::new(self.alloc));
         }
         let (vehicle, place, customer) = self.last;
-        if rows
-            .push(Row::new(vehicle, place, customer, &[0, 28]))
-            .is_err()
-        {
-            return Err(AskFault::NoMemory);
+        match vec![in self.alloc; Row::new(vehicle, place, customer, &[0, 28])] {
+            Ok(rows) => Ok(rows),
+            Err(_) => Err(AskFault::NoMemory),
         }
-        Ok(rows)
     }
 
     fn audit(&mut self, _rt: &R, _session: u32, _text: &mut String) -> Result<(), AskFault> {
@@ -206,47 +202,38 @@ const COUNTS: Counts = Counts {
     refused: 6,
 };
 
+type Ended = Result<Counts, RunFault>;
+
+fn run(alloc: Global, reader: &mut Slow<'_>, writer: &mut Narrow) -> Ended {
+    let mut front = make_small(alloc);
+    run_lines(&(), alloc, &mut front, reader, writer)
+}
+
 /// Compares a whole run by `most` bytes a read and a write.
-fn compare_run(
-    rt: &impl Abort,
-    counts: Result<Counts, RunFault>,
-    written: &[u8],
-    reads: u32,
-    flushes: u32,
-    most: usize,
-) {
-    assert!(rt; counts == Ok(COUNTS), "by {most}");
-    assert_eq!(rt; written, REPLIES, "by {most}");
-    assert_eq!(rt; flushes, reads.saturating_add(1), "by {most}");
+fn compare_run(rt: &impl Abort, alloc: Global, most: usize) {
+    let mut reader = make_slow(SCRIPT, most);
+    let mut writer = make_narrow(alloc, most, Failing::Never);
+    let counts = run(alloc, &mut reader, &mut writer);
+    let found = (most, counts, writer.taken.as_slice(), writer.flushes);
+    let flushes = reader.reads.saturating_add(1);
+    same(rt, found, (most, Ok(COUNTS), REPLIES, flushes), "a run");
 }
 
 #[test]
 fn answers_lines_however_they_come(rt: HostRuntime) {
     for most in [1usize, 2, 3, 7, 511, 512, 10_000] {
-        let mut reader = make_slow(SCRIPT, most);
-        let mut writer = make_narrow(rt.alloc(), most, Failing::Never);
-        let mut front = make_small(rt.alloc());
-        let counts = run_lines(&(), rt.alloc(), &mut front, &mut reader, &mut writer);
-        compare_run(
-            &rt,
-            counts,
-            &writer.taken,
-            reader.reads,
-            writer.flushes,
-            most,
-        );
+        compare_run(&rt, rt.alloc(), most);
     }
 }
 
-/// Compares a run of blank lines to its end, a read for each of them and one at the end.
-fn compare_blank(rt: &impl Abort, counts: Result<Counts, RunFault>, reads: u32) {
-    let none = Counts {
+/// A run of blank lines to its end, a read for each of them and one at the end.
+const BLANK: (Ended, u32) = (
+    Ok(Counts {
         lines: 0,
         refused: 0,
-    };
-    assert!(rt; counts == Ok(none));
-    assert_eq!(rt; reads, 2_000_001);
-}
+    }),
+    2_000_001,
+);
 
 /// A run goes on for as many reads as the reader has bytes for: the fault of reading is none of a reader that never fails.
 #[test]
@@ -254,9 +241,8 @@ fn two_million_reads_are_no_fault(rt: HostRuntime) {
     let text = vec![in rt.alloc(); b'\n'; 2_000_000].expect(&rt, "memory");
     let mut reader = make_slow(&text, 1);
     let mut writer = make_narrow(rt.alloc(), 1, Failing::Never);
-    let mut front = make_small(rt.alloc());
-    let counts = run_lines(&(), rt.alloc(), &mut front, &mut reader, &mut writer);
-    compare_blank(&rt, counts, reader.reads);
+    let counts = run(rt.alloc(), &mut reader, &mut writer);
+    same(&rt, (counts, reader.reads), BLANK, "a run");
 }
 
 /// It has no note to give.
@@ -276,23 +262,29 @@ impl Notes for Small {
     }
 }
 
+fn run_with_notes(alloc: Global, reader: &mut Slow<'_>, writer: &mut Narrow) -> Ended {
+    let mut notes = Vec::new(alloc);
+    let mut front = make_small(alloc);
+    run_explained_lines(&(), alloc, &mut front, reader, writer, &mut notes)
+}
+
 /// The same with a stream for notes.
 #[test]
 fn two_million_reads_with_notes_are_no_fault(rt: HostRuntime) {
     let text = vec![in rt.alloc(); b'\n'; 2_000_000].expect(&rt, "memory");
     let mut reader = make_slow(&text, 1);
     let mut writer = make_narrow(rt.alloc(), 1, Failing::Never);
-    let mut notes = Vec::new(rt.alloc());
-    let mut front = make_small(rt.alloc());
-    let alloc = rt.alloc();
-    let counts = run_explained_lines(&(), alloc, &mut front, &mut reader, &mut writer, &mut notes);
-    compare_blank(&rt, counts, reader.reads);
+    let counts = run_with_notes(rt.alloc(), &mut reader, &mut writer);
+    same(&rt, (counts, reader.reads), BLANK, "a run");
 }
 
 /// Compares a run that ends since the writer fails.
-fn compare_failure(rt: &impl Abort, counts: Result<Counts, RunFault>, written: &[u8]) {
-    assert!(rt; counts == Err(RunFault::Write));
-    assert!(rt; REPLIES.starts_with(written));
+fn compare_failure(rt: &impl Abort, alloc: Global, failing: Failing) {
+    let mut reader = make_slow(SCRIPT, 300);
+    let mut writer = make_narrow(alloc, 1, failing);
+    let counts = run(alloc, &mut reader, &mut writer);
+    let found = (counts, REPLIES.starts_with(&writer.taken));
+    same(rt, found, (Err(RunFault::Write), true), "a failing writer");
 }
 
 #[test]
@@ -305,11 +297,7 @@ fn a_failing_writer_ends_the_run(rt: HostRuntime) {
         Failing::Flush(1),
         Failing::Flush(2),
     ] {
-        let mut reader = make_slow(SCRIPT, 300);
-        let mut writer = make_narrow(rt.alloc(), 1, failing);
-        let mut front = make_small(rt.alloc());
-        let counts = run_lines(&(), rt.alloc(), &mut front, &mut reader, &mut writer);
-        compare_failure(&rt, counts, &writer.taken);
+        compare_failure(&rt, rt.alloc(), failing);
     }
 }
 
@@ -322,7 +310,5 @@ const FAULTS: &[(RunFault, &str)] = &[
 
 #[test]
 fn names_its_faults(rt: HostRuntime) {
-    for (fault, text) in FAULTS {
-        compare_written(&rt, rt.alloc(), fault, text);
-    }
+    all_written(&rt, rt.alloc(), FAULTS);
 }

@@ -1,76 +1,63 @@
 //! Boards as fronts of the engine of lines.
-ghost use Rattle.std.specs.Prelude.{◌≡◌, ◌+◌};
-
-use crate::comparing::{compare_count, compare_told};
-use board_core::Board;
-use board_text::{BoardFront, Counts, RunFault, run_board_lines};
-use callback_store::{Registry, Unary};
-use dimension_core::{Dimension, Range, Setup};
-use std::io::{Read, Write};
+use crate::comparing::same;
+use crate::setups::{Bounds, Sizes, board_of};
+use board_text::{BoardFront, Counts, run_board_lines};
+use dimension_core::Range;
+use std::alloc::Global;
 use std::process::Abort;
-use std::sync::Arc;
+use std::str;
 
-/// Runs a script on desk 2 of a board, from a turn on.
+/// A vehicle is under way for 30 at most.
+const BOUNDS: Bounds<'static> = Bounds {
+    slack_max: 0,
+    caps: &[30, 30],
+    fixed: false,
+    ranges: &[
+        Range { lo: 0, hi: 100 },
+        Range { lo: 0, hi: 100 },
+        Range { lo: 0, hi: 100 },
+    ],
+};
+
+/// Desk 2 of a board, from a turn on.
 ///
 /// There are two customers, two vehicles and two desks. The way from the depot takes 10, that from customer 1 takes 11 and that from
-/// customer 2 takes 12, and a vehicle is under way for 30 at most.
-fn run_to<H: AllocGlobal + Abort, I: Read, W: Write>(
-    rt: &H,
-    max_events: u32,
-    turn: u32,
-    reader: &mut I,
-    writer: &mut W,
-) -> Result<Counts, RunFault> {
-    let call = Box::new(
-        rt.alloc(),
-        move |i: u32| -> u64
-            ensures { result ≡ i + 10 }
-        { i as u64 + 10 },
-    )
-    .expect(rt, "memory");
-    let ways = Unary::new(3, call);
-    let mut registry = Registry::new(rt.alloc());
-    let id = registry.register_unary(ways).expect(rt, "room");
-    let caps = vec![in rt.alloc(); 30u64; 2].expect(rt, "memory");
-    let ranges = vec![in rt.alloc(); Range { lo: 0, hi: 100 }; 3].expect(rt, "memory");
-    let time = Dimension::new(&registry, id, 0, caps, false, ranges).expect(rt, "bounds");
-    let dimensions = vec![in rt.alloc(); time].expect(rt, "memory");
-    let setup = Setup::new(2, 2, registry, dimensions, id, max_events).expect(rt, "a setup");
-    let setup = Arc::new(rt.alloc(), setup).expect(rt, "memory");
-    let board = Board::new(rt.alloc(), setup, 2).expect(rt, "memory");
-    let mut front = BoardFront {
+/// customer 2 takes 12.
+fn front_of(alloc: Global, max_events: u32, turn: u32) -> Option<BoardFront> {
+    let sizes = Sizes {
+        customers: 2,
+        vehicles: 2,
+        max_events,
+    };
+    let board = board_of(alloc, sizes, &[10, 11, 12], Some(BOUNDS))?;
+    Some(BoardFront {
         board,
         desk: 2,
         turn,
-    };
-    run_board_lines(&(), rt.alloc(), &mut front, reader, writer)
+    })
 }
 
 /// What is written for a script, and the counts.
-fn run<H: AllocGlobal + Abort>(
-    rt: &H,
-    max_events: u32,
-    turn: u32,
-    script: &str,
-) -> (String, Counts) {
-    let mut written = Vec::new(rt.alloc());
+fn run(alloc: Global, max_events: u32, turn: u32, script: &str) -> Option<(Vec<u8>, Counts)> {
+    let mut front = front_of(alloc, max_events, turn)?;
+    let mut written = Vec::new(alloc);
     let mut reader = script.as_bytes();
-    let counts = run_to(rt, max_events, turn, &mut reader, &mut written);
-    let counts = counts.expect(rt, "a whole run");
-    let written = String::from_utf8(written).expect(rt, "text");
-    (written, counts)
+    match run_board_lines(&(), alloc, &mut front, &mut reader, &mut written) {
+        Ok(counts) => Some((written, counts)),
+        Err(_) => None,
+    }
 }
 
 /// A script, what is written, the lines with a reply, and those of them that are refused.
 type Case<'a> = (&'a str, &'a str, u64, u64);
 
 /// The run of a script gives what is wanted.
-fn gives<H: AllocGlobal + Abort>(rt: &H, max_events: u32, turn: u32, case: Case<'_>) {
+fn gives(rt: &impl Abort, alloc: Global, max_events: u32, turn: u32, case: Case<'_>) {
     let (script, wanted, lines, refused) = case;
-    let (written, counts) = run(rt, max_events, turn, script);
-    compare_told(rt, &written, wanted, script);
-    compare_count(rt, counts.lines, lines, script);
-    compare_count(rt, counts.refused, refused, script);
+    let (written, counts) = run(alloc, max_events, turn, script).expect(rt, "a whole run");
+    let text = str::from_utf8(&written).expect(rt, "text");
+    let found = (text, counts.lines, counts.refused);
+    same(rt, found, (wanted, lines, refused), script);
 }
 
 const CALLS: &str = "\
@@ -146,17 +133,18 @@ event 7 2 7 | 1 insert 2 2 1 1 | committed 2\n\
 event 8 2 8 | 1 grant root audit board | done\n\
 end\n";
 
+/// The same after the calls.
+fn gives_after_calls(rt: &impl Abort, alloc: Global, case: Case<'_>) {
+    let (questions, answers, lines, refused) = case;
+    let script = format!(in alloc; "{CALLS}{questions}").expect(rt, "memory");
+    let wanted = format!(in alloc; "{REPLIES}{answers}").expect(rt, "memory");
+    gives(rt, alloc, 100, 1, (&script, &wanted, lines, refused));
+}
+
 #[test]
 fn answers_calls_and_questions(rt: HostRuntime) {
-    for (questions, answers, lines, refused) in QUESTIONS {
-        let script = format!(in rt.alloc(); "{CALLS}{questions}").expect(&rt, "memory");
-        let wanted = format!(in rt.alloc(); "{REPLIES}{answers}").expect(&rt, "memory");
-        gives(
-            &rt,
-            100,
-            1,
-            (script.as_str(), wanted.as_str(), *lines, *refused),
-        );
+    for case in QUESTIONS {
+        gives_after_calls(&rt, rt.alloc(), *case);
     }
 }
 
@@ -167,11 +155,14 @@ const FOUR_USERS: &str = "\
 1 add-user d\n\
 1 list\n";
 
+const FULL: &str = "done\ndone\ndone\nfault full\nend\n";
+
+const LATE: &str =
+    "fault out-of-turn\nfault out-of-turn\nfault out-of-turn\nfault out-of-turn\nend\n";
+
 /// A journal of three events does not take a fourth, and a question is answered. A desk that begins with its second turn is not heard.
 #[test]
 fn calls_that_are_not_taken(rt: HostRuntime) {
-    let full = "done\ndone\ndone\nfault full\nend\n";
-    gives(&rt, 3, 1, (FOUR_USERS, full, 5, 1));
-    let late = "fault out-of-turn\nfault out-of-turn\nfault out-of-turn\nfault out-of-turn\nend\n";
-    gives(&rt, 9, 2, (FOUR_USERS, late, 5, 4));
+    gives(&rt, rt.alloc(), 3, 1, (FOUR_USERS, FULL, 5, 1));
+    gives(&rt, rt.alloc(), 9, 2, (FOUR_USERS, LATE, 5, 4));
 }

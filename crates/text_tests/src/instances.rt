@@ -1,6 +1,6 @@
-use crate::comparing::compare_written;
-use solomon_reader::{Instance, Kind, Node, ReadFault, read};
-use std::alloc::Global;
+use crate::comparing::{all_written, same};
+use solomon_reader::{Kind, Node, ReadFault, read};
+use std::alloc::{AllocError, Global};
 use std::process::Abort;
 
 /// An instance with a depot and four customers: lines 2, 6 and 9 are blank.
@@ -21,52 +21,84 @@ const LINES: [&str; 14] = [
     "    4      3      4      5      0      50      0",
 ];
 
-/// The instance's text with another text in place of one line, counted from 1.
-fn changed(rt: &impl Abort, alloc: Global, number: usize, line: &str, end: &str) -> Vec<u8> {
-    let mut text = Vec::new(alloc);
-    for (i, old) in LINES.iter().enumerate() {
-        let new = if i + 1 == number { line } else { old };
-        text.extend_from_slice(new.as_bytes()).expect(rt, "memory");
-        text.extend_from_slice(end.as_bytes()).expect(rt, "memory");
-    }
-    text
-}
+const WHOLE: (usize, usize) = (1, 14);
 
-/// The lines of the instance's text from one to another, counted from 1.
-fn part(rt: &impl Abort, alloc: Global, first: usize, last: usize) -> Vec<u8> {
-    let mut text = Vec::new(alloc);
-    for (i, line) in LINES.iter().enumerate() {
-        if first <= i + 1 && i + 1 <= last {
-            text.extend_from_slice(line.as_bytes()).expect(rt, "memory");
-            text.push(b'\n').expect(rt, "memory");
+/// The lines of the instance's text from one to another, counted from 1, with another text in place of one line, and an end behind each.
+fn text_of(
+    alloc: Global,
+    lines: (usize, usize),
+    changed: (usize, &str),
+    end: &str,
+) -> Result<String, AllocError> {
+    let mut text = String::new(alloc);
+    let mut at = 0usize;
+    for line in LINES {
+        at = at.wrapping_add(1);
+        if lines.0 <= at && at <= lines.1 {
+            text.push_str(if at == changed.0 { changed.1 } else { line })?;
+            text.push_str(end)?;
         }
     }
-    text
+    Ok(text)
 }
 
-fn node(x: u32, y: u32, demand: u32, due: u32) -> Node {
+/// The nodes of those lines.
+const NODES: &[Node] = &[
     Node {
-        x,
-        y,
-        demand,
+        x: 0,
+        y: 0,
+        demand: 0,
         ready: 0,
-        due,
+        due: 100,
         service: 0,
-    }
-}
+    },
+    Node {
+        x: 2,
+        y: 2,
+        demand: 4,
+        ready: 0,
+        due: 50,
+        service: 0,
+    },
+    Node {
+        x: 6,
+        y: 6,
+        demand: 3,
+        ready: 0,
+        due: 50,
+        service: 0,
+    },
+    Node {
+        x: 10,
+        y: 10,
+        demand: 3,
+        ready: 0,
+        due: 14,
+        service: 0,
+    },
+    Node {
+        x: 3,
+        y: 4,
+        demand: 5,
+        ready: 0,
+        due: 50,
+        service: 0,
+    },
+];
 
-/// Compares an instance with that of the lines, but for its name.
-fn compare_instance(rt: &impl Abort, read: &Instance, name: &str) {
-    let nodes = [
-        node(0, 0, 0, 100),
-        node(2, 2, 4, 50),
-        node(6, 6, 3, 50),
-        node(10, 10, 3, 14),
-        node(3, 4, 5, 50),
-    ];
-    assert_eq!(rt; read.name.as_str(), name);
-    assert_eq!(rt; (read.vehicles, read.capacity), (2, 10));
-    assert_eq!(rt; read.nodes.as_slice(), nodes.as_slice());
+/// A name, vehicles and their capacity, and nodes.
+type Wanted<'a> = (&'a str, u32, u32, &'a [Node]);
+
+/// Compares the instance that a text is read as.
+fn compare_read(rt: &impl Abort, alloc: Global, text: &[u8], wanted: Wanted<'_>) {
+    let read = read(alloc, text).expect(rt, "an instance");
+    let found = (
+        read.name.as_str(),
+        read.vehicles,
+        read.capacity,
+        read.nodes.as_slice(),
+    );
+    same(rt, found, wanted, "an instance");
 }
 
 /// A name of 64 bytes, and one of 65.
@@ -97,9 +129,8 @@ const FORMS: &[(usize, &str, &str, &str)] = &[
 #[test]
 fn forms_that_mean_the_same(rt: HostRuntime) {
     for (number, line, end, name) in FORMS {
-        let text = changed(&rt, rt.alloc(), *number, line, end);
-        let read = read(rt.alloc(), &text).expect(&rt, "an instance");
-        compare_instance(&rt, &read, name);
+        let text = text_of(rt.alloc(), WHOLE, (*number, line), end).expect(&rt, "memory");
+        compare_read(&rt, rt.alloc(), text.as_bytes(), (name, 2, 10, NODES));
     }
 }
 
@@ -112,8 +143,12 @@ fn fault_in(alloc: Global, text: &[u8]) -> Found {
     }
 }
 
-fn compare_fault(rt: &impl Abort, got: Found, kind: Kind, line: usize, form: &str) {
-    assert_eq!(rt; got, Some((kind, line)), "{form}");
+/// The fault in such lines.
+fn fault_of(alloc: Global, lines: (usize, usize), changed: (usize, &str)) -> Found {
+    match text_of(alloc, lines, changed, "\n") {
+        Ok(text) => fault_in(alloc, text.as_bytes()),
+        Err(_) => None,
+    }
 }
 
 const FAULTS: &[(usize, &str, Kind)] = &[
@@ -157,8 +192,8 @@ const FAULTS: &[(usize, &str, Kind)] = &[
 #[test]
 fn each_check_answers_its_fault(rt: HostRuntime) {
     for (line, form, kind) in FAULTS {
-        let text = changed(&rt, rt.alloc(), *line, form, "\n");
-        compare_fault(&rt, fault_in(rt.alloc(), &text), *kind, *line, form);
+        let found = fault_of(rt.alloc(), WHOLE, (*line, form));
+        same(&rt, found, Some((*kind, *line)), form);
     }
 }
 
@@ -181,13 +216,14 @@ const PARTS: &[(usize, usize, Kind, usize)] = &[
 #[test]
 fn a_text_cut_after_a_line(rt: HostRuntime) {
     for (first, last, kind, line) in PARTS {
-        let text = part(&rt, rt.alloc(), *first, *last);
-        compare_fault(&rt, fault_in(rt.alloc(), &text), *kind, *line, "");
+        let found = fault_of(rt.alloc(), (*first, *last), (0, ""));
+        same(&rt, found, Some((*kind, *line)), "a part");
     }
-    compare_fault(&rt, fault_in(rt.alloc(), b"\n\r"), Kind::Name, 3, "");
-    let text = part(&rt, rt.alloc(), 1, 13);
-    let read = read(rt.alloc(), &text).expect(&rt, "an instance");
-    compare_last(&rt, &read.nodes, 4, node(10, 10, 3, 14));
+    let found = fault_in(rt.alloc(), b"\n\r");
+    same(&rt, found, Some((Kind::Name, 3)), "ends of lines");
+    let text = text_of(rt.alloc(), (1, 13), (0, ""), "\n").expect(&rt, "memory");
+    let (four, _) = NODES.split_at(4);
+    compare_read(&rt, rt.alloc(), text.as_bytes(), ("A", 2, 10, four));
 }
 
 /// At how many bytes the text may be cut, so that it is an instance.
@@ -202,60 +238,75 @@ fn instances_in(alloc: Global, text: &[u8]) -> u32 {
     instances
 }
 
-fn compare_count(rt: &impl Abort, got: u32, wanted: u32) {
-    assert_eq!(rt; got, wanted);
-}
-
 #[test]
 fn a_text_cut_at_each_byte(rt: HostRuntime) {
-    let text = changed(&rt, rt.alloc(), 0, "", "\n");
+    let text = text_of(rt.alloc(), WHOLE, (0, ""), "\n").expect(&rt, "memory");
     // Line 11 is whole from its last digit on. The four blanks that begin each later line change
     // nothing, and then that line is whole from its last digit on: 2 + 3 * 6.
-    compare_count(&rt, instances_in(rt.alloc(), &text), 20);
+    let found = instances_in(rt.alloc(), text.as_bytes());
+    same(&rt, found, 20, "instances");
 }
 
-fn compare_fleet(rt: &impl Abort, read: &Instance, name: &str, vehicles: u32, capacity: u32) {
-    assert_eq!(rt; read.name.as_str(), name);
-    assert_eq!(rt; (read.vehicles, read.capacity), (vehicles, capacity));
-}
+const OF_SOLOMON: &str =
+    "C101\n\nVEHICLE\nNUMBER     CAPACITY\n  25         200\n\nCUSTOMER\nCUST NO.   XCOORD.    YCOORD.    DEMAND   READY TIME   DUE DATE   SERVICE   TIME\n \n    0      40         50          0          0       1236          0   \n    1      45         68         10        912        967         90   \n    2      45         70         30        825        870         90   \n";
 
-fn compare_last(rt: &impl Abort, nodes: &[Node], count: usize, last: Node) {
-    assert_eq!(rt; nodes.len(), count);
-    assert_eq!(rt; nodes.last(), Some(&last));
-}
+const OF_HOMBERGER: &str =
+    "c1_2_1\r\n\r\nVEHICLE\r\nNUMBER     CAPACITY\r\n  50          200\r\n\r\nCUSTOMER\r\nCUST NO.  XCOORD.   YCOORD.    DEMAND   READY TIME  DUE DATE   SERVICE TIME\r\n\r\n    0      70         70          0          0       1351          0 \r\n    1      33         78         20        750        809         90 \r\n\r\n";
 
-#[test]
-fn a_layout_of_solomon(rt: HostRuntime) {
-    let solomon =
-        "C101\n\nVEHICLE\nNUMBER     CAPACITY\n  25         200\n\nCUSTOMER\nCUST NO.   XCOORD.    YCOORD.    DEMAND   READY TIME   DUE DATE   SERVICE   TIME\n \n    0      40         50          0          0       1236          0   \n    1      45         68         10        912        967         90   \n    2      45         70         30        825        870         90   \n";
-    let last = Node {
+/// A depot and two customers.
+const NODES_OF_SOLOMON: &[Node] = &[
+    Node {
+        x: 40,
+        y: 50,
+        demand: 0,
+        ready: 0,
+        due: 1236,
+        service: 0,
+    },
+    Node {
+        x: 45,
+        y: 68,
+        demand: 10,
+        ready: 912,
+        due: 967,
+        service: 90,
+    },
+    Node {
         x: 45,
         y: 70,
         demand: 30,
         ready: 825,
         due: 870,
         service: 90,
-    };
-    let read = read(rt.alloc(), solomon.as_bytes()).expect(&rt, "an instance");
-    compare_fleet(&rt, &read, "C101", 25, 200);
-    compare_last(&rt, &read.nodes, 3, last);
-}
+    },
+];
 
-#[test]
-fn a_layout_of_homberger(rt: HostRuntime) {
-    let homberger =
-        "c1_2_1\r\n\r\nVEHICLE\r\nNUMBER     CAPACITY\r\n  50          200\r\n\r\nCUSTOMER\r\nCUST NO.  XCOORD.   YCOORD.    DEMAND   READY TIME  DUE DATE   SERVICE TIME\r\n\r\n    0      70         70          0          0       1351          0 \r\n    1      33         78         20        750        809         90 \r\n\r\n";
-    let last = Node {
+/// A depot and one customer.
+const NODES_OF_HOMBERGER: &[Node] = &[
+    Node {
+        x: 70,
+        y: 70,
+        demand: 0,
+        ready: 0,
+        due: 1351,
+        service: 0,
+    },
+    Node {
         x: 33,
         y: 78,
         demand: 20,
         ready: 750,
         due: 809,
         service: 90,
-    };
-    let read = read(rt.alloc(), homberger.as_bytes()).expect(&rt, "an instance");
-    compare_fleet(&rt, &read, "c1_2_1", 50, 200);
-    compare_last(&rt, &read.nodes, 2, last);
+    },
+];
+
+#[test]
+fn layouts_of_solomon_and_of_homberger(rt: HostRuntime) {
+    let solomon = ("C101", 25, 200, NODES_OF_SOLOMON);
+    compare_read(&rt, rt.alloc(), OF_SOLOMON.as_bytes(), solomon);
+    let homberger = ("c1_2_1", 50, 200, NODES_OF_HOMBERGER);
+    compare_read(&rt, rt.alloc(), OF_HOMBERGER.as_bytes(), homberger);
 }
 
 const KINDS: &[(Kind, &str)] = &[
@@ -273,12 +324,13 @@ const KINDS: &[(Kind, &str)] = &[
     (Kind::End, "end"),
 ];
 
+const READ_FAULTS: &[(ReadFault, &str)] = &[
+    (ReadFault::At(Kind::Count, 1011), "count line 1011"),
+    (ReadFault::NoMemory, "out of memory"),
+];
+
 #[test]
 fn faults_in_words(rt: HostRuntime) {
-    for (kind, text) in KINDS {
-        compare_written(&rt, rt.alloc(), kind, text);
-    }
-    let count = ReadFault::At(Kind::Count, 1011);
-    compare_written(&rt, rt.alloc(), &count, "count line 1011");
-    compare_written(&rt, rt.alloc(), &ReadFault::NoMemory, "out of memory");
+    all_written(&rt, rt.alloc(), KINDS);
+    all_written(&rt, rt.alloc(), READ_FAULTS);
 }

@@ -21,6 +21,10 @@ mod lines;
 #[cfg(test)]
 mod replies;
 #[cfg(test)]
+mod scripts;
+#[cfg(test)]
+mod setups;
+#[cfg(test)]
 mod travels;
 #[cfg(test)]
 mod words;

@@ -1,18 +1,18 @@
-use crate::comparing::{compare_text, compare_written};
+use crate::comparing::{all_written, same, same_written};
 use board_lines::{
     Command, LineFault, ReadFault, event_text, faults_are_first, lines_are_commands, list_json,
     list_text, push_check, push_json, push_line_fault, read_line, reply_text, text_is_read,
 };
 use board_rules::{Denial, Refusal, Reply, Row};
 use separation_core::Name;
-use std::alloc::Global;
+use std::alloc::{AllocError, Global};
 use std::process::Abort;
 
 /// The call that a line is read as, written again.
-fn again(rt: &impl Abort, alloc: Global, line: &str) -> String {
+fn again(alloc: Global, line: &str) -> Option<String> {
     match read_line(alloc, line.as_bytes()) {
-        Ok(Command::Submit(call)) => event_text(alloc, &call).expect(rt, "memory"),
-        _ => String::new(alloc),
+        Ok(Command::Submit(call)) => event_text(alloc, &call).ok(),
+        _ => None,
     }
 }
 
@@ -61,7 +61,8 @@ const CALLS: &[(&str, &str)] = &[
 #[test]
 fn each_call_is_read_and_written(rt: HostRuntime) {
     for (line, text) in CALLS {
-        compare_text(&rt, &again(&rt, rt.alloc(), line), text);
+        let found = again(rt.alloc(), line).expect(&rt, "a call");
+        same(&rt, found.as_str(), *text, line);
     }
 }
 
@@ -104,7 +105,7 @@ const FAULTS: &[(&str, LineFault)] = &[
 #[test]
 fn the_first_fault_is_named(rt: HostRuntime) {
     for (line, fault) in FAULTS {
-        assert_eq!(rt; fault_of(rt.alloc(), line), Some(*fault));
+        same(&rt, fault_of(rt.alloc(), line), Some(*fault), line);
     }
 }
 
@@ -119,38 +120,38 @@ const FAULTS_IN_WORDS: &[(LineFault, &str)] = &[
 
 #[test]
 fn faults_in_words(rt: HostRuntime) {
+    all_written(&rt, rt.alloc(), FAULTS_IN_WORDS);
     for (fault, text) in FAULTS_IN_WORDS {
-        compare_written(&rt, rt.alloc(), fault, text);
-        compare_written(&rt, rt.alloc(), &ReadFault::Line(*fault), text);
+        same_written(&rt, rt.alloc(), &ReadFault::Line(*fault), text);
     }
-    compare_written(&rt, rt.alloc(), &ReadFault::NoMemory, "out of memory");
+    same_written(&rt, rt.alloc(), &ReadFault::NoMemory, "out of memory");
 }
 
 fn compare_reply(rt: &impl Abort, alloc: Global, reply: Reply, wanted: &str) {
     let text = reply_text(alloc, reply).expect(rt, "memory");
-    compare_text(rt, &text, wanted);
+    same(rt, text.as_str(), wanted, "a reply");
 }
+
+const DENIALS: &[(Denial, &str)] = &[
+    (Denial::NoSession, "denied no-session"),
+    (Denial::AccessVehicle(1), "denied access vehicle 1"),
+    (Denial::Stale(12), "denied stale 12"),
+    (Denial::AccessCustomer(1, 2), "denied access customer 1 2"),
+    (Denial::Frozen(3), "denied frozen 3"),
+    (Denial::Pinned(1, 2), "denied pinned 1 2"),
+    (Denial::Bound(1, 2), "denied bound 1 2"),
+];
 
 #[test]
 fn replies_have_their_texts(rt: HostRuntime) {
+    for (denial, text) in DENIALS {
+        compare_reply(&rt, rt.alloc(), Reply::Denied(*denial), text);
+    }
     let set = Name::new(b"x").expect(&rt, "a name");
     for (reply, text) in [
         (Reply::Done, "done"),
         (Reply::Session(2), "session 2"),
         (Reply::Committed(4_294_967_295), "committed 4294967295"),
-        (Reply::Denied(Denial::NoSession), "denied no-session"),
-        (
-            Reply::Denied(Denial::AccessVehicle(1)),
-            "denied access vehicle 1",
-        ),
-        (Reply::Denied(Denial::Stale(12)), "denied stale 12"),
-        (
-            Reply::Denied(Denial::AccessCustomer(1, 2)),
-            "denied access customer 1 2",
-        ),
-        (Reply::Denied(Denial::Frozen(3)), "denied frozen 3"),
-        (Reply::Denied(Denial::Pinned(1, 2)), "denied pinned 1 2"),
-        (Reply::Denied(Denial::Bound(1, 2)), "denied bound 1 2"),
         (Reply::Refused(Refusal::NoUser), "refused no-user"),
         (
             Reply::Refused(Refusal::NotAuthorized),
@@ -165,12 +166,15 @@ fn replies_have_their_texts(rt: HostRuntime) {
     }
 }
 
+/// Both texts of a listing.
+fn texts_of(alloc: Global, rows: &[Row]) -> Result<(String, String), AllocError> {
+    Ok((list_text(alloc, rows)?, list_json(alloc, rows)?))
+}
+
 /// Compares both texts of a listing.
 fn compare_listing(rt: &impl Abort, alloc: Global, rows: &[Row], lines: &str, json: &str) {
-    let text = list_text(alloc, rows).expect(rt, "memory");
-    compare_text(rt, &text, lines);
-    let text = list_json(alloc, rows).expect(rt, "memory");
-    compare_text(rt, &text, json);
+    let (text, other) = texts_of(alloc, rows).expect(rt, "memory");
+    same(rt, (text.as_str(), other.as_str()), (lines, json), "texts");
 }
 
 const LISTING: &str = "\
@@ -179,27 +183,40 @@ row 1 3 3 7 140\n\
 row 0 0 4\n\
 end\n";
 
+const LISTING_AS_JSON: &str = "{\"rows\":[[1,1,1,0,28],[1,3,3,7,140],[0,0,4]]}";
+
+/// Rows with two cumuls, and one without.
+fn three_rows(alloc: Global) -> Result<Vec<Row>, AllocError> {
+    let rows = vec![in alloc;
+        Row::new(1, 1, 1, &[0, 28]),
+        Row::new(1, 3, 3, &[7, 140]),
+        Row::new(0, 0, 4, &[]),
+    ]?;
+    Ok(rows)
+}
+
 #[test]
 fn listings_have_their_texts(rt: HostRuntime) {
     let alloc = rt.alloc();
-    let mut rows = Vec::new(alloc);
-    compare_listing(&rt, alloc, &rows, "end\n", "{\"rows\":[]}");
-    rows.push(Row::new(1, 1, 1, &[0, 28])).expect(&rt, "memory");
-    rows.push(Row::new(1, 3, 3, &[7, 140]))
-        .expect(&rt, "memory");
-    rows.push(Row::new(0, 0, 4, &[])).expect(&rt, "memory");
-    let json = "{\"rows\":[[1,1,1,0,28],[1,3,3,7,140],[0,0,4]]}";
-    compare_listing(&rt, alloc, &rows, LISTING, json);
+    compare_listing(&rt, alloc, &[], "end\n", "{\"rows\":[]}");
+    let rows = three_rows(alloc).expect(&rt, "memory");
+    compare_listing(&rt, alloc, &rows, LISTING, LISTING_AS_JSON);
+}
+
+/// Puts an answer, a fault and a row behind what a text has.
+fn grow(text: &mut String) -> Result<(), AllocError> {
+    push_check(text, true)?;
+    push_line_fault(text, LineFault::Object)?;
+    push_json(text, &[Row::new(1, 3, 2, &[7])])
 }
 
 /// A program with a text of its own puts these behind what it has.
 #[test]
 fn texts_grow(rt: HostRuntime) {
     let mut text = String::from_str(rt.alloc(), "> ").expect(&rt, "memory");
-    push_check(&mut text, true).expect(&rt, "memory");
-    push_line_fault(&mut text, LineFault::Object).expect(&rt, "memory");
-    push_json(&mut text, &[Row::new(1, 3, 2, &[7])]).expect(&rt, "memory");
-    compare_text(&rt, &text, "> yesbad object{\"rows\":[[1,3,2,7]]}");
+    grow(&mut text).expect(&rt, "memory");
+    let wanted = "> yesbad object{\"rows\":[[1,3,2,7]]}";
+    same(&rt, text.as_str(), wanted, "a text");
 }
 
 #[test]

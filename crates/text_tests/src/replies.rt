@@ -1,4 +1,4 @@
-use crate::comparing::compare_written;
+use crate::comparing::{all_written, same};
 use board_rules::{
     AskFault, Fault, Refusal, calls_keep_the_rest, changes_by_stamps, commands_by_parts,
     current_vehicles_keep_their_routes, customers_have_one_spot, histories_go_on,
@@ -10,17 +10,19 @@ use board_rules::{
 };
 use rbac_core::Refusal as PolicyRefusal;
 use separation_core::Name;
+use std::process::Abort;
+
+/// Compares the refusal of a board for one of the policy, if there is one.
+fn compare(rt: &impl Abort, refusal: PolicyRefusal, wanted: Option<Refusal>) {
+    same(rt, Refusal::of_policy(refusal).ok(), wanted, "a refusal");
+}
 
 #[test]
 fn what_the_policy_refuses(rt: HostRuntime) {
     let set = Name::new(b"s").expect(&rt, "name");
-    for (refusal, wanted) in [
-        (PolicyRefusal::Ssd(set), Some(Refusal::Ssd(set))),
-        (PolicyRefusal::InSet, Some(Refusal::InSet)),
-        (PolicyRefusal::NoMemory, None),
-    ] {
-        assert_eq!(rt; Refusal::of_policy(refusal).ok(), wanted);
-    }
+    compare(&rt, PolicyRefusal::Ssd(set), Some(Refusal::Ssd(set)));
+    compare(&rt, PolicyRefusal::InSet, Some(Refusal::InSet));
+    compare(&rt, PolicyRefusal::NoMemory, None);
 }
 
 const FAULTS: &[(Fault, &str)] = &[
@@ -43,12 +45,8 @@ const ASK_FAULTS: &[(AskFault, &str)] = &[
 
 #[test]
 fn texts_of_faults(rt: HostRuntime) {
-    for (fault, text) in FAULTS {
-        compare_written(&rt, rt.alloc(), fault, text);
-    }
-    for (fault, text) in ASK_FAULTS {
-        compare_written(&rt, rt.alloc(), fault, text);
-    }
+    all_written(&rt, rt.alloc(), FAULTS);
+    all_written(&rt, rt.alloc(), ASK_FAULTS);
 }
 
 /// Each law is called once: its contract can be met.

@@ -1,33 +1,36 @@
 ghost use Rattle.std.specs.Prelude.{◌≡◌, All, IfOk, length};
 ghost use Rattle.travel_table.specs.Travel.{IsNear};
 
+use crate::comparing::same;
 use solomon_reader::{Instance, Node};
 use std::alloc::{AllocError, Global};
 use std::process::Abort;
 use travel_table::{Travel, root, travel_is_symmetric};
 
+/// Numbers and their roots.
+const ROOTS: &[(u64, u32)] = &[
+    (0, 0),
+    (1, 1),
+    (2, 1),
+    (3, 1),
+    (4, 2),
+    (800, 28),
+    (4_294_967_295, 65_535),
+    (4_294_967_296, 65_536),
+    (4_294_836_224, 65_535 - 1),
+    (4_294_836_225, 65_535),
+    (4_294_836_226, 65_535),
+    (18_446_744_056_529_682_436, 4_294_967_294),
+    (18_446_744_065_119_617_024, 4_294_967_294),
+    (18_446_744_065_119_617_025, 4_294_967_295),
+    (18_446_744_065_119_617_026, 4_294_967_295),
+    (18_446_744_073_709_551_615, 4_294_967_295),
+];
+
 #[test]
 fn roots_round_down(rt: HostRuntime) {
-    let cases = [
-        (0u64, 0u32),
-        (1, 1),
-        (2, 1),
-        (3, 1),
-        (4, 2),
-        (800, 28),
-        (4_294_967_295, 65_535),
-        (4_294_967_296, 65_536),
-        (4_294_836_224, 65_535 - 1),
-        (4_294_836_225, 65_535),
-        (4_294_836_226, 65_535),
-        (18_446_744_056_529_682_436, 4_294_967_294),
-        (18_446_744_065_119_617_024, 4_294_967_294),
-        (18_446_744_065_119_617_025, 4_294_967_295),
-        (18_446_744_065_119_617_026, 4_294_967_295),
-        (18_446_744_073_709_551_615, 4_294_967_295),
-    ];
-    for (n, wanted) in cases {
-        assert_eq!(rt; root(n), wanted, "of {n}");
+    for (n, wanted) in ROOTS {
+        same(&rt, (*n, root(*n)), (*n, *wanted), "a root");
     }
 }
 
@@ -66,7 +69,7 @@ fn five_nodes(alloc: Global) -> Result<Instance, AllocError>
 }
 
 /// The travel between any two of the five nodes, in tenths.
-const TABLE: [(u32, u32, u32); 10] = [
+const TABLE: &[(u32, u32, u32)] = &[
     (0, 1, 28),
     (0, 2, 84),
     (0, 3, 141),
@@ -81,12 +84,12 @@ const TABLE: [(u32, u32, u32); 10] = [
 
 /// Compares each way of the table, both ways, and each from a node to itself.
 fn compare(rt: &impl Abort, travel: &Travel) {
-    assert_eq!(rt; travel.nodes(), 5);
+    let nodes = travel.nodes();
+    same(rt, nodes, 5, "nodes");
     for (i, j, wanted) in TABLE {
-        if i < 5 && j < 5 {
-            assert_eq!(rt; travel.get(i, j), wanted, "from {i} to {j}");
-            assert_eq!(rt; travel.get(j, i), wanted, "from {j} to {i}");
-            assert_eq!(rt; travel.get(i, i), 0, "from {i} to itself");
+        if (*i as usize) < nodes && (*j as usize) < nodes {
+            let found = [travel.get(*i, *j), travel.get(*j, *i), travel.get(*i, *i)];
+            same(rt, (*i, *j, found), (*i, *j, [*wanted, *wanted, 0]), "ways");
         }
     }
 }

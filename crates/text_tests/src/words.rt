@@ -1,14 +1,9 @@
-use std::process::Abort;
+use crate::comparing::same;
 use text_words::{cut_at, keep_line, number_by_digits, number_of, words_of};
 
-fn compare(rt: &impl Abort, found: &[&[u8]], wanted: &[&[u8]]) {
-    assert_eq!(rt; found.len(), wanted.len());
-    for (word, other) in found.iter().zip(wanted) {
-        assert_eq!(rt; *word, *other);
-    }
-}
+type Words = &'static [&'static [u8]];
 
-const WORDS: &[(&[u8], &[&[u8]])] = &[
+const WORDS: &[(&[u8], Words)] = &[
     (
         b" \t10 insert\t\t2  1\r ",
         &[b"10", b"insert", b"2", b"1\r"],
@@ -21,26 +16,12 @@ const WORDS: &[(&[u8], &[&[u8]])] = &[
 fn words_are_parted_by_spaces_and_tabs(rt: HostRuntime) {
     for (line, wanted) in WORDS {
         let words = words_of(rt.alloc(), line).expect(&rt, "memory");
-        compare(&rt, &words, wanted);
-    }
-}
-
-/// Compares where a line ends, and its words where it has an end.
-fn compare_line(
-    rt: &impl Abort,
-    end: Option<usize>,
-    words: &[&[u8]],
-    wanted_end: Option<usize>,
-    wanted: &[&[u8]],
-) {
-    assert_eq!(rt; end, wanted_end);
-    if end.is_some() {
-        compare(rt, words, wanted);
+        same(&rt, words.as_slice(), *wanted, "words");
     }
 }
 
 /// Texts, where the first line of each ends, and its words. Lines are cut 32 bytes at a time.
-const LINES: &[(&[u8], Option<usize>, &[&[u8]])] = &[
+const LINES: &[(&[u8], Option<usize>, Words)] = &[
     (
         b"12 open a-name-of-thirty-two-bytes-or-more\tdispatcher  planner\n3 fly\n",
         Some(62),
@@ -66,7 +47,10 @@ fn a_long_line_is_cut_as_a_short_one(rt: HostRuntime) {
     let mut kept = Vec::new(rt.alloc());
     for (text, end, words) in LINES {
         let found = keep_line(&mut kept, *text).expect(&rt, "memory");
-        compare_line(&rt, found, &kept, *end, words);
+        same(&rt, found, *end, "the end of a line");
+        if found.is_some() {
+            same(&rt, kept.as_slice(), *words, "its words");
+        }
     }
 }
 
@@ -89,17 +73,19 @@ const NUMBERS: &[(&[u8], Option<u32>)] = &[
 #[test]
 fn numbers_are_digits_alone(rt: HostRuntime) {
     for (word, number) in NUMBERS {
-        assert_eq!(rt; number_of(word), *number);
-        assert_eq!(rt; number_by_digits(word), *number);
+        let found = (number_of(word), number_by_digits(word));
+        same(&rt, found, (*number, *number), "a number");
     }
 }
 
+const CUTS: &[(&[u8], (&[u8], Option<&[u8]>))] = &[
+    (b"2.50.1", (b"2", Some(b"50.1"))),
+    (b"250", (b"250", None)),
+];
+
 #[test]
 fn a_text_is_cut_at_its_first_separator(rt: HostRuntime) {
-    let (digits, rest) = cut_at(b"2.50.1", b'.');
-    assert_eq!(rt; digits, b"2".as_slice());
-    assert_eq!(rt; rest, Some(b"50.1".as_slice()));
-    let (digits, rest) = cut_at(b"250", b'.');
-    assert_eq!(rt; digits, b"250".as_slice());
-    assert!(rt; rest.is_none());
+    for (text, wanted) in CUTS {
+        same(&rt, cut_at(text, b'.'), *wanted, "a cut");
+    }
 }
