@@ -1,6 +1,6 @@
-ghost use Rattle.std.specs.Prelude.{◌≡◌, ◌<◌, ◌+◌, ◌-◌, ◌*◌, slice_index, length};
+ghost use Rattle.std.specs.Prelude.{◌≡◌, ◌<◌, ◌+◌, ◌-◌, ◌*◌, [], ◌∷◌, length};
 ghost use Rattle.callback_store.specs.Registry.{tables};
-ghost use Rattle.callback_store.specs.Tables.{nodes_of};
+ghost use Rattle.callback_store.specs.Tables.{matrix_table, nodes_of, stay_table};
 
 use crate::comparing::same;
 use crate::meters::compare_meter;
@@ -8,13 +8,14 @@ use callback_store::{
     Callback, Matrix, Meter, RegisterFault, Registry, Slot, StayMatrix, Transit, TransitId, Unary,
     Vector,
 };
+use std::alloc::Global;
 use std::process::Abort;
 use std::sync::Arc;
 use std::sync::atomic::{AtomicU64, Ordering};
 
-/// The answers of a callback over two nodes, by its kind: from each node to each.
+/// The answers of a callback by its kind: from each of the first two nodes to each.
 fn answers_of<C: Callback>(callback: &C) -> [u64; 4]
-    requires { (C.table callback.now).size ≡ 2 }
+    requires { 1 < (C.table callback.now).size }
 {
     [
         callback.answer_way(0, 0),
@@ -27,7 +28,7 @@ fn answers_of<C: Callback>(callback: &C) -> [u64; 4]
 /// Compares them, of whichever kind it is.
 fn compare_answers(rt: &impl Abort, registry: &Registry, id: TransitId, wanted: [u64; 4])
     requires registered { id < length (tables registry.now) }
-    requires two { nodes_of (tables registry.now) ≡ 2 }
+    requires two { 1 < nodes_of (tables registry.now) }
 {
     let found = match registry.callback(id) {
         Slot::Pair(callback) => answers_of(callback),
@@ -39,78 +40,46 @@ fn compare_answers(rt: &impl Abort, registry: &Registry, id: TransitId, wanted: 
     same(rt, found, wanted, "answers");
 }
 
-fn ask_both_kinds(rt: &impl Abort, registry: &Registry, load: TransitId, time: TransitId)
-    requires load { load < length (tables registry.now) }
-    requires time { time < length (tables registry.now) }
-    requires nodes { nodes_of (tables registry.now) ≡ 2 }
-{
-    let mut meter = Meter::new();
-    same(rt, registry.ask(load, &mut meter, 1, 0), 4, "load");
-    same(rt, registry.ask(time, &mut meter, 0, 1), 10, "out");
-    same(rt, registry.ask(time, &mut meter, 1, 0), 20, "back");
-    same(rt, meter.asks, 3, "asks");
-    compare_answers(rt, registry, load, [0, 0, 4, 4]);
-    compare_answers(rt, registry, time, [0, 10, 20, 0]);
-}
-
-#[test]
-fn registers_both_kinds(rt: HostRuntime) {
-    let demands = vec![in rt.alloc(); 0u64, 4].expect(&rt, "memory");
-    let travel = vec![in rt.alloc(); 0u64, 10, 20, 0].expect(&rt, "memory");
-    let one = Box::new(
-        rt.alloc(),
-        move |i: u32| -> u64
-            requires { i < length demands.items }
-            ensures { result ≡ slice_index demands.items i }
-        { demands[i as usize] },
-    )
-    .expect(&rt, "memory");
-    let two = Box::new(
-        rt.alloc(),
-        move |i: u32, j: u32| -> u64
-            requires { i * 2 + j < length travel.items }
-            ensures { result ≡ slice_index travel.items (i * 2 + j) }
-        { travel[i as usize * 2 + j as usize] },
-    )
-    .expect(&rt, "memory");
-    let unary = Unary::new(2, one);
-    let transit = Transit::new(2, two);
-    let mut registry = Registry::new(rt.alloc());
-    let load = registry.register_unary(unary).expect(&rt, "room");
-    let time = registry.register(transit).expect(&rt, "room");
-    ask_both_kinds(&rt, &registry, load, time);
-}
-
 fn ask_a_matrix(rt: &impl Abort, registry: &Registry, costs: TransitId)
     requires costs { costs < length (tables registry.now) }
     requires nodes { nodes_of (tables registry.now) ≡ 2 }
 {
     let mut meter = Meter::new();
-    same(rt, registry.ask(costs, &mut meter, 0, 1), 10, "out");
-    same(rt, registry.ask(costs, &mut meter, 1, 0), 20, "back");
-    same(rt, meter.asks, 2, "asks");
+    let out = registry.ask(costs, &mut meter, 0, 1);
+    let back = registry.ask(costs, &mut meter, 1, 0);
+    let found = (out, back, meter.asks, registry.answers(costs));
+    let wanted = (10, 20, 2, Some([0, 10, 20, 0].as_slice()));
+    same(rt, found, wanted, "answers, asks and what is lent");
     compare_answers(rt, registry, costs, [0, 10, 20, 0]);
-    let lent = registry.answers(costs);
-    same(
-        rt,
-        lent,
-        Some([0, 10, 20, 0].as_slice()),
-        "answers that are lent",
-    );
+}
+
+/// The answers 0, 10, 20 and 0.
+fn four_ways(rt: &impl Abort, alloc: Global) -> Matrix
+    ensures sized { (matrix_table result).size ≡ 2 }
+    ensures answers { (matrix_table result).entries ≡ 0 ∷ 10 ∷ 20 ∷ 0 ∷ [] }
+{
+    let ways = vec![in alloc; 0u32, 10, 20, 0].expect(rt, "memory");
+    let ways = Arc::new(alloc, ways).expect(rt, "memory");
+    Matrix::new(2, ways)
+}
+
+/// Answers for three nodes.
+fn nine_ways(rt: &impl Abort, alloc: Global) -> Matrix {
+    let ways = vec![in alloc; 0u32; 9].expect(rt, "memory");
+    let ways = Arc::new(alloc, ways).expect(rt, "memory");
+    Matrix::new(3, ways)
 }
 
 /// A callback that is given as its answers is asked as any other, and lends them.
 #[test]
 fn answers_from_a_matrix(rt: HostRuntime) {
     let mut registry = Registry::new(rt.alloc());
-    let costs = vec![in rt.alloc(); 0u32, 10, 20, 0].expect(&rt, "memory");
-    let costs = Matrix::new(2, Arc::new(rt.alloc(), costs).expect(&rt, "memory"));
+    let costs = four_ways(&rt, rt.alloc());
     let costs = registry.register_matrix(costs).expect(&rt, "room");
     ask_a_matrix(&rt, &registry, costs);
-    let wide = vec![in rt.alloc(); 0u32; 9].expect(&rt, "memory");
-    let wide = Matrix::new(3, Arc::new(rt.alloc(), wide).expect(&rt, "memory"));
-    let refused = registry.register_matrix(wide).map(|id| id.index());
-    same(&rt, refused, Err(RegisterFault::Size), "a name");
+    let wide = nine_ways(&rt, rt.alloc());
+    let refused = registry.register_matrix(wide).err();
+    same(&rt, refused, Some(RegisterFault::Size), "a refusal");
 }
 
 fn ask_stays_and_values(rt: &impl Abort, registry: &Registry, time: TransitId, load: TransitId)
@@ -119,28 +88,33 @@ fn ask_stays_and_values(rt: &impl Abort, registry: &Registry, time: TransitId, l
     requires nodes { nodes_of (tables registry.now) ≡ 2 }
 {
     let mut meter = Meter::new();
-    same(rt, registry.ask(time, &mut meter, 0, 1), 13, "out");
-    same(rt, registry.ask(time, &mut meter, 1, 0), 25, "back");
-    same(rt, registry.ask(load, &mut meter, 1, 0), 4, "load");
-    same(rt, meter.asks, 3, "asks");
+    let time_out = registry.ask(time, &mut meter, 0, 1);
+    let time_back = registry.ask(time, &mut meter, 1, 0);
+    let load_back = registry.ask(load, &mut meter, 1, 0);
+    let found = (time_out, time_back, load_back, meter.asks);
+    same(rt, found, (13, 25, 4, 3), "answers and asks");
     compare_answers(rt, registry, time, [3, 13, 25, 5]);
     compare_answers(rt, registry, load, [0, 0, 4, 4]);
+}
+
+/// The same ways behind the stays 3 and 5.
+fn stays(rt: &impl Abort, alloc: Global) -> StayMatrix
+    ensures { (stay_table result).size ≡ 2 }
+{
+    let ways = four_ways(rt, alloc);
+    let stays = vec![in alloc; 3u32, 5].expect(rt, "memory");
+    StayMatrix::new(stays, ways)
 }
 
 /// Callbacks that are given as stays and ways, and as one answer for each node, are asked as any other.
 #[test]
 fn answers_from_stays_and_values(rt: HostRuntime) {
     let mut registry = Registry::new(rt.alloc());
-    let ways = vec![in rt.alloc(); 0u32, 10, 20, 0].expect(&rt, "memory");
-    let ways = Matrix::new(2, Arc::new(rt.alloc(), ways).expect(&rt, "memory"));
-    let stays = vec![in rt.alloc(); 3u32, 5].expect(&rt, "memory");
-    let time = registry
-        .register_stays(StayMatrix::new(stays, ways))
-        .expect(&rt, "room");
+    let stays = stays(&rt, rt.alloc());
+    let time = registry.register_stays(stays).expect(&rt, "room");
     let demands = vec![in rt.alloc(); 0u32, 4].expect(&rt, "memory");
-    let load = registry
-        .register_vector(Vector::new(demands))
-        .expect(&rt, "room");
+    let demands = Vector::new(demands);
+    let load = registry.register_vector(demands).expect(&rt, "room");
     ask_stays_and_values(&rt, &registry, time, load);
 }
 
@@ -155,7 +129,7 @@ fn ask_and_count(
     registry: &Registry,
     pairs: TransitId,
     nodes: TransitId,
-    calls: &Arc<AtomicU64>,
+    calls: &AtomicU64,
 )
     requires pairs { pairs < length (tables registry.now) }
     requires nodes { nodes < length (tables registry.now) }
@@ -166,16 +140,17 @@ fn ask_and_count(
         let id = if *is_paired { pairs } else { nodes };
         for way in 0..9u32 {
             let answer = registry.ask(id, &mut meter, way / 3, way % 3);
-            same(rt, answer, wanted[way as usize], "answer");
-            same(rt, meter.asks, calls.load(Ordering::SeqCst), "calls so far");
+            let found = (answer, meter.asks);
+            let told = (wanted[way as usize], calls.load(Ordering::SeqCst));
+            same(rt, found, told, "the answer and the calls so far");
         }
     }
     same(rt, meter.asks, 18, "asks");
 }
 
-/// An ask calls the closure once: the closures count their calls beside the meter.
+/// Both kinds of closures are registered, and an ask calls the closure once: the closures count their calls beside the meter.
 #[test]
-fn an_ask_is_one_call(rt: HostRuntime) {
+fn registers_both_kinds(rt: HostRuntime) {
     let calls = Arc::new(rt.alloc(), AtomicU64::new(0)).expect(&rt, "memory");
     let of_pairs = Arc::try_clone(&calls).expect(&rt, "memory");
     let of_nodes = Arc::try_clone(&calls).expect(&rt, "memory");
@@ -205,6 +180,8 @@ fn an_ask_is_one_call(rt: HostRuntime) {
     let pairs = registry.register(steps).expect(&rt, "room");
     let nodes = registry.register_unary(weights).expect(&rt, "room");
     ask_and_count(&rt, &registry, pairs, nodes, &calls);
+    compare_answers(&rt, &registry, pairs, [0, 30, 10, 0]);
+    compare_answers(&rt, &registry, nodes, [0, 0, 7, 7]);
 }
 
 #[test]
@@ -230,8 +207,8 @@ fn refuses_sizes_and_a_seventeenth(rt: HostRuntime) {
         let answer = registry.register_unary(unary).map(|id| id.index());
         same(&rt, (step, answer), (step, wanted), "a name");
     }
-    same(&rt, u64::from(registry.count()), 16, "count");
-    same(&rt, u64::from(registry.nodes()), 2, "nodes");
+    let sizes = (registry.count(), registry.nodes());
+    same(&rt, sizes, (16, 2), "callbacks and nodes");
 }
 
 #[test]

@@ -1,10 +1,10 @@
-ghost use Rattle.std.specs.Prelude.{◌≡◌, ◌<◌, length};
+ghost use Rattle.std.specs.Prelude.{◌≡◌, ◌<◌, [], ◌∷◌, length};
 ghost use Rattle.callback_store.specs.Registry.{tables};
 ghost use Rattle.callback_store.specs.Tables.{nodes_of};
 ghost use Rattle.dimension_core.specs.Setup.{setting};
 
 use crate::comparing::same;
-use callback_store::{Meter, Registry, Transit, TransitId, Unary};
+use callback_store::{Meter, Registry, TransitId, Vector};
 use dimension_core::{
     Dimension, DimensionFault, Range, Setup, SetupFault, cumuls_are_by_place, first_out,
     first_out_is_alone, misses_are_found, spans_go_on, spans_meet,
@@ -24,6 +24,24 @@ const RANGES: &[(bool, u64, u64, bool)] = &[
     (false, 91, 100, false),
 ];
 
+/// A dimension of one vehicle, with its greatest slack, the capacity, whether the start is fixed, and a range for each node.
+fn of_one_vehicle(
+    rt: &impl Abort,
+    alloc: Global,
+    registry: &Registry,
+    id: TransitId,
+    slack_max: u64,
+    cap: u64,
+    fixed: bool,
+    ranges: &[Range],
+) -> Dimension
+    ensures { result ≡ record { id = id; slack_max = slack_max; caps = cap ∷ []; fixed = fixed; ranges = ranges.now } }
+{
+    let ranges = Vec::from_slice(alloc, ranges).expect(rt, "memory");
+    let caps = vec![in alloc; cap].expect(rt, "memory");
+    Dimension::new(registry, id, slack_max, caps, fixed, ranges).expect(rt, "bounds")
+}
+
 /// One vehicle of capacity 1,000, no slack, the depot's range 0 to 100, and the route of customer 1 alone.
 fn the_earliest_cumul_alone_does_not_decide(
     rt: &impl Abort,
@@ -36,10 +54,9 @@ fn the_earliest_cumul_alone_does_not_decide(
 {
     let mut meter = Meter::new();
     for (fixed, lo, hi, wanted) in RANGES {
-        let caps = vec![in alloc; 1000u64].expect(rt, "memory");
         let range = Range { lo: *lo, hi: *hi };
-        let ranges = vec![in alloc; Range { lo: 0, hi: 100 }, range, range].expect(rt, "memory");
-        let time = Dimension::new(registry, id, 0, caps, *fixed, ranges).expect(rt, "bounds");
+        let ranges = [Range { lo: 0, hi: 100 }, range, range];
+        let time = of_one_vehicle(rt, alloc, registry, id, 0, 1000, *fixed, &ranges);
         let answer = time.in_bounds(registry, &[1], 1, &mut meter);
         same(rt, (range, answer), (range, *wanted), "in bounds");
     }
@@ -73,21 +90,27 @@ const DIMENSIONS: &[Case] = &[
     (true, LIMIT + 1, 1, 9, 3, 4, 5, Some(DimensionFault::Range)),
 ];
 
+/// Why the dimension of a case is refused, if it is.
+fn refusal(
+    rt: &impl Abort,
+    alloc: Global,
+    registry: &Registry,
+    id: TransitId,
+    case: &Case,
+) -> Option<DimensionFault> {
+    let (_, slack_max, vehicles, cap, nodes, lo, hi, _) = *case;
+    let caps = vec![in alloc; cap; vehicles].expect(rt, "memory");
+    let ranges = vec![in alloc; Range { lo, hi }; nodes].expect(rt, "memory");
+    Dimension::new(registry, id, slack_max, caps, false, ranges).err()
+}
+
 fn a_dimension_is_refused(rt: &impl Abort, alloc: Global, registry: &Registry, id: TransitId) {
     let empty = Registry::new(alloc);
-    for (registered, slack_max, vehicles, cap, nodes, lo, hi, wanted) in DIMENSIONS {
-        let registry = if *registered { registry } else { &empty };
-        let caps = vec![in alloc; *cap; *vehicles].expect(rt, "memory");
-        let range = Range { lo: *lo, hi: *hi };
-        let ranges = vec![in alloc; range; *nodes].expect(rt, "memory");
-        let answer = Dimension::new(registry, id, *slack_max, caps, false, ranges);
-        let sizes = (*vehicles, *nodes);
-        same(
-            rt,
-            (sizes, answer.err()),
-            (sizes, *wanted),
-            "capacities and ranges",
-        );
+    for case in DIMENSIONS {
+        let registry = if case.0 { registry } else { &empty };
+        let sizes = (case.2, case.4);
+        let found = refusal(rt, alloc, registry, id, case);
+        same(rt, (sizes, found), (sizes, case.7), "capacities and ranges");
     }
 }
 
@@ -101,16 +124,25 @@ fn loads(
 ) -> Vec<Dimension> {
     let mut dimensions = Vec::new(alloc);
     for _ in 0..count {
-        let caps = vec![in alloc; 9u64].expect(rt, "memory");
-        let ranges = vec![in alloc; Range { lo: 0, hi: 9 }; 2].expect(rt, "memory");
-        let load = Dimension::new(registry, id, 0, caps, true, ranges).expect(rt, "bounds");
+        let load = of_one_vehicle(
+            rt,
+            alloc,
+            registry,
+            id,
+            0,
+            9,
+            true,
+            &[Range { lo: 0, hi: 9 }; 2],
+        );
         dimensions.push(load).expect(rt, "memory");
     }
     dimensions
 }
 
 /// Customers, vehicles, dimensions, whether the callbacks are lost, the greatest number of events, and why the setup is refused, if it is.
-const SETUPS: &[(u32, u32, u32, bool, u32, Option<SetupFault>)] = &[
+type SetupCase = (u32, u32, u32, bool, u32, Option<SetupFault>);
+
+const SETUPS: &[SetupCase] = &[
     (1, 1, 8, false, 1, None),
     (1, 1, 0, false, 16_777_216, None),
     (0, 1, 0, false, 10, Some(SetupFault::Size)),
@@ -125,44 +157,36 @@ const SETUPS: &[(u32, u32, u32, bool, u32, Option<SetupFault>)] = &[
     (1, 1, 8, false, 16_777_217, Some(SetupFault::Limit)),
 ];
 
+/// Why the setup of a case is refused, if it is.
+fn setup_refusal(rt: &impl Abort, alloc: Global, case: &SetupCase) -> Option<SetupFault> {
+    let (customers, vehicles, count, loses_callbacks, max_events, _) = *case;
+    let mut registry = Registry::new(alloc);
+    let threes = vec![in alloc; 3u32, 3].expect(rt, "memory");
+    let id = registry
+        .register_vector(Vector::new(threes))
+        .expect(rt, "room");
+    let dimensions = loads(rt, alloc, &registry, id, count);
+    if loses_callbacks {
+        registry = Registry::new(alloc);
+    }
+    Setup::new(customers, vehicles, registry, dimensions, id, max_events).err()
+}
+
 #[test]
 fn a_setup_is_refused(rt: HostRuntime) {
-    for (customers, vehicles, count, loses_callbacks, max_events, wanted) in SETUPS {
-        let call = Box::new(
-            rt.alloc(),
-            move |_i: u32| -> u64
-                ensures { result ≡ 3 }
-            { 3 },
-        )
-        .expect(&rt, "memory");
-        let mut registry = Registry::new(rt.alloc());
-        let id = registry
-            .register_unary(Unary::new(2, call))
-            .expect(&rt, "room");
-        let dimensions = loads(&rt, rt.alloc(), &registry, id, *count);
-        let registry = if *loses_callbacks {
-            Registry::new(rt.alloc())
-        } else {
-            registry
-        };
-        let answer = Setup::new(*customers, *vehicles, registry, dimensions, id, *max_events);
-        let sizes = (*customers, *count);
-        same(
-            &rt,
-            (sizes, answer.err()),
-            (sizes, *wanted),
-            "customers and dimensions",
-        );
+    for case in SETUPS {
+        let sizes = (case.0, case.2);
+        let found = setup_refusal(&rt, rt.alloc(), case);
+        let wanted = (sizes, case.5);
+        same(&rt, (sizes, found), wanted, "customers and dimensions");
     }
 }
 
 fn compare_setup(rt: &impl Abort, setup: &Setup) {
-    same(rt, u64::from(setup.customers()), 2, "customers");
-    same(rt, u64::from(setup.vehicles()), 1, "vehicles");
-    same(rt, u64::from(setup.registry().count()), 1, "callbacks");
-    same(rt, u64::from(setup.cost().index()), 0, "cost");
-    same(rt, u64::from(setup.max_events()), 10, "events");
-    same(rt, setup.dimensions().len() as u64, 2, "dimensions");
+    let sizes = (setup.customers(), setup.vehicles(), setup.max_events());
+    let callbacks = (setup.registry().count(), setup.cost().index());
+    let found = (sizes, callbacks, setup.dimensions().len());
+    same(rt, found, ((2, 1, 10), (1, 0), 2), "a setup");
 }
 
 fn compare_first_out(rt: &impl Abort, setup: &Setup)
@@ -171,9 +195,10 @@ fn compare_first_out(rt: &impl Abort, setup: &Setup)
 {
     let mut meter = Meter::new();
     let out = first_out(setup, 1, &[1, 2], &mut meter);
-    same(rt, meter.asks, 6, "asks");
+    let asks = meter.asks;
     let none = first_out(setup, 1, &[2], &mut meter);
-    same(rt, (out, none), (Some(2), None), "the first dimension out");
+    let found = (out, asks, none);
+    same(rt, found, (Some(2), 6, None), "the first dimension out");
 }
 
 /// A route that the first dimension bears and the second does not.
@@ -183,17 +208,17 @@ fn the_second_dimension_is_the_first_out(
     registry: Registry,
     id: TransitId,
 ) {
-    let mut dimensions = Vec::new(alloc);
-    for cap in [30u64, 20] {
-        let caps = vec![in alloc; cap].expect(rt, "memory");
-        let ranges = vec![in alloc; Range { lo: 0, hi: 100 }; 3].expect(rt, "memory");
-        let load = Dimension::new(&registry, id, 0, caps, true, ranges).expect(rt, "bounds");
-        dimensions.push(load).expect(rt, "memory");
-    }
+    let ranges = [Range { lo: 0, hi: 100 }; 3];
+    let first = of_one_vehicle(rt, alloc, &registry, id, 0, 30, true, &ranges);
+    let second = of_one_vehicle(rt, alloc, &registry, id, 0, 20, true, &ranges);
+    let dimensions = vec![in alloc; first, second].expect(rt, "memory");
     let setup = Setup::new(2, 1, registry, dimensions, id, 10).expect(rt, "a setup");
     compare_setup(rt, &setup);
     compare_first_out(rt, &setup);
 }
+
+/// Whether the start is fixed, and where the ranges at the start, of the next stop and of the last end.
+const SPANS: &[(bool, u64, u64, u64)] = &[(false, 20, 35, 45), (true, 0, 15, 30)];
 
 /// Slack at most 5, capacity 45; the depot's range is 0 to 20, and those of the customers 12 to 40 and 0 to 100.
 fn spans_stop_by_stop(rt: &impl Abort, alloc: Global, registry: &Registry, id: TransitId)
@@ -201,42 +226,38 @@ fn spans_stop_by_stop(rt: &impl Abort, alloc: Global, registry: &Registry, id: T
     requires nodes { nodes_of (tables registry.now) ≡ 3 }
 {
     let mut meter = Meter::new();
-    for (fixed, start, first, last) in [(false, 20u64, 35u64, 45u64), (true, 0, 15, 30)] {
-        let caps = vec![in alloc; 45u64].expect(rt, "memory");
-        let ranges = vec![in alloc;
+    for (fixed, start, first, last) in SPANS {
+        let ranges = [
             Range { lo: 0, hi: 20 },
             Range { lo: 12, hi: 40 },
             Range { lo: 0, hi: 100 },
-        ]
-        .expect(rt, "memory");
-        let time = Dimension::new(registry, id, 5, caps, fixed, ranges).expect(rt, "bounds");
-        let span = Range { lo: 0, hi: start };
-        same(rt, (span, time.is_fixed()), (span, fixed), "is fixed");
-        same(rt, time.start(1), Some(span), "start");
+        ];
+        let time = of_one_vehicle(rt, alloc, registry, id, 5, 45, *fixed, &ranges);
+        let span = Range { lo: 0, hi: *start };
         let next = time.extend(registry, span, 0, 1, 1, &mut meter);
-        same(rt, next, Some(Range { lo: 12, hi: first }), "next");
         let late = Range { lo: 31, hi: 45 };
         let none = time.extend(registry, late, 2, 1, 1, &mut meter);
-        same(rt, none, None, "late");
         let reached = time.reach(registry, &[1, 2], 1, &mut meter);
-        same(rt, reached, Some(Range { lo: 22, hi: last }), "reached");
+        let begun = (time.is_fixed(), time.start(1));
+        same(rt, begun, (*fixed, Some(span)), "the start");
+        let wanted = [
+            Some(Range { lo: 12, hi: *first }),
+            None,
+            Some(Range { lo: 22, hi: *last }),
+        ];
+        same(rt, [next, none, reached], wanted, "spans");
     }
     same(rt, meter.asks, 8, "asks");
 }
 
-/// Two customers, and each transit 10. One callback serves all of these, since a boxed closure is proved anew wherever one is made.
+/// Two customers, and each transit 10.
 #[test]
 fn what_transits_of_ten_allow(rt: HostRuntime) {
-    let call = Box::new(
-        rt.alloc(),
-        move |_i: u32, _j: u32| -> u64
-            ensures { result ≡ 10 }
-        { 10 },
-    )
-    .expect(&rt, "memory");
-    let tens = Transit::new(3, call);
+    let tens = vec![in rt.alloc(); 10u32, 10, 10].expect(&rt, "memory");
     let mut registry = Registry::new(rt.alloc());
-    let id = registry.register(tens).expect(&rt, "room");
+    let id = registry
+        .register_vector(Vector::new(tens))
+        .expect(&rt, "room");
     the_earliest_cumul_alone_does_not_decide(&rt, rt.alloc(), &registry, id);
     spans_stop_by_stop(&rt, rt.alloc(), &registry, id);
     a_dimension_is_refused(&rt, rt.alloc(), &registry, id);

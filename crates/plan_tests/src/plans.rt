@@ -1,9 +1,9 @@
-ghost use Rattle.std.specs.Prelude.{◌≡◌, ◌+◌, ◌*◌, length};
+ghost use Rattle.std.specs.Prelude.{◌≡◌, length};
 ghost use Rattle.dimension_core.specs.Setup.{setting};
 
 use crate::comparing::same;
 use crate::new_routes::{pair, plan_of};
-use callback_store::{Meter, Registry, Transit};
+use callback_store::{Matrix, Meter, Registry};
 use dimension_core::Setup;
 use plan_core::{
     Plan, among_is_tested, commits_by_one_more, common_front, costs_differ_by_named,
@@ -12,6 +12,7 @@ use plan_core::{
 };
 use std::alloc::Global;
 use std::process::Abort;
+use std::sync::Arc;
 
 /// Compares where customers stand, by vehicle and place.
 fn compare_places(rt: &impl Abort, plan: &Plan, wanted: &[(u32, Option<(u32, u32)>)]) {
@@ -25,9 +26,9 @@ fn compare_places(rt: &impl Abort, plan: &Plan, wanted: &[(u32, Option<(u32, u32
 fn compare_routes(rt: &impl Abort, plan: &Plan, version: u32, first: &[u32], second: &[u32])
     requires { length plan.now.routes ≡ 2 }
 {
-    same(rt, u64::from(plan.version()), u64::from(version), "version");
     let routes = (plan.route(1).customers(), plan.route(2).customers());
-    same(rt, routes, (first, second), "routes");
+    let found = (plan.version(), routes);
+    same(rt, found, (version, (first, second)), "version and routes");
 }
 
 /// Customers 1 and 2 on vehicle 1 and 4 on vehicle 2, until 2 and 4 change sides.
@@ -105,18 +106,20 @@ fn compare_cost(rt: &impl Abort, setup: &Setup, plan: &Plan, cost: u64, asks: u6
     requires { plan.now.customers ≡ (setting setup.now).customers }
 {
     let mut meter = Meter::new();
-    same(rt, plan.cost(setup, &mut meter), cost, "cost");
-    same(rt, meter.asks, asks, "asks");
+    let found = plan.cost(setup, &mut meter);
+    same(rt, (found, meter.asks), (cost, asks), "cost and asks");
 }
 
 fn compare_route_costs(rt: &impl Abort, setup: &Setup)
     requires { (setting setup.now).customers ≡ 4 }
 {
     let mut meter = Meter::new();
-    same(rt, route_cost(setup, &[1, 2], &mut meter), 33, "two");
-    same(rt, route_cost(setup, &[4], &mut meter), 44, "one");
-    same(rt, route_cost(setup, &[], &mut meter), 0, "none");
-    same(rt, meter.asks, 5, "asks");
+    let found = [
+        route_cost(setup, &[1, 2], &mut meter),
+        route_cost(setup, &[4], &mut meter),
+        route_cost(setup, &[], &mut meter),
+    ];
+    same(rt, (found, meter.asks), ([33, 44, 0], 5), "costs and asks");
 }
 
 fn compare_costs(rt: &impl Abort, alloc: Global, setup: &Setup)
@@ -131,16 +134,14 @@ fn compare_costs(rt: &impl Abort, alloc: Global, setup: &Setup)
 /// From node i to node j the cost is 10 i + j, so a route of 1 and 2 costs 1, 12 and 20, and one of 4 costs 4 and 40.
 #[test]
 fn costs_the_way_out_and_home(rt: HostRuntime) {
-    let call = Box::new(
-        rt.alloc(),
-        move |i: u32, j: u32| -> u64
-            ensures { result ≡ 10 * i + j }
-        { 10 * i as u64 + j as u64 },
-    )
+    let ways = vec![in rt.alloc();
+        0u32, 1, 2, 3, 4, 10, 11, 12, 13, 14, 20, 21, 22, 23, 24, 30, 31, 32, 33, 34, 40, 41, 42,
+        43, 44,
+    ]
     .expect(&rt, "memory");
-    let ways = Transit::new(5, call);
+    let ways = Matrix::new(5, Arc::new(rt.alloc(), ways).expect(&rt, "memory"));
     let mut registry = Registry::new(rt.alloc());
-    let id = registry.register(ways).expect(&rt, "room");
+    let id = registry.register_matrix(ways).expect(&rt, "room");
     let setup = Setup::new(4, 2, registry, Vec::new(rt.alloc()), id, 10).expect(&rt, "setup");
     compare_costs(&rt, rt.alloc(), &setup);
     compare_route_costs(&rt, &setup);
