@@ -11,7 +11,7 @@ use Rattle.command_line.specs.declared.form.OptionFault.TheVariants as faults
 use Rattle.command_line.specs.declared.form.UsageFault.TheVariants as usage
 use Rattle.worker_runs.specs.Files.{IsOfPaths}
 use Rattle.worker_runs.specs.declared.orders.Orders.{Orders}
-use Rattle.dispatch.specs.Performed.{AreUnread, IsDone, IsPerformed, IsProgram, IsSaid}
+use Rattle.dispatch.specs.Performed.{AreUnread, IsDone, IsPerformed, IsProgram, IsSaid, NotesAsAsked, ReadsAsAsked, Rest}
 
 -- what is asked for is done
 pub done : (words : List (List ℕ)) (form : Form) (left : Option (List ℕ)) (s : Streams) (status : ℕ) → asked (drop 1 words) ≡ Some form → IsDone form left s status → IsPerformed words left s status
@@ -44,7 +44,10 @@ said words left faults.NoMemory s status f t u k r =
     inr (inr (u (some 3 (omega arith)), early, r early))
 
 -- what is done for words that were read, or where there is an error in their place
-pub program : {A E : Type 0} (words : Result A E) (texts : A → List (List ℕ)) (kind : E → ErrorKind) (left : Option (List ℕ)) (s : Streams) (status : ℕ)
-    → MatchResult words (λ found. IsPerformed (texts found) left s status) (λ error. AreUnread (kind error) s status) → IsProgram left s status
-program (Ok found) texts kind left s status h = inl (texts found, h)
-program (Err error) texts kind left s status h = inr (kind error, h)
+pub program : {A E : Type 0} (words : Result A E) (texts : A → List (List ℕ)) (kind : E → ErrorKind) (rest : Rest) (s : Streams) (status : ℕ)
+    → MatchResult words (λ found. IsPerformed (texts found) rest.left_old s status) (λ error. AreUnread (kind error) s status)
+    → MatchResult words (λ found. ReadsAsAsked (texts found) rest.left_old rest.left_new) (λ error. rest.left_new ≡ rest.left_old)
+    → MatchResult words (λ found. NotesAsAsked (texts found) rest.notes_were rest.notes_are) (λ error. rest.notes_are ≡ rest.notes_were)
+    → IsProgram rest s status
+program (Ok found) texts kind rest s status h i n = inl (texts found, h, i, n)
+program (Err error) texts kind rest s status h i n = inr (kind error, h, i, n)

@@ -1,6 +1,6 @@
 -- What the program does by the words of its command line: what they ask for, which stream is which, and which status it ends with. Which file
 -- is which is not said: what is read of a file may be any bytes, and only the line on one that cannot be read has its path.
-use Rattle.std.specs.Prelude.{◌≡◌, ◌≢◌, ℕ, ◌⊎◌, List, drop, Option, Some, IfSome}
+use Rattle.std.specs.Prelude.{◌≡◌, ◌≢◌, ℕ, ◌⊎◌, List, drop, Option, Some, IfSome, true}
 use Rattle.std.specs.declared.io.ErrorKind.{ErrorKind}
 use Rattle.std.specs.declared.io.ErrorKind.TheVariants.{OutOfMemory}
 use Rattle.solomon_reader.specs.Reading.{read_of}
@@ -62,11 +62,35 @@ abbrev pub IsPerformed : List (List ℕ) → Option (List ℕ) → Streams → �
 IsPerformed words left s status = ((form : Form) × (asked (drop 1 words) ≡ Some form) × IsDone form left s status)
     ⊎ (IsSaid words s status ⊎ IsOutOfMemory s status)
 
+-- A run is asked for that says what refusals mean.
+abbrev pub AskForNotes : List (List ℕ) → Type 0
+AskForNotes words = (run : Run) × (asked (drop 1 words) ≡ Some (forms.run run)) × (run.explain ≡ true)
+
+-- Standard input is read only where no command is named.
+abbrev pub ReadsAsAsked : List (List ℕ) → Option (List ℕ) → Option (List ℕ) → Type 0
+ReadsAsAsked words was now = (now ≡ was) ⊎ (asked (drop 1 words) ≡ Some forms.joined)
+
+-- Notes are written only where they are asked for.
+abbrev pub NotesAsAsked : List (List ℕ) → Option (List ℕ) → Option (List ℕ) → Type 0
+NotesAsAsked words were are = (are ≡ were) ⊎ AskForNotes words
+
 -- The words could not be read, and nothing is written: memory ran out, which is reported, with status 3; or a word is not UTF-8, with status 2.
 abbrev pub AreUnread : ErrorKind → Streams → ℕ → Type 0
 AreUnread kind s status = (s.now ≡ s.was)
     × (kind ≡ OutOfMemory → (status ≡ 3) × AppendsPrefix s.reports_were s.reports_are (stop_line stops.Open)) × (kind ≢ OutOfMemory → status ≡ 2)
 
--- All of the program: it has words, and does what they ask for; or they could not be read.
-abbrev pub IsProgram : Option (List ℕ) → Streams → ℕ → Type 0
-IsProgram left s status = ((words : List (List ℕ)) × IsPerformed words left s status) ⊎ ((kind : ErrorKind) × AreUnread kind s status)
+-- what is left of standard input, and the notes, before and after, where they are known
+pub record Rest : Type 0 where
+  pub left_old : Option (List ℕ)
+  pub left_new : Option (List ℕ)
+  pub notes_were : Option (List ℕ)
+  pub notes_are : Option (List ℕ)
+
+abbrev pub rest_of : Option (List ℕ) → Option (List ℕ) → Option (List ℕ) → Option (List ℕ) → Rest
+rest_of left_old left_new notes_were notes_are = record { left_old = left_old; left_new = left_new; notes_were = notes_were; notes_are = notes_are }
+
+-- All of the program: it has words, and does what they ask for, and no more; or they could not be read.
+abbrev pub IsProgram : Rest → Streams → ℕ → Type 0
+IsProgram rest s status = ((words : List (List ℕ)) × IsPerformed words rest.left_old s status
+    × ReadsAsAsked words rest.left_old rest.left_new × NotesAsAsked words rest.notes_were rest.notes_are)
+    ⊎ ((kind : ErrorKind) × AreUnread kind s status × (rest.left_new ≡ rest.left_old) × (rest.notes_are ≡ rest.notes_were))

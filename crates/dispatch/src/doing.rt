@@ -2,7 +2,7 @@
 
 ghost use Rattle.std.specs.Prelude.{map};
 ghost use Rattle.program_parts.specs.Streams.{streams_of};
-ghost use Rattle.dispatch.specs.Performed.{IsPerformed};
+ghost use Rattle.dispatch.specs.Performed.{IsPerformed, NotesAsAsked, ReadsAsAsked};
 
 use board_program::{check_file, joined};
 use command_line::{Options, options, told};
@@ -14,6 +14,11 @@ use std::sync::Wait;
 use std::thread::Threads;
 use std::time::Clock;
 use worker_runs::{Orders, Paths, run_paths};
+
+/// No place for notes. It is made of one that is left alone, which shows how long such a place may be lent.
+fn nowhere<E>(_notes: &E) -> Option<&mut E> {
+    None
+}
 
 /// Does what the words of the command line ask for, of which the first is the program's own name, and gives the status that the program
 /// ends with. `input` and `output` are its standard streams. `faults` and `notes` are both its standard error, on which runs report what
@@ -29,8 +34,10 @@ pub fn perform<
     F: Write,
     E: Write,
 >(rt: W, words: &[S], input: &mut I, output: &mut O, faults: &mut F, notes: &mut E) -> u8
-    ensures { IsPerformed (map S.text words.now) (I.remaining input.old)
+    ensures performed { IsPerformed (map S.text words.now) (I.remaining input.old)
         (streams_of (O.contents output.old) (O.contents output.new) (F.contents faults.old) (F.contents faults.new)) result }
+    ensures input { ReadsAsAsked (map S.text words.now) (I.remaining input.old) (I.remaining input.new) }
+    ensures notes { NotesAsAsked (map S.text words.now) (E.contents notes.old) (E.contents notes.new) }
 {
     let alloc = rt.alloc();
     match options(alloc, words) {
@@ -65,8 +72,10 @@ pub fn perform<
                 seed,
                 progress,
             };
-            let notes = if explain { Some(notes) } else { None };
-            run_paths(rt, paths, orders, output, faults, notes)
+            if explain {
+                return run_paths(rt, paths, orders, output, faults, Some(notes));
+            }
+            run_paths(rt, paths, orders, output, faults, nowhere(notes))
         }
         Err(fault) => told(&fault, output, faults),
     }

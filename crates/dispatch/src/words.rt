@@ -1,9 +1,9 @@
 //! The words of the command line.
 
-ghost use Rattle.std.specs.Prelude.{map, string_bytes, MatchResult};
+ghost use Rattle.std.specs.Prelude.{◌≡◌, map, string_bytes, MatchResult};
 ghost use Rattle.std.specs.IoError.{error_kind};
 ghost use Rattle.program_parts.specs.Streams.{streams_of};
-ghost use Rattle.dispatch.specs.Performed.{AreUnread, IsPerformed, IsProgram};
+ghost use Rattle.dispatch.specs.Performed.{AreUnread, IsPerformed, IsProgram, NotesAsAsked, ReadsAsAsked, rest_of};
 
 use crate::doing::perform;
 use program_parts::{Stop, stopped};
@@ -35,11 +35,15 @@ pub fn run_words<
     faults: &mut F,
     notes: &mut E,
 ) -> u8
-    ensures { MatchResult words
+    ensures performed { MatchResult words
         (λ words. IsPerformed (map string_bytes words.items) (I.remaining input.old)
         (streams_of (O.contents output.old) (O.contents output.new) (F.contents faults.old) (F.contents faults.new)) result)
         (λ error. AreUnread (error_kind error)
         (streams_of (O.contents output.old) (O.contents output.new) (F.contents faults.old) (F.contents faults.new)) result) }
+    ensures input { MatchResult words (λ words. ReadsAsAsked (map string_bytes words.items) (I.remaining input.old) (I.remaining input.new))
+        (λ error. I.remaining input.new ≡ I.remaining input.old) }
+    ensures notes { MatchResult words (λ words. NotesAsAsked (map string_bytes words.items) (E.contents notes.old) (E.contents notes.new))
+        (λ error. E.contents notes.new ≡ E.contents notes.old) }
 {
     match words {
         Ok(words) => perform(rt, words.as_slice(), input, output, faults, notes),
@@ -70,7 +74,7 @@ pub fn run_over<
     F: Write,
     E: Write,
 >(rt: W, input: &mut I, output: &mut O, faults: &mut F, notes: &mut E) -> u8
-    ensures { IsProgram (I.remaining input.old)
+    ensures { IsProgram (rest_of (I.remaining input.old) (I.remaining input.new) (E.contents notes.old) (E.contents notes.new))
         (streams_of (O.contents output.old) (O.contents output.new) (F.contents faults.old) (F.contents faults.new)) result }
 {
     let words = words(&rt);
@@ -93,7 +97,8 @@ pub fn run<
         + Sync
         + 'static,
 >(rt: W, input: &mut Stdin, output: &mut Stdout, faults: &mut Stderr, notes: &mut Stderr) -> u8
-    ensures { IsProgram (⟦<Stdin as Read>⟧.remaining input.old)
+    ensures { IsProgram (rest_of (⟦<Stdin as Read>⟧.remaining input.old) (⟦<Stdin as Read>⟧.remaining input.new)
+        (⟦<Stderr as Write>⟧.contents notes.old) (⟦<Stderr as Write>⟧.contents notes.new))
         (streams_of (⟦<Stdout as Write>⟧.contents output.old) (⟦<Stdout as Write>⟧.contents output.new)
         (⟦<Stderr as Write>⟧.contents faults.old) (⟦<Stderr as Write>⟧.contents faults.new)) result }
 {
