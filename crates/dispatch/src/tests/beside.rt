@@ -1,11 +1,12 @@
 //! What workers and live lines write and say beside one another.
 
 use crate::tests::cases::{B, GRANTED};
+use crate::tests::comparing::{same, text_in};
 use crate::tests::heard::{Heard, InTurn, Log, Page};
 use crate::tests::torn::devices::{Torn, make_source};
 use std::alloc::Global;
 use std::process::Abort;
-use std::str;
+use std::sync::Wait;
 use worker_runs::{Orders, Task, scripted};
 
 /// Live lines, and whether they can be read; how many workers do how many rounds, whether they say how far they are, and how many such
@@ -36,7 +37,7 @@ version 4\n",
     status: 0,
 };
 
-const CASES: [Case; 9] = [
+const CASES: &[Case] = &[
     SILENT,
     // A twentieth is two rounds.
     Case {
@@ -173,14 +174,6 @@ version 4\n",
     },
 ];
 
-/// What is written and said.
-fn compare(rt: &impl Abort, log: &Option<String>, case: &Case) {
-    let Some(log) = log else {
-        return assert!(rt; false);
-    };
-    assert_eq!(rt; log.as_str(), case.log);
-}
-
 /// How many lines begin with a text.
 fn lines_with(text: &str, head: &str) -> usize {
     let mut found = 0usize;
@@ -193,23 +186,56 @@ fn lines_with(text: &str, head: &str) -> usize {
 }
 
 /// Of so many rounds in all, at most twenty, each is said once.
-fn compare_parts(rt: &impl Abort, alloc: Global, log: &Option<String>, total: u32) {
-    let Some(log) = log else {
-        return assert!(rt; false);
-    };
-    assert_eq!(rt; lines_with(log, "progress "), total as usize);
+fn compare_parts(rt: &impl Abort, alloc: Global, log: &str, total: u32) {
+    same(rt, lines_with(log, "progress "), total as usize, "lines");
     for before in 0..total {
         let rounds = before.saturating_add(1);
         let head = format!(in alloc; "progress {rounds} of {total} rounds, ").expect(rt, "memory");
-        assert_eq!(rt; lines_with(log, &head), 1usize);
+        same(rt, lines_with(log, &head), 1, "a number of rounds");
     }
 }
 
-/// What is said of faults, the status, and how often somebody waited in vain.
-fn compare_end(rt: &impl Abort, faults: &[u8], status: u8, alone: u64, case: &Case) {
-    assert_eq!(rt; status, case.status);
-    assert_eq!(rt; str::from_utf8(faults).expect(rt, "text"), case.fault);
-    assert_eq!(rt; alone, 0u64);
+/// Compares what was written and said, what was said of faults, the status, and how often somebody waited in vain.
+fn compare<R: Abort + Wait>(
+    rt: &R,
+    alloc: Global,
+    heard: &Heard<'_, R>,
+    faults: &[u8],
+    status: u8,
+    case: &Case,
+) {
+    let found = (text_in(faults), status, heard.alone());
+    same(rt, found, (case.fault, case.status, 0), "the end of a run");
+    let log = heard.text(alloc).expect(rt, "memory");
+    let (workers, rounds, _) = case.orders;
+    if workers > 1 {
+        compare_parts(rt, alloc, &log, workers.saturating_mul(rounds));
+    } else {
+        same(rt, log.as_str(), case.log, "what is written and said");
+    }
+}
+
+/// How many turns worker and live lines take.
+fn turns_of(case: &Case) -> u64 {
+    let (_, rounds, progress) = case.orders;
+    if progress && rounds > 0 {
+        lines_with(case.live, "") as u64
+    } else {
+        0
+    }
+}
+
+fn task_of(case: &Case) -> Task<'static> {
+    let (workers, rounds, progress) = case.orders;
+    Task {
+        instance: B.as_bytes(),
+        orders: Orders {
+            workers: workers.min(63),
+            rounds,
+            seed: 1,
+            progress,
+        },
+    }
 }
 
 /// Worker and live lines take turns. Two workers of ten rounds each add up to twenty.
@@ -217,19 +243,7 @@ fn compare_end(rt: &impl Abort, faults: &[u8], status: u8, alone: u64, case: &Ca
 fn workers_beside_live_lines(rt: HostRuntime) {
     let alloc = rt.alloc();
     for case in CASES {
-        let (workers, rounds, progress) = case.orders;
-        let orders = Orders {
-            workers: workers.min(63),
-            rounds,
-            seed: 1,
-            progress,
-        };
-        let turns = if progress && rounds > 0 {
-            lines_with(case.live, "") as u64
-        } else {
-            0
-        };
-        let log = Log::new(rt, alloc, case.ticks, turns, case.together);
+        let log = Log::new(rt, alloc, case.ticks, turns_of(case), case.together);
         let heard = Heard::new(alloc, log).expect(&rt, "memory");
         let mut live = InTurn {
             rt: heard.again(),
@@ -240,21 +254,12 @@ fn workers_beside_live_lines(rt: HostRuntime) {
         let mut faults = Vec::new(alloc);
         let status = scripted(
             heard.again(),
-            Task {
-                instance: B.as_bytes(),
-                orders,
-            },
+            task_of(case),
             &mut GRANTED.as_bytes(),
             &mut live,
             &mut page,
             &mut faults,
         );
-        compare_end(&rt, faults.as_slice(), status, heard.alone(), &case);
-        let log = heard.text(alloc);
-        if workers > 1 {
-            compare_parts(&rt, alloc, &log, workers.saturating_mul(rounds));
-        } else {
-            compare(&rt, &log, &case);
-        }
+        compare(&rt, alloc, &heard, &faults, status, case);
     }
 }

@@ -1,10 +1,10 @@
 //! The example of four workers and a live file, of which all but some lines is the same in each run.
 
+use crate::tests::comparing::{same, text_in};
 use board_program::scripted as judge;
 use std::alloc::{AllocError, Global};
 use std::io::Eprint;
 use std::process::Abort;
-use std::str;
 use std::sync::Wait;
 use std::thread::Threads;
 use std::time::Clock;
@@ -179,76 +179,72 @@ fn committed(text: &str) -> Option<u64> {
     Some(sum)
 }
 
-/// What a run is compared by.
-#[derive(Drop)]
-struct Ended {
-    status: u8,
-    shape: String,
-    /// The replies of the journal, and those of a board of one thread to its calls.
-    replies: String,
-    judged: Vec<u8>,
-    committed: Option<u64>,
-    version: Option<u64>,
+/// The version in the last line.
+fn version_in(text: &str) -> Option<u64> {
+    let (_, version) = text.trim_end().rsplit_once("version ")?;
+    version.parse::<u64>().ok()
 }
 
-/// Runs the example.
+/// Runs the example, and gives the status.
 fn run<H: Threads + Wait + Clock + Eprint + AllocGlobal + Copy + Drop + Send + Sync + 'static>(
     rt: H,
-) -> Option<Ended> {
-    let alloc = rt.alloc();
-    let instance = INSTANCE.as_bytes();
-    let mut written = Vec::new(alloc);
-    let mut faults = Vec::new(alloc);
-    let status = scripted(
+    written: &mut Vec<u8>,
+) -> u8 {
+    let mut faults = Vec::new(rt.alloc());
+    let task = Task {
+        instance: INSTANCE.as_bytes(),
+        orders: ORDERS,
+    };
+    scripted(
         rt,
-        Task {
-            instance,
-            orders: ORDERS,
-        },
+        task,
         &mut SCRIPT.as_bytes(),
         &mut LIVE.as_bytes(),
+        written,
+        &mut faults,
+    )
+}
+
+/// What a board of one thread writes of a script.
+fn judged(alloc: Global, script: &str) -> Vec<u8> {
+    let mut written = Vec::new(alloc);
+    let mut faults = Vec::new(alloc);
+    let _refused = judge(
+        alloc,
+        INSTANCE.as_bytes(),
+        &mut script.as_bytes(),
         &mut written,
         &mut faults,
     );
-    let text = str::from_utf8(written.as_slice()).ok()?;
-    let (script, replies) = journal(alloc, text).ok()?;
-    let mut judged = Vec::new(alloc);
-    let _refused = judge(
-        alloc,
-        instance,
-        &mut script.as_bytes(),
-        &mut judged,
-        &mut faults,
-    );
-    let (_, version) = text.trim_end().rsplit_once("version ")?;
-    Some(Ended {
-        status,
-        shape: shape(alloc, text).ok()?,
-        replies,
-        judged,
-        committed: committed(text),
-        version: version.parse::<u64>().ok(),
-    })
+    written
 }
 
-fn compare(rt: &impl Abort, ended: &Option<Ended>) {
-    let Some(ended) = ended else {
-        return assert!(rt; false);
-    };
-    assert_eq!(rt; ended.status, 0);
-    assert_eq!(rt; ended.shape.as_str(), SHAPE);
-    assert_eq!(rt;
-        str::from_utf8(ended.judged.as_slice()).expect(rt, "text"),
-        ended.replies.as_str()
-    );
-    assert!(rt; ended.committed.is_some());
-    let version = ended.committed.expect(rt, "a sum").saturating_add(6);
-    assert_eq!(rt; ended.version, Some(version));
+fn compare_shape(rt: &impl Abort, alloc: Global, text: &str) {
+    let shape = shape(alloc, text).expect(rt, "memory");
+    same(rt, shape.as_str(), SHAPE, "the lines in each run");
+}
+
+/// Compares the replies of the journal with those of a board of one thread to its calls.
+fn compare_journal(rt: &impl Abort, alloc: Global, text: &str) {
+    let (script, replies) = journal(alloc, text).expect(rt, "memory");
+    let judged = judged(alloc, &script);
+    same(rt, text_in(&judged), replies.as_str(), "the journal");
+}
+
+/// Compares the version with the six commits of the script and those of the workers.
+fn compare_version(rt: &impl Abort, text: &str) {
+    let commits = committed(text).expect(rt, "a sum").saturating_add(6);
+    same(rt, version_in(text), Some(commits), "the version");
 }
 
 /// In each run the replies to the script and to the live file are of the same kinds, the journal is legal, since a board of one thread gives
 /// its calls the same replies, and the version counts the commits.
 #[test]
 fn four_workers_and_a_live_file(rt: HostRuntime) {
-    compare(&rt, &run(rt));
+    let mut written = Vec::new(rt.alloc());
+    same(&rt, run(rt, &mut written), 0, "the status");
+    let text = text_in(&written);
+    compare_shape(&rt, rt.alloc(), text);
+    compare_journal(&rt, rt.alloc(), text);
+    compare_version(&rt, text);
 }

@@ -1,11 +1,11 @@
 //! Runs of which not all is the same each time: what two workers commit who want the same, and what a run takes of memory.
 
 use crate::tests::cases::{A, B, CROSSED, GRANTED};
+use crate::tests::comparing::{same, text_in};
 use crate::tests::devices::{Repeated, Tail};
 use program_parts::read_path;
 use std::process::Abort;
 use std::rt::Files;
-use std::str;
 use worker_runs::{Orders, Task, scripted};
 
 /// The orders of so many workers, of a round each.
@@ -30,7 +30,8 @@ fn ends_with_one(written: &[u8], texts: &[&str]) -> bool {
 
 /// What was written ends with one of the texts, and the run with this status.
 fn compare_end(rt: &impl Abort, written: &[u8], texts: &[&str], status: u8, wanted: u8) {
-    assert!(rt; ends_with_one(written, texts) && status == wanted);
+    let found = (ends_with_one(written, texts), status);
+    same(rt, found, (true, wanted), "the end of a run");
 }
 
 /// Two workers propose the same move, and one commits.
@@ -64,14 +65,15 @@ fn number_behind(text: &str, word: &str) -> Option<u64> {
 }
 
 /// A number of this process's memory, in units of 1,024 bytes.
-fn memory<R: AllocGlobal + Abort + Files>(rt: &R, word: &str) -> u64 {
-    let status = read_path(rt, rt.alloc(), "/proc/self/status").expect(rt, "a file");
-    let text = str::from_utf8(status.as_slice()).expect(rt, "text");
-    number_behind(text, word).expect(rt, "a number")
+fn memory<R: AllocGlobal + Files>(rt: &R, word: &str) -> Option<u64> {
+    let status = read_path(rt, rt.alloc(), "/proc/self/status").ok()?;
+    number_behind(text_in(&status), word)
 }
 
-fn compare_memory(rt: &impl Abort, taken: u64) {
-    assert!(rt; taken <= 78_125, "{taken}");
+fn compare_memory(rt: &impl Abort, before: Option<u64>, after: Option<u64>) {
+    let (before, after) = before.zip(after).expect(rt, "numbers");
+    let taken = after.saturating_sub(before);
+    same(rt, (taken, taken <= 78_125), (taken, true), "memory");
 }
 
 /// A million denied calls, with all else that a run keeps, take at most 80 megabytes. (Under `rt try` each allocation takes more, and this
@@ -98,7 +100,7 @@ fn a_million_denied_calls(rt: HostRuntime) {
         &mut written,
         &mut faults,
     );
-    compare_memory(&rt, memory(&rt, "VmHWM:").saturating_sub(before));
+    compare_memory(&rt, before, memory(&rt, "VmHWM:"));
     let last = "denied access vehicle 1\n";
     compare_end(&rt, &written.bytes, &[last], status, 1);
 }

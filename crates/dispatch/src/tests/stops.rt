@@ -1,13 +1,12 @@
 //! The texts of what stops a picture or sums.
 use crate::tests::cases::A;
+use crate::tests::comparing::{all_written, compare};
 use crate::tests::torn::devices::{Failing, make_sink};
 use plan_program::{ViewStop, draw_bytes, sums_bytes};
 use plan_sums::RowsFault;
 use program_parts::Stop;
 use std::alloc::Global;
-use std::fmt::Display;
 use std::process::Abort;
-use std::str;
 
 const ROWS_FAULTS: &[(RowsFault, &str)] = &[
     (RowsFault::NoMemory, "open fault"),
@@ -19,22 +18,11 @@ const VIEW_STOPS: &[(ViewStop, &str)] = &[
     (ViewStop::Rows(7), "rows fault line 7"),
 ];
 
-fn compare(rt: &impl Abort, found: &str, wanted: &str) {
-    assert_eq!(rt; found, wanted);
-}
-
 /// Each stop is written as its text.
-fn compare_all<R: Abort, D: Display>(rt: &R, alloc: Global, stops: &[(D, &str)]) {
-    for (stop, text) in stops {
-        let written = format!(in alloc; "{stop}").expect(rt, "memory");
-        compare(rt, &written, text);
-    }
-}
-
 #[test]
 fn texts_of_stops(rt: HostRuntime) {
-    compare_all(&rt, rt.alloc(), ROWS_FAULTS);
-    compare_all(&rt, rt.alloc(), VIEW_STOPS);
+    all_written(&rt, rt.alloc(), ROWS_FAULTS);
+    all_written(&rt, rt.alloc(), VIEW_STOPS);
 }
 
 /// Replies of eleven lines, without a listing; and with one, whose tenth line is no row of the instance.
@@ -44,17 +32,13 @@ const NO_CUSTOMER: &str =
     "done\ndone\ndone\ndone\ncommitted 1\ncommitted 2\ncommitted 3\nrow 1 1 1 0 28\nrow 1 2 2 4 84\nrow 1 3 5 7 140\nend\n";
 
 /// An instance, the replies of a run, and what is said of them.
-const FAULTS: [(&str, &str, &str); 3] = [
+type Case<'a> = (&'a str, &'a str, &'a str);
+
+const FAULTS: &[Case<'static>] = &[
     (A, NO_ROWS, "dispatch: rows fault line 12\n"),
     (A, NO_CUSTOMER, "dispatch: rows fault line 10\n"),
     ("A\n", "", "dispatch: instance fault vehicle line 2\n"),
 ];
-
-fn compare_fault(rt: &impl Abort, written: &[u8], faults: &[u8], status: u8, wanted: &str) {
-    assert!(rt; written.is_empty());
-    assert_eq!(rt; str::from_utf8(faults).expect(rt, "text"), wanted);
-    assert_eq!(rt; status, 3);
-}
 
 /// Draws a listing, or adds it up, with a stream of faults that takes a byte a write: what was written and said, and the status.
 fn viewed(alloc: Global, draws: bool, instance: &str, replies: &str) -> (Vec<u8>, Vec<u8>, u8) {
@@ -70,13 +54,17 @@ fn viewed(alloc: Global, draws: bool, instance: &str, replies: &str) -> (Vec<u8>
     (written, faults.taken, status)
 }
 
+fn compare_view(rt: &impl Abort, alloc: Global, draws: bool, case: Case<'_>) {
+    let (instance, replies, said) = case;
+    let (written, faults, status) = viewed(alloc, draws, instance, replies);
+    compare(rt, &written, &faults, status, ("", said, 3), "a view");
+}
+
 /// The whole line is said, a byte at a time.
 #[test]
 fn faults_a_byte_a_write(rt: HostRuntime) {
-    for (instance, replies, wanted) in &FAULTS {
-        for draws in [true, false] {
-            let (written, faults, status) = viewed(rt.alloc(), draws, instance, replies);
-            compare_fault(&rt, written.as_slice(), faults.as_slice(), status, wanted);
-        }
+    for case in FAULTS {
+        compare_view(&rt, rt.alloc(), true, *case);
+        compare_view(&rt, rt.alloc(), false, *case);
     }
 }

@@ -1,6 +1,5 @@
 //! Torn and hostile input: instances that are cut and changed, devices that fail, scripts that are cut, and numbers at their ends.
 
-mod comparing;
 pub(crate) mod devices;
 mod instances;
 mod numbers;

@@ -2,48 +2,42 @@
 
 use crate::doing::perform;
 use crate::tests::cases::{A, B, GRANTED};
+use crate::tests::comparing::{same, text_in};
 use crate::words::{run, run_words};
+use std::alloc::Global;
+use std::fs;
 use std::io::{self, Eprint, ErrorKind};
 use std::process::Abort;
 use std::rt::Files;
 use std::sync::Wait;
 use std::thread::Threads;
 use std::time::Clock;
-use std::{fs, str};
 
-/// Words behind the program's name, what is to be said of them, and the status.
-const UNREAD: [(&[&str], &str, u8); 7] = [
-    (&["dispatch", "check", "a"], "dispatch: cannot read a\n", 3),
-    (
-        &["dispatch", "run", "a", "b"],
-        "dispatch: cannot read a\n",
-        3,
-    ),
+/// Words, what is to be written, said and noted of them, and the status.
+type Case<'a> = (&'a [&'a str], &'a str, &'a str, &'a str, u8);
+
+const CANNOT: &str = "dispatch: cannot read a\n";
+
+const NO_NAME: &str = "dispatch: instance fault name line 1\n";
+
+const UNREAD: &[Case<'static>] = &[
+    (&["dispatch", "check", "a"], "", CANNOT, "", 3),
+    (&["dispatch", "run", "a", "b"], "", CANNOT, "", 3),
     (
         &["dispatch", "run", "a", "b", "--live", "c"],
-        "dispatch: cannot read a\n",
+        "",
+        CANNOT,
+        "",
         3,
     ),
-    (
-        &["dispatch", "draw", "a", "b"],
-        "dispatch: cannot read a\n",
-        3,
-    ),
-    (
-        &["dispatch", "sums", "a", "b"],
-        "dispatch: cannot read a\n",
-        3,
-    ),
-    (
-        &["dispatch", "run", "/dev/null", "b"],
-        "dispatch: instance fault name line 1\n",
-        3,
-    ),
-    (&["dispatch"], "dispatch: instance fault name line 1\n", 3),
+    (&["dispatch", "draw", "a", "b"], "", CANNOT, "", 3),
+    (&["dispatch", "sums", "a", "b"], "", CANNOT, "", 3),
+    (&["dispatch", "run", "/dev/null", "b"], "", NO_NAME, "", 3),
+    (&["dispatch"], "", NO_NAME, "", 3),
 ];
 
 /// Words that ask for nothing: what is written, what the faults begin with, and the status.
-const NOTHING: [(&[&str], &str, &str, u8); 3] = [
+const NOTHING: &[(&[&str], &str, &str, u8)] = &[
     (&["dispatch", "chek"], "", "error: unrecognized", 2),
     (&["dispatch", "--version"], "dispatch 0.1.0\n", "", 0),
     (
@@ -54,11 +48,65 @@ const NOTHING: [(&[&str], &str, &str, u8); 3] = [
     ),
 ];
 
-/// What words give: what is written, what is said, and the status.
-type Wanted<'a> = (&'a str, &'a str, u8);
+/// What was written, said and noted, and the status.
+struct Said {
+    written: Vec<u8>,
+    faults: Vec<u8>,
+    notes: Vec<u8>,
+    status: u8,
+}
 
-/// Does what words ask for: what is written and said, and the status.
+// Written by hand: a derived drop is expanded, down to each list, at every place where a value is dropped.
+impl Drop for Said {
+    fn drop(self) {
+        let Said {
+            written: _,
+            faults: _,
+            notes: _,
+            status: _,
+        } = self;
+    }
+}
+
+fn nothing_said(alloc: Global) -> Said {
+    Said {
+        written: Vec::new(alloc),
+        faults: Vec::new(alloc),
+        notes: Vec::new(alloc),
+        status: 0,
+    }
+}
+
+/// Does what words ask for.
 fn performed<
+    H: Threads + Wait + Clock + Eprint + AllocGlobal + Files + Copy + Drop + Send + Sync + 'static,
+>(rt: H, words: &[&str]) -> Said {
+    let mut said = nothing_said(rt.alloc());
+    said.status = perform(
+        rt,
+        words,
+        &mut b"".as_slice(),
+        &mut said.written,
+        &mut said.faults,
+        &mut said.notes,
+    );
+    said
+}
+
+/// Compares what is written, said and noted, and the status.
+fn compare(rt: &impl Abort, said: &Said, case: Case<'_>) {
+    let (_, written, faults, notes, status) = case;
+    let found = (
+        text_in(&said.written),
+        text_in(&said.faults),
+        text_in(&said.notes),
+        said.status,
+    );
+    same(rt, found, (written, faults, notes, status), "words");
+}
+
+/// The same of each case.
+fn compare_all<
     H: Threads
         + Wait
         + Clock
@@ -71,66 +119,38 @@ fn performed<
         + Send
         + Sync
         + 'static,
->(rt: H, words: &[&str]) -> (Vec<u8>, Vec<u8>, u8) {
-    let mut written = Vec::new(rt.alloc());
-    let mut faults = Vec::new(rt.alloc());
-    let mut notes = Vec::new(rt.alloc());
-    let status = perform(
-        rt,
-        words,
-        &mut b"".as_slice(),
-        &mut written,
-        &mut faults,
-        &mut notes,
+>(rt: H, cases: &[Case<'_>]) {
+    for case in cases {
+        compare(&rt, &performed(rt, case.0), *case);
+    }
+}
+
+/// Compares what is written and the status. The faults are wanted to begin with a text, and without one to be empty.
+fn compare_begun(rt: &impl Abort, said: &Said, written: &str, faults: &str, status: u8) {
+    let found = (
+        text_in(&said.written),
+        said.faults.is_empty(),
+        said.faults.starts_with(faults.as_bytes()),
+        said.status,
     );
-    (written, faults, status)
-}
-
-/// Compares what is written and said of words, and the status.
-fn compare_said(rt: &impl Abort, written: &[u8], faults: &[u8], status: u8, wanted: Wanted<'_>) {
-    assert_eq!(rt; str::from_utf8(written).expect(rt, "text"), wanted.0);
-    assert_eq!(rt; str::from_utf8(faults).expect(rt, "text"), wanted.1);
-    assert_eq!(rt; status, wanted.2);
-}
-
-/// The same, where the faults are wanted to begin with a text, and without one to be empty.
-fn compare_begun(rt: &impl Abort, written: &[u8], faults: &[u8], status: u8, wanted: Wanted<'_>) {
-    assert_eq!(rt; str::from_utf8(written).expect(rt, "text"), wanted.0);
-    assert_eq!(rt; faults.is_empty(), wanted.1.is_empty());
-    assert!(rt; faults.starts_with(wanted.1.as_bytes()));
-    assert_eq!(rt; status, wanted.2);
+    let wanted = (written, faults.is_empty(), true, status);
+    same(rt, found, wanted, "words that ask for nothing");
 }
 
 #[test]
 fn words_that_ask_for_nothing(rt: HostRuntime) {
-    for (words, written, said, status) in &NOTHING {
-        let found = performed(rt, words);
-        compare_begun(
-            &rt,
-            found.0.as_slice(),
-            found.1.as_slice(),
-            found.2,
-            (written, said, *status),
-        );
+    for (words, written, said, status) in NOTHING {
+        compare_begun(&rt, &performed(rt, words), written, said, *status);
     }
 }
 
 #[test]
 fn words_name_files_in_order(rt: HostRuntime) {
-    for (words, said, status) in &UNREAD {
-        let found = performed(rt, words);
-        compare_said(
-            &rt,
-            found.0.as_slice(),
-            found.1.as_slice(),
-            found.2,
-            ("", said, *status),
-        );
-    }
+    compare_all(rt, UNREAD);
 }
 
 /// An error in place of the words: what is said, and the status.
-const ERRORS: [(ErrorKind, &str, u8); 2] = [
+const ERRORS: &[(ErrorKind, &str, u8)] = &[
     (
         ErrorKind::InvalidData,
         "error: a word of the command line is not UTF-8\n",
@@ -141,25 +161,17 @@ const ERRORS: [(ErrorKind, &str, u8); 2] = [
 
 #[test]
 fn words_that_cannot_be_read(rt: HostRuntime) {
-    for (kind, said, status) in &ERRORS {
-        let mut written = Vec::new(rt.alloc());
-        let mut faults = Vec::new(rt.alloc());
-        let mut notes = Vec::new(rt.alloc());
-        let found = run_words(
+    for (kind, faults, status) in ERRORS {
+        let mut said = nothing_said(rt.alloc());
+        said.status = run_words(
             rt,
             Err(io::Error::from(*kind)),
             &mut b"".as_slice(),
-            &mut written,
-            &mut faults,
-            &mut notes,
+            &mut said.written,
+            &mut said.faults,
+            &mut said.notes,
         );
-        compare_said(
-            &rt,
-            written.as_slice(),
-            faults.as_slice(),
-            found,
-            ("", said, *status),
-        );
+        compare(&rt, &said, (&[], "", faults, "", *status));
     }
 }
 
@@ -174,7 +186,7 @@ fn the_words_of_the_process(rt: HostRuntime) {
         &mut rt.stderr(),
         &mut rt.stderr(),
     );
-    assert_eq!(&rt; status, 2);
+    same(&rt, status, 2, "the status");
 }
 
 const INSTANCE_FILE: &str = "worker_run_tests_words_instance";
@@ -183,127 +195,116 @@ const SCRIPT_FILE: &str = "worker_run_tests_words_script";
 
 const LIVE_FILE: &str = "worker_run_tests_words_live";
 
-/// Runs a script, alone or with workers who do no round, and with notes or without. What is written on both streams.
-const NOTED: [(&[&str], &str, &str); 6] = [
-    (&[], "bad word\n", ""),
+const TRIED_NOTHING: &str =
+    "bad word\nworker 1 tried 0 committed 0 denied 0 refused 0\nversion 0\n";
+
+const TRIED_NOTHING_LIVE: &str =
+    "bad word\nend\nworker 1 tried 0 committed 0 denied 0 refused 0\nversion 0\n";
+
+const NO_COMMAND: &str = "line 1: 'fly' is not a command\n";
+
+/// Runs a script, alone or with workers who do no round, and with notes or without.
+const NOTED: &[Case<'static>] = &[
     (
-        &["--explain"],
+        &["dispatch", "run", INSTANCE_FILE, SCRIPT_FILE],
         "bad word\n",
-        "line 1: 'fly' is not a command\n",
-    ),
-    (
-        &["--workers=1", "--rounds=0", "--progress"],
-        "bad word\nworker 1 tried 0 committed 0 denied 0 refused 0\nversion 0\n",
         "",
+        "",
+        1,
     ),
     (
-        &["--workers=1", "--rounds=0", "--explain"],
-        "bad word\nworker 1 tried 0 committed 0 denied 0 refused 0\nversion 0\n",
-        "line 1: 'fly' is not a command\n",
+        &["dispatch", "run", INSTANCE_FILE, SCRIPT_FILE, "--explain"],
+        "bad word\n",
+        "",
+        NO_COMMAND,
+        1,
     ),
     (
         &[
+            "dispatch",
+            "run",
+            INSTANCE_FILE,
+            SCRIPT_FILE,
+            "--workers=1",
+            "--rounds=0",
+            "--progress",
+        ],
+        TRIED_NOTHING,
+        "",
+        "",
+        1,
+    ),
+    (
+        &[
+            "dispatch",
+            "run",
+            INSTANCE_FILE,
+            SCRIPT_FILE,
+            "--workers=1",
+            "--rounds=0",
+            "--explain",
+        ],
+        TRIED_NOTHING,
+        "",
+        NO_COMMAND,
+        1,
+    ),
+    (
+        &[
+            "dispatch",
+            "run",
+            INSTANCE_FILE,
+            SCRIPT_FILE,
             "--workers=1",
             "--rounds=0",
             "--explain",
             "--live",
             LIVE_FILE,
         ],
-        "bad word\nend\nworker 1 tried 0 committed 0 denied 0 refused 0\nversion 0\n",
-        "line 1: 'fly' is not a command\n",
+        TRIED_NOTHING_LIVE,
+        "",
+        NO_COMMAND,
+        1,
     ),
-    (&["--live", LIVE_FILE], "bad word\nend\n", ""),
+    (
+        &[
+            "dispatch",
+            "run",
+            INSTANCE_FILE,
+            SCRIPT_FILE,
+            "--live",
+            LIVE_FILE,
+        ],
+        "bad word\nend\n",
+        "",
+        "",
+        1,
+    ),
 ];
 
-/// Compares what was written on three streams by a run in which something was refused.
-fn compare(rt: &impl Abort, found: (&[u8], &[u8], &[u8]), status: u8, wanted: (&str, &str)) {
-    assert_eq!(rt; status, 1);
-    assert_eq!(rt; str::from_utf8(found.0).expect(rt, "text"), wanted.0);
-    assert!(rt; found.1.is_empty());
-    assert_eq!(rt; str::from_utf8(found.2).expect(rt, "text"), wanted.1);
+fn write_file<R: Files + AllocGlobal + Abort>(rt: &R, file: &str, text: &str) {
+    fs::write(rt, file, text).expect(rt, "a file");
 }
 
-/// What a run with these options writes.
-fn notes<
-    H: Threads
-        + Wait
-        + Clock
-        + Eprint
-        + AllocGlobal
-        + Abort
-        + Files
-        + Copy
-        + Drop
-        + Send
-        + Sync
-        + 'static,
->(rt: H, options: &[&'static str], wanted: (&str, &str)) {
-    let mut words = Vec::from_slice(
-        rt.alloc(),
-        ["dispatch", "run", INSTANCE_FILE, SCRIPT_FILE].as_slice(),
-    )
-    .expect(&rt, "memory");
-    words.extend_from_slice(options).expect(&rt, "memory");
-    let mut written = Vec::new(rt.alloc());
-    let mut faults = Vec::new(rt.alloc());
-    let mut notes = Vec::new(rt.alloc());
-    let status = perform(
-        rt,
-        words.as_slice(),
-        &mut b"".as_slice(),
-        &mut written,
-        &mut faults,
-        &mut notes,
-    );
-    compare(
-        &rt,
-        (written.as_slice(), faults.as_slice(), notes.as_slice()),
-        status,
-        wanted,
-    );
+fn remove_file<R: Files + AllocGlobal + Abort>(rt: &R, file: &str) {
+    fs::remove_file(rt, file).expect(rt, "a file");
 }
 
 /// Lines of the script have notes where they are asked for, and lines of the live script never.
 #[test]
 fn notes_where_they_are_asked_for(rt: HostRuntime) {
-    fs::write(&rt, INSTANCE_FILE, A).expect(&rt, "a file");
-    fs::write(&rt, SCRIPT_FILE, "1 fly\n").expect(&rt, "a file");
-    fs::write(&rt, LIVE_FILE, "1 list\n").expect(&rt, "a file");
-    for (options, written, said) in &NOTED {
-        notes(rt, options, (written, said));
-    }
-    fs::remove_file(&rt, LIVE_FILE).expect(&rt, "a file");
-    fs::remove_file(&rt, SCRIPT_FILE).expect(&rt, "a file");
-    fs::remove_file(&rt, INSTANCE_FILE).expect(&rt, "a file");
+    write_file(&rt, INSTANCE_FILE, A);
+    write_file(&rt, SCRIPT_FILE, "1 fly\n");
+    write_file(&rt, LIVE_FILE, "1 list\n");
+    compare_all(rt, NOTED);
+    remove_file(&rt, LIVE_FILE);
+    remove_file(&rt, SCRIPT_FILE);
+    remove_file(&rt, INSTANCE_FILE);
 }
 
-/// The numbers of rounds and of the seed are not one another's: without rounds a worker proposes nothing.
-#[test]
-fn rounds_and_a_seed(rt: HostRuntime) {
-    let instance = "worker_run_tests_seed_instance";
-    let script = "worker_run_tests_seed_script";
-    fs::write(&rt, instance, B).expect(&rt, "a file");
-    fs::write(&rt, script, GRANTED).expect(&rt, "a file");
-    let words = [
-        "dispatch",
-        "run",
-        instance,
-        script,
-        "--workers=1",
-        "--rounds=0",
-        "--seed=5",
-    ];
-    let found = performed(rt, &words);
-    compare_said(
-        &rt,
-        found.0.as_slice(),
-        found.1.as_slice(),
-        found.2,
-        (UNCHANGED, "", 0),
-    );
-    fs::remove_file(&rt, script).expect(&rt, "a file");
-    fs::remove_file(&rt, instance).expect(&rt, "a file");
-}
+const SEED_INSTANCE: &str = "worker_run_tests_seed_instance";
+
+const SEED_SCRIPT: &str = "worker_run_tests_seed_script";
 
 /// The replies to the script, and the lines of a worker who did nothing.
 const UNCHANGED: &str = "\
@@ -316,3 +317,29 @@ committed 2\n\
 committed 3\n\
 worker 1 tried 0 committed 0 denied 0 refused 0\n\
 version 3\n";
+
+const SEEDED: &[Case<'static>] = &[(
+    &[
+        "dispatch",
+        "run",
+        SEED_INSTANCE,
+        SEED_SCRIPT,
+        "--workers=1",
+        "--rounds=0",
+        "--seed=5",
+    ],
+    UNCHANGED,
+    "",
+    "",
+    0,
+)];
+
+/// The numbers of rounds and of the seed are not one another's: without rounds a worker proposes nothing.
+#[test]
+fn rounds_and_a_seed(rt: HostRuntime) {
+    write_file(&rt, SEED_INSTANCE, B);
+    write_file(&rt, SEED_SCRIPT, GRANTED);
+    compare_all(rt, SEEDED);
+    remove_file(&rt, SEED_SCRIPT);
+    remove_file(&rt, SEED_INSTANCE);
+}

@@ -1,5 +1,5 @@
 //! Every number of every command at its ends: 0, 1, its limit, one more than that, the greatest number, and one more than that.
-use crate::tests::torn::comparing::compare;
+use crate::tests::comparing::{compare, same};
 use crate::tests::torn::instances::A;
 use board_program::scripted;
 use std::alloc::Global;
@@ -7,21 +7,38 @@ use std::process::Abort;
 
 /// Customers 1, 2 and 3 on vehicle 1 at version 3; session 2 of user ann with role d; a set of each kind of the roles d and e.
 const BEFORE: &str = "\
-1 grant root move vehicle 1 2 => done
-1 grant root move customer 1 4 => done
-1 grant root pin customer 1 4 => done
-1 grant root freeze vehicle 1 2 => done
-1 grant root audit board => done
-1 insert 1 1 1 0 => committed 1
-1 insert 2 1 2 1 => committed 2
-1 insert 3 1 3 2 => committed 3
-1 add-user ann => done
-1 add-role d => done
-1 assign ann d => done
-1 add-role e => done
-1 ssd-create s 2 d e => done
-1 dsd-create t 2 d e => done
-1 open ann d => session 2";
+1 grant root move vehicle 1 2\n\
+1 grant root move customer 1 4\n\
+1 grant root pin customer 1 4\n\
+1 grant root freeze vehicle 1 2\n\
+1 grant root audit board\n\
+1 insert 1 1 1 0\n\
+1 insert 2 1 2 1\n\
+1 insert 3 1 3 2\n\
+1 add-user ann\n\
+1 add-role d\n\
+1 assign ann d\n\
+1 add-role e\n\
+1 ssd-create s 2 d e\n\
+1 dsd-create t 2 d e\n\
+1 open ann d\n";
+
+const REPLIES_BEFORE: &str = "\
+done\n\
+done\n\
+done\n\
+done\n\
+done\n\
+committed 1\n\
+committed 2\n\
+committed 3\n\
+done\n\
+done\n\
+done\n\
+done\n\
+done\n\
+done\n\
+session 2\n";
 
 /// A line with `_` for a number, the number's limit, and the replies at its ends, parted by strokes. In a reply `/` ends a line, and `~` is a
 /// stroke.
@@ -136,30 +153,29 @@ end|refused no-access|refused no-session|refused no-session|bad number
 _ list = 2 = refused no-session|end|end|refused no-session|refused no-session|bad number
 _ json = 2 = refused no-session|{\"rows\":[]}|{\"rows\":[]}|refused no-session|refused no-session|bad number";
 
-/// Appends the lines of rows, and the replies to them.
-fn push_rows(script: &mut String, replies: &mut String, rows: &str) -> Option<()> {
-    for row in rows.split('\n') {
-        let (line, reply) = row.split_once(" => ")?;
-        script.push_str(line).ok()?;
-        script.push('\n').ok()?;
-        replies.push_str(reply).ok()?;
-        replies.push('\n').ok()?;
-    }
-    Some(())
+/// What a run wrote and said, and its status.
+type Ended = (Vec<u8>, Vec<u8>, u8);
+
+/// The run of the script that ends with a line.
+fn ended(alloc: Global, line: &str) -> Option<Ended> {
+    let script = format!(in alloc; "{BEFORE}{line}\n").ok()?;
+    let mut written = Vec::new(alloc);
+    let mut faults = Vec::new(alloc);
+    let status = scripted(
+        alloc,
+        A.as_bytes(),
+        &mut script.as_bytes(),
+        &mut written,
+        &mut faults,
+    );
+    Some((written, faults, status))
 }
 
-/// The script that ends with a line, and all replies.
-fn texts(alloc: Global, line: &str, reply: &str) -> Option<(String, String)> {
-    let mut script = String::new(alloc);
-    let mut replies = String::new(alloc);
-    push_rows(&mut script, &mut replies, BEFORE)?;
-    script.push_str(line).ok()?;
-    script.push('\n').ok()?;
+/// All replies.
+fn replies(alloc: Global, reply: &str) -> Option<String> {
     let reply = reply.replace(alloc, "/", "\n").ok()?;
     let reply = reply.replace(alloc, "~", "|").ok()?;
-    replies.push_str(reply.as_str()).ok()?;
-    replies.push('\n').ok()?;
-    Some((script, replies))
+    format!(in alloc; "{REPLIES_BEFORE}{reply}\n").ok()
 }
 
 /// Whether a reply counts as refused.
@@ -173,72 +189,54 @@ fn is_refused(reply: &str) -> bool {
 }
 
 /// A line has this reply.
-fn line_gives(rt: &impl Abort, alloc: Global, line: &str, reply: &str) {
-    let Some((script, replies)) = texts(alloc, line, reply) else {
-        return;
-    };
-    let mut written = Vec::new(alloc);
-    let mut faults = Vec::new(alloc);
-    let status = scripted(
-        alloc,
-        A.as_bytes(),
-        &mut script.as_bytes(),
-        &mut written,
-        &mut faults,
-    );
-    let is_refused = is_refused(reply);
-    let wanted = (replies.as_str(), "", u8::from(is_refused));
+fn compare_line(rt: &impl Abort, alloc: Global, line: &str, reply: &str) {
+    let (written, faults, status) = ended(alloc, line).expect(rt, "memory");
+    let replies = replies(alloc, reply).expect(rt, "memory");
+    let wanted = (replies.as_str(), "", u8::from(is_refused(reply)));
     compare(rt, &written, &faults, status, wanted, line);
 }
 
 /// The value of a number at one of its ends.
-fn end_of(alloc: Global, limit: &str, index: usize) -> Option<String> {
-    let limit = limit.parse::<u64>().ok()?;
-    let value = match index {
+fn end_of(limit: u64, index: u32) -> u64 {
+    match index {
         0 => 0,
         1 => 1,
         2 => limit,
         3 => limit.saturating_add(1),
         4 => 4_294_967_295,
         _ => 4_294_967_296,
-    };
-    format!(in alloc; "{value}").ok()
+    }
 }
 
-/// The line of a row at one end has its reply.
-fn row_gives(
-    rt: &impl Abort,
-    alloc: Global,
-    form: &str,
-    limit: &str,
-    index: usize,
-    reply: &str,
-) -> Option<()> {
-    let value = end_of(alloc, limit, index)?;
-    let line = form.replace(alloc, "_", value.as_str()).ok()?;
-    line_gives(rt, alloc, line.as_str(), reply);
-    Some(())
+/// The line of a form at one end.
+fn line_at(alloc: Global, form: &str, limit: &str, index: u32) -> Option<String> {
+    let value = end_of(limit.parse::<u64>().ok()?, index);
+    let value = format!(in alloc; "{value}").ok()?;
+    form.replace(alloc, "_", value.as_str()).ok()
 }
 
-/// Every end of a row has its reply. It says how many there are.
-fn ends_give(rt: &impl Abort, alloc: Global, row: &str) -> Option<usize> {
+/// The line, the limit and the replies of a row.
+fn cut(row: &str) -> Option<(&str, &str, &str)> {
     let (form, told) = row.split_once(" = ")?;
     let (limit, replies) = told.split_once(" = ")?;
-    let mut index = 0usize;
-    for reply in replies.split('|') {
-        row_gives(rt, alloc, form, limit, index, reply)?;
-        index = index.saturating_add(1);
-    }
-    Some(index)
+    Some((form, limit, replies))
 }
 
-fn compare_ends(rt: &impl Abort, found: Option<usize>, row: &str) {
-    assert!(rt; found == Some(6), "{row}");
+/// Each of the six ends of a row has its reply.
+fn compare_row(rt: &impl Abort, alloc: Global, row: &str) {
+    let (form, limit, replies) = cut(row).expect(rt, "a row");
+    let mut index = 0u32;
+    for reply in replies.split('|') {
+        let line = line_at(alloc, form, limit, index).expect(rt, "a line");
+        compare_line(rt, alloc, &line, reply);
+        index = index.saturating_add(1);
+    }
+    same(rt, index, 6, row);
 }
 
 #[test]
 fn numbers_at_their_ends(rt: HostRuntime) {
     for row in NUMBERS.split('\n') {
-        compare_ends(&rt, ends_give(&rt, rt.alloc(), row), row);
+        compare_row(&rt, rt.alloc(), row);
     }
 }

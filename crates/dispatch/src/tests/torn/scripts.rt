@@ -1,6 +1,6 @@
 //! Scripts through readers and writers that fail, or give and take a few bytes: in an input of their own, behind an instance, beside
 //! workers, and as live scripts.
-use crate::tests::torn::comparing::{compare, holds};
+use crate::tests::comparing::{compare, holds, same};
 use crate::tests::torn::devices::{Failing, Sink, Source, Torn, make_sink, make_source};
 use crate::tests::torn::instances::A;
 use board_program::{joined, scripted};
@@ -13,7 +13,7 @@ use std::time::Clock;
 use worker_runs::{Orders, Task, scripted as run_beside};
 
 /// Lines and the replies to them.
-const ROWS: [(&str, &str); 9] = [
+const ROWS: &[(&str, &str)] = &[
     ("1 grant root move vehicle 1 2\n", "done\n"),
     ("1 grant root move customer 1 4\n", "done\n"),
     ("1 grant root view vehicle 1 2\n", "done\n"),
@@ -31,15 +31,44 @@ const ROWS: [(&str, &str); 9] = [
     ),
 ];
 
-/// The first so many lines, and the replies to them.
-fn texts(alloc: Global, count: usize) -> Result<(String, String), AllocError> {
-    let mut lines = String::new(alloc);
-    let mut replies = String::new(alloc);
-    for (line, reply) in ROWS.iter().take(count) {
-        lines.push_str(line)?;
-        replies.push_str(reply)?;
+/// All lines, and the replies to them.
+struct Texts {
+    script: String,
+    replies: String,
+}
+
+// Written by hand: a derived drop is expanded, down to each list, at every place where a value is dropped.
+impl Drop for Texts {
+    fn drop(self) {
+        let Texts {
+            script: _,
+            replies: _,
+        } = self;
     }
-    Ok((lines, replies))
+}
+
+fn make_texts(alloc: Global) -> Result<Texts, AllocError> {
+    let mut texts = Texts {
+        script: String::new(alloc),
+        replies: String::new(alloc),
+    };
+    for (line, reply) in ROWS {
+        texts.script.push_str(line)?;
+        texts.replies.push_str(reply)?;
+    }
+    Ok(texts)
+}
+
+/// The replies to the first so many lines.
+fn first(texts: &Texts, count: usize) -> &str {
+    let mut bytes = 0usize;
+    for (_, reply) in ROWS.iter().take(count) {
+        bytes = bytes.saturating_add(reply.len());
+    }
+    match texts.replies.split_at_checked(bytes) {
+        Some((front, _)) => front,
+        None => "",
+    }
 }
 
 /// Where a script is read.
@@ -114,39 +143,38 @@ fn reads_before(way: Way) -> u32 {
 /// What a run wrote, said and ended with.
 type Ended = (Vec<u8>, Vec<u8>, u8);
 
-/// The run of a script. Behind an instance that comes first.
+/// The run of an input.
 fn ended<H: Threads + Wait + Clock + Eprint + AllocGlobal + Copy + Drop + Send + Sync + 'static>(
     rt: H,
     devices: Devices,
-    script: &str,
-) -> Result<Ended, AllocError> {
-    let mut input = String::new(rt.alloc());
-    if devices.way == Way::Behind {
-        input.push_str(A)?;
-        input.push_str("%%\n")?;
-    }
-    input.push_str(script)?;
+    input: &str,
+) -> Ended {
     let mut source = make_source(input.as_bytes(), devices.most, devices.torn);
     let mut sink = make_sink(Vec::new(rt.alloc()), devices.most, devices.failing);
     let mut faults = Vec::new(rt.alloc());
     let status = run(rt, devices.way, &mut source, &mut sink, &mut faults);
-    Ok((sink.taken, faults, status))
+    (sink.taken, faults, status)
+}
+
+/// The run of a script, behind an instance where it is read so.
+fn ended_with<
+    H: Threads + Wait + Clock + Eprint + AllocGlobal + Copy + Drop + Send + Sync + 'static,
+>(rt: H, devices: Devices, script: &str) -> Result<Ended, AllocError> {
+    if devices.way != Way::Behind {
+        return Ok(ended(rt, devices, script));
+    }
+    let input = format!(in rt.alloc(); "{A}%%\n{script}")?;
+    Ok(ended(rt, devices, &input))
 }
 
 /// The run of all lines writes the replies to the first so many, and ends with this fault and status.
 fn gives<
     H: Threads + Wait + Clock + Eprint + AllocGlobal + Abort + Copy + Drop + Send + Sync + 'static,
->(rt: H, devices: Devices, count: usize, fault: &str, status: u8) {
-    let Ok((script, _)) = texts(rt.alloc(), ROWS.len()) else {
-        return;
-    };
-    let Ok((_, replies)) = texts(rt.alloc(), count) else {
-        return;
-    };
-    if let Ok((written, faults, found)) = ended(rt, devices, &script) {
-        let wanted = (replies.as_str(), fault, status);
-        compare(&rt, &written, &faults, found, wanted, "a script");
-    }
+>(rt: H, devices: Devices, texts: &Texts, count: usize, fault: &str, status: u8) {
+    let ended = ended_with(rt, devices, &texts.script);
+    let (written, faults, found) = ended.expect(&rt, "memory");
+    let wanted = (first(texts, count), fault, status);
+    compare(&rt, &written, &faults, found, wanted, "a script");
 }
 
 const READ: &str = "dispatch: run fault read\n";
@@ -155,10 +183,11 @@ const WRITE: &str = "dispatch: run fault write\n";
 
 #[test]
 fn a_byte_at_a_time(rt: HostRuntime) {
+    let texts = make_texts(rt.alloc()).expect(&rt, "memory");
     for way in WAYS {
         for most in [1usize, 2, 7, 10_000] {
             let devices = Devices { way, most, ..WHOLE };
-            gives(rt, devices, ROWS.len(), "", 0);
+            gives(rt, devices, &texts, ROWS.len(), "", 0);
         }
     }
 }
@@ -166,13 +195,14 @@ fn a_byte_at_a_time(rt: HostRuntime) {
 /// A read fails, or gives an end, after so many lines. The replies to these lines were written, and nothing that comes later is read.
 #[test]
 fn reads_that_fail_or_end(rt: HostRuntime) {
+    let texts = make_texts(rt.alloc()).expect(&rt, "memory");
     for way in WAYS {
         let mut reads = reads_before(way);
         for count in 0..=ROWS.len() {
             let torn = Torn::Fails(reads);
-            gives(rt, Devices { way, torn, ..WHOLE }, count, READ, 3);
+            gives(rt, Devices { way, torn, ..WHOLE }, &texts, count, READ, 3);
             let torn = Torn::Ends(reads);
-            gives(rt, Devices { way, torn, ..WHOLE }, count, "", 0);
+            gives(rt, Devices { way, torn, ..WHOLE }, &texts, count, "", 0);
             reads = reads.saturating_add(1);
         }
     }
@@ -181,19 +211,21 @@ fn reads_that_fail_or_end(rt: HostRuntime) {
 /// A read fails before the script begins.
 #[test]
 fn reads_that_fail_in_an_instance(rt: HostRuntime) {
+    let texts = make_texts(rt.alloc()).expect(&rt, "memory");
     for reads in 0..HEAD {
         let devices = Devices {
             way: Way::Behind,
             torn: Torn::Fails(reads),
             ..WHOLE
         };
-        gives(rt, devices, 0, READ, 3);
+        gives(rt, devices, &texts, 0, READ, 3);
     }
 }
 
 /// A write fails or takes no byte, or a flush fails, after so many writes of a reply. The replies before were written.
 #[test]
 fn writes_that_fail(rt: HostRuntime) {
+    let texts = make_texts(rt.alloc()).expect(&rt, "memory");
     for way in WAYS {
         let mut writes = 0u32;
         for count in 0..ROWS.len() {
@@ -203,7 +235,7 @@ fn writes_that_fail(rt: HostRuntime) {
                     failing,
                     ..WHOLE
                 };
-                gives(rt, devices, count, WRITE, 3);
+                gives(rt, devices, &texts, count, WRITE, 3);
             }
             writes = writes.saturating_add(1);
         }
@@ -218,20 +250,16 @@ fn is_front(written: &[u8], faults: &[u8], status: u8, replies: &str) -> bool {
 /// A script of which a byte is written at a time ends early by a write or a flush. It says how long what was written is.
 fn fails_at<
     H: Threads + Wait + Clock + Eprint + AllocGlobal + Abort + Copy + Drop + Send + Sync + 'static,
->(rt: H, way: Way, most: usize, failing: Failing) -> usize {
-    let Ok((script, replies)) = texts(rt.alloc(), ROWS.len()) else {
-        return 0;
-    };
+>(rt: H, way: Way, most: usize, failing: Failing, texts: &Texts) -> usize {
     let devices = Devices {
         way,
         most,
         torn: Torn::Never,
         failing,
     };
-    let Ok((written, faults, status)) = ended(rt, devices, &script) else {
-        return 0;
-    };
-    let well = is_front(&written, &faults, status, &replies);
+    let ended = ended_with(rt, devices, &texts.script);
+    let (written, faults, status) = ended.expect(&rt, "memory");
+    let well = is_front(&written, &faults, status, &texts.replies);
     holds(&rt, well, "a prefix of the replies");
     written.len()
 }
@@ -239,14 +267,13 @@ fn fails_at<
 /// A byte was taken at each write before the one that fails.
 #[test]
 fn writes_of_a_byte_that_fail(rt: HostRuntime) {
+    let texts = make_texts(rt.alloc()).expect(&rt, "memory");
     for way in WAYS {
-        let mut written = 0usize;
         for writes in 0..175u32 {
-            let length = fails_at(rt, way, 1, Failing::Write(writes));
-            holds(&rt, length == written, "a byte for each write");
-            let length = fails_at(rt, way, 1, Failing::Nothing(writes));
-            holds(&rt, length == written, "a byte for each write");
-            written = written.saturating_add(1);
+            let failed = fails_at(rt, way, 1, Failing::Write(writes), &texts);
+            let stopped = fails_at(rt, way, 1, Failing::Nothing(writes), &texts);
+            let wanted = writes as usize;
+            same(&rt, (failed, stopped), (wanted, wanted), "bytes");
         }
     }
 }
@@ -254,10 +281,11 @@ fn writes_of_a_byte_that_fail(rt: HostRuntime) {
 /// What was written before a flush that fails grows from one flush to the next.
 #[test]
 fn flushes_that_fail(rt: HostRuntime) {
+    let texts = make_texts(rt.alloc()).expect(&rt, "memory");
     for way in WAYS {
         let mut before = 0usize;
         for flushes in 1..9u32 {
-            let length = fails_at(rt, way, 10_000, Failing::Flush(flushes));
+            let length = fails_at(rt, way, 10_000, Failing::Flush(flushes), &texts);
             holds(&rt, length >= before, "no less was written");
             before = length;
         }
@@ -305,37 +333,25 @@ fn is_answered(written: &[u8], replies: &str, left: usize, row: Option<&(&str, &
 /// Runs a script that was cut, with an end of the line behind it or without.
 fn answers_cut<
     H: Threads + Wait + Clock + Eprint + AllocGlobal + Abort + Copy + Drop + Send + Sync + 'static,
->(rt: H, way: Way, cut: usize, end: &str) {
-    let Ok((script, _)) = texts(rt.alloc(), ROWS.len()) else {
-        return;
-    };
+>(rt: H, way: Way, cut: usize, end: &str, texts: &Texts) {
+    let (front, _) = texts.script.split_at_checked(cut).unwrap_or(("", ""));
+    let text = format!(in rt.alloc(); "{front}{end}").expect(&rt, "memory");
+    let ended = ended_with(rt, Devices { way, ..WHOLE }, &text);
+    let (written, faults, _) = ended.expect(&rt, "memory");
     let (count, bytes) = lines_in(cut);
-    let Ok((_, replies)) = texts(rt.alloc(), count) else {
-        return;
-    };
-    let (front, _) = script.split_at_checked(cut).unwrap_or(("", ""));
-    let Ok(text) = format!(in rt.alloc(); "{front}{end}") else {
-        return;
-    };
-    if let Ok((written, faults, _)) = ended(rt, Devices { way, ..WHOLE }, &text) {
-        let left = cut.saturating_sub(bytes);
-        let well = is_answered(&written, &replies, left, ROWS.get(count));
-        holds(
-            &rt,
-            well && faults.is_empty(),
-            "the answers to a script that was cut",
-        );
-    }
+    let left = cut.saturating_sub(bytes);
+    let well = is_answered(&written, first(texts, count), left, ROWS.get(count));
+    holds(&rt, well && faults.is_empty(), "a script that was cut");
 }
 
 /// A line that ends with the input is answered as one that ends with a line end, whole or not.
 #[test]
 fn scripts_cut_at_each_byte(rt: HostRuntime) {
+    let texts = make_texts(rt.alloc()).expect(&rt, "memory");
     for way in WAYS {
         for cut in 0..188usize {
-            for end in ["", "\r\n"] {
-                answers_cut(rt, way, cut, end);
-            }
+            answers_cut(rt, way, cut, "", &texts);
+            answers_cut(rt, way, cut, "\r\n", &texts);
         }
     }
 }
