@@ -12,7 +12,7 @@ use Rattle.move_core.specs.Moves.{is_possible, changes_by, effect}
 use Rattle.move_core.specs.Touched.{touches, touched_by}
 use Rattle.move_core.specs.Changed.{first_change}
 use Rattle.dimension_core.specs.Setting.{Setting}
-use Rattle.move_judge.specs.View.{IsViewOf}
+use Rattle.route_parts.specs.View.{IsViewOf}
 use Rattle.move_judge.specs.Allowed.{AreLoose}
 use Rattle.move_judge.specs.Given.{Laws}
 
@@ -221,6 +221,12 @@ module _ (law : Laws) where
   view_known s view v sound low high = law.known.known s.customers view.routes v sound.plan
 
   -- a customer who stands on a route of a view
+  pub short_of : (s : Setting) (view : ViewState) (v : ℕ) (xs : List ℕ) → IsViewOf s view → s.customers ≤ 1000 → xs ≡ route_at view.routes v → length xs ≤ 1000
+  short_of s view v xs sound few e = subst (λ (ys : List ℕ). length ys ≤ 1000) (sym e) (most (length (route_at view.routes v)) s.customers (law.known.short s.customers view.routes v sound.plan) few)
+    where
+      most : (a b : ℕ) → a ≤ b → b ≤ 1000 → a ≤ 1000
+      most a b h few = omega arith
+
   pub standing_known : (s : Setting) (view : ViewState) (v i : ℕ) (xs : List ℕ) → IsViewOf s view → 1 ≤ v → v ≤ length view.routes → xs ≡ route_at view.routes v → i < length xs
       → (1 ≤ slice_index xs i) × (slice_index xs i ≤ length view.pinned)
   standing_known s view v i xs sound low high e h =

@@ -11,7 +11,7 @@ use Rattle.move_core.specs.declared.moves.Move.{Move}
 use Rattle.move_core.specs.declared.moves.Move.TheVariants.{Shift, Swap, Cross}
 use Rattle.move_core.specs.Moves.{is_possible, changes_by, effect, stretch, without, with_stretch, with_customer, customer_at, crossed}
 use Rattle.move_core.specs.Touched.{touches, touched_by}
-use Rattle.move_judge.specs.View.{IsViewOf}
+use Rattle.route_parts.specs.View.{IsViewOf}
 use Rattle.move_judge.specs.Allowed.{IsAllowed, AreLoose}
 use Rattle.move_judge.specs.Between.{IsBetween}
 use Rattle.move_judge.specs.Given.{Laws}

@@ -9,7 +9,7 @@ use Rattle.pin_core.specs.View.{ViewState, pins_of}
 use Rattle.move_core.specs.declared.moves.Move.{Move}
 use Rattle.move_core.specs.declared.moves.Move.TheVariants.{Shift}
 use Rattle.move_core.specs.Moves.{is_possible, changes_by}
-use Rattle.move_judge.specs.View.{IsViewOf}
+use Rattle.route_parts.specs.View.{IsViewOf}
 use Rattle.move_judge.specs.Allowed.{IsAllowed, AreLoose}
 use Rattle.move_judge.specs.Between.{IsBetween, IsInside}
 use Rattle.move_judge.specs.Given.{Laws}

@@ -10,7 +10,7 @@ use Rattle.dimension_core.specs.NewRoutes.{AllFit}
 use Rattle.move_core.specs.declared.moves.Move.{Move}
 use Rattle.move_core.specs.declared.moves.Move.TheVariants.{Shift, Swap, Reverse}
 use Rattle.move_core.specs.Moves.{is_possible, changes_by, effect, stretch, with_customer, customer_at}
-use Rattle.move_judge.specs.View.{IsViewOf}
+use Rattle.route_parts.specs.View.{IsViewOf}
 use Rattle.move_judge.specs.Allowed.{IsAllowed}
 use Rattle.move_judge.specs.Between.{IsInside}
 use Rattle.move_judge.specs.Given.{Laws}

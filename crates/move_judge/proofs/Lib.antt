@@ -1,7 +1,4 @@
 pub mod Scoping
-pub mod Carried
-pub mod Keeping
-pub mod Meeting
 pub mod Allowing
 pub mod Stretches
 pub mod Places
@@ -10,4 +7,3 @@ pub mod Between
 pub mod Inside
 pub mod Still
 pub mod Free
-pub mod Nothing

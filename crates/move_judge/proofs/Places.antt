@@ -19,12 +19,6 @@ no_more n m e = omega arith
 pub nearer_end : (n k : ℕ) → k < n → n - (k + 1) < n - k
 nearer_end n k h = omega arith
 
-pub some_above : (k n : ℕ) → k < n → 1 ≤ n
-some_above k n h = omega arith
-
-pub before_last : (k n : ℕ) → k < n → k ≤ n - 1
-before_last k n h = omega arith
-
 pub counted_fits : (k n : ℕ) → k < n → n ≤ 1000 → Fits w32 (k + 1)
 counted_fits k n h few = omega arith
 
@@ -36,6 +30,12 @@ few_fit k h = omega arith
 
 pub index_fits : (p k : ℕ) → Fits w32 p → k < 3 → Fits w64 (p - 1 + k)
 index_fits p k small h = omega arith
+
+pub none_below : (n : ℕ) → 0 ≤ n
+none_below n = omega arith
+
+pub stretch_fits : (k m n : ℕ) → k ≤ m + 1 → m ≤ n → n ≤ 1000 → Fits w32 k
+stretch_fits k m n h l few = omega arith
 
 pub below_sum : (n m : ℕ) → n ≤ n + m
 below_sum n m = omega arith
@@ -68,12 +68,6 @@ pub first_before : (p q n : ℕ) → p < q → q ≤ n → p - 1 ≤ n
 first_before p q n h high = omega arith
 
 -- parts of a route that is the old one
-pub front_of_old : (n : ℕ) (xs r s : List ℕ) → xs ≡ take n r → r ≡ s → xs ≡ take n s
-front_of_old n xs r s e f = e ∙ ap (take n) f
-
-pub back_of_old : (n : ℕ) (xs r s : List ℕ) → xs ≡ drop n r → r ≡ s → xs ≡ drop n s
-back_of_old n xs r s e f = e ∙ ap (drop n) f
-
 pub part_of_old : (i j n m : ℕ) (xs r s : List ℕ) → xs ≡ take n (drop i r) → n ≡ m → i ≡ j → r ≡ s → xs ≡ take m (drop j s)
 part_of_old i j n m xs r s e en ei f =
     e ∙ ap (λ (k : ℕ). take k (drop i r)) en ∙ ap (λ (k : ℕ). take m (drop k r)) ei ∙ ap (λ (ys : List ℕ). take m (drop j ys)) f

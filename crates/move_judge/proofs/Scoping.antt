@@ -5,7 +5,7 @@ use Rattle.dimension_core.specs.Feasible.{FitsAll}
 use Rattle.dimension_core.specs.NewRoutes.{AllFit}
 use Rattle.move_core.specs.declared.moves.Move.{Move}
 use Rattle.pin_core.specs.View.{ViewState}
-use Rattle.move_judge.specs.View.{IsViewOf}
+use Rattle.route_parts.specs.View.{IsViewOf}
 use Rattle.move_judge.specs.Allowed.{IsAllowed}
 use Rattle.move_judge.specs.Scope.{scope}
 

@@ -8,7 +8,7 @@ use Rattle.pin_core.specs.View.{ViewState, pins_of}
 use Rattle.move_core.specs.declared.moves.Move.{Move}
 use Rattle.move_core.specs.declared.moves.Move.TheVariants.{Shift, Swap, Reverse, Cross}
 use Rattle.move_core.specs.Moves.{is_possible, stretch}
-use Rattle.move_judge.specs.View.{IsViewOf}
+use Rattle.route_parts.specs.View.{IsViewOf}
 use Rattle.move_judge.specs.Allowed.{IsAllowed, AreLoose}
 use Rattle.move_judge.specs.Given.{Laws}
 use Rattle.move_judge.proofs.Between.{between_allowed, shift_between, swap_between, cross_between}

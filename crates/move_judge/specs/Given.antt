@@ -1,5 +1,4 @@
--- Laws of plans, pins, moves and spans by which a move is judged, as the crates below state them.
-use Rattle.dimension_core.specs.Laws.{SpansGoOn, SpansMeet}
+-- Laws of plans, pins and moves by which a move is judged, as the crates below state them.
 use Rattle.plan_core.specs.Laws.{RoutesAreReplaced, RoutesAreKnown, CustomersStandByRoute}
 use Rattle.pin_core.specs.Laws.{FreezesAreByNamed}
 use Rattle.move_core.specs.Laws.{MovesArePossible, MovesNameVehicles, MovesKeepPlans, MovesKeepTheUntouched, FrontsByFirstChange, MovesInsideRearrange, MovesBetweenCarryOver, ShiftsInParts}
@@ -17,5 +16,3 @@ pub record Laws : Type 0 where
   pub inside : MovesInsideRearrange
   pub between : MovesBetweenCarryOver
   pub parts : ShiftsInParts
-  pub spans : SpansGoOn
-  pub meet : SpansMeet

@@ -10,7 +10,7 @@ use Rattle.move_core.specs.declared.moves.Move.TheVariants.{Shift, Swap, Reverse
 use Rattle.move_core.specs.Moves.{is_possible, changes_by, stretch}
 use Rattle.move_judge.specs.Allowed.{IsAllowed, AreLoose}
 use Rattle.move_judge.specs.Scope.{scope}
-use Rattle.move_judge.specs.View.{IsViewOf}
+use Rattle.route_parts.specs.View.{IsViewOf}
 
 -- a move that is allowed changes its routes behind their frozen fronts alone, and nobody is pinned whom it sends to another vehicle
 pub record AllowedMovesAreFree : Type 0 where

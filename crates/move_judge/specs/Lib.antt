@@ -1,12 +1,8 @@
-pub mod View
+pub use Rattle.route_parts.specs.View
+pub use Rattle.route_parts.specs.Kept
 pub mod Near
 pub mod Allowed
 pub mod Scope
-pub mod Parts
-pub mod Replaced
-pub mod Lane
-pub mod Kept
-pub mod Ends
 pub mod Between
 pub mod Given
 pub mod Laws

@@ -1,6 +1,5 @@
 //! What a view allows: a move by the parts of its new routes, and where a move may begin at all.
 ghost use Rattle.std.specs.Prelude.{ℕ, ◌⊎◌, ◌≡◌, ◌≢◌, ◌≤◌, ◌<◌, ◌+◌, ◌-◌, ◌++◌, ◌↔◌, [], true, false, length, take, drop, IsTrue, All, Contains};
-ghost use Rattle.dimension_core.specs.Feasible.{FitsAll};
 ghost use Rattle.dimension_core.specs.NewRoutes.{AllFit};
 ghost use Rattle.dimension_core.specs.Setting.{Setting};
 ghost use Rattle.dimension_core.specs.Setup.{setting};
@@ -10,20 +9,17 @@ ghost use Rattle.plan_core.specs.Plan.{route_at};
 ghost use Rattle.pin_core.specs.Pins.{front_of};
 ghost use Rattle.pin_core.specs.View.{pins_of};
 ghost use Rattle.move_judge.specs.Scope.{scope};
-ghost use Rattle.move_judge.specs.View.{IsViewOf};
 ghost use Rattle.move_judge.specs.Near.{IsNear};
 ghost use Rattle.move_judge.specs.Allowed.{IsAllowed, AreLoose};
-ghost use Rattle.move_judge.specs.Kept.{AreKept, AreAhead, AreBehind};
-ghost use Rattle.move_judge.specs.Replaced.{replaced};
 ghost use Rattle.move_judge.specs.Given.{Laws};
+ghost use Rattle.route_parts.specs.Kept.{AreKept};
+ghost use Rattle.route_parts.specs.View.{IsViewOf};
 
-use crate::fits::fits;
-use crate::kept::Kept;
 use crate::laws::laws_below;
-use crate::parts::Parts;
 use dimension_core::Setup;
 use move_core::Move;
 use pin_core::View;
+use route_parts::{Joining, Kept, Replacement, joined_fits, replaced_fits};
 
 /// The customers of a route from one place on, before another.
 fn part(route: &[u32], from: u32, to: u32) -> &[u32]
@@ -162,46 +158,6 @@ pub struct Pair<'a> {
 struct Moved {
     place: u32,
     length: u32,
-}
-
-/// What is driven in place of a stretch of a route: the stretch, by the customers before it and those up to its end, and up to three parts,
-/// of which `first` is driven back where `turned` is true.
-#[derive(Clone, Copy)]
-struct Replacement<'a> {
-    begin: usize,
-    end: usize,
-    turned: bool,
-    first: &'a [u32],
-    second: &'a [u32],
-    third: &'a [u32],
-}
-
-/// Whether a vehicle's route with a stretch replaced is in bounds.
-#[inline(always)]
-fn replaced_fits(setup: &Setup, v: u32, route: &[u32], by: Replacement, kept: &Kept) -> bool
-    requires laws { Laws }
-    requires known { All (λ c. c ≤ (setting setup.now).customers) (replaced route.now by) }
-    requires low { 1 ≤ v }
-    requires high { v ≤ (setting setup.now).vehicles }
-    requires begin { by.begin ≤ length route.now }
-    requires end { by.end ≤ length route.now }
-    requires ahead { 0 < kept.now.ahead.width → AreAhead (setting setup.now) v route.now kept.now.ahead }
-    requires behind { 0 < kept.now.behind.width → AreBehind (setting setup.now) v route.now kept.now.behind }
-    ensures { IsTrue result ↔ FitsAll (setting setup.now) v (replaced route.now by.entry) }
-{
-    let front = &route[..by.begin];
-    let back = &route[by.end..];
-    let parts = Parts {
-        ahead: &kept.ahead,
-        front,
-        turned: by.turned,
-        first: by.first,
-        second: by.second,
-        third: by.third,
-        back,
-        behind: &kept.behind,
-    };
-    fits(setup, v, &parts)
 }
 
 /// Whether the new route of a shift inside a vehicle is in bounds.
@@ -362,7 +318,7 @@ fn swap_fits(view: &View, setup: &Setup, pair: Pair, place: u32, at: u32) -> boo
 }
 
 /// Whether the new routes of a cross are in bounds.
-fn cross_fits<'a>(view: &'a View, setup: &Setup, pair: Pair<'a>, keep: u32, keep_other: u32) -> bool
+fn cross_fits(view: &View, setup: &Setup, pair: Pair, keep: u32, keep_other: u32) -> bool
     requires laws { Laws }
     requires v_kept { AreKept (setting setup.now) view.now.routes pair.v pair.w pair.v_kept.now }
     requires w_kept { AreKept (setting setup.now) view.now.routes pair.w pair.v pair.w_kept.now }
@@ -370,35 +326,26 @@ fn cross_fits<'a>(view: &'a View, setup: &Setup, pair: Pair<'a>, keep: u32, keep
     requires possible { is_possible (setting setup.now).customers view.now.routes (Cross pair.v keep pair.w keep_other) ≡ true }
     ensures { IsTrue result ↔ AllFit (setting setup.now) (changes_by view.now.routes (Cross pair.entry.v keep pair.entry.w keep_other)) }
 {
-    let none: &[u32] = &[];
-    let v_kept = pair.v_kept;
-    let w_kept = pair.w_kept;
-    let (front, tail) = view.customers(pair.v).split_at(keep as usize);
-    let (before, end) = view.customers(pair.w).split_at(keep_other as usize);
-    let v_parts = Parts {
-        ahead: &v_kept.ahead,
-        front,
-        turned: false,
-        first: none,
-        second: none,
-        third: none,
-        back: end,
-        behind: &v_kept.over,
+    let route = view.customers(pair.v);
+    let other = view.customers(pair.w);
+    let keep = keep as usize;
+    let keep_other = keep_other as usize;
+    let here = Joining {
+        route,
+        keep,
+        other,
+        keep_other,
     };
-    if !fits(setup, pair.v, &v_parts) {
+    if !joined_fits(setup, pair.v, here, pair.v_kept) {
         return false;
     }
-    let w_parts = Parts {
-        ahead: &w_kept.ahead,
-        front: before,
-        turned: false,
-        first: none,
-        second: none,
-        third: none,
-        back: tail,
-        behind: &w_kept.over,
+    let there = Joining {
+        route: other,
+        keep: keep_other,
+        other: route,
+        keep_other: keep,
     };
-    fits(setup, pair.w, &w_parts)
+    joined_fits(setup, pair.w, there, pair.w_kept)
 }
 
 /// Whether a shift between two vehicles keeps the frozen fronts and the pins.

@@ -2,7 +2,6 @@
 ghost use Rattle.move_judge.specs.Given.{Laws};
 ghost use Rattle.move_judge.specs.Laws.{AllowedMovesAreFree, BoundsOnlyForbid};
 
-use dimension_core::{spans_go_on, spans_meet};
 use move_core::{
     fronts_by_first_change, moves_are_possible, moves_between_carry_over, moves_inside_rearrange,
     moves_keep_plans, moves_keep_the_untouched, moves_name_vehicles, shifts_in_parts,
@@ -10,7 +9,7 @@ use move_core::{
 use pin_core::freezes_by_named;
 use plan_core::{customers_stand_by_route, routes_are_known, routes_replaced};
 
-/// The laws of plans, pins, moves and spans by which a move is judged.
+/// The laws of plans, pins and moves by which a move is judged.
 pub(crate) fn laws_below()
     ensures { Laws }
 {
@@ -26,8 +25,6 @@ pub(crate) fn laws_below()
     moves_inside_rearrange();
     moves_between_carry_over();
     shifts_in_parts();
-    spans_go_on();
-    spans_meet();
 }
 
 /// A move that is allowed changes its routes behind their frozen fronts alone, and nobody is pinned whom it sends to another vehicle.

@@ -1,6 +1,6 @@
 use Rattle.std.proofs.Common.{inl, inr, ◌∙◌, ℕ, subst, sym}
 use Rattle.dimension_core.specs.Setup.{setting}
-use Rattle.move_judge.specs.Kept.{AreKept}
+use Rattle.route_parts.specs.Kept.{AreKept}
 use Rattle.move_judge.proofs.allowed.fits_after.Goals as goal
 
 pub shift_inside_fits-requires : goal.shift_inside_fits-requires

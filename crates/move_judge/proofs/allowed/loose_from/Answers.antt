@@ -5,8 +5,7 @@ use Rattle.plan_core.specs.Plan.{route_at}
 use Rattle.pin_core.specs.View.{pins_of}
 use Rattle.move_judge.specs.Allowed.{AreLoose}
 use Rattle.move_judge.proofs.Allowing.{loose_one, loose_within, not_loose_within, standing_known}
-use Rattle.move_judge.proofs.Keeping.{none_below}
-use Rattle.move_judge.proofs.Places.{none_less, no_more, nearer_end, index_fits, few_fit, at_before}
+use Rattle.move_judge.proofs.Places.{none_below, none_less, no_more, nearer_end, index_fits, few_fit, at_before}
 use Rattle.move_judge.proofs.allowed.loose_from.Goals as goal
 
 pub first_free-requires : goal.first_free-requires

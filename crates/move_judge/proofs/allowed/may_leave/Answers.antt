@@ -5,8 +5,7 @@ use Rattle.plan_core.specs.Plan.{route_at}
 use Rattle.pin_core.specs.View.{pins_of}
 use Rattle.move_judge.specs.Allowed.{AreLoose}
 use Rattle.move_judge.proofs.Allowing.{known_within, stretch_known, view_known}
-use Rattle.move_judge.proofs.Keeping.{stretch_fits}
-use Rattle.move_judge.proofs.Places.{below_sum, end_within, stretch_of_old}
+use Rattle.move_judge.proofs.Places.{below_sum, end_within, stretch_fits, stretch_of_old}
 use Rattle.move_judge.proofs.allowed.may_leave.Goals as goal
 
 pub first_free-requires : goal.first_free-requires

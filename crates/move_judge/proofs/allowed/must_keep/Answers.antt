@@ -4,8 +4,7 @@ use Rattle.dimension_core.specs.Setup.{setting}
 use Rattle.pin_core.specs.Pins.{front_of, pin_of}
 use Rattle.pin_core.specs.View.{pins_of}
 use Rattle.move_judge.specs.Allowed.{AreLoose}
-use Rattle.move_judge.proofs.Allowing.{loose_behind, loose_one, not_loose_from, standing_known}
-use Rattle.move_judge.proofs.Keeping.{short_of}
+use Rattle.move_judge.proofs.Allowing.{loose_behind, loose_one, not_loose_from, short_of, standing_known}
 use Rattle.move_judge.proofs.Places.{at_most_as, no_more, none_less, less_as, nearer_end, counted_fits, count_fits}
 use Rattle.move_judge.proofs.allowed.must_keep.Goals.{then-is_pinned, else-is_pinned}
 use Rattle.move_judge.proofs.allowed.must_keep.Goals as goal

@@ -37,10 +37,6 @@ overflow_sub-begin g c =
     let f = (c.requires.laws.possible.reverse (setting c.args.setup.now).customers c.args.view.now.routes c.args.v c.args.first c.args.last).0 c.requires.possible in
     f.low
 
-pub replaced_fits-requires-clause-laws : goal.replaced_fits-requires-clause-laws
-replaced_fits-requires-clause-laws g c =
-    c.requires.laws
-
 pub replaced_fits-requires-clause-low : goal.replaced_fits-requires-clause-low
 replaced_fits-requires-clause-low g c =
     let f = (c.requires.laws.possible.reverse (setting c.args.setup.now).customers c.args.view.now.routes c.args.v c.args.first c.args.last).0 c.requires.possible in

@@ -60,10 +60,6 @@ overflow_sub-begin g c =
     let f = (c.requires.laws.possible.shift (setting c.args.setup.now).customers c.args.view.now.routes c.args.pair.v c.args.place c.args.length c.args.pair.w c.args.at).0 c.requires.possible in
     f.from.low
 
-pub replaced_fits-requires-clause-laws : goal.replaced_fits-requires-clause-laws
-replaced_fits-requires-clause-laws g c =
-    c.requires.laws
-
 pub replaced_fits-requires-clause-low : goal.replaced_fits-requires-clause-low
 replaced_fits-requires-clause-low g c =
     let f = (c.requires.laws.possible.shift (setting c.args.setup.now).customers c.args.view.now.routes c.args.pair.v c.args.place c.args.length c.args.pair.w c.args.at).0 c.requires.possible in
@@ -98,10 +94,6 @@ pub overflow_sub-onto : goal.overflow_sub-onto
 overflow_sub-onto g c =
     let f = (c.requires.laws.possible.shift (setting c.args.setup.now).customers c.args.view.now.routes c.args.pair.v c.args.place c.args.length c.args.pair.w c.args.at).0 c.requires.possible in
     f.onto.low
-
-pub replaced_fits-requires-2-clause-laws : goal.replaced_fits-requires-2-clause-laws
-replaced_fits-requires-2-clause-laws g c =
-    c.requires.laws
 
 pub replaced_fits-requires-2-clause-low : goal.replaced_fits-requires-2-clause-low
 replaced_fits-requires-2-clause-low g c =

@@ -1,7 +1,7 @@
 use Rattle.std.proofs.Common.{◌∙◌, ap, refl}
 use Rattle.dimension_core.specs.Setup.{setting}
-use Rattle.move_judge.specs.declared.allowed.Replacement.{Replacement}
-use Rattle.move_judge.specs.Replaced.{replaced}
+use Rattle.route_parts.specs.declared.replaced.Replacement.{Replacement}
+use Rattle.route_parts.specs.Replaced.{replaced}
 use Rattle.move_judge.proofs.Inside.{one_known, fits_changed, shift_forwards, shift_backwards}
 use Rattle.move_judge.proofs.Places.{at_most_as, before_from, after_from, last_within}
 use Rattle.move_judge.proofs.Replaced.{forwards, backwards}
@@ -68,10 +68,6 @@ pub slice_bounds-stretch-end : goal.slice_bounds-stretch-end
 slice_bounds-stretch-end g c =
     let f = (c.requires.laws.possible.shift (setting c.args.setup.now).customers c.args.view.now.routes c.args.v c.args.moved.place c.args.moved.length c.args.v c.args.at).0 c.requires.possible in
     last_within _ _ _ _ c.customers-route.ensures f.from.low f.from.high
-
-pub replaced_fits-requires-clause-laws : goal.replaced_fits-requires-clause-laws
-replaced_fits-requires-clause-laws g c =
-    c.requires.laws
 
 pub replaced_fits-requires-clause-low : goal.replaced_fits-requires-clause-low
 replaced_fits-requires-clause-low g c =

@@ -85,10 +85,6 @@ overflow_sub-there-2 g c =
     let f = (c.requires.laws.possible.swap (setting c.args.setup.now).customers c.args.view.now.routes c.args.pair.v c.args.place c.args.pair.w c.args.at).0 c.requires.possible in
     f.at.low
 
-pub replaced_fits-requires-clause-laws : goal.replaced_fits-requires-clause-laws
-replaced_fits-requires-clause-laws g c =
-    c.requires.laws
-
 pub replaced_fits-requires-clause-low : goal.replaced_fits-requires-clause-low
 replaced_fits-requires-clause-low g c =
     let f = (c.requires.laws.possible.swap (setting c.args.setup.now).customers c.args.view.now.routes c.args.pair.v c.args.place c.args.pair.w c.args.at).0 c.requires.possible in
@@ -103,10 +99,6 @@ pub replaced_fits-requires-clause-end : goal.replaced_fits-requires-clause-end
 replaced_fits-requires-clause-end g c =
     let f = (c.requires.laws.possible.swap (setting c.args.setup.now).customers c.args.view.now.routes c.args.pair.v c.args.place c.args.pair.w c.args.at).0 c.requires.possible in
     as_long _ _ _ c.customers-route.ensures f.place.high
-
-pub replaced_fits-requires-2-clause-laws : goal.replaced_fits-requires-2-clause-laws
-replaced_fits-requires-2-clause-laws g c =
-    c.requires.laws
 
 pub replaced_fits-requires-2-clause-low : goal.replaced_fits-requires-2-clause-low
 replaced_fits-requires-2-clause-low g c =

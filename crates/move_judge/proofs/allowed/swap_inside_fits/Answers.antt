@@ -52,10 +52,6 @@ overflow_sub-by-4 g c =
     let f = (c.requires.laws.possible.swap (setting c.args.setup.now).customers c.args.view.now.routes c.args.v c.args.place c.args.v c.args.at).0 c.requires.possible in
     f.place.low
 
-pub replaced_fits-requires-clause-laws : goal.replaced_fits-requires-clause-laws
-replaced_fits-requires-clause-laws g c =
-    c.requires.laws
-
 pub replaced_fits-requires-clause-low : goal.replaced_fits-requires-clause-low
 replaced_fits-requires-clause-low g c =
     let f = (c.requires.laws.possible.swap (setting c.args.setup.now).customers c.args.view.now.routes c.args.v c.args.place c.args.v c.args.at).0 c.requires.possible in

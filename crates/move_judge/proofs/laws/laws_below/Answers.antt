@@ -14,6 +14,4 @@ returns c = record {
   inside = c.moves_inside_rearrange.ensures;
   between = c.moves_between_carry_over.ensures;
   parts = c.shifts_in_parts.ensures;
-  spans = c.spans_go_on.ensures;
-  meet = c.spans_meet.ensures;
 }

@@ -1,0 +1,5 @@
+pub mod Carried
+pub mod Counts
+pub mod Keeping
+pub mod Meeting
+pub mod Nothing
