@@ -4,6 +4,8 @@ use Rattle.std.proofs.Math.Seq.{take-append_seam, drop-append_seam}
 use Rattle.callback_store.specs.Tables.{Table}
 use Rattle.way_costs.specs.Sides.{AlongState, AreFloored, AreWaysBetween, IsAlong, TwoWays}
 use Rattle.way_costs.specs.Ways.{AreBothSums, AreEdges, AreFloors, AreHopsFrom, AreStops, AreSums}
+use Rattle.dimension_core.specs.Setting.{Setting}
+use Rattle.move_judge.specs.Kept.{KeptSpans, AreKept}
 use Rattle.neighbourhood.specs.declared.searched.Gathered.{Gathered}
 use Rattle.neighbourhood.specs.Searched.{Searched, AreSummed, IsGathered, costs_of}
 
@@ -107,3 +109,7 @@ two_stops n m e = omega arith
 
 pub some_stops : (xs ys : List ℕ) (m : ℕ) → xs ≡ ys → length ys ≡ m + 2 → 1 ≤ length xs
 some_stops xs ys m same e = let long = ap length same in omega arith
+
+-- what is kept of a vehicle alone is kept of it beside itself
+pub kept_alone : (s : Setting) (routes : List (List ℕ)) (v w : ℕ) (kept : KeptSpans) → w ≡ v → AreKept s routes v v kept → AreKept s routes v w kept × AreKept s routes w v kept
+kept_alone s routes v w kept e own = (subst (λ (x : ℕ). AreKept s routes v x kept) (sym e) own, subst (λ (x : ℕ). AreKept s routes x v kept) (sym e) own)

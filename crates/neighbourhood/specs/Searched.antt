@@ -13,6 +13,7 @@ use Rattle.move_judge.specs.Scope.{scope}
 use Rattle.move_judge.specs.View.{IsViewOf}
 use Rattle.neighbourhood.specs.Best.{Counts, IsBest, IsIdle}
 use Rattle.neighbourhood.specs.Laws.{Laws}
+use Rattle.neighbourhood.specs.declared.search.Asked.{Asked}
 use Rattle.neighbourhood.specs.declared.searched.Search.{Search}
 use Rattle.neighbourhood.specs.declared.searched.Gathered.{Gathered}
 
@@ -38,6 +39,19 @@ searched search = record {
   w = search.w;
   v_kept = search.v_kept.now;
   w_kept = search.w_kept.now;
+}
+
+-- what is asked, searched so
+abbrev pub searching : {i j : Type 0} {held : i → Type 0} {holds : j → Type 0} {calls : _} {asks : _} → Asked i j held holds calls asks → Bool → KeptSpans → KeptSpans → Searched
+searching asked bounded v_kept w_kept = record {
+  setting = setting asked.setup.now;
+  view = asked.view.now;
+  skip = asked.skip.now;
+  bounded = bounded;
+  v = asked.v;
+  w = asked.w;
+  v_kept = v_kept;
+  w_kept = w_kept;
 }
 
 -- what the search stands on: the laws of moves, a view of a feasible plan, and that what is kept is kept of that plan

@@ -1,13 +1,14 @@
 //! The best move.
-ghost use Rattle.std.specs.Prelude.{◌≡◌, ◌≢◌, ◌≤◌, false, List, length, IfOk, IsTrue, MatchOption};
+ghost use Rattle.std.specs.Prelude.{◌≡◌, ◌≢◌, ◌≤◌, false, Bool, List, length, IfOk, IsTrue, MatchOption};
 ghost use Rattle.callback_store.specs.Tables.{table_at};
 ghost use Rattle.dimension_core.specs.Setting.{Setting};
 ghost use Rattle.dimension_core.specs.Setup.{setting};
 ghost use Rattle.move_core.specs.declared.moves.Move.{Move};
+ghost use Rattle.move_judge.specs.Kept.{KeptSpans};
 ghost use Rattle.move_judge.specs.View.{IsViewOf};
 ghost use Rattle.neighbourhood.specs.Best.{IsBest, IsIdle};
 ghost use Rattle.neighbourhood.specs.Laws.{Laws};
-ghost use Rattle.neighbourhood.specs.Searched.{searched, AreSummed, IsBestOf, IsGathered, IsIdleOf, IsSearch};
+ghost use Rattle.neighbourhood.specs.Searched.{searched, searching, AreSummed, IsBestOf, IsGathered, IsIdleOf, IsSearch};
 
 use crate::best::Best;
 use crate::cross::best_cross;
@@ -102,6 +103,129 @@ fn holds_up(search: Search, found: Option<(Move, u64)>) -> bool
     }
 }
 
+/// What is asked of a search: the best move near two vehicles of a plan, or inside one, but those to be skipped.
+#[derive(Clone, Copy)]
+struct Asked<'a> {
+    view: &'a View,
+    setup: &'a Setup,
+    skip: &'a [Move],
+    v: u32,
+    w: u32,
+}
+
+/// The best move inside a vehicle, by what is gathered of it. It is searched without the dimensions at first: where none is found, or they
+/// allow what was found, nothing is kept of them.
+#[inline(always)]
+fn best_gathered(
+    asked: Asked,
+    gathered: &Gathered,
+    sums: &[u64],
+    back_sums: &[u64],
+    kept: &mut Kept,
+) -> Result<Option<(Move, u64)>, AllocError>
+    requires laws { Laws }
+    requires view { IsViewOf (setting asked.setup.now) asked.view.now }
+    requires v { (1 ≤ asked.v) × (asked.v ≤ (setting asked.setup.now).vehicles) }
+    requires inside { asked.w ≡ asked.v }
+    requires gathered { (bounded : Bool) (kept : KeptSpans) → IsGathered (searching asked bounded kept kept) gathered.now }
+    requires sums { (bounded : Bool) (kept : KeptSpans)
+        → AreSummed (searching asked bounded kept kept) gathered.now sums.now back_sums.now }
+    ensures { IfOk result (λ best. MatchOption best
+        (IsIdle (setting asked.entry.setup.now) asked.entry.view.now asked.entry.skip.now asked.entry.v asked.entry.w)
+        (λ p. IsBest (setting asked.entry.setup.now) asked.entry.view.now asked.entry.skip.now asked.entry.v asked.entry.w p.0 p.1)) }
+{
+    let Asked {
+        view,
+        setup,
+        skip,
+        v,
+        w,
+    } = asked;
+    kept.forget();
+    let search = Search {
+        view,
+        setup,
+        skip,
+        bounded: false,
+        v,
+        w,
+        v_kept: kept,
+        w_kept: kept,
+    };
+    let found = best_of_one(&search, gathered, sums, back_sums);
+    if holds_up(search, found) {
+        return Ok(found);
+    }
+    kept.keep_alone(view, setup, v)?;
+    let search = Search {
+        view,
+        setup,
+        skip,
+        bounded: true,
+        v,
+        w,
+        v_kept: kept,
+        w_kept: kept,
+    };
+    Ok(best_of_one(&search, gathered, sums, back_sums))
+}
+
+/// The best move between two vehicles, by what is gathered of them, searched without the dimensions at first as `best_gathered` does.
+#[inline(always)]
+fn best_gathered_between(
+    asked: Asked,
+    gathered: &Gathered,
+    v_kept: &mut Kept,
+    w_kept: &mut Kept,
+) -> Result<Option<(Move, u64)>, AllocError>
+    requires laws { Laws }
+    requires view { IsViewOf (setting asked.setup.now) asked.view.now }
+    requires v { (1 ≤ asked.v) × (asked.v ≤ (setting asked.setup.now).vehicles) }
+    requires w { (1 ≤ asked.w) × (asked.w ≤ (setting asked.setup.now).vehicles) }
+    requires apart { asked.v ≢ asked.w }
+    requires gathered { (bounded : Bool) (kept others : KeptSpans) → IsGathered (searching asked bounded kept others) gathered.now }
+    ensures { IfOk result (λ best. MatchOption best
+        (IsIdle (setting asked.entry.setup.now) asked.entry.view.now asked.entry.skip.now asked.entry.v asked.entry.w)
+        (λ p. IsBest (setting asked.entry.setup.now) asked.entry.view.now asked.entry.skip.now asked.entry.v asked.entry.w p.0 p.1)) }
+{
+    let Asked {
+        view,
+        setup,
+        skip,
+        v,
+        w,
+    } = asked;
+    v_kept.forget();
+    w_kept.forget();
+    let search = Search {
+        view,
+        setup,
+        skip,
+        bounded: false,
+        v,
+        w,
+        v_kept,
+        w_kept,
+    };
+    let found = best_of_two(&search, gathered);
+    if holds_up(search, found) {
+        return Ok(found);
+    }
+    v_kept.keep_between(view, setup, v, w)?;
+    w_kept.keep_between(view, setup, w, v)?;
+    let search = Search {
+        view,
+        setup,
+        skip,
+        bounded: true,
+        v,
+        w,
+        v_kept,
+        w_kept,
+    };
+    Ok(best_of_two(&search, gathered))
+}
+
 /// A search that keeps its memory from call to call: the tables of ways, and what it keeps of the bounds. It grows to what the longest
 /// routes so far needed, some 8 MB for one of a thousand customers. Each call is as of a new one.
 pub struct Searcher {
@@ -138,8 +262,7 @@ impl Searcher {
         }
     }
 
-    /// The best move inside a vehicle. It is searched without the dimensions at first: where none is found, or they allow what was found,
-    /// nothing is kept of them.
+    /// The best move inside a vehicle.
     fn best_inside<'a>(
         &mut self,
         view: &'a View,
@@ -174,36 +297,17 @@ impl Searcher {
             out,
             into: &ways.into,
         };
-        self.v_kept.forget();
-        let search = Search {
+        let asked = Asked {
             view,
             setup,
             skip,
-            bounded: false,
             v,
             w: v,
-            v_kept: &self.v_kept,
-            w_kept: &self.v_kept,
         };
-        let found = best_of_one(&search, &gathered, sums, back_sums);
-        if holds_up(search, found) {
-            return Ok(found);
-        }
-        self.v_kept.keep_alone(view, setup, v)?;
-        let search = Search {
-            view,
-            setup,
-            skip,
-            bounded: true,
-            v,
-            w: v,
-            v_kept: &self.v_kept,
-            w_kept: &self.v_kept,
-        };
-        Ok(best_of_one(&search, &gathered, sums, back_sums))
+        best_gathered(asked, &gathered, sums, back_sums, &mut self.v_kept)
     }
 
-    /// The best move between two vehicles, searched without the dimensions at first as `best_inside` does.
+    /// The best move between two vehicles.
     fn best_between<'a>(
         &mut self,
         view: &'a View,
@@ -239,35 +343,14 @@ impl Searcher {
             out: &ways.out,
             into: &ways.into,
         };
-        self.v_kept.forget();
-        self.w_kept.forget();
-        let search = Search {
+        let asked = Asked {
             view,
             setup,
             skip,
-            bounded: false,
             v,
             w,
-            v_kept: &self.v_kept,
-            w_kept: &self.w_kept,
         };
-        let found = best_of_two(&search, &gathered);
-        if holds_up(search, found) {
-            return Ok(found);
-        }
-        self.v_kept.keep_between(view, setup, v, w)?;
-        self.w_kept.keep_between(view, setup, w, v)?;
-        let search = Search {
-            view,
-            setup,
-            skip,
-            bounded: true,
-            v,
-            w,
-            v_kept: &self.v_kept,
-            w_kept: &self.w_kept,
-        };
-        Ok(best_of_two(&search, &gathered))
+        best_gathered_between(asked, &gathered, &mut self.v_kept, &mut self.w_kept)
     }
 
     /// The best move near two vehicles, or inside one, and what it saves, as `best_move` says it. No memory is asked for once the searcher

@@ -41,34 +41,12 @@ gather_between-requires-clause-short g c =
     let to = (c.parts_of.ensures.to c.args.w c.requires.w.0 c.requires.w.1 (c.as_slice-stops.ensures.value ∙ ap (λ (x : SidesState). x.stops) c.sides.view_is ∙ c.in_ok-gather.ensures.stops)) in
     (c.parts_of.ensures.from.short, to.short)
 
-pub best_of_two-found-requires-clause-search : goal.best_of_two-found-requires-clause-search
-best_of_two-found-requires-clause-search g c = record { laws = c.requires.laws; view = c.requires.view; v_kept = c.forget.ensures _ _ _ _; w_kept = c.forget-2.ensures _ _ _ _ }
-
-pub best_of_two-found-requires-clause-gathered : goal.best_of_two-found-requires-clause-gathered
-best_of_two-found-requires-clause-gathered g c =
-    gathered_between _ _ c.gather_between.new.self c.parts_of.ensures.from
+pub best_gathered_between-requires-clause-gathered : goal.best_gathered_between-requires-clause-gathered
+best_gathered_between-requires-clause-gathered g c =
+    λ bounded kept others. gathered_between _ _ c.gather_between.new.self c.parts_of.ensures.from
     (c.parts_of.ensures.to c.args.w c.requires.w.0 c.requires.w.1 (c.as_slice-stops.ensures.value ∙ ap (λ (x : SidesState). x.stops) c.sides.view_is ∙ c.in_ok-gather.ensures.stops))
     c.parts_of.ensures.from_edges c.parts_of.ensures.to_edges c.most_of.ensures.above c.in_ok-gather_between.ensures.ways c.in_ok-gather_between.ensures.floors
     (c.deref.ensures.value ∙ ap (λ (x : TwoWays). x.out) c.ways.view_is) (c.deref-2.ensures.value ∙ ap (λ (x : TwoWays). x.into) c.ways.view_is)
-
-pub best_of_two-requires-clause-search : goal.best_of_two-requires-clause-search
-best_of_two-requires-clause-search g c = record { laws = c.requires.laws; view = c.requires.view; v_kept = c.in_ok-keep_between.ensures.kept; w_kept = c.in_ok-keep_between-2.ensures.kept }
-
-pub best_of_two-requires-clause-gathered : goal.best_of_two-requires-clause-gathered
-best_of_two-requires-clause-gathered g c =
-    gathered_between _ _ c.gather_between.new.self c.parts_of.ensures.from
-    (c.parts_of.ensures.to c.args.w c.requires.w.0 c.requires.w.1 (c.as_slice-stops.ensures.value ∙ ap (λ (x : SidesState). x.stops) c.sides.view_is ∙ c.in_ok-gather.ensures.stops))
-    c.parts_of.ensures.from_edges c.parts_of.ensures.to_edges c.most_of.ensures.above c.in_ok-gather_between.ensures.ways c.in_ok-gather_between.ensures.floors
-    (c.deref.ensures.value ∙ ap (λ (x : TwoWays). x.out) c.ways.view_is) (c.deref-2.ensures.value ∙ ap (λ (x : TwoWays). x.into) c.ways.view_is)
-
-pub holds_up-requires-clause-found : goal.holds_up-requires-clause-found
-holds_up-requires-clause-found g c = c.best_of_two-found.ensures
-
-pub returns-then-holds_up : goal.returns-then-holds_up
-returns-then-holds_up g c = c.holds_up.ensures c.if-holds_up.true
-
-pub returns : goal.returns
-returns g c = c.best_of_two.ensures
 
 pub are_empty-requires-clause-laws : goal.are_empty-requires-clause-laws
 are_empty-requires-clause-laws g c = c.requires.laws
@@ -94,32 +72,20 @@ parts_of-requires-clause-vehicles g c = c.requires.view.vehicles
 pub parts_of-requires-clause-v : goal.parts_of-requires-clause-v
 parts_of-requires-clause-v g c = c.requires.v
 
-pub best_of_two-found-requires-clause-apart : goal.best_of_two-found-requires-clause-apart
-best_of_two-found-requires-clause-apart g c = c.requires.apart
+pub best_gathered_between-requires-clause-laws : goal.best_gathered_between-requires-clause-laws
+best_gathered_between-requires-clause-laws g c = c.requires.laws
 
-pub holds_up-requires-clause-search : goal.holds_up-requires-clause-search
-holds_up-requires-clause-search g c = record { laws = c.requires.laws; view = c.requires.view; v_kept = c.forget.ensures _ _ _ _; w_kept = c.forget-2.ensures _ _ _ _ }
+pub best_gathered_between-requires-clause-view : goal.best_gathered_between-requires-clause-view
+best_gathered_between-requires-clause-view g c = c.requires.view
 
-pub holds_up-requires-clause-unbounded : goal.holds_up-requires-clause-unbounded
-holds_up-requires-clause-unbounded g c = refl
+pub best_gathered_between-requires-clause-v : goal.best_gathered_between-requires-clause-v
+best_gathered_between-requires-clause-v g c = c.requires.v
 
-pub keep_between-requires-clause-view : goal.keep_between-requires-clause-view
-keep_between-requires-clause-view g c = c.requires.view
+pub best_gathered_between-requires-clause-w : goal.best_gathered_between-requires-clause-w
+best_gathered_between-requires-clause-w g c = c.requires.w
 
-pub keep_between-requires-clause-v : goal.keep_between-requires-clause-v
-keep_between-requires-clause-v g c = c.requires.v
+pub best_gathered_between-requires-clause-apart : goal.best_gathered_between-requires-clause-apart
+best_gathered_between-requires-clause-apart g c = c.requires.apart
 
-pub keep_between-requires-clause-w : goal.keep_between-requires-clause-w
-keep_between-requires-clause-w g c = c.requires.w
-
-pub keep_between-requires-2-clause-view : goal.keep_between-requires-2-clause-view
-keep_between-requires-2-clause-view g c = c.requires.view
-
-pub keep_between-requires-2-clause-v : goal.keep_between-requires-2-clause-v
-keep_between-requires-2-clause-v g c = c.requires.w
-
-pub keep_between-requires-2-clause-w : goal.keep_between-requires-2-clause-w
-keep_between-requires-2-clause-w g c = c.requires.v
-
-pub best_of_two-requires-clause-apart : goal.best_of_two-requires-clause-apart
-best_of_two-requires-clause-apart g c = c.requires.apart
+pub returns : goal.returns
+returns g c = c.best_gathered_between.ensures

@@ -48,46 +48,18 @@ split_at-requires-2 g c =
     (goes_along (table_at (setting c.args.setup.now).tables (setting c.args.setup.now).cost) c.fill_stops.new.all.items c.deref.result.now c.in_ok-gather.ensures.0 c.as_slice-out.result.now c.gather_among.new.self c.gather.new.self c.deref.ensures.value c.in_ok-gather_among.ensures (c.as_slice-out.ensures.value ∙ ap (λ (x : TwoWays). x.out) c.ways.view_is) c.in_ok-gather.ensures.2)
     c.fill_stops.new.all.ok.0 c.len-count.ensures (c.deref-3.ensures.value ∙ ap (λ (x : AlongState). x.sums) c.along.view_is)
 
-pub best_of_one-found-requires-clause-search : goal.best_of_one-found-requires-clause-search
-best_of_one-found-requires-clause-search g c = record { laws = c.requires.laws; view = c.requires.view; v_kept = c.forget.ensures _ _ _ _; w_kept = c.forget.ensures _ _ _ _ }
-
-pub best_of_one-found-requires-clause-gathered : goal.best_of_one-found-requires-clause-gathered
-best_of_one-found-requires-clause-gathered g c =
-    inside_gathered _ _ c.fill_stops.new.all.items c.deref.result.now c.in_ok-gather.ensures.0 c.deref-2.result.now c.len-count.result c.fill_stops.new.all.len c.gather_among.new.self c.gather.new.self refl refl c.in_ok-fill_stops.ensures c.deref.ensures.value c.in_ok-gather_among.ensures
+pub best_gathered-requires-clause-gathered : goal.best_gathered-requires-clause-gathered
+best_gathered-requires-clause-gathered g c =
+    λ bounded kept. inside_gathered _ _ c.fill_stops.new.all.items c.deref.result.now c.in_ok-gather.ensures.0 c.deref-2.result.now c.len-count.result c.fill_stops.new.all.len c.gather_among.new.self c.gather.new.self refl refl c.in_ok-fill_stops.ensures c.deref.ensures.value c.in_ok-gather_among.ensures
     (goes_along (table_at (setting c.args.setup.now).tables (setting c.args.setup.now).cost) c.fill_stops.new.all.items c.deref.result.now c.in_ok-gather.ensures.0 c.as_slice-out.result.now c.gather_among.new.self c.gather.new.self c.deref.ensures.value c.in_ok-gather_among.ensures (c.as_slice-out.ensures.value ∙ ap (λ (x : TwoWays). x.out) c.ways.view_is) c.in_ok-gather.ensures.2)
     c.fill_stops.new.all.ok.0 c.len-count.ensures (c.deref-2.ensures.value ∙ c.in_ok-gather.ensures.1) c.split_at.ensures.front c.split_at.ensures.back c.split_at.ensures.back (ap (λ (x : AlongState). x.most) c.along.view_is)
     (c.as_slice-out.ensures.value ∙ ap (λ (x : TwoWays). x.out) c.ways.view_is) (c.deref-4.ensures.value ∙ ap (λ (x : TwoWays). x.into) c.ways.view_is)
 
-pub best_of_one-found-requires-clause-sums : goal.best_of_one-found-requires-clause-sums
-best_of_one-found-requires-clause-sums g c =
-    inside_summed _ _ c.fill_stops.new.all.items c.in_ok-gather.ensures.0 c.deref-2.result.now c.deref-3.result.now _ _ c.len-count.result c.fill_stops.new.all.len c.gather.new.self
+pub best_gathered-requires-clause-sums : goal.best_gathered-requires-clause-sums
+best_gathered-requires-clause-sums g c =
+    λ bounded kept. inside_summed _ _ c.fill_stops.new.all.items c.in_ok-gather.ensures.0 c.deref-2.result.now c.deref-3.result.now _ _ c.len-count.result c.fill_stops.new.all.len c.gather.new.self
     (goes_along (table_at (setting c.args.setup.now).tables (setting c.args.setup.now).cost) c.fill_stops.new.all.items c.deref.result.now c.in_ok-gather.ensures.0 c.as_slice-out.result.now c.gather_among.new.self c.gather.new.self c.deref.ensures.value c.in_ok-gather_among.ensures (c.as_slice-out.ensures.value ∙ ap (λ (x : TwoWays). x.out) c.ways.view_is) c.in_ok-gather.ensures.2)
     c.fill_stops.new.all.ok.0 c.len-count.ensures (c.deref-2.ensures.value ∙ c.in_ok-gather.ensures.1) c.split_at.ensures.front (c.deref-3.ensures.value ∙ ap (λ (x : AlongState). x.sums) c.along.view_is) c.split_at-2.ensures.front c.split_at-2.ensures.back
-
-pub best_of_one-requires-clause-search : goal.best_of_one-requires-clause-search
-best_of_one-requires-clause-search g c = record { laws = c.requires.laws; view = c.requires.view; v_kept = c.in_ok-keep_alone.ensures.kept; w_kept = c.in_ok-keep_alone.ensures.kept }
-
-pub best_of_one-requires-clause-gathered : goal.best_of_one-requires-clause-gathered
-best_of_one-requires-clause-gathered g c =
-    inside_gathered _ _ c.fill_stops.new.all.items c.deref.result.now c.in_ok-gather.ensures.0 c.deref-2.result.now c.len-count.result c.fill_stops.new.all.len c.gather_among.new.self c.gather.new.self refl refl c.in_ok-fill_stops.ensures c.deref.ensures.value c.in_ok-gather_among.ensures
-    (goes_along (table_at (setting c.args.setup.now).tables (setting c.args.setup.now).cost) c.fill_stops.new.all.items c.deref.result.now c.in_ok-gather.ensures.0 c.as_slice-out.result.now c.gather_among.new.self c.gather.new.self c.deref.ensures.value c.in_ok-gather_among.ensures (c.as_slice-out.ensures.value ∙ ap (λ (x : TwoWays). x.out) c.ways.view_is) c.in_ok-gather.ensures.2)
-    c.fill_stops.new.all.ok.0 c.len-count.ensures (c.deref-2.ensures.value ∙ c.in_ok-gather.ensures.1) c.split_at.ensures.front c.split_at.ensures.back c.split_at.ensures.back (ap (λ (x : AlongState). x.most) c.along.view_is)
-    (c.as_slice-out.ensures.value ∙ ap (λ (x : TwoWays). x.out) c.ways.view_is) (c.deref-4.ensures.value ∙ ap (λ (x : TwoWays). x.into) c.ways.view_is)
-
-pub best_of_one-requires-clause-sums : goal.best_of_one-requires-clause-sums
-best_of_one-requires-clause-sums g c =
-    inside_summed _ _ c.fill_stops.new.all.items c.in_ok-gather.ensures.0 c.deref-2.result.now c.deref-3.result.now _ _ c.len-count.result c.fill_stops.new.all.len c.gather.new.self
-    (goes_along (table_at (setting c.args.setup.now).tables (setting c.args.setup.now).cost) c.fill_stops.new.all.items c.deref.result.now c.in_ok-gather.ensures.0 c.as_slice-out.result.now c.gather_among.new.self c.gather.new.self c.deref.ensures.value c.in_ok-gather_among.ensures (c.as_slice-out.ensures.value ∙ ap (λ (x : TwoWays). x.out) c.ways.view_is) c.in_ok-gather.ensures.2)
-    c.fill_stops.new.all.ok.0 c.len-count.ensures (c.deref-2.ensures.value ∙ c.in_ok-gather.ensures.1) c.split_at.ensures.front (c.deref-3.ensures.value ∙ ap (λ (x : AlongState). x.sums) c.along.view_is) c.split_at-2.ensures.front c.split_at-2.ensures.back
-
-pub holds_up-requires-clause-found : goal.holds_up-requires-clause-found
-holds_up-requires-clause-found g c = c.best_of_one-found.ensures
-
-pub returns-then-holds_up : goal.returns-then-holds_up
-returns-then-holds_up g c = c.holds_up.ensures c.if-holds_up.true
-
-pub returns : goal.returns
-returns g c = c.best_of_one.ensures
 
 pub are_empty-requires-clause-laws : goal.are_empty-requires-clause-laws
 are_empty-requires-clause-laws g c = c.requires.laws
@@ -104,20 +76,17 @@ fill_stops-requires-clause-low g c = c.requires.v.0
 pub fill_stops-requires-clause-high : goal.fill_stops-requires-clause-high
 fill_stops-requires-clause-high g c = c.requires.v.1
 
-pub best_of_one-found-requires-clause-inside : goal.best_of_one-found-requires-clause-inside
-best_of_one-found-requires-clause-inside g c = refl
+pub best_gathered-requires-clause-laws : goal.best_gathered-requires-clause-laws
+best_gathered-requires-clause-laws g c = c.requires.laws
 
-pub holds_up-requires-clause-search : goal.holds_up-requires-clause-search
-holds_up-requires-clause-search g c = record { laws = c.requires.laws; view = c.requires.view; v_kept = c.forget.ensures _ _ _ _; w_kept = c.forget.ensures _ _ _ _ }
+pub best_gathered-requires-clause-view : goal.best_gathered-requires-clause-view
+best_gathered-requires-clause-view g c = c.requires.view
 
-pub holds_up-requires-clause-unbounded : goal.holds_up-requires-clause-unbounded
-holds_up-requires-clause-unbounded g c = refl
+pub best_gathered-requires-clause-v : goal.best_gathered-requires-clause-v
+best_gathered-requires-clause-v g c = c.requires.v
 
-pub keep_alone-requires-clause-view : goal.keep_alone-requires-clause-view
-keep_alone-requires-clause-view g c = c.requires.view
+pub best_gathered-requires-clause-inside : goal.best_gathered-requires-clause-inside
+best_gathered-requires-clause-inside g c = refl
 
-pub keep_alone-requires-clause-v : goal.keep_alone-requires-clause-v
-keep_alone-requires-clause-v g c = c.requires.v
-
-pub best_of_one-requires-clause-inside : goal.best_of_one-requires-clause-inside
-best_of_one-requires-clause-inside g c = refl
+pub returns : goal.returns
+returns g c = c.best_gathered.ensures
