@@ -184,9 +184,7 @@ fn some_setup(
     rt: &impl Abort,
     alloc: Global,
     sample: Sample,
-    ways: Transit,
-    drives: Transit,
-    wants: Unary,
+    callbacks: (Transit, Transit, Unary),
     rng: &mut Lcg64Xsh32,
 ) -> Setup
     requires { (1 ≤ sample.rooms) × (sample.rooms ≤ 140) }
@@ -194,6 +192,7 @@ fn some_setup(
     ensures vehicles { (setting result).vehicles ≡ 3 }
 {
     let rooms = sample.rooms;
+    let (ways, drives, wants) = callbacks;
     let mut registry = Registry::new(alloc);
     let cost = if sample.listed {
         listed_costs(rt, alloc, &mut registry, 7 * rooms + 1, rng)
@@ -259,7 +258,7 @@ fn compare_setup<R: Abort + AllocGlobal>(
         { (3 * u64::from(i) + u64::from(third % 1000)) % 5 },
     );
     let wants = Unary::new(nodes, load.expect(rt, "memory"));
-    let setup = some_setup(rt, alloc, sample, ways, drives, wants, rng);
+    let setup = some_setup(rt, alloc, sample, (ways, drives, wants), rng);
     compare_views(rt, alloc, &setup, sample, rng, tally);
 }
 

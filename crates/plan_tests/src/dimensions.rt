@@ -24,19 +24,18 @@ const RANGES: &[(bool, u64, u64, bool)] = &[
     (false, 91, 100, false),
 ];
 
-/// A dimension of one vehicle, with its greatest slack, the capacity, whether the start is fixed, and a range for each node.
+/// A dimension of one vehicle, by its greatest slack, the capacity and whether the start is fixed, and with a range for each node.
 fn of_one_vehicle(
     rt: &impl Abort,
     alloc: Global,
     registry: &Registry,
     id: TransitId,
-    slack_max: u64,
-    cap: u64,
-    fixed: bool,
+    bounds: (u64, u64, bool),
     ranges: &[Range],
 ) -> Dimension
-    ensures { result ≡ record { id = id; slack_max = slack_max; caps = cap ∷ []; fixed = fixed; ranges = ranges.now } }
+    ensures { result ≡ record { id = id; slack_max = bounds.0; caps = bounds.1 ∷ []; fixed = bounds.2; ranges = ranges.now } }
 {
+    let (slack_max, cap, fixed) = bounds;
     let ranges = Vec::from_slice(alloc, ranges).expect(rt, "memory");
     let caps = vec![in alloc; cap].expect(rt, "memory");
     Dimension::new(registry, id, slack_max, caps, fixed, ranges).expect(rt, "bounds")
@@ -56,7 +55,7 @@ fn the_earliest_cumul_alone_does_not_decide(
     for (fixed, lo, hi, wanted) in RANGES {
         let range = Range { lo: *lo, hi: *hi };
         let ranges = [Range { lo: 0, hi: 100 }, range, range];
-        let time = of_one_vehicle(rt, alloc, registry, id, 0, 1000, *fixed, &ranges);
+        let time = of_one_vehicle(rt, alloc, registry, id, (0, 1000, *fixed), &ranges);
         let answer = time.in_bounds(registry, &[1], 1, &mut meter);
         same(rt, (range, answer), (range, *wanted), "in bounds");
     }
@@ -129,9 +128,7 @@ fn loads(
             alloc,
             registry,
             id,
-            0,
-            9,
-            true,
+            (0, 9, true),
             &[Range { lo: 0, hi: 9 }; 2],
         );
         dimensions.push(load).expect(rt, "memory");
@@ -209,8 +206,8 @@ fn the_second_dimension_is_the_first_out(
     id: TransitId,
 ) {
     let ranges = [Range { lo: 0, hi: 100 }; 3];
-    let first = of_one_vehicle(rt, alloc, &registry, id, 0, 30, true, &ranges);
-    let second = of_one_vehicle(rt, alloc, &registry, id, 0, 20, true, &ranges);
+    let first = of_one_vehicle(rt, alloc, &registry, id, (0, 30, true), &ranges);
+    let second = of_one_vehicle(rt, alloc, &registry, id, (0, 20, true), &ranges);
     let dimensions = vec![in alloc; first, second].expect(rt, "memory");
     let setup = Setup::new(2, 1, registry, dimensions, id, 10).expect(rt, "a setup");
     compare_setup(rt, &setup);
@@ -232,7 +229,7 @@ fn spans_stop_by_stop(rt: &impl Abort, alloc: Global, registry: &Registry, id: T
             Range { lo: 12, hi: 40 },
             Range { lo: 0, hi: 100 },
         ];
-        let time = of_one_vehicle(rt, alloc, registry, id, 5, 45, *fixed, &ranges);
+        let time = of_one_vehicle(rt, alloc, registry, id, (5, 45, *fixed), &ranges);
         let span = Range { lo: 0, hi: *start };
         let next = time.extend(registry, span, 0, 1, 1, &mut meter);
         let late = Range { lo: 31, hi: 45 };
