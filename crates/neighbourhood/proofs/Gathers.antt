@@ -2,12 +2,13 @@
 use Rattle.std.proofs.Common.{◌≡◌, ◌∙◌, ℕ, ◌+◌, ◌-◌, ◌^◌, ◌≤◌, ap, arith, refl, sym, subst, true, false, List, ◌++◌, length, length-append, take, drop, All}
 use Rattle.std.proofs.Math.Seq.{take-append_seam, drop-append_seam}
 use Rattle.callback_store.specs.Tables.{Table}
-use Rattle.way_costs.specs.Sides.{AlongState, AreFloored, AreWaysBetween, IsAlong, TwoWays}
-use Rattle.way_costs.specs.Ways.{AreBothSums, AreEdges, AreFloors, AreHopsFrom, AreStops, AreSums}
+use Rattle.gathered_ways.specs.Sides.{AlongState, AreFloored, AreWaysBetween, IsAlong, TwoWays}
+use Rattle.gathered_ways.specs.Sums.{AreBothSums}
+use Rattle.way_costs.specs.Ways.{AreEdges, AreFloors, AreHopsFrom, AreStops, AreSums}
 use Rattle.dimension_core.specs.Setting.{Setting}
 use Rattle.move_judge.specs.Kept.{KeptSpans, AreKept}
-use Rattle.neighbourhood.specs.declared.searched.Gathered.{Gathered}
-use Rattle.neighbourhood.specs.Searched.{Searched, AreSummed, IsGathered, costs_of}
+use Rattle.best_moves.specs.declared.searched.Gathered.{Gathered}
+use Rattle.best_moves.specs.Searched.{Searched, AreSummed, IsGathered, costs_of}
 
 pub edges_of : (t : Table) (S E R F : List ℕ) → R ≡ S → F ≡ E → AreEdges t S E → AreEdges t R F
 edges_of t S E R F e f edges = subst (λ (xs : List ℕ). AreEdges t xs F) (sym e) (subst (λ (xs : List ℕ). AreEdges t S xs) (sym f) edges)

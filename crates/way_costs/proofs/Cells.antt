@@ -1,17 +1,16 @@
-use Rattle.std.proofs.Common.{add-zero, append_assoc, All, Fits, w32, w64, ◌^◌, ◌≡◌, ◌≢◌, ℕ, ◌+◌, ◌-◌, ◌*◌, ◌<◌, ◌≤◌, ◌∙◌, ◌⊎◌, refl, sym, ap, subst, arith, inl, inr, List, [], ◌∷◌, ◌++◌, length, set, slice_index, slice_index_or, length-append, min, Bool, true, false, if◌then◌else◌, take, drop, suc, Option, Some, None, IfSome, IsTrue, not}
+use Rattle.std.proofs.Common.{All, Fits, w32, w64, ◌≡◌, ◌≢◌, ℕ, ◌+◌, ◌-◌, ◌*◌, ◌<◌, ◌≤◌, ◌∙◌, ◌⊎◌, refl, sym, ap, subst, arith, inl, inr, List, ◌++◌, length, set, slice_index, slice_index_or, min, Bool, true, false, take, drop, Option, Some, None, IfSome, IsTrue, not}
 use Rattle.std.proofs.lemmas.Bool.{cases_lt, ne_eqb}
-use Rattle.std.proofs.lemmas.List.{get_or_default, get_or_push, get_or_append_left, get_or-append-add, get_or-take, get_or-drop, get_or-set_same, get_or-set_other, length-set, length-take-le, length-drop, take_all, take_more}
-use Rattle.std.proofs.lemmas.List.Elements.{All-append, All-cons, All-drop, All-nil, All-take}
-use Rattle.std.proofs.Math.Seq.{take-append_seam, drop-append_seam}
+use Rattle.std.proofs.lemmas.List.{get_or_default, get_or_append_left, get_or-append-add, get_or-take, get_or-drop, get_or-set_same, get_or-set_other, length-set, length-take-le, length-drop}
+use Rattle.std.proofs.lemmas.List.Elements.{All-drop, All-take}
+use Rattle.std.proofs.Math.Seq.{take-append_seam}
 use Rattle.std.proofs.lemmas.Nat.{mul-le}
 use Rattle.std.proofs.Math.Nat.{min-le_left, min-le_right}
 use borrow.Rule.Slice.PartMut.{put_mid, post_of, same_len_mid}
 use Rattle.callback_store.specs.Tables.{Table, entry, nodes_of, table_at, IsSymmetric}
 use Rattle.dimension_core.specs.Setting.{Setting, IsSetting}
 use Rattle.plan_core.specs.Cost.{way}
-use Rattle.way_costs.proofs.WayParts.{way_append, last_take}
 use Rattle.way_costs.specs.Known.{AreAlike, AreAnswers}
-use Rattle.way_costs.specs.Ways.{hop, hop_by, entry_by, along, spare_of, AreHopsFrom, AreFloors, AreEdges, ArePicked, IsTurned, AreSums, AddsSums, AreBothSums}
+use Rattle.way_costs.specs.Ways.{hop, hop_by, entry_by, spare_of, AreHopsFrom, AreFloors, IsTurned}
 
 -- a row lies inside its table
 pub row_fits : (a n w : ℕ) → a < n → a * w + w ≤ n * w
@@ -19,12 +18,6 @@ row_fits a n w h =
     let parts : n ≡ a + 1 + (n - a - 1) = omega arith in
     let all : n * w ≡ (a + 1 + (n - a - 1)) * w = ap (λ (k : ℕ). k * w) parts in
     omega arith
-
-pushed_before : (cells : List ℕ) (x k : ℕ) → k < length cells → slice_index (cells ++ x ∷ []) k ≡ slice_index cells k
-pushed_before cells x k h = get_or_append_left cells (x ∷ []) 0 k h
-
-pushed_last : (cells : List ℕ) (x k : ℕ) → length cells ≡ k → slice_index (cells ++ x ∷ []) k ≡ x
-pushed_last cells x k h = get_or_push cells x 0 k h
 
 -- a part of a list is put anew
 put_at : (a k : ℕ) (xs ys : List ℕ) (n : ℕ) → a ≤ length xs → n < length ys → slice_index (put_mid a k xs ys) (a + n) ≡ slice_index ys n
@@ -242,13 +235,6 @@ turned_line w i cells back new f sized line kept = record {
 pub turned_all : (w i : ℕ) (cells back : List ℕ) → w ≤ i → IsTurned w i cells back → IsTurned w w cells back
 turned_all w i cells back all f = record { whole = f.whole; turned = λ a b la ha lb. f.turned a b la (omega arith) lb }
 
--- such a table of the ways as they are driven has those as they are driven back
-pub turned_ways : (t : Table) (S out into : List ℕ) → AreHopsFrom false t S S 0 1 out → IsTurned (length S) (length S) out into → AreHopsFrom true t S S 1 0 into
-turned_ways t S out into all f = record {
-  counted = f.whole;
-  hops = λ a b la ha lb hb. f.turned a b la (omega arith) (omega arith) ∙ all.hops b a (omega arith) (omega arith) la (omega arith);
-}
-
 -- the first answers of a row, and a number that none of them is below
 pub record AreAsked (turned : Bool) (t : Table) (stop : ℕ) (to : List ℕ) (n least : ℕ) (row : List ℕ) : Type 0 where
   pub sized : length row ≡ length to
@@ -356,100 +342,6 @@ pub answer_of : (s : Setting) (ts : List Table) (id i j way : ℕ) → ts ≡ s.
 answer_of s ts id i j way e f g =
     subst (λ (n : ℕ). way ≡ entry (table_at s.tables n) i j) f (subst (λ (xs : List Table). way ≡ entry (table_at xs id) i j) e g)
 
--- a way between two stops that follow one another, as it is driven or driven back
-pub steps_by : (turned : Bool) (t : Table) (S cells : List ℕ) (i : ℕ) → AreHopsFrom false t S S 0 1 cells → 1 ≤ i → i + 2 < length S
-    → (if turned then slice_index cells ((i + 1) * length S + i) else slice_index cells (i * length S + (i + 1))) ≡ hop_by turned t (slice_index S i) (slice_index S (i + 1))
-steps_by true t S cells i all l h = all.hops (i + 1) i (omega arith) (omega arith) l (omega arith)
-steps_by false t S cells i all l h = all.hops i (i + 1) (omega arith) (omega arith) (omega arith) (omega arith)
-
--- one edge more
-pub picked_more : (w n : ℕ) (cells edges new : List ℕ) (x : ℕ) → ArePicked w n cells edges → new ≡ edges ++ x ∷ [] → x ≡ slice_index cells (n * w + (n + 1))
-    → ArePicked w (n + 1) cells new
-picked_more w n cells edges new x all e here = record {
-  counted = ap length e ∙ length-append edges (x ∷ []) ∙ ap (λ (k : ℕ). k + 1) all.counted;
-  picked = λ k h. ap (λ (xs : List ℕ). slice_index xs k) e ∙ elim (cases_lt k n) [
-    | inl less ↦ pushed_before edges x k (subst (λ (m : ℕ). k < m) (sym all.counted) less) ∙ all.picked k less
-    | inr more ↦
-        let same : n ≡ k = omega arith in
-        pushed_last edges x k (all.counted ∙ same) ∙ subst (λ (m : ℕ). x ≡ slice_index cells (m * w + (m + 1))) same here
-  ];
-}
-
-pub picked_edges : (t : Table) (S cells edges : List ℕ) → 1 ≤ length S → AreHopsFrom false t S S 0 1 cells → ArePicked (length S) (length S - 1) cells edges → AreEdges t S edges
-picked_edges t S cells edges some all p =
-    let counted = p.counted in
-    record {
-      counted = omega arith;
-      hops = λ k h. p.picked k (omega arith) ∙ all.hops k (k + 1) (omega arith) (omega arith) (omega arith) (omega arith);
-    }
-
--- one way more of a sum
-pub along_more : (f : ℕ → ℕ → ℕ) (R : List ℕ) (k : ℕ) → k < length R → along f (0 ∷ R) (k + 1) ≡ along f (0 ∷ R) k + f (slice_index (0 ∷ R) k) (slice_index (0 ∷ R) (k + 1))
-along_more f R k h =
-    let e : k + 1 ≡ suc k = omega arith in
-    ap (λ (xs : List ℕ). way f 0 xs) (take_more R k 0 h) ∙ way_append f 0 (take k R) (slice_index R k ∷ [])
-    ∙ ap (λ (x : ℕ). along f (0 ∷ R) k + (f x (slice_index R k) + 0)) (last_take 0 R k (omega arith))
-    ∙ ap (λ (x : ℕ). along f (0 ∷ R) k + x) (add-zero (f (slice_index (0 ∷ R) k) (slice_index R k)))
-    ∙ ap (λ (n : ℕ). along f (0 ∷ R) k + f (slice_index (0 ∷ R) k) (slice_index (0 ∷ R) n)) (sym e)
-
--- one sum more
-sums_more : (turned : Bool) (t : Table) (S sums : List ℕ) (n x : ℕ) → AreSums turned t S n sums
-    → x + hop_by turned t (slice_index S 0) (slice_index S 1) ≡ along (hop_by turned t) S n → AreSums turned t S (n + 1) (sums ++ x ∷ [])
-sums_more turned t S sums n x all new = record {
-  counted = length-append sums (x ∷ []) ∙ ap (λ (m : ℕ). m + 1) all.counted;
-  sums = λ k l h. elim (cases_lt k n) [
-    | inl less ↦
-        ap (λ (y : ℕ). y + hop_by turned t (slice_index S 0) (slice_index S 1)) (pushed_before sums x k (subst (λ (m : ℕ). k < m) (sym all.counted) less)) ∙ all.sums k l less
-    | inr more ↦
-        let same : k ≡ n = omega arith in
-        ap (λ (y : ℕ). y + hop_by turned t (slice_index S 0) (slice_index S 1)) (pushed_last sums x k (all.counted ∙ sym same)) ∙ new ∙ ap (along (hop_by turned t) S) (sym same)
-  ];
-}
-
-pub adds_none : (turned : Bool) (t : Table) (S old new : List ℕ) → new ≡ old ++ 0 ∷ [] → AddsSums turned t S 1 old new
-adds_none turned t S old new e = record {
-  added = 0 ∷ [];
-  is = e;
-  sums = record { counted = refl; sums = λ k l h. absurd (omega arith) };
-  small = All-cons (λ y. y ≤ 2 ^ 42) 0 [] (omega arith) (All-nil (λ y. y ≤ 2 ^ 42));
-}
-
-pub adds_more : (turned : Bool) (t : Table) (S old sums new : List ℕ) (n x : ℕ) → AddsSums turned t S n old sums → new ≡ sums ++ x ∷ []
-    → x + hop_by turned t (slice_index S 0) (slice_index S 1) ≡ along (hop_by turned t) S n → x ≤ 2 ^ 42 → AddsSums turned t S (n + 1) old new
-adds_more turned t S old sums new n x all e here small = record {
-  added = all.added ++ x ∷ [];
-  is = e ∙ ap (λ (xs : List ℕ). xs ++ x ∷ []) all.is ∙ append_assoc old all.added (x ∷ []);
-  sums = sums_more turned t S all.added n x all.sums here;
-  small = All-append (λ y. y ≤ 2 ^ 42) all.added (x ∷ []) all.small (All-cons (λ y. y ≤ 2 ^ 42) x [] small (All-nil (λ y. y ≤ 2 ^ 42)));
-}
-
--- the sums, and behind them those back
-pub both_sums : (t : Table) (S one all : List ℕ) → AddsSums false t S (length S - 1) [] one → AddsSums true t S (length S - 1) one all → AreBothSums t S all
-both_sums t S one all f g =
-    let n = length S - 1 in
-    let counted : length one ≡ n = ap length f.is ∙ f.sums.counted in
-    let front : take n all ≡ one = subst (λ (k : ℕ). take k all ≡ one) counted (ap (λ (xs : List ℕ). take (length one) xs) g.is ∙ take-append_seam one g.added) in
-    let back : drop n all ≡ g.added = subst (λ (k : ℕ). drop k all ≡ g.added) counted (ap (λ (xs : List ℕ). drop (length one) xs) g.is ∙ drop-append_seam one g.added) in
-    let both : length all ≡ length one + length g.added = ap length g.is ∙ length-append one g.added in
-    record {
-      long = omega arith;
-      sums = rw front (subst (λ (xs : List ℕ). AreSums false t S n xs) (sym f.is) f.sums);
-      back_sums = rw back g.sums;
-      small = (rw front (subst (λ (xs : List ℕ). All (λ y. y ≤ 2 ^ 42) xs) (sym f.is) f.small), rw back g.small);
-    }
-
--- the first way alone
-pub first_way : (turned : Bool) (t : Table) (S R : List ℕ) → S ≡ 0 ∷ R → 1 ≤ length R → 0 + hop_by turned t (slice_index S 0) (slice_index S 1) ≡ along (hop_by turned t) S 1
-first_way turned t S R e h = rw e (sym (along_more (hop_by turned t) R 0 (omega arith)))
-
--- one way more of a sum that lacks the first one
-pub next_way : (turned : Bool) (t : Table) (S R : List ℕ) (k sum x : ℕ) → S ≡ 0 ∷ R → k < length R
-    → sum + hop_by turned t (slice_index S 0) (slice_index S 1) ≡ along (hop_by turned t) S k → x ≡ hop_by turned t (slice_index S k) (slice_index S (k + 1))
-    → sum + x + hop_by turned t (slice_index S 0) (slice_index S 1) ≡ along (hop_by turned t) S (k + 1)
-next_way turned t S R k sum x e h so_far new =
-    let more : along (hop_by turned t) S (k + 1) ≡ along (hop_by turned t) S k + hop_by turned t (slice_index S k) (slice_index S (k + 1)) = rw e (along_more (hop_by turned t) R k h) in
-    omega arith
-
 -- what a registry has of a callback that is given as its answers is known of the cost
 pub answers_at : (s : Setting) (ts : List Table) (id : ℕ) (answers : List ℕ) → ts ≡ s.tables → id ≡ s.cost → IsSetting s
     → length answers ≡ nodes_of ts * nodes_of ts → ((i j : ℕ) → slice_index answers (i * nodes_of ts + j) ≡ entry (table_at ts id) i j) → AreAnswers s answers
@@ -483,19 +375,6 @@ read_along s ts id turned true e f is back even =
 pub some_both : {T : Type 0} (o : Option T) (P Q R : T → Type 0) → ((x : T) → P x → Q x → R x) → IfSome o P → IfSome o Q → IfSome o R
 some_both None P Q R f p q = tt
 some_both (Some x) P Q R f p q = f x p q
-
--- what stands behind the first part of a list
-pub behind_first : (S E all : List ℕ) (n : ℕ) → all ≡ S ++ E → n ≡ length S → take (length all - n) (drop n all) ≡ E
-behind_first S E all n e m =
-    let behind : drop n all ≡ E =
-    subst (λ (k : ℕ). drop k all ≡ E) (sym m) (subst (λ (xs : List ℕ). drop (length S) xs ≡ E) (sym e) (drop-append_seam S E)) in
-    let long : length all ≡ length S + length E = ap length e ∙ length-append S E in
-    subst (λ (xs : List ℕ). take (length all - n) xs ≡ E) (sym behind) (take_all (length all - n) E (omega (arith, long, m)))
-
-pub behind_fits : (S E all : List ℕ) (n m : ℕ) → all ≡ S ++ E → m ≡ length S → n ≡ m → n ≤ length all
-behind_fits S E all n m e long counted =
-    let both = ap length e ∙ length-append S E in
-    omega arith
 
 -- places among all answers, of so many customers
 pub nodes_fit : (m n : ℕ) → m ≡ n → n ≤ 1000 → Fits w64 (m + 1)

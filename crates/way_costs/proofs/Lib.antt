@@ -4,6 +4,4 @@ pub mod Reversals
 pub mod Costs
 pub mod Saved
 pub mod Cells
-pub mod Stops
-pub mod Joined
 pub mod Loops

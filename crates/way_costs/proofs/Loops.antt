@@ -1,7 +1,6 @@
 -- Loops over stops: the places lie among them, and their number fits.
-use Rattle.std.proofs.Common.{Fits, w64, ◌*◌, ◌≡◌, ◌∙◌, ℕ, ◌+◌, ◌-◌, ◌<◌, ◌≤◌, ap, arith, List, length, length-set, slice_index, slice_set}
+use Rattle.std.proofs.Common.{◌≡◌, ◌∙◌, ℕ, ◌+◌, ◌-◌, ◌<◌, ◌≤◌, ap, arith, List, length, length-set, slice_index, slice_set}
 use Rattle.std.proofs.lemmas.Grind.{common_steps}
-use Rattle.way_costs.specs.Sides.{stops_of_both}
 
 pub some_long : (m n : ℕ) → m + 1 ≡ n → 1 ≤ n
 some_long m n e = omega arith
@@ -20,9 +19,6 @@ edge_done k n m i h e all = omega arith
 
 pub passed : (m k end : ℕ) → m < end → end ≤ k → m < k
 passed m k end h l = omega arith
-
-pub two_some : (n : ℕ) → 2 ≤ n → 1 ≤ n
-two_some n h = omega arith
 
 pub edges_room : (m n : ℕ) → m ≡ n - 1 → 1 ≤ n → m + 1 ≡ n
 edges_room m n e some = omega arith
@@ -43,32 +39,3 @@ line_in k n m e h = omega arith
 pub edges_more : (f : ℕ → ℕ) (edges : List ℕ) (k x : ℕ) → k < length edges → ((m : ℕ) → m < k → slice_index edges m ≡ f m) → x ≡ f k
     → (m : ℕ) → m < k + 1 → slice_index (slice_set edges k x) m ≡ f m
 edges_more f edges k x fits below here m h = grind (arith, common_steps)
-
--- the stops of a route of few customers
-pub one_more_fits : (C r : List ℕ) (n : ℕ) → C ≡ r → length r ≤ n → n ≤ 1000 → Fits w64 (length C + 1)
-one_more_fits C r n e short few = let long = ap length e in omega arith
-
-pub two_more_fit : (C r : List ℕ) (n : ℕ) → C ≡ r → length r ≤ n → n ≤ 1000 → Fits w64 (length C + 1 + 1)
-two_more_fit C r n e short few = let long = ap length e in omega arith
-
-pub twice_fit : (C r : List ℕ) (n : ℕ) → C ≡ r → length r ≤ n → n ≤ 1000 → Fits w64 (2 * length C)
-twice_fit C r n e short few = let long = ap length e in omega arith
-
-pub twice_more_fit : (C r : List ℕ) (n : ℕ) → C ≡ r → length r ≤ n → n ≤ 1000 → Fits w64 (2 * length C + 3)
-twice_more_fit C r n e short few = let long = ap length e in omega arith
-
--- and of two
-pub both_fit : (C r D q : List ℕ) (n : ℕ) → C ≡ r → D ≡ q → length r ≤ n → length q ≤ n → n ≤ 1000 → Fits w64 (length C + length D)
-both_fit C r D q n e f short low few =
-    let long = ap length e in
-    let other = ap length f in
-    omega arith
-
-pub both_more_fit : (C r D q : List ℕ) (n : ℕ) → C ≡ r → D ≡ q → length r ≤ n → length q ≤ n → n ≤ 1000 → Fits w64 (length C + length D + 3)
-both_more_fit C r D q n e f short low few =
-    let long = ap length e in
-    let other = ap length f in
-    omega arith
-
-pub both_some : (r q xs : List ℕ) → xs ≡ stops_of_both r q → 1 ≤ length xs
-both_some r q xs e = let long = ap length e in omega arith

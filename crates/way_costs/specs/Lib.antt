@@ -1,6 +1,5 @@
 pub mod Ways
 pub mod Known
-pub mod Sides
 pub mod Costs
 pub mod Savings
 pub mod Laws

@@ -1,4 +1,4 @@
-use Rattle.std.specs.Prelude.{◌≡◌, ◌≤◌, ◌<◌, ℕ, ◌+◌, ◌-◌, ◌*◌, ◌^◌, ◌==◌, if◌then◌else◌, List, [], ◌∷◌, ◌++◌, length, slice_index, take, drop, All, Bool, true, false}
+use Rattle.std.specs.Prelude.{◌≡◌, ◌≤◌, ◌<◌, ℕ, ◌+◌, ◌-◌, ◌*◌, ◌==◌, if◌then◌else◌, List, [], ◌∷◌, ◌++◌, length, slice_index, take, drop, All, Bool}
 use Rattle.limits.specs.declared.TheConstants.{MOST_STOPS}
 use Rattle.plan_core.specs.Plan.{route_at}
 use Rattle.callback_store.specs.Tables.{Table, entry}
@@ -66,26 +66,7 @@ pub record AreSums (turned : Bool) (t : Table) (stops : List ℕ) (n : ℕ) (cel
   pub counted : length cells ≡ n
   pub sums : (k : ℕ) → 1 ≤ k → k < n → slice_index cells k + hop_by turned t (slice_index stops 0) (slice_index stops 1) ≡ along (hop_by turned t) stops k
 
--- such sums, none above 2 ^ 42, were added to others
-pub record AddsSums (turned : Bool) (t : Table) (stops : List ℕ) (n : ℕ) (old new : List ℕ) : Type 0 where
-  pub added : List ℕ
-  pub is : new ≡ old ++ added
-  pub sums : AreSums turned t stops n added
-  pub small : All (λ x. x ≤ 2 ^ 42) added
-
--- the sums over the first stops, and behind them those back
-pub record AreBothSums (t : Table) (stops : List ℕ) (cells : List ℕ) : Type 0 where
-  pub long : length stops - 1 ≤ length cells
-  pub sums : AreSums false t stops (length stops - 1) (take (length stops - 1) cells)
-  pub back_sums : AreSums true t stops (length stops - 1) (drop (length stops - 1) cells)
-  pub small : All (λ x. x ≤ 2 ^ 42) (take (length stops - 1) cells) × All (λ x. x ≤ 2 ^ 42) (drop (length stops - 1) cells)
-
 -- the first n rows of a square table, turned, without its first row and its last column
 pub record IsTurned (w n : ℕ) (cells back : List ℕ) : Type 0 where
   pub whole : length back ≡ w * w
   pub turned : (a b : ℕ) → 1 ≤ a → a < n → b + 1 < w → slice_index back (a * w + b) ≡ slice_index cells (b * w + a)
-
--- the first n numbers beside its diagonal
-pub record ArePicked (w n : ℕ) (cells edges : List ℕ) : Type 0 where
-  pub counted : length edges ≡ n
-  pub picked : (k : ℕ) → k < n → slice_index edges k ≡ slice_index cells (k * w + (k + 1))

@@ -1,9 +1,9 @@
 //! What the ways between stops cost, asked once and kept.
-ghost use Rattle.std.specs.Prelude.{◌≡◌, ◌≢◌, ◌≤◌, ◌<◌, ◌+◌, ◌-◌, ◌*◌, ◌^◌, ◌∷◌, ◌==◌, if◌then◌else◌, ℕ, true, false, ◌++◌, List, length, slice_index, take, drop, All, IfOk, IfSome};
-ghost use Rattle.callback_store.specs.Tables.{Table, table_at};
+ghost use Rattle.std.specs.Prelude.{◌≡◌, ◌≢◌, ◌≤◌, ◌<◌, ◌+◌, ◌-◌, ◌*◌, ◌==◌, if◌then◌else◌, ℕ, true, false, length, slice_index, take, drop, All, IfOk, IfSome};
+ghost use Rattle.callback_store.specs.Tables.{table_at};
 ghost use Rattle.dimension_core.specs.Setup.{setting};
 ghost use Rattle.way_costs.specs.Known.{AreAlike, AreAnswers};
-ghost use Rattle.way_costs.specs.Ways.{hop, hop_by, AreHopsFrom, AreFloors, AreEdges, ArePicked, AddsSums, AreBothSums, IsTurned};
+ghost use Rattle.way_costs.specs.Ways.{hop, hop_by, AreHopsFrom, AreFloors, AreEdges, IsTurned};
 
 use crate::known::{is_read_across, known_by, known_ways};
 use callback_store::{Callback, Slot};
@@ -376,7 +376,7 @@ fn fill_cells(setup: &Setup, turned: bool, from: &[u32], to: &[u32], cells: &mut
 /// Fills a table with what the ways from each of some stops to each of others cost, row by row, as they are driven or driven back. What
 /// it held is given up. No way goes from the last of the first stops or to the first of the others, or back. Where a row lacks a way
 /// for that, it has a number that none of its ways is below.
-pub(crate) fn fill_ways(
+pub fn fill_ways(
     setup: &Setup,
     turned: bool,
     from: &[u32],
@@ -438,11 +438,7 @@ fn ask_edges(setup: &Setup, stops: &[u32], edges: &mut [u32])
 }
 
 /// Puts what the way from each stop to the next one costs in place of what `edges` held.
-pub(crate) fn fill_edges(
-    setup: &Setup,
-    stops: &[u32],
-    edges: &mut Vec<u32>,
-) -> Result<(), AllocError>
+pub fn fill_edges(setup: &Setup, stops: &[u32], edges: &mut Vec<u32>) -> Result<(), AllocError>
     requires known { All (λ c. c ≤ (setting setup.now).customers) stops.now }
     requires some { 1 ≤ length stops.now }
     ensures { IfOk result (λ _. AreEdges (table_at (setting setup.now).tables (setting setup.now).cost) stops.now edges.new.items) }
@@ -462,17 +458,6 @@ pub fn most_of(edges: &[u32]) -> u32
         most = most.max(edges[k]);
     }
     most
-}
-
-/// A number of a square table.
-fn cell(cells: &[u32], width: usize, from: usize, to: usize) -> u32
-    requires sized { length cells.now ≡ width * width }
-    requires from { from < width }
-    requires to { to < width }
-    ensures value { result ≡ slice_index cells.now (from * width + to) }
-    ensures small { result < 2 ^ 32 }
-{
-    row(cells, width, from)[to]
 }
 
 /// Puts a column of a table, but its last number, into a part of a row.
@@ -520,11 +505,7 @@ fn turn(width: usize, cells: &[u32], back: &mut [u32])
 
 /// Fills a table with what the ways between some stops cost, driven back, by those as they are driven. What it held is given up.
 #[inline(always)]
-pub(crate) fn fill_turned(
-    stops: &[u32],
-    cells: &[u32],
-    back: &mut Vec<u32>,
-) -> Result<(), AllocError>
+pub fn fill_turned(stops: &[u32], cells: &[u32], back: &mut Vec<u32>) -> Result<(), AllocError>
     requires sized { length cells.now ≡ length stops.now * length stops.now }
     requires short { length stops.now ≤ MOST_STOPS }
     ensures { IfOk result (λ _. IsTurned (length stops.now) (length stops.now) cells.now back.new.items) }
@@ -533,79 +514,6 @@ pub(crate) fn fill_turned(
     back.resize(width * width, UNFILLED)?;
     turn(width, cells, back.as_mut_slice());
     Ok(())
-}
-
-/// Puts what the way from each stop to the next one costs, by the ways between them all, behind the stops.
-#[inline(always)]
-pub(crate) fn add_edges(stops: &mut Vec<u32>, cells: &[u32]) -> Result<(), AllocError>
-    requires sized { length cells.now ≡ length stops.old.items * length stops.old.items }
-    requires some { 1 ≤ length stops.old.items }
-    ensures { IfOk result (λ _. (edges : List ℕ) × (stops.new.items ≡ stops.old.items ++ edges)
-        × ArePicked (length stops.old.items) (length stops.old.items - 1) cells.now edges) }
-{
-    let width = stops.len();
-    stops.reserve(width - 1)?;
-    for k in 0..width - 1 {
-        stops.push(cell(cells, width, k, k + 1))?;
-    }
-    Ok(())
-}
-
-/// What the way between two stops that follow one another costs, as it is driven or driven back, by the ways between all.
-fn step(cells: &[u32], width: usize, turned: bool, from: usize) -> u32
-    requires sized { length cells.now ≡ width * width }
-    requires from { from + 1 < width }
-    ensures value { result ≡ (if turned then slice_index cells.now ((from + 1) * width + from) else slice_index cells.now
-        (from * width + (from + 1))) }
-    ensures small { result < 2 ^ 32 }
-{
-    if turned {
-        cell(cells, width, from + 1, from)
-    } else {
-        cell(cells, width, from, from + 1)
-    }
-}
-
-/// Adds what the ways over the first stops cost together, but the first of these ways, for each number of stops from 1 on, as they are
-/// driven or driven back, by the ways between all. The last way is in no sum.
-#[inline(always)]
-fn add_sums(
-    turned: bool,
-    stops: &[u32],
-    cells: &[u32],
-    sums: &mut Vec<u64>,
-) -> Result<(), AllocError>
-    requires sized { length cells.now ≡ length stops.now * length stops.now }
-    requires depot { (rest : List ℕ) × (stops.now ≡ 0 ∷ rest) }
-    requires long { 2 ≤ length stops.now }
-    requires short { length stops.now ≤ MOST_STOPS }
-    ensures { IfOk result (λ _. (t : Table) → AreHopsFrom false t stops.now stops.now 0 1 cells.now
-        → AddsSums turned t stops.now (length stops.now - 1) sums.old.items sums.new.items) }
-{
-    let last = stops.len() - 1;
-    let mut sum = 0u64;
-    sums.push(sum)?;
-    for k in 1..last {
-        sums.push(sum)?;
-        sum += u64::from(step(cells, stops.len(), turned, k));
-    }
-    Ok(())
-}
-
-/// Puts these sums as the ways are driven, and behind them as they are driven back, in place of what `sums` held.
-#[inline(always)]
-pub(crate) fn fill_sums(stops: &[u32], cells: &[u32], sums: &mut Vec<u64>) -> Result<(), AllocError>
-    requires sized { length cells.now ≡ length stops.now * length stops.now }
-    requires depot { (rest : List ℕ) × (stops.now ≡ 0 ∷ rest) }
-    requires long { 2 ≤ length stops.now }
-    requires short { length stops.now ≤ MOST_STOPS }
-    ensures { IfOk result (λ _. (t : Table) → AreHopsFrom false t stops.now stops.now 0 1 cells.now
-        → AreBothSums t stops.now sums.new.items) }
-{
-    sums.clear();
-    sums.reserve(2 * stops.len())?;
-    add_sums(false, stops, cells, sums)?;
-    add_sums(true, stops, cells, sums)
 }
 
 /// One row of a table of `width` numbers a row; rows count from 0.

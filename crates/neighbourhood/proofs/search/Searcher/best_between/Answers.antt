@@ -1,6 +1,6 @@
-use Rattle.std.proofs.Common.{◌∙◌, ◌≤◌, ℕ, ap, arith, subst, sym, refl}
+use Rattle.std.proofs.Common.{◌∙◌, ◌≤◌, ℕ, ap, arith, subst, sym}
 use Rattle.plan_core.specs.Plan.{route_at}
-use Rattle.way_costs.specs.Sides.{SidesState, TwoWays}
+use Rattle.gathered_ways.specs.Sides.{SidesState, TwoWays}
 use Rattle.neighbourhood.proofs.Gathers.{edges_of, gathered_between}
 use Rattle.neighbourhood.proofs.search.Searcher.best_between.Goals as goal
 

@@ -2,7 +2,7 @@ use Rattle.std.proofs.Common.{◌≡◌, ◌∙◌, ◌≤◌, ◌*◌, List, �
 use Rattle.callback_store.specs.Tables.{table_at}
 use Rattle.dimension_core.specs.Setup.{setting}
 use Rattle.plan_core.specs.Plan.{route_at}
-use Rattle.way_costs.specs.Sides.{AlongState, TwoWays}
+use Rattle.gathered_ways.specs.Sides.{AlongState, TwoWays}
 use Rattle.way_costs.specs.Ways.{stops}
 use Rattle.neighbourhood.proofs.Gathers.{goes_along, halves_fit, inside_gathered, inside_summed, some_stops, sums_fit, two_stops}
 use Rattle.neighbourhood.proofs.search.Searcher.best_inside.Goals as goal

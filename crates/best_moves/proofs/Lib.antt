@@ -1,0 +1,15 @@
+pub mod KindNumbers
+pub mod Firsts
+pub mod Betters
+pub mod Scoping
+pub mod Pairs
+pub mod Shifts
+pub mod Orders
+pub mod Possible
+pub mod Tabled
+pub mod PairRows
+pub mod Candidates
+pub mod Saved
+pub mod Still
+pub mod Found
+pub mod Small

@@ -1,0 +1,4 @@
+pub mod Rooms
+pub mod WaySums
+pub mod AllStops
+pub mod Joined

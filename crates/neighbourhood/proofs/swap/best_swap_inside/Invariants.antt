@@ -1,8 +1,0 @@
-use Rattle.std.proofs.Common.{[], ◌∷◌}
-use Rattle.neighbourhood.specs.Search.{IsBestSoFar}
-use Rattle.neighbourhood.specs.Searched.{searched}
-use Rattle.neighbourhood.proofs.swap.best_swap_inside.Given as goal
-
--- the best of the moves so far
-abbrev pub invariant-loop-place : goal.invariant-loop-place
-invariant-loop-place g l = IsBestSoFar (searched l.search) (2 ∷ l.search.v ∷ l.place ∷ []) l.best.found
