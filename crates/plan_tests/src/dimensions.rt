@@ -5,10 +5,7 @@ ghost use Rattle.dimension_core.specs.Setup.{setting};
 
 use crate::comparing::same;
 use callback_store::{Meter, Registry, TransitId, Vector};
-use dimension_core::{
-    Dimension, DimensionFault, Range, Setup, SetupFault, cumuls_are_by_place, first_out,
-    first_out_is_alone, misses_are_found, spans_go_on, spans_meet,
-};
+use dimension_core::{Dimension, DimensionFault, Range, Setup, SetupFault, first_out};
 use std::alloc::Global;
 use std::process::Abort;
 
@@ -259,13 +256,4 @@ fn what_transits_of_ten_allow(rt: HostRuntime) {
     spans_stop_by_stop(&rt, rt.alloc(), &registry, id);
     a_dimension_is_refused(&rt, rt.alloc(), &registry, id);
     the_second_dimension_is_the_first_out(&rt, rt.alloc(), registry, id);
-}
-
-#[test]
-fn laws_are_called() {
-    cumuls_are_by_place();
-    first_out_is_alone();
-    misses_are_found();
-    spans_go_on();
-    spans_meet();
 }

@@ -5,10 +5,7 @@ ghost use Rattle.pin_core.specs.Allowed.{AreAllTouched, IsPinFault};
 ghost use Rattle.pin_core.specs.Pins.{AreFreezesKept, DoFrontsFit, DoPinsHold};
 
 use crate::comparing::same;
-use pin_core::{
-    PinFault, Pins, faults_are_determined, freezes_by_named, front_still_fits,
-    fronts_within_routes, opening_holds, pin_holds, pins_after_commits, unpin_holds,
-};
+use pin_core::{PinFault, Pins};
 use plan_core::{Plan, Route, Touch};
 use std::process::Abort;
 use std::sync::Arc;
@@ -58,16 +55,4 @@ fn writes_and_reads_both_rows(rt: HostRuntime) {
     compare(&rt, &pins, [None, None], [0, 2]);
     pins.thaw(2, 1);
     compare(&rt, &pins, [None, None], [0, 1]);
-}
-
-#[test]
-fn laws_are_called() {
-    pin_holds();
-    unpin_holds();
-    front_still_fits();
-    opening_holds();
-    fronts_within_routes();
-    freezes_by_named();
-    faults_are_determined();
-    pins_after_commits();
 }

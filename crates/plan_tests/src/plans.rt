@@ -5,11 +5,7 @@ use crate::comparing::same;
 use crate::new_routes::{pair, plan_of};
 use callback_store::{Matrix, Meter, Registry};
 use dimension_core::Setup;
-use plan_core::{
-    Plan, among_is_tested, commits_by_one_more, common_front, costs_differ_by_named,
-    currency_by_stamps, customers_stand_by_route, fronts_are_common, plans_are_tested, route_cost,
-    routes_are_known, routes_replaced, stamps_by_one_more, ways_join,
-};
+use plan_core::{Plan, common_front, plans_are_tested, route_cost};
 use std::alloc::Global;
 use std::process::Abort;
 use std::sync::Arc;
@@ -66,21 +62,6 @@ fn exchanges_two_routes(rt: HostRuntime) {
     let plan = exchanged(&rt, rt.alloc());
     compare_routes(&rt, &plan, 2, &[1, 4], &[2]);
     compare_places(&rt, &plan, PLACES_EXCHANGED);
-}
-
-#[test]
-fn laws_are_called() {
-    among_is_tested();
-    commits_by_one_more();
-    costs_differ_by_named();
-    currency_by_stamps();
-    customers_stand_by_route();
-    fronts_are_common();
-    plans_are_tested();
-    routes_are_known();
-    routes_replaced();
-    stamps_by_one_more();
-    ways_join();
 }
 
 const FRONTS: &[(&[u32], &[u32], u64)] = &[

@@ -1,7 +1,7 @@
 use crate::comparing::{all_written, same, same_written};
 use board_lines::{
-    Command, LineFault, ReadFault, event_text, faults_are_first, lines_are_commands, list_json,
-    list_text, push_check, push_json, push_line_fault, read_line, reply_text, text_is_read,
+    Command, LineFault, ReadFault, event_text, list_json, list_text, push_check, push_json,
+    push_line_fault, read_line, reply_text,
 };
 use board_rules::{Denial, Refusal, Reply, Row};
 use separation_core::Name;
@@ -217,11 +217,4 @@ fn texts_grow(rt: HostRuntime) {
     grow(&mut text).expect(&rt, "memory");
     let wanted = "> yesbad object{\"rows\":[[1,3,2,7]]}";
     same(&rt, text.as_str(), wanted, "a text");
-}
-
-#[test]
-fn laws_are_called() {
-    lines_are_commands();
-    faults_are_first();
-    text_is_read();
 }

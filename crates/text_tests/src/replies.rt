@@ -1,13 +1,5 @@
 use crate::comparing::{all_written, same};
-use board_rules::{
-    AskFault, Fault, Refusal, calls_keep_the_rest, changes_by_stamps, commands_by_parts,
-    current_vehicles_keep_their_routes, customers_have_one_spot, histories_go_on,
-    histories_grow_by_entries, histories_settle_policies, legal_histories_leave_good_states,
-    listings_are_determined, pins_by_touches, plans_are_judged_by_new_routes,
-    prefixes_of_legal_histories_are_legal, proposals_commit_exactly, replies_are_determined,
-    right_replies_keep_good_states, separation_of_duty_holds, session_numbers_rise_in_histories,
-    spots_change_on_named_vehicles, verdicts_by_agreeing_facts,
-};
+use board_rules::{AskFault, Fault, Refusal};
 use rbac_core::Refusal as PolicyRefusal;
 use separation_core::Name;
 use std::process::Abort;
@@ -47,29 +39,4 @@ const ASK_FAULTS: &[(AskFault, &str)] = &[
 fn texts_of_faults(rt: HostRuntime) {
     all_written(&rt, rt.alloc(), FAULTS);
     all_written(&rt, rt.alloc(), ASK_FAULTS);
-}
-
-/// Each law is called once: its contract can be met.
-#[test]
-fn laws_are_called() {
-    right_replies_keep_good_states();
-    legal_histories_leave_good_states();
-    listings_are_determined();
-    histories_grow_by_entries();
-    histories_go_on();
-    prefixes_of_legal_histories_are_legal();
-    session_numbers_rise_in_histories();
-    histories_settle_policies();
-    separation_of_duty_holds();
-    spots_change_on_named_vehicles();
-    proposals_commit_exactly();
-    replies_are_determined();
-    current_vehicles_keep_their_routes();
-    calls_keep_the_rest();
-    verdicts_by_agreeing_facts();
-    changes_by_stamps();
-    commands_by_parts();
-    pins_by_touches();
-    plans_are_judged_by_new_routes();
-    customers_have_one_spot();
 }
