@@ -2,8 +2,9 @@
 ghost use Rattle.std.specs.Prelude.{◌≡◌, IfSome};
 ghost use Rattle.dimension_core.specs.Setup.{setting};
 
+use crate::beside::{Given, Task, beside};
 use crate::calls::open_two;
-use crate::threads::{Commit, Given, Task, beside};
+use crate::threads::Commit;
 use board_core::Board;
 use board_lock::{DeskOf, Foyer, Naming, Seat};
 use board_rules::{Event, Fault, Reply};
@@ -27,12 +28,12 @@ struct Script {
     text: Vec<u8>,
 }
 
-impl<N: Naming, R: Wait + Drop> Task<Arc<Setup>, Seat<N, R>, Ran<N, R>> for Script {
+impl<N: Naming, R: Wait + Drop, W: Wait> Task<W, Arc<Setup>, Seat<N, R>, Ran<N, R>> for Script {
     ghost use Rattle.dimension_core.specs.Setup.{setting};
 
     ghost may = { λ setup seat. setting setup.value ≡ N.opening.setting };
 
-    fn run<W: Wait>(self, rt: &W, first: Arc<Setup>, second: Seat<N, R>) -> Ran<N, R> {
+    fn run(self, rt: &W, first: Arc<Setup>, second: Seat<N, R>) -> Ran<N, R> {
         let mut front = Seated {
             setup: first,
             seat: second,

@@ -1,10 +1,8 @@
 //! Desks in threads of their own.
-//!
-//! That a setup and a seat may go to another thread is found of each alone, and not of both in one closure. So the closures are made in a
-//! function that knows of its types no more than that each may go.
 ghost use Rattle.std.specs.Prelude.{◌≡◌, IfSome};
 ghost use Rattle.dimension_core.specs.Setup.{setting};
 
+use crate::beside::{Given, Task, beside};
 use crate::calls::{grant, insert, open_two, remove, submits};
 use board_lock::{DeskOf, Foyer, Naming, Seat};
 use board_rules::{Call, Denial, Reply};
@@ -13,76 +11,23 @@ use rbac_core::{ObjectRange, Operation};
 use std::alloc::Global;
 use std::process::Abort;
 use std::sync::{Arc, Wait};
-use std::thread::{Threads, join};
-
-/// What a thread does with two things that it is handed.
-pub trait Task<A, B, C> {
-    /// What must hold of the two.
-    ghost may: { A → B → Type 0 };
-
-    fn run<W: Wait>(self, rt: &W, first: A, second: B) -> C
-        requires { may first second };
-}
-
-/// A task with the two things that it is given.
-pub(crate) struct Given<T, A, B> {
-    pub task: T,
-    pub first: A,
-    pub second: B,
-}
-
-/// Does two tasks at once, the first one in another thread.
-pub(crate) fn beside<
-    A: Send + Drop,
-    B: Send + Drop,
-    C: Send + Drop,
-    S: Task<A, B, C> + Send + Drop,
-    D: Drop,
-    E: Drop,
-    F: Drop,
-    T: Task<D, E, F> + Drop,
-    W: Threads + Wait + Sync,
->(rt: &W, there: Given<S, A, B>, here: Given<T, D, E>) -> (C, F)
-    requires there { S.may there.first there.second }
-    requires here { T.may here.first here.second }
-{
-    let Given {
-        task: far,
-        first,
-        second,
-    } = there;
-    let Given {
-        task: near,
-        first: third,
-        second: fourth,
-    } = here;
-    join(
-        rt,
-        move || -> C
-            requires { S.may first second }
-        { far.run(rt, first, second) },
-        move || -> F
-            requires { T.may third fourth }
-        { near.run(rt, third, fourth) },
-    )
-}
+use std::thread::Threads;
 
 /// One call. It gives the seat back with the reply.
 #[derive(Drop)]
 struct Submit(Call);
 
-impl<N: Naming, R: Wait + Drop> Task<Arc<Setup>, Seat<N, R>, (Seat<N, R>, Option<Reply>)>
-    for Submit {
+impl<N: Naming, R: Wait + Drop, W: Wait> Task<
+    W,
+    Arc<Setup>,
+    Seat<N, R>,
+    (Seat<N, R>, Option<Reply>),
+> for Submit {
     ghost use Rattle.dimension_core.specs.Setup.{setting};
 
     ghost may = { λ setup seat. setting setup.value ≡ N.opening.setting };
 
-    fn run<W: Wait>(
-        self,
-        rt: &W,
-        first: Arc<Setup>,
-        second: Seat<N, R>,
-    ) -> (Seat<N, R>, Option<Reply>) {
+    fn run(self, rt: &W, first: Arc<Setup>, second: Seat<N, R>) -> (Seat<N, R>, Option<Reply>) {
         let mut seat = second;
         let reply = seat.submit(rt, &first, self.0).ok();
         (seat, reply)
@@ -96,12 +41,12 @@ pub(crate) struct Commit {
     pub commits: u32,
 }
 
-impl<N: Naming, R: Wait + Drop> Task<Arc<Setup>, Seat<N, R>, u32> for Commit {
+impl<N: Naming, R: Wait + Drop, W: Wait> Task<W, Arc<Setup>, Seat<N, R>, u32> for Commit {
     ghost use Rattle.dimension_core.specs.Setup.{setting};
 
     ghost may = { λ setup seat. setting setup.value ≡ N.opening.setting };
 
-    fn run<W: Wait>(self, rt: &W, first: Arc<Setup>, second: Seat<N, R>) -> u32 {
+    fn run(self, rt: &W, first: Arc<Setup>, second: Seat<N, R>) -> u32 {
         let mut seat = second;
         let mut version = self.from;
         for round in 0..self.commits {
@@ -122,10 +67,10 @@ impl<N: Naming, R: Wait + Drop> Task<Arc<Setup>, Seat<N, R>, u32> for Commit {
 #[derive(Drop)]
 struct Look(u32);
 
-impl<N: Naming, R: Wait + Drop> Task<Arc<Setup>, Seat<N, R>, (bool, u32)> for Look {
+impl<N: Naming, R: Wait + Drop, W: Wait> Task<W, Arc<Setup>, Seat<N, R>, (bool, u32)> for Look {
     ghost may = { λ setup seat. Unit {0} };
 
-    fn run<W: Wait>(self, _rt: &W, _first: Arc<Setup>, second: Seat<N, R>) -> (bool, u32) {
+    fn run(self, _rt: &W, _first: Arc<Setup>, second: Seat<N, R>) -> (bool, u32) {
         let mut seat = second;
         let mut rises = true;
         let mut last = 0u32;

@@ -11,4 +11,3 @@ mod noted;
 mod replay;
 mod rights;
 mod tests;
-mod threads;

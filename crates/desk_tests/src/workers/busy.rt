@@ -2,7 +2,7 @@
 ghost use Rattle.std.specs.Prelude.{◌≡◌};
 ghost use Rattle.dimension_core.specs.Setup.{setting};
 
-use crate::workers::threads::Task;
+use crate::beside::Task;
 use board_lock::{Naming, Seat};
 use board_rules::{Call, Fault, Reply};
 use dimension_core::Setup;

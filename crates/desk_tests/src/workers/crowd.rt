@@ -3,11 +3,11 @@
 ghost use Rattle.std.specs.Prelude.{◌≡◌, All, IfSome, map};
 ghost use Rattle.dimension_core.specs.Setup.{setting};
 
+use crate::beside::Task;
 use crate::workers::busy::{Busy, CUSTOMERS, VEHICLES};
 use crate::workers::crossed::at_once;
 use crate::workers::desks::{open_all, play};
 use crate::workers::replay::judged_again;
-use crate::workers::threads::Task;
 use board_journal::Journal;
 use board_lock::{Desk, Foyer, Naming, Seat};
 use board_rules::Call;

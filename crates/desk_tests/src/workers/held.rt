@@ -3,11 +3,10 @@
 ghost use Rattle.std.specs.Prelude.{◌≡◌, IfSome};
 ghost use Rattle.dimension_core.specs.Setup.{setting};
 
-use crate::threads::Given;
+use crate::beside::{Given, Task, beside};
 use crate::workers::alone::LAID_OUT;
 use crate::workers::crossed::{say, wait_for};
 use crate::workers::desks::{open_two, play, text_of};
-use crate::workers::threads::{Task, beside};
 use board_journal::Journal;
 use board_lock::{DeskOf, Foyer, Naming, Seat};
 use dimension_core::Setup;

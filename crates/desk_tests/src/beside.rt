@@ -1,8 +1,7 @@
-//! Two things done at once.
+//! Two things done at once, in two threads.
 //!
 //! That a setup and a seat may go to another thread is found of each alone, and not of both in one closure. So the closures are made in a
 //! function that knows of its types no more than that each may go.
-use crate::threads::Given;
 use std::sync::Wait;
 use std::thread::{Threads, join};
 
@@ -13,6 +12,13 @@ pub(crate) trait Task<W, A, B, C> {
 
     fn run(self, rt: &W, first: A, second: B) -> C
         requires { may first second };
+}
+
+/// A task with the two things that it is given.
+pub(crate) struct Given<T, A, B> {
+    pub task: T,
+    pub first: A,
+    pub second: B,
 }
 
 /// Does two tasks at once, the first one in another thread.
