@@ -1,14 +1,13 @@
 //! Calls of the tests, and comparisons. What compares owns nothing: each `assert` of a function that holds values is a way out at which all
 //! of them are dropped, which its proof pays for.
-ghost use Rattle.std.specs.Prelude.{◌≡◌, All, IfSome};
+ghost use Rattle.std.specs.Prelude.{◌≡◌};
 ghost use Rattle.dimension_core.specs.Setup.{setting};
 
-use board_lock::{Desk, Foyer, Naming, SnapFault, View, open_hall};
+use board_lock::{Desk, Naming, SnapFault, View};
 use board_rules::{AskFault, Call, Fault, Reply};
 use move_core::Move;
 use rbac_core::{Command, ObjectRange, Operation};
 use separation_core::Name;
-use std::alloc::Global;
 use std::process::Abort;
 use std::sync::Wait;
 
@@ -103,48 +102,4 @@ pub(crate) fn sees<N: Naming, R: Wait + Drop, W: Wait + Abort>(
         Ok(view) => compare_view(rt, &view, version, stops),
         Err(fault) => compare_fault(rt, Some(fault)),
     }
-}
-
-/// The last desk, and the others.
-fn last<N: Naming, R: Wait + Drop>(desks: Vec<Desk<N, R>>) -> Option<(Vec<Desk<N, R>>, Desk<N, R>)>
-    requires { All (λ d. setting d.setup.value ≡ N.opening.setting) desks.items }
-    ensures others { IfSome result (λ t. All (λ d. setting d.setup.value ≡ N.opening.setting) t.0.items) }
-    ensures last { IfSome result (λ t. setting t.1.setup.value ≡ N.opening.setting) }
-{
-    let mut desks = desks;
-    let Some(desk) = desks.pop() else {
-        return None;
-    };
-    Some((desks, desk))
-}
-
-/// The last desk of a new hall, and the others.
-fn open_last<N: Naming, R: Wait + Drop>(
-    alloc: Global,
-    foyer: Foyer<R>,
-) -> Option<(Vec<Desk<N, R>>, Desk<N, R>)>
-    requires opening { foyer.room.opening ≡ N.opening }
-    requires book { foyer.room.book ≡ N.book }
-    ensures others { IfSome result (λ t. All (λ d. setting d.setup.value ≡ N.opening.setting) t.0.items) }
-    ensures last { IfSome result (λ t. setting t.1.setup.value ≡ N.opening.setting) }
-{
-    match open_hall::<N, R>(alloc, foyer) {
-        Ok(desks) => last(desks),
-        Err(_) => None,
-    }
-}
-
-/// The two desks of a new hall.
-pub(crate) fn open_two<N: Naming, R: Wait + Drop>(
-    alloc: Global,
-    foyer: Foyer<R>,
-) -> Option<(Desk<N, R>, Desk<N, R>)>
-    requires opening { foyer.room.opening ≡ N.opening }
-    requires book { foyer.room.book ≡ N.book }
-    ensures first { IfSome result (λ t. setting t.0.setup.value ≡ N.opening.setting) }
-    ensures second { IfSome result (λ t. setting t.1.setup.value ≡ N.opening.setting) }
-{
-    let (desks, two) = open_last::<N, R>(alloc, foyer)?;
-    let (_desks, one) = last(desks)?;
-    Some((one, two))
 }

@@ -4,8 +4,6 @@
 #[cfg(test)]
 mod beside;
 #[cfg(test)]
-mod boards;
-#[cfg(test)]
 mod calls;
 #[cfg(test)]
 mod faults;
@@ -13,6 +11,8 @@ mod faults;
 mod one_thread;
 #[cfg(test)]
 mod scripts;
+#[cfg(test)]
+mod setups;
 #[cfg(test)]
 mod tests;
 #[cfg(test)]

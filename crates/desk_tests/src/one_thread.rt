@@ -2,12 +2,13 @@
 ghost use Rattle.std.specs.Prelude.{◌≡◌};
 ghost use Rattle.dimension_core.specs.Setup.{setting};
 
-use crate::calls::{compare_count, compare_reply, grant, insert, open_two, remove, sees, submits};
+use crate::calls::{compare_count, compare_reply, grant, insert, remove, sees, submits};
 use board_core::Board;
 use board_journal::{Journal, Kept};
 use board_lock::{Desk, Foyer, Naming, commits_stay_in_views};
 use board_rules::{AskFault, Call, Event, Reply, Row};
 use callback_store::Meter;
+use desk_fixtures::open_two;
 use rbac_core::{Command, Object, ObjectRange, Operation};
 use std::alloc::Global;
 use std::process::Abort;

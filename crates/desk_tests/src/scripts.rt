@@ -3,13 +3,13 @@ ghost use Rattle.std.specs.Prelude.{◌≡◌, IfSome};
 ghost use Rattle.dimension_core.specs.Setup.{setting};
 
 use crate::beside::{Given, Task, beside};
-use crate::calls::open_two;
 use crate::threads::Commit;
 use board_core::Board;
 use board_lock::{DeskOf, Foyer, Naming, Seat};
 use board_rules::{Event, Fault, Reply};
 use board_text::{Command, read_line, reply_text};
 use callback_store::Meter;
+use desk_fixtures::open_two;
 use desk_text::{Seated, run_desk_lines};
 use dimension_core::Setup;
 use line_engine::{Counts, RunFault};

@@ -1,13 +1,10 @@
 //! The desks of a board, each test with a board of its own.
-ghost use Rattle.std.specs.Prelude.{◌≡◌, ◌+◌, ◌*◌, ◌<◌, slice_index, length};
-
-use crate::boards::bounded;
 use crate::one_thread::{grants, opens};
 use crate::scripts::{compare_replay, judged_again, reads_beside};
+use crate::setups::four_customers;
 use crate::threads::{call_for_one_vehicle, call_for_two_vehicles};
 use board_core::Board;
 use board_lock::make_foyer;
-use callback_store::Transit;
 use dimension_core::Setup;
 use std::alloc::Global;
 use std::marker::Brand;
@@ -61,37 +58,13 @@ enum Pair {
     ScriptBeside,
 }
 
-/// Two vehicles, and customers 1 to 4 with demands 4, 3, 3 and 5, written out for each way from them, and their travels, with room for the
-/// events of ten thousand commits.
+/// Two vehicles and four customers, with room for the events of ten thousand commits.
 fn with_two<W: Threads + Wait + Abort + Sync>(
     rt: &W,
     alloc: Global,
     pair: Pair,
 ) -> Result<(), Fail> {
-    let demands = vec![in alloc;
-        0u64, 0, 0, 0, 0, 4, 4, 4, 4, 4, 3, 3, 3, 3, 3, 3, 3, 3, 3, 3, 5, 5, 5, 5, 5,
-    ]?;
-    let travels = vec![in alloc;
-        0u64, 28, 84, 141, 50, 28, 0, 56, 113, 22, 84, 56, 0, 56, 36, 141, 113, 56, 0, 92, 50, 22,
-        36, 92, 0,
-    ]?;
-    let demand = Box::new(
-        alloc,
-        move |i: u32, j: u32| -> u64
-            requires { i * 5 + j < length demands.items }
-            ensures { result ≡ slice_index demands.items (i * 5 + j) }
-        { demands[i as usize * 5 + j as usize] },
-    )?;
-    let travel = Box::new(
-        alloc,
-        move |i: u32, j: u32| -> u64
-            requires { i * 5 + j < length travels.items }
-            ensures { result ≡ slice_index travels.items (i * 5 + j) }
-        { travels[i as usize * 5 + j as usize] },
-    )?;
-    let demand = Transit::new(5, demand);
-    let travel = Transit::new(5, travel);
-    let setup = bounded(alloc, demand, travel).ok_or("a setup")?;
+    let setup = four_customers(alloc, 20000).ok_or("a setup")?;
     match pair {
         Pair::OneHistory => {
             let mut board = Board::new(alloc, setup, 2)?;

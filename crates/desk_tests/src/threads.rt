@@ -3,9 +3,10 @@ ghost use Rattle.std.specs.Prelude.{◌≡◌, IfSome};
 ghost use Rattle.dimension_core.specs.Setup.{setting};
 
 use crate::beside::{Given, Task, beside};
-use crate::calls::{grant, insert, open_two, remove, submits};
+use crate::calls::{grant, insert, remove, submits};
 use board_lock::{DeskOf, Foyer, Naming, Seat};
 use board_rules::{Call, Denial, Reply};
+use desk_fixtures::open_two;
 use dimension_core::Setup;
 use rbac_core::{ObjectRange, Operation};
 use std::alloc::Global;

@@ -1,11 +1,9 @@
 //! Tests of workers: one alone, one that is held while rights or the plan change, two at once, what a gate hears, and eight beside a busy desk.
 //! Calls, replies and journals are compared as the text of their lines.
 mod alone;
-mod boards;
 mod busy;
 mod crossed;
 mod crowd;
-mod desks;
 mod held;
 mod noted;
 mod replay;

@@ -3,7 +3,6 @@ ghost use Rattle.std.specs.Prelude.{◌≡◌};
 ghost use Rattle.board_core.specs.Kept.{IsKept};
 ghost use Rattle.dimension_core.specs.Setup.{setting};
 
-use crate::desks::last;
 use crate::rows::{MOVES, NO_ROOT, RIGHTS, journal_of};
 use crate::scarce::{Attempt, Hoard, insist, insist_on_rows};
 use board_core::{Board, Core};
@@ -12,6 +11,7 @@ use board_lock::{DeskOf, Foyer, Naming, open_hall};
 use board_rules::Event;
 use board_text::{BoardFront, run_board_lines};
 use callback_store::Meter;
+use desk_fixtures::last;
 use desk_text::{Seated, run_desk_lines};
 use dimension_core::Setup;
 use line_engine::{Counts, RunFault};

@@ -6,8 +6,6 @@ mod beside;
 #[cfg(test)]
 mod boards;
 #[cfg(test)]
-mod desks;
-#[cfg(test)]
 mod early;
 #[cfg(test)]
 mod full;

@@ -2,9 +2,9 @@
 ghost use Rattle.std.specs.Prelude.{◌≡◌};
 ghost use Rattle.dimension_core.specs.Setup.{setting};
 
-use crate::desks::{audit, open_two, play, text_of};
 use crate::scarce::Hoard;
 use board_lock::{Desk, Foyer, Naming};
+use desk_fixtures::{audit, open_two, play};
 use search_workers::{OpenGate, Share, Tally, work};
 use std::alloc::Global;
 use std::process::Abort;
@@ -83,8 +83,7 @@ pub(crate) fn works_on<N: Naming, R: Wait + Drop, W: Wait>(
     let (worker, mut own) = open_two::<N, R>(alloc, foyer)?;
     play(rt, alloc, &own.setup, &mut own.seat, LAID_OUT);
     let (refused, last) = rounds_until(rt, hoard, worker);
-    let journal = audit(rt, &mut own.seat, 1)?;
-    Some((refused, last, text_of(alloc, &journal)))
+    Some((refused, last, audit(rt, alloc, &mut own.seat)))
 }
 
 /// The last entry is the worker's first, and behind it comes the end.

@@ -1,14 +1,9 @@
-//! The setups of the tests, and foyers over them. Each function gives up as soon as it lacks memory, so that a test has one way out for a
-//! whole setup.
-ghost use Rattle.std.specs.Prelude.{◌≤◌};
-
-use board_core::Board;
-use board_lock::{Foyer, make_foyer};
-use callback_store::{Registry, Transit, TransitId};
+//! The setups of the tests. Each function gives up as soon as it lacks memory, so that a test has one
+//! way out for a whole setup.
+use callback_store::{Matrix, Registry, Transit, TransitId, Vector};
 use dimension_core::{Dimension, Range, Setup};
-use limits::MOST_DESKS;
 use std::alloc::Global;
-use std::sync::{Arc, Wait};
+use std::sync::Arc;
 
 /// The load is at most 10 everywhere.
 const LOADS: &[Range] = &[
@@ -27,6 +22,33 @@ const WINDOWS: &[Range] = &[
     Range { lo: 0, hi: 140 },
     Range { lo: 0, hi: 500 },
 ];
+
+/// What customers 1 to 4 load.
+fn demands(alloc: Global) -> Option<Vector> {
+    let answers = vec![in alloc; 0u32, 4, 3, 3, 5].ok()?;
+    Some(Vector::new(answers))
+}
+
+/// The travels between the depot and customers 1 to 4.
+fn travels(alloc: Global) -> Option<Matrix> {
+    let answers = vec![in alloc;
+        0u32, 28, 84, 141, 50, 28, 0, 56, 113, 22, 84, 56, 0, 56, 36, 141, 113, 56, 0, 92, 50, 22,
+        36, 92, 0,
+    ]
+    .ok()?;
+    let answers = Arc::new(alloc, answers).ok()?;
+    Some(Matrix::new(5, answers))
+}
+
+/// The travels between the depot and customers 1 to 3, who lie on a line with it.
+fn steps(alloc: Global) -> Option<Matrix> {
+    let answers = vec![in alloc;
+        0u32, 30, 60, 90, 30, 0, 30, 60, 60, 30, 0, 30, 90, 60, 30, 0,
+    ]
+    .ok()?;
+    let answers = Arc::new(alloc, answers).ok()?;
+    Some(Matrix::new(4, answers))
+}
 
 /// Load with the start at 0, and time.
 fn load_and_time(
@@ -47,21 +69,25 @@ fn load_and_time(
     Some(dimensions)
 }
 
-/// Four customers and two vehicles, with these demands and travels, of which the travel is the cost.
-pub(crate) fn bounded(alloc: Global, demand: Transit, travel: Transit) -> Option<Arc<Setup>> {
+/// Two vehicles of capacity 10, and customers 1 to 4 with demands 4, 3, 3 and 5, with their travels as times and as the cost. The first
+/// dimension is the load, the second one the time. There is room for so many events.
+pub(crate) fn four_customers(alloc: Global, events: u32) -> Option<Arc<Setup>> {
+    let demands = demands(alloc)?;
+    let travels = travels(alloc)?;
     let mut registry = Registry::new(alloc);
-    let load = registry.register(demand).ok()?;
-    let time = registry.register(travel).ok()?;
+    let load = registry.register_vector(demands).ok()?;
+    let time = registry.register_matrix(travels).ok()?;
     let dimensions = load_and_time(alloc, &registry, load, time)?;
-    let setup = Setup::new(4, 2, registry, dimensions, time, 200).ok()?;
+    let setup = Setup::new(4, 2, registry, dimensions, time, events).ok()?;
     Arc::new(alloc, setup).ok()
 }
 
-/// Three customers and two vehicles without bounds, with one travel as their cost, and 1,000 events.
-pub(crate) fn free(alloc: Global, travel: Transit) -> Option<Arc<Setup>> {
+/// Three customers on a line, 30 from each other, without bounds. There are so many vehicles, and room for so many events.
+pub(crate) fn three_on_a_line(alloc: Global, vehicles: u32, events: u32) -> Option<Arc<Setup>> {
+    let steps = steps(alloc)?;
     let mut registry = Registry::new(alloc);
-    let cost = registry.register(travel).ok()?;
-    let setup = Setup::new(3, 2, registry, Vec::new(alloc), cost, 1000).ok()?;
+    let cost = registry.register_matrix(steps).ok()?;
+    let setup = Setup::new(3, vehicles, registry, Vec::new(alloc), cost, events).ok()?;
     Arc::new(alloc, setup).ok()
 }
 
@@ -89,21 +115,4 @@ pub(crate) fn widest(alloc: Global, travel: Transit) -> Option<Arc<Setup>> {
     let dimensions = all_wide(alloc, &registry, id)?;
     let setup = Setup::new(1000, 1000, registry, dimensions, id, 1_000_000).ok()?;
     Arc::new(alloc, setup).ok()
-}
-
-/// The foyer of a new board of so many desks.
-pub(crate) fn foyer_of<R: Wait + Drop>(
-    rt: R,
-    alloc: Global,
-    setup: Arc<Setup>,
-    desks: u32,
-) -> Option<Foyer<R>>
-    requires low { 1 ≤ desks }
-    requires high { desks ≤ MOST_DESKS }
-{
-    let board = Board::new(alloc, setup, desks).ok()?;
-    match make_foyer(rt, alloc, board) {
-        Ok(foyer) => Some(foyer),
-        Err(_) => None,
-    }
 }

@@ -1,5 +1,5 @@
 //! The tests, each in a process of its own.
-ghost use Rattle.std.specs.Prelude.{◌≡◌, ◌+◌, ◌*◌, ◌<◌, slice_index, length};
+ghost use Rattle.std.specs.Prelude.{◌≡◌};
 ghost use Rattle.hostile_tests.specs.Ways.{way};
 
 use crate::beside::runs_beside;
@@ -11,11 +11,12 @@ use crate::openings::{compare_opened, opens_until};
 use crate::rounds::{compare_rounds, works_on};
 use crate::runs::runs_go_through;
 use crate::scarce::{ALONE, Hoard, THREADED};
-use crate::setups::{bounded, foyer_of, free, widest};
+use crate::setups::{four_customers, three_on_a_line, widest};
 use crate::works::{compare_started, compare_unpushed, starts_until};
 use board_core::Board;
 use board_text::BoardFront;
 use callback_store::Transit;
+use desk_fixtures::foyer_of;
 use dimension_core::Setup;
 use std::alloc::Global;
 use std::marker::Brand;
@@ -33,33 +34,10 @@ fn lines_over<W: Wait + Abort>(rt: &W, alloc: Global, setup: Arc<Setup>) -> Resu
     Ok(())
 }
 
-/// Two vehicles, and customers 1 to 4 with demands 4, 3, 3 and 5, written out for each way from them, and their travels.
+/// Two vehicles and four customers.
 #[test]
 fn lines_go_through(rt: HostRuntime) -> Result<(), Fail> {
-    let demands = vec![in rt.alloc();
-        0u64, 0, 0, 0, 0, 4, 4, 4, 4, 4, 3, 3, 3, 3, 3, 3, 3, 3, 3, 3, 5, 5, 5, 5, 5,
-    ]?;
-    let travels = vec![in rt.alloc();
-        0u64, 28, 84, 141, 50, 28, 0, 56, 113, 22, 84, 56, 0, 56, 36, 141, 113, 56, 0, 92, 50, 22,
-        36, 92, 0,
-    ]?;
-    let demand = Box::new(
-        rt.alloc(),
-        move |i: u32, j: u32| -> u64
-            requires { i * 5 + j < length demands.items }
-            ensures { result ≡ slice_index demands.items (i * 5 + j) }
-        { demands[i as usize * 5 + j as usize] },
-    )?;
-    let travel = Box::new(
-        rt.alloc(),
-        move |i: u32, j: u32| -> u64
-            requires { i * 5 + j < length travels.items }
-            ensures { result ≡ slice_index travels.items (i * 5 + j) }
-        { travels[i as usize * 5 + j as usize] },
-    )?;
-    let demand = Transit::new(5, demand);
-    let travel = Transit::new(5, travel);
-    let setup = bounded(rt.alloc(), demand, travel).ok_or("a setup")?;
+    let setup = four_customers(rt.alloc(), 200).ok_or("a setup")?;
     lines_over(&rt, rt.alloc(), setup)
 }
 
@@ -151,20 +129,13 @@ enum Kind {
     GivenUp,
 }
 
-/// Three customers on a line, 30 from each other.
+/// Three customers on a line, and two vehicles.
 fn on_a_line<W: Threads + Wait + Abort + Sync>(
     rt: &W,
     alloc: Global,
     kind: Kind,
 ) -> Result<(), Fail> {
-    let drive = Box::new(
-        alloc,
-        move |i: u32, j: u32| -> u64
-            ensures { result ≡ 30 * way i j }
-        { u64::from(i.abs_diff(j)) * 30 },
-    )?;
-    let drives = Transit::new(4, drive);
-    let setup = free(alloc, drives).ok_or("a setup")?;
+    let setup = three_on_a_line(alloc, 2, 1000).ok_or("a setup")?;
     match kind {
         Kind::MemoryLacks => memory_lacks(rt, alloc, setup),
         Kind::GivenUp => commands_given_up(rt, alloc, setup),

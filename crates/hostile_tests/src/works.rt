@@ -2,8 +2,8 @@
 ghost use Rattle.std.specs.Prelude.{◌≡◌, ◌≤◌, ◌<◌, IfSome, length};
 
 use crate::scarce::Hoard;
-use crate::setups::foyer_of;
 use board_lock::{Foyer, Naming, open_hall};
+use desk_fixtures::foyer_of;
 use dimension_core::Setup;
 use limits::MOST_DESKS;
 use search_workers::{OpenGate, WorkFault, work_all};

@@ -1,8 +1,8 @@
 //! One worker alone, on three customers in a line: 30, 60 and 90 from the depot, and in the order 2, 1, 3.
 ghost use Rattle.std.specs.Prelude.{◌≡◌};
 
-use crate::workers::desks::{audit, open_two, play};
 use board_lock::{Foyer, Naming};
+use desk_fixtures::{audit, open_two, play};
 use search_workers::{OpenGate, Share, Tally, work};
 use std::alloc::Global;
 use std::process::Abort;
@@ -65,8 +65,8 @@ pub(crate) fn works_alone<N: Naming, R: Wait + Drop, W: Wait>(
     requires opening { foyer.room.opening ≡ N.opening }
     requires book { foyer.room.book ≡ N.book }
 {
-    let (worker, setup, mut own) = open_two::<N, R>(alloc, foyer)?;
-    play(rt, alloc, &setup, &mut own, LAID_OUT);
+    let (worker, mut own) = open_two::<N, R>(alloc, foyer)?;
+    play(rt, alloc, &own.setup, &mut own.seat, LAID_OUT);
     let Share {
         desk,
         tally: denied,
@@ -75,10 +75,10 @@ pub(crate) fn works_alone<N: Naming, R: Wait + Drop, W: Wait>(
         desk,
         tally: committed,
     } = work(rt, desk, 1, 7, 3, &OpenGate);
-    play(rt, alloc, &setup, &mut own, BACK);
+    play(rt, alloc, &own.setup, &mut own.seat, BACK);
     let share = work(rt, desk, 1, 7, 2, &OpenGate);
     let refused = share.tally;
-    let journal = audit(rt, alloc, &mut own);
+    let journal = audit(rt, alloc, &mut own.seat);
     Some(Alone {
         denied,
         committed,

@@ -3,8 +3,8 @@ ghost use Rattle.std.specs.Prelude.{◌≡◌, ◌≤◌, All, IfSome, length};
 ghost use Rattle.dimension_core.specs.Setup.{setting};
 
 use crate::workers::alone::{LAID_OUT, ends_of};
-use crate::workers::desks::{audit, open_all, play};
 use board_lock::{Desk, Foyer, Naming};
+use desk_fixtures::{audit, open_all, play};
 use search_workers::{Gate, Outcome, Point, Share, Tally, work_all};
 use std::alloc::Global;
 use std::process::Abort;
@@ -122,8 +122,8 @@ pub(crate) fn works_crossed<
     requires opening { foyer.room.opening ≡ N.opening }
     requires book { foyer.room.book ≡ N.book }
 {
-    let (desks, setup, mut own) = open_all::<N, R>(alloc, foyer)?;
-    play(rt, alloc, &setup, &mut own, LAID_OUT);
+    let (desks, mut own) = open_all::<N, R>(alloc, foyer)?;
+    play(rt, alloc, &own.setup, &mut own.seat, LAID_OUT);
     let gate = Crossed {
         looked: AtomicU64::new(0),
         replied: AtomicU64::new(0),
@@ -133,7 +133,7 @@ pub(crate) fn works_crossed<
     Some(Two {
         tallies: two_of(shares.as_slice()),
         heard: gate.heard.load(Ordering::SeqCst),
-        journal: audit(rt, alloc, &mut own),
+        journal: audit(rt, alloc, &mut own.seat),
     })
 }
 

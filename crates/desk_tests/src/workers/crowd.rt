@@ -6,11 +6,11 @@ ghost use Rattle.dimension_core.specs.Setup.{setting};
 use crate::beside::Task;
 use crate::workers::busy::{Busy, CUSTOMERS, VEHICLES};
 use crate::workers::crossed::at_once;
-use crate::workers::desks::{open_all, play};
 use crate::workers::replay::judged_again;
 use board_journal::Journal;
-use board_lock::{Desk, Foyer, Naming, Seat};
+use board_lock::{Desk, DeskOf, Foyer, Naming, Seat};
 use board_rules::Call;
+use desk_fixtures::{open_all, play};
 use dimension_core::Setup;
 use move_core::Move;
 use search_workers::{OpenGate, Share, Tally};
@@ -309,7 +309,9 @@ pub(crate) fn works_beside<
     requires opening { foyer.room.opening ≡ N.opening }
     requires book { foyer.room.book ≡ N.book }
 {
-    let (desks, setup, mut own) = open_all::<N, R>(alloc, foyer)?;
+    let (desks, own) = open_all::<N, R>(alloc, foyer)?;
+    let DeskOf { setup, seat } = own;
+    let mut own = seat;
     play(rt, alloc, &setup, &mut own, PREPARED);
     lay_out(rt, &setup, &mut own);
     let (mut own, sums) = work_often(rt, alloc, &setup, own, desks)?;

@@ -6,9 +6,9 @@ ghost use Rattle.dimension_core.specs.Setup.{setting};
 use crate::beside::{Given, Task, beside};
 use crate::workers::alone::LAID_OUT;
 use crate::workers::crossed::{say, wait_for};
-use crate::workers::desks::{open_two, play, text_of};
 use board_journal::Journal;
 use board_lock::{DeskOf, Foyer, Naming, Seat};
+use desk_fixtures::{open_two, play, text_of};
 use dimension_core::Setup;
 use search_workers::{Gate, Outcome, Point, Share, work};
 use std::alloc::Global;
@@ -319,7 +319,9 @@ pub(crate) fn works_held<
     requires opening { foyer.room.opening ≡ N.opening }
     requires book { foyer.room.book ≡ N.book }
 {
-    let (worker, setup, mut own) = open_two::<N, R>(alloc, foyer)?;
+    let (worker, own) = open_two::<N, R>(alloc, foyer)?;
+    let DeskOf { setup, seat } = own;
+    let mut own = seat;
     play(rt, alloc, &setup, &mut own, story.laid_out);
     play(rt, alloc, &setup, &mut own, story.hired);
     let (mut own, ends) = all_turns(rt, alloc, &setup, (own, worker.seat), story.turns)?;

@@ -2,8 +2,8 @@
 ghost use Rattle.std.specs.Prelude.{◌≡◌};
 
 use crate::workers::alone::{BACK, LAID_OUT};
-use crate::workers::desks::{open_two, play};
 use board_lock::{Foyer, Naming};
+use desk_fixtures::{open_two, play};
 use search_workers::{Gate, Outcome, Point, Share, work};
 use std::alloc::Global;
 use std::process::Abort;
@@ -57,14 +57,14 @@ pub(crate) fn works_noted<N: Naming, R: Wait + Drop, W: Wait>(
     requires opening { foyer.room.opening ≡ N.opening }
     requires book { foyer.room.book ≡ N.book }
 {
-    let (desk, setup, mut own) = open_two::<N, R>(alloc, foyer)?;
-    play(rt, alloc, &setup, &mut own, LAID_OUT);
+    let (desk, mut own) = open_two::<N, R>(alloc, foyer)?;
+    play(rt, alloc, &own.setup, &mut own.seat, LAID_OUT);
     let gate = Noted {
         text: Mutex::new(String::new(alloc)),
     };
     let Share { desk, .. } = work(rt, desk, 2, 7, 2, &gate);
     let Share { desk, .. } = work(rt, desk, 1, 7, 2, &gate);
-    play(rt, alloc, &setup, &mut own, BACK);
+    play(rt, alloc, &own.setup, &mut own.seat, BACK);
     let _share = work(rt, desk, 1, 7, 1, &gate);
     let Noted { text } = gate;
     Some(text.into_inner())

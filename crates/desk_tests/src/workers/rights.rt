@@ -1,8 +1,8 @@
 //! One worker that has found a move, and before it proposes it another desk changes what the worker's session may do: the session is closed
 //! and another one opened, the user, a role's pairs or all administrators go, sessions migrate, and pins and their override come and go.
-use crate::workers::desks::text_of;
 use crate::workers::held::{Ended, Story, Turn};
 use crate::workers::replay::judged_again;
+use desk_fixtures::text_of;
 use search_workers::Point;
 use std::alloc::Global;
 use std::process::Abort;

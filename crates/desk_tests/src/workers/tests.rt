@@ -1,15 +1,17 @@
 //! The tests, each with a board of its own.
-ghost use Rattle.std.specs.Prelude.{◌≡◌, ◌+◌, ◌*◌, ◌%◌, ◌<◌};
+ghost use Rattle.std.specs.Prelude.{◌≡◌, ◌≤◌, ◌+◌, ◌*◌, ◌%◌};
 ghost use Rattle.desk_tests.specs.Ways.{way};
 
+use crate::setups::{free, three_on_a_line};
 use crate::workers::alone::{compare_alone, works_alone};
-use crate::workers::boards::free_foyer;
 use crate::workers::crossed::{compare_crossed, works_crossed};
 use crate::workers::crowd::{compare_crowd, works_beside};
 use crate::workers::held::{self, compare_held, works_held};
 use crate::workers::noted::{compare_noted, works_noted};
 use crate::workers::rights::{self, compare_rights};
 use callback_store::Transit;
+use desk_fixtures::foyer_of;
+use limits::MOST_DESKS;
 use std::alloc::Global;
 use std::marker::Brand;
 use std::process::Abort;
@@ -36,7 +38,8 @@ impl Kind {
     }
 
     fn desks(self) -> u32
-        ensures { (0 < result) × (result < 65) }
+        ensures low { 1 ≤ result }
+        ensures high { result ≤ MOST_DESKS }
     {
         match self {
             Kind::Crossed => 3,
@@ -54,22 +57,14 @@ impl Kind {
     }
 }
 
-/// Three customers on a line, 30 from each other.
+/// Three customers on a line.
 fn on_a_line<W: Threads + Wait + Abort + Sync>(
     rt: &W,
     alloc: Global,
     kind: Kind,
 ) -> Result<(), Fail> {
-    let drive = Box::new(
-        alloc,
-        move |i: u32, j: u32| -> u64
-            ensures { result ≡ 30 * way i j }
-        { u64::from(i.abs_diff(j)) * 30 },
-    )?;
-    let drives = Transit::new(4, drive);
-    let counts = (3, kind.vehicles());
-    let foyer = free_foyer(rt, alloc, drives, counts, kind.desks(), kind.events());
-    let foyer = foyer.ok_or("a foyer")?;
+    let setup = three_on_a_line(alloc, kind.vehicles(), kind.events()).ok_or("a setup")?;
+    let foyer = foyer_of(rt, alloc, setup, kind.desks()).ok_or("a foyer")?;
     match kind {
         Kind::Alone => compare_alone(rt, &works_alone::<Brand, _, _>(rt, alloc, foyer)),
         Kind::Held => {
@@ -126,7 +121,8 @@ fn eight_workers_beside_a_busy_desk(rt: HostRuntime) -> Result<(), Fail> {
         },
     )?;
     let drives = Transit::new(201, drive);
-    let foyer = free_foyer(&rt, alloc, drives, (200, 10), 9, 100000).ok_or("a foyer")?;
+    let setup = free(alloc, drives, (200, 10), 100000).ok_or("a setup")?;
+    let foyer = foyer_of(&rt, alloc, setup, 9).ok_or("a foyer")?;
     compare_crowd(&rt, alloc, works_beside::<Brand, _, _>(&rt, alloc, foyer));
     Ok(())
 }
